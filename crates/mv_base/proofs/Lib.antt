@@ -1,0 +1,4 @@
+pub mod Sets
+pub mod NameLemmas
+pub mod FileLemmas
+pub mod OutsideLemmas

@@ -1,0 +1,6 @@
+pub mod Set
+pub mod Names
+pub mod Meaning
+pub mod Outside
+pub mod Memory
+pub mod Entries

@@ -1,0 +1,4 @@
+pub mod Cuts
+pub mod After
+pub mod Written
+pub mod Facts
