@@ -1,0 +1,4 @@
+pub mod Equal
+pub mod Counts
+pub mod Points
+pub mod Local

@@ -1,0 +1,69 @@
+-- What cubes and lines say of a point, over lists that are joined or reordered.
+use Rattle.std.proofs.Common.{◌≡◌, ◌∙◌, ℕ, Bool, true, false, not, ◌&&◌, ◌||◌, List, [], ◌∷◌, ◌++◌, ◌+◌, nat_eq, inl, inr, refl, sym, ap, add-one, arith}
+use Rattle.std.specs.List.{list_all, list_any, Contains}
+use Rattle.std.specs.List.Sorted.{IsPermutation}
+use Rattle.std.proofs.lemmas.Bool.{cases_Bool, false≢true, and_from, ne_eqb, eq-eqb}
+use Rattle.std.proofs.lemmas.List.Folds.{list_all-append, list_all_at}
+use Rattle.std.proofs.lemmas.List.Sorted.{list_any-IsPermutation}
+use Rattle.mv_base.specs.Set.{has, empty, one}
+use Rattle.mv_base.proofs.Sets.{has-one, has-empty}
+use Rattle.mv_cover.specs.declared.cube.Lit.{Lit}
+use Rattle.mv_cover.specs.declared.line.Line.{Line}
+use Rattle.mv_cover.specs.Cubes.{holds, matches}
+use Rattle.mv_cover.specs.Covers.{some_matches, some_gives, lines_read}
+
+-- a test of each element, as a test that fails of none
+none_fails : (b a c : Bool) → a ≡ not c → (b && a) ≡ not (not b || c)
+none_fails true a c e = e
+none_fails false a c e = refl
+
+pub list_all-none : {X : Type 0} (p : X → Bool) (xs : List X) → list_all p xs ≡ not (list_any (λ x. not (p x)) xs)
+list_all-none p [] = refl
+list_all-none p (x ∷ xs) = none_fails (p x) (list_all p xs) (list_any (λ y. not (p y)) xs) (list_all-none p xs)
+
+pub matches-append : (at : ℕ → ℕ) (xs ys : List Lit) → matches at (xs ++ ys) ≡ (matches at xs && matches at ys)
+matches-append at xs ys = list_all-append (holds at) xs ys
+
+pub matches-permutation : (at : ℕ → ℕ) (xs ys : List Lit) → IsPermutation xs ys → matches at xs ≡ matches at ys
+matches-permutation at xs ys p =
+    list_all-none (holds at) xs ∙ ap not (list_any-IsPermutation (λ l. not (holds at l)) xs ys p) ∙ sym (list_all-none (holds at) ys)
+
+-- a literal of a cube that holds holds
+pub matches-holds : (at : ℕ → ℕ) (xs : List Lit) (l : Lit) → Contains xs l → matches at xs ≡ true → holds at l ≡ true
+matches-holds at xs l c m =
+    elim (cases_Bool (holds at l)) [
+      | inl t ↦ t
+      | inr f ↦ absurd (false≢true (sym (list_all_at (holds at) xs c.0 l c.1 (ap (holds at) c.2 ∙ f)) ∙ m))
+    ]
+
+-- a cube each of whose literals holds holds
+pub holds-matches : (at : ℕ → ℕ) (xs : List Lit) → ((l : Lit) → Contains xs l → holds at l ≡ true) → matches at xs ≡ true
+holds-matches at [] each = refl
+holds-matches at (x ∷ xs) each =
+    and_from (holds at x) (matches at xs) (each x (0, omega arith, refl)) (holds-matches at xs (λ l c. each l (c.0 + 1, omega arith, rw add-one c.2)))
+
+-- a cube whose literals are among those of another holds where that one does
+pub matches-among : (at : ℕ → ℕ) (xs ys : List Lit) → ((l : Lit) → Contains ys l → Contains xs l) → matches at xs ≡ true → matches at ys ≡ true
+matches-among at xs ys among m = holds-matches at ys (λ l c. matches-holds at xs l (among l c) m)
+
+-- either of two, further down a list
+or_more : (m a b c : Bool) → c ≡ (a || b) → (m || c) ≡ ((m || a) || b)
+or_more true a b c e = refl
+or_more false a b c e = e
+
+pub some_matches-append : (at : ℕ → ℕ) (xs ys : List Line) → some_matches at (xs ++ ys) ≡ (some_matches at xs || some_matches at ys)
+some_matches-append at [] ys = refl
+some_matches-append at (x ∷ xs) ys = or_more (matches at x.cube) (some_matches at xs) (some_matches at ys) (some_matches at (xs ++ ys)) (some_matches-append at xs ys)
+
+pub some_gives-append : (at : ℕ → ℕ) (v : ℕ) (xs ys : List Line) → some_gives at v (xs ++ ys) ≡ (some_gives at v xs || some_gives at v ys)
+some_gives-append at v [] ys = refl
+some_gives-append at v (x ∷ xs) ys = or_more (matches at x.cube && has x.out v) (some_gives at v xs) (some_gives at v ys) (some_gives at v (xs ++ ys)) (some_gives-append at v xs ys)
+
+pub lines_read-append : (xs ys : List Line) (n : ℕ) → lines_read (xs ++ ys) n ≡ (lines_read xs n || lines_read ys n)
+lines_read-append [] ys n = refl
+lines_read-append (x ∷ xs) ys n = or_more (list_any (λ l. nat_eq l.net.0 n) x.cube) (lines_read xs n) (lines_read ys n) (lines_read (xs ++ ys) n) (lines_read-append xs ys n)
+
+-- the set of one value isn't empty
+pub one_some : (v : ℕ) → nat_eq (one v) empty ≡ false
+one_some v =
+    ne_eqb (one v) empty (λ e. false≢true (sym (has-empty v) ∙ (ap (λ s. has s v) (sym e) ∙ (has-one v v ∙ eq-eqb v v refl))))

@@ -1,0 +1,4 @@
+pub mod Cubes
+pub mod Covers
+pub mod Equal
+pub mod Keys

@@ -1,0 +1,13 @@
+//! Tables of a network as covers: lines of a cube of literals and an output set, and a default.
+#![tactic(auto)]
+
+mod cover;
+mod cube;
+mod line;
+
+pub use cover::Cover;
+pub use cube::{Cube, Lit};
+pub use line::Line;
+
+#[cfg(test)]
+mod tests;

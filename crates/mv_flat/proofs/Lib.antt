@@ -1,0 +1,9 @@
+pub mod CycleLemmas
+pub mod Lines
+pub mod Numbering
+pub mod Orders
+pub mod Placement
+pub mod Places
+pub mod Rows
+pub mod Same
+pub mod Whole

@@ -1,0 +1,5 @@
+pub mod Flat
+pub mod Numbers
+pub mod Ranks
+pub mod Sorting
+pub mod Tables

@@ -1,0 +1,13 @@
+use Rattle.std.proofs.Common.{◌≡◌, ◌∙◌, ◌++◌, ◌∷◌, [], None, ap}
+use Rattle.mv_net.specs.Names.{number_of, entries_of}
+use Rattle.mv_net.proofs.Named.{entries-insert}
+use Rattle.mv_net.proofs.names.NameIndex.add.Goals as goal
+
+pub returns : goal.returns
+returns c =
+    let es = c.self.inside.numbers.entries in
+    let key = c.in_ok-from_slice.field-0 in
+    let is = c.self.view_is in
+    let name = c.in_ok-from_slice.ensures.items in
+    let new : number_of (entries_of es) key.items ≡ None = (λ i. number_of (is i) (name i)) ∙ c.requires in
+    ap entries_of c.in_ok-insert.ensures.entries ∙ (entries-insert es key c.args.number new ∙ (λ i. is i ++ (name i, c.args.number) ∷ []))

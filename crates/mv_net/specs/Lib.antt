@@ -1,0 +1,9 @@
+pub mod Nets
+pub mod Formed
+pub mod Allowed
+pub mod Index
+pub mod Turned
+pub mod Names
+pub mod Seen
+pub mod Kept
+pub mod Binary

@@ -1,0 +1,23 @@
+-- How the nets that are seen are marked.
+use Rattle.std.specs.Prelude.{◌≡◌, ℕ, ◌<◌, Bool, true, false, ◌||◌, List, length, slice_index_or}
+use Rattle.mv_net.specs.declared.parts.NetParts.{NetParts}
+use Rattle.mv_net.specs.Index.{has_id, is_input, is_seen}
+
+-- the mark at a number
+abbrev pub mark : List Bool → ℕ → Bool
+mark marks n = slice_index_or marks n false
+
+-- the numbers that pass the test were marked besides
+pub record AreMarked (old : List Bool) (test : ℕ → Bool) (new : List Bool) : Type 0 where
+  pub long : length new ≡ length old
+  pub each : (n : ℕ) → mark new n ≡ (test n || mark old n)
+
+-- the outputs and the latch inputs are numbers of the network
+pub record SeenAreHeld (net : NetParts) : Type 0 where
+  pub outputs : (n : ℕ) → has_id net.outputs n ≡ true → n < length net.nets
+  pub inputs : (n : ℕ) → is_input net.latches n ≡ true → n < length net.nets
+
+-- each number is marked where its net is seen
+pub record AreSeen (net : NetParts) (marks : List Bool) : Type 0 where
+  pub long : length marks ≡ length net.nets
+  pub each : (n : ℕ) → mark marks n ≡ is_seen net n

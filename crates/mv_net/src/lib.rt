@@ -1,0 +1,18 @@
+//! The shared graph of tables: a network as a record of its parts, and `Network`, which keeps it
+//! well formed with what is looked up in it.
+#![tactic(auto)]
+
+mod fanins;
+mod kept;
+mod names;
+mod network;
+mod parts;
+mod readers;
+mod seen;
+mod tallies;
+
+pub use network::Network;
+pub use parts::{FlatLatch, FlatNet, Kind, NetParts};
+
+#[cfg(test)]
+mod tests;

@@ -1,0 +1,198 @@
+ghost use Rattle.std.specs.Prelude.{◌≡◌, ℕ, ◌<◌, ◌≤◌, Some, IsTrue, map, length, option_copied, IfOk, IfSome, IsNone};
+ghost use Rattle.mv_net.specs.Nets.{slot, values_in, name_in, table_in, net_reads, literals_in};
+ghost use Rattle.mv_net.specs.Formed.{WellFormed};
+ghost use Rattle.mv_net.specs.Index.{is_held, kind_in, value_names_in, is_seen, IsAscending, HasName};
+
+use crate::kept::{Kept, kept_of};
+use crate::{FlatLatch, FlatNet, Kind, NetParts};
+use mv_base::{MAX_NETS, Memory, Name, NetId};
+use mv_cover::Cover;
+use std::alloc::Global;
+use std::marker::Model;
+
+/// A well-formed network, seen as its parts. What is looked up in it is kept beside them.
+#[derive(Drop)]
+pub struct Network {
+    parts: NetParts,
+    kept: Kept,
+}
+
+impl Model for Network {
+    ghost use Rattle.mv_net.specs.declared.parts.NetParts.{NetParts};
+
+    ghost Value = { NetParts };
+
+    ghost use Rattle.mv_net.specs.Kept.{IsNetwork};
+
+    ghost view = { λ a. a.parts };
+
+    ghost invariant = { λ a. IsNetwork a.parts a.kept };
+}
+
+impl Network {
+    /// The network of these parts: the net at place k has the number k.
+    pub fn make(alloc: Global, parts: NetParts) -> Result<Network, Memory>
+        requires few { length parts.nets ≤ MAX_NETS }
+        requires formed { WellFormed parts }
+        ensures { IfOk result (λ net. net ≡ parts) }
+    {
+        let kept = kept_of(alloc, &parts)?;
+        Ok(Network { parts, kept })
+    }
+
+    /// The parts of the network are well formed.
+    pub fn well_formed(&self)
+        ensures { WellFormed self.now }
+    {
+        let _ = &self.parts;
+    }
+
+    /// Few numbers are used.
+    pub fn few(&self)
+        ensures { length self.now.nets ≤ MAX_NETS }
+    {
+        let _ = &self.parts;
+    }
+
+    /// The name of the root. No memory.
+    pub fn root(&self) -> &[u8]
+        ensures { result.now ≡ self.now.root }
+    {
+        self.parts.root.bytes()
+    }
+
+    /// The inputs of the root, in order. No memory.
+    pub fn inputs(&self) -> &[NetId]
+        ensures { result.now ≡ self.now.inputs }
+    {
+        self.parts.inputs.as_slice()
+    }
+
+    /// The outputs of the root, in order. No memory.
+    pub fn outputs(&self) -> &[NetId]
+        ensures { result.now ≡ self.now.outputs }
+    {
+        self.parts.outputs.as_slice()
+    }
+
+    /// The latches, in order. No memory.
+    pub fn latches(&self) -> &[FlatLatch]
+        ensures { result.now ≡ self.now.latches }
+    {
+        self.parts.latches.as_slice()
+    }
+
+    /// The numbers of values by number of net, 0 where none is held. No memory.
+    pub fn counts(&self) -> &[u16]
+        ensures { result.now ≡ map values_in self.now.nets }
+    {
+        self.kept.counts.as_slice()
+    }
+
+    /// The literals of all tables, each of which counts one. No memory.
+    pub fn literals(&self) -> u128
+        ensures { result ≡ literals_in self.now.nets }
+    {
+        self.kept.literals
+    }
+
+    /// The number that the next new net gets. No memory.
+    pub fn next_number(&self) -> u32
+        ensures { result ≡ length self.now.nets }
+    {
+        self.parts.nets.len() as u32
+    }
+
+    /// Whether a net of this number is held. No memory.
+    pub fn holds(&self, n: NetId) -> bool
+        ensures { result ≡ is_held self.now.nets n.0 }
+    {
+        match self.parts.nets.as_slice().get(n.0 as usize) {
+            Some(net) => net.is_some(),
+            None => false,
+        }
+    }
+
+    /// The held net with this name, if there is one. No memory.
+    pub fn find(&self, name: &[u8]) -> Option<NetId>
+        ensures some { IfSome result (λ n. HasName self.now.nets n.0 name.now) }
+        ensures none { IsNone result → (n : ℕ) → ¬ HasName self.now.nets n name.now }
+    {
+        match self.kept.names.number(name) {
+            Some(number) => Some(NetId(number)),
+            None => None,
+        }
+    }
+
+    /// The held net of this number.
+    fn held(&self, n: NetId) -> &FlatNet
+        requires { IsTrue (is_held self.now.nets n.0) }
+        ensures { slot self.now.nets n.0 ≡ Some result.now }
+    {
+        self.parts.nets.as_slice()[n.0 as usize].as_ref().unwrap()
+    }
+
+    /// The name of a held net. No memory.
+    pub fn name(&self, n: NetId) -> &[u8]
+        requires { IsTrue (is_held self.now.nets n.0) }
+        ensures { result.now ≡ name_in (slot self.now.nets n.0) }
+    {
+        self.held(n).name.bytes()
+    }
+
+    /// What drives a held net. No memory.
+    pub fn kind(&self, n: NetId) -> Kind
+        requires { IsTrue (is_held self.now.nets n.0) }
+        ensures { kind_in (slot self.now.nets n.0) ≡ Some result }
+    {
+        self.held(n).kind
+    }
+
+    /// How many values a held net has. No memory.
+    pub fn values(&self, n: NetId) -> u16
+        requires { IsTrue (is_held self.now.nets n.0) }
+        ensures { result ≡ values_in (slot self.now.nets n.0) }
+    {
+        self.held(n).values
+    }
+
+    /// The value names of a held net: none exactly where they are the numbers from 0. No memory.
+    pub fn value_names(&self, n: NetId) -> &[Name]
+        requires { IsTrue (is_held self.now.nets n.0) }
+        ensures { result.now ≡ value_names_in (slot self.now.nets n.0) }
+    {
+        self.held(n).value_names.as_slice()
+    }
+
+    /// The table of a held net: None exactly for inputs and latches. No memory.
+    pub fn table(&self, n: NetId) -> Option<&Cover>
+        requires { IsTrue (is_held self.now.nets n.0) }
+        ensures { option_copied result ≡ table_in (slot self.now.nets n.0) }
+    {
+        self.held(n).table.as_ref()
+    }
+
+    /// The nets that the table of a held net has literals on, ascending. No memory.
+    pub fn fanins(&self, n: NetId) -> &[NetId]
+        requires { IsTrue (is_held self.now.nets n.0) }
+        ensures { IsAscending (λ m. net_reads (slot self.now.nets n.0) m) result.now }
+    {
+        self.kept.fanins.as_slice()[n.0 as usize].as_slice()
+    }
+
+    /// The nets whose tables have literals on a held net, ascending. No memory.
+    pub fn readers(&self, n: NetId) -> &[NetId]
+        requires { IsTrue (is_held self.now.nets n.0) }
+        ensures { IsAscending (λ m. net_reads (slot self.now.nets m) n.0) result.now }
+    {
+        self.kept.readers.as_slice()[n.0 as usize].as_slice()
+    }
+
+    /// Whether a held net is an output of the root, the input of a latch, or a reset net. No memory.
+    pub fn is_seen(&self, n: NetId) -> bool
+        requires { IsTrue (is_held self.now.nets n.0) }
+        ensures { result ≡ is_seen self.now n.0 }
+    {
+        self.kept.seen.as_slice()[n.0 as usize]
+    }
+}

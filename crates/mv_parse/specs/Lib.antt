@@ -1,0 +1,4 @@
+pub mod Designs
+pub mod Grammar
+pub mod Reading
+pub mod Relation

@@ -1,0 +1,9 @@
+//! Lines of a network file to a design. In this version: one model of binary tables with one output.
+#![tactic(auto)]
+
+mod design;
+mod names;
+mod reader;
+
+pub use design::{Design, FileTable, Row};
+pub use reader::{ParseStop, parse};
