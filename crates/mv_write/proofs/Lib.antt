@@ -1,0 +1,7 @@
+pub mod Gains
+pub mod Ascending
+pub mod Walks
+pub mod Lines
+pub mod Held
+pub mod Inverter
+pub mod Binary

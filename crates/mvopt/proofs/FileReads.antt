@@ -1,0 +1,167 @@
+-- Files that are read piece by piece, whether they tell their contents or not.
+use Rattle.std.proofs.Common.{◌≡◌, ℕ, ◌+◌, ◌<◌, ◌≤◌, true, false, List, [], ◌++◌, length, take, Option, Some, None, Result, Ok, Err, refl, sym, ◌∙◌, ap, subst, arith, append_assoc, length-append, ◌-◌}
+use Rattle.std.specs.Prelude.{nat_lt}
+use Rattle.std.proofs.lemmas.Bool.{ltb-true, ltb-false, false≢true}
+use Rattle.std.proofs.lemmas.List.{length-take-le}
+use Rattle.mv_base.specs.declared.outside.Failed.{Failed}
+use Rattle.mv_base.specs.Outside.{Held, file_named, Starts, Gives}
+use Rattle.mvopt.specs.FileReading.{Read, Stay, Lacks}
+use Rattle.mvopt.specs.Pieces.{Passed, Ended, Unsound, GotPiece, ReadOn}
+
+-- ---- nothing was read, and then one piece more
+
+pub passed_nothing : (h : Option Held) → Passed h h []
+passed_nothing None = tt
+passed_nothing (Some h) = record { files = refl; current = refl; sound = λ s. s; passed = refl }
+
+pub passed_more : (a b c : Option Held) (xs ys : List ℕ) → Passed a b xs → Passed b c ys → Passed a c (xs ++ ys)
+passed_more None b c xs ys p q = tt
+passed_more (Some a) None c xs ys p q = absurd p
+passed_more (Some a) (Some b) None xs ys p q = absurd q
+passed_more (Some a) (Some b) (Some c) xs ys p q =
+    record {
+      files = q.files ∙ p.files;
+      current = q.current ∙ p.current;
+      sound = λ s. q.sound (p.sound s);
+      passed = p.passed ∙ (ap (λ r. xs ++ r) q.passed ∙ sym (append_assoc xs ys c.rest));
+    }
+
+-- ---- files that stay
+
+pub stay_passed : (a b : Option Held) (xs : List ℕ) → Passed a b xs → Stay a b
+stay_passed None b xs p = tt
+stay_passed (Some a) None xs p = absurd p
+stay_passed (Some a) (Some b) xs p = record { files = p.files; sound = p.sound }
+
+pub stay_more : (a b c : Option Held) → Stay a b → Stay b c → Stay a c
+stay_more None b c p q = tt
+stay_more (Some a) None c p q = absurd p
+stay_more (Some a) (Some b) None p q = absurd q
+stay_more (Some a) (Some b) (Some c) p q = record { files = q.files ∙ p.files; sound = λ s. q.sound (p.sound s) }
+
+pub stay_started : (old new : Option Held) (name : List ℕ) (result : Result (Unit {0}) Failed) → Starts old new name result → Stay old new
+stay_started None new name result s = tt
+stay_started (Some o) None name result s = absurd s
+stay_started (Some o) (Some n) name result s = record { files = s.files; sound = s.sound }
+
+pub stay_given : (old new : Option Held) (room : List ℕ) (result : Result ℕ Failed) → Gives old new room result → Stay old new
+stay_given None new room result s = tt
+stay_given (Some o) None room result s = absurd s
+stay_given (Some o) (Some n) room result s = record { files = s.files; sound = s.sound }
+
+-- ---- failures
+
+pub unsound_earlier : (a b : Option Held) → Stay a b → Unsound b → Unsound a
+unsound_earlier None b p u = tt
+unsound_earlier (Some a) None p u = absurd p
+unsound_earlier (Some a) (Some b) p u = λ s. u (p.sound s)
+
+pub unsound_given : (old new : Option Held) (room : List ℕ) (e : Failed) → Gives old new room (Err e) → Unsound old
+unsound_given None new room e s = tt
+unsound_given (Some o) None room e s = absurd s
+unsound_given (Some o) (Some n) room e s = λ t. false≢true (s.only t)
+
+pub lacks_started : (old new : Option Held) (name : List ℕ) (e : Failed) → Starts old new name (Err e) → Lacks old name
+lacks_started None new name e s = tt
+lacks_started (Some o) None name e s = absurd s
+lacks_started (Some o) (Some n) name e s = λ t. s.only t
+
+pub lacks_unsound : (old : Option Held) (name : List ℕ) → Unsound old → Lacks old name
+lacks_unsound None name u = tt
+lacks_unsound (Some o) name u = λ t. absurd (u t)
+
+-- ---- a piece
+
+nothing_taken : (xs room rest : List ℕ) (n : ℕ) → xs ≡ take n room ++ rest → n ≡ 0 → xs ≡ [] → rest ≡ []
+nothing_taken xs room rest n e z none =
+    let P : ℕ → Type 0 = λ k. xs ≡ take k room ++ rest in sym (subst P z e) ∙ none
+
+ended_given : (old new : Option Held) (room : List ℕ) (n : ℕ) → Gives old new room (Ok n) → n ≡ 0 → 0 < length room → Ended old new
+ended_given None new room n s z h = tt
+ended_given (Some o) None room n s z h = absurd s
+ended_given (Some o) (Some new) room n s z h = nothing_taken o.rest room new.rest n s.given z (s.ended z h)
+
+passed_given : (old new : Option Held) (room : List ℕ) (n : ℕ) → Gives old new room (Ok n) → Passed old new (take n room)
+passed_given None new room n s = tt
+passed_given (Some o) None room n s = absurd s
+passed_given (Some o) (Some new) room n s =
+    record { files = s.files; current = s.current; sound = s.sound; passed = s.given }
+
+is_none : (n : ℕ) → nat_lt 0 n ≡ false → n ≡ 0
+is_none n e = let h : n ≤ 0 = ltb-false 0 n e in omega arith
+
+pub got_piece : (old new : Option Held) (room before after : List ℕ) (most n : ℕ) → Gives old new room (Ok n) → n ≤ length room → length room ≡ most → 0 < most → after ≡ before ++ take n room → GotPiece old new before after most (nat_lt 0 n)
+got_piece old new room before after most n given fits long some added =
+    let size : length (take n room) ≡ n = length-take-le n room fits in
+    record {
+      piece = take n room;
+      added = added;
+      few = omega arith;
+      some = λ e. let h : 0 < n = ltb-true 0 n e in omega arith;
+      ended = λ e. ended_given old new room n given (is_none n e) (omega arith);
+      passed = passed_given old new room n given;
+    }
+
+-- ---- the whole file
+
+pub ended_earlier : (a b c : Option Held) (xs : List ℕ) → Passed a b xs → Ended b c → Ended a c
+ended_earlier None b c xs p q = tt
+ended_earlier (Some a) None c xs p q = absurd p
+ended_earlier (Some a) (Some b) None xs p q = absurd q
+ended_earlier (Some a) (Some b) (Some c) xs p q = q
+
+-- the state of the loop: so much was read since it began
+pub record HasCome (before now : Option Held) (limit turn : ℕ) (bytes : List ℕ) : Type 0 where
+  pub passed : Passed before now bytes
+  pub far : turn ≤ length bytes
+  pub near : length bytes ≤ limit + 1
+
+pub come_first : (h : Option Held) (limit : ℕ) (bytes : List ℕ) → bytes ≡ [] → HasCome h h limit 0 bytes
+come_first h limit bytes e =
+    record {
+      passed = let P : List ℕ → Type 0 = λ b. Passed h h b in subst P (sym e) (passed_nothing h);
+      far = omega arith;
+      near = rw e (omega arith);
+    }
+
+pub come_more : (a b c : Option Held) (limit turn most : ℕ) (old new : List ℕ) → HasCome a b limit turn old → GotPiece b c old new most true → most ≤ limit + 1 - length old → HasCome a c limit (turn + 1) new
+come_more a b c limit turn most old new h g fits =
+    let size : length new ≡ length old + length g.piece = ap length g.added ∙ length-append old g.piece in
+    let some : 0 < length g.piece = g.some refl in
+    record {
+      passed = let P : List ℕ → Type 0 = λ x. Passed a c x in subst P (sym g.added) (passed_more a b c old g.piece h.passed g.passed);
+      far = omega (arith, h.far);
+      near = omega (arith, h.near, g.few);
+    }
+
+-- the file ended
+pub read_ended : (a b c : Option Held) (limit turn most : ℕ) (old new : List ℕ) → HasCome a b limit turn old → GotPiece b c old new most false → ReadOn a c limit new
+read_ended a b c limit turn most old new h g =
+    record {
+      passed = let P : List ℕ → Type 0 = λ x. Passed a c x in subst P (sym g.added) (passed_more a b c old g.piece h.passed g.passed);
+      ended = λ _. ended_earlier a b c old h.passed (g.ended refl);
+    }
+
+-- a byte past the limit was read
+pub read_past : (a b : Option Held) (limit turn : ℕ) (bytes : List ℕ) → HasCome a b limit turn bytes → limit < length bytes → ReadOn a b limit bytes
+read_past a b limit turn bytes h past =
+    record { passed = h.passed; ended = λ le. absurd (omega arith) }
+
+-- what a run from the first byte on read is what was read of the file
+whole_content : (name : List ℕ) (files : List (List ℕ × List ℕ)) (rest bytes left : List ℕ) → file_named name files ≡ Some rest → rest ≡ bytes ++ left → file_named name files ≡ Some (bytes ++ left)
+whole_content name files rest bytes left e p = e ∙ ap Some p
+
+pub read_whole : (old begun last : Option Held) (name : List ℕ) (limit : ℕ) (bytes : List ℕ) → Starts old begun name (Ok tt) → ReadOn begun last limit bytes → Read old last name limit bytes
+read_whole None begun last name limit bytes s r = tt
+read_whole (Some o) None last name limit bytes s r = absurd s
+read_whole (Some o) (Some b) None name limit bytes s r = absurd r.passed
+read_whole (Some o) (Some b) (Some l) name limit bytes s r =
+    record {
+      read = record {
+        files = r.passed.files ∙ s.files;
+        sound = λ t. r.passed.sound (s.sound t);
+        current = r.passed.current ∙ s.begun.0;
+        content = whole_content name o.files b.rest bytes l.rest s.begun.1 r.passed.passed;
+      };
+      ended = r.ended;
+    }

@@ -1,0 +1,13 @@
+pub mod Ends
+pub mod FileReads
+pub mod Meanings
+pub mod NetDesign
+pub mod NetFiles
+pub mod NetForm
+pub mod NetMeaning
+pub mod NetNumbers
+pub mod NetProper
+pub mod NetRows
+pub mod ReadBack
+pub mod Takes
+pub mod WordLines

@@ -1,0 +1,87 @@
+-- What a run promises.
+use Rattle.std.specs.Prelude.{◌≡◌, ℕ, ◌≤◌, true, Option, Some, None, List, [], ◌∷◌, ◌++◌, length, codes, decimal, ◌⊎◌, ◌==◌, if◌then◌else◌}
+use Rattle.mv_base.specs.Meaning.{Refines}
+use Rattle.mv_base.specs.Outside.{Held, file_named, Gained, GainedPart, Rose}
+use Rattle.mv_base.specs.declared.limits.TheConstants.{MAX_NETWORK_BYTES, MAX_NETS}
+use Rattle.mv_lex.specs.Lines.{lines_of, is_clean, first_fault}
+use Rattle.mv_net.specs.declared.parts.NetParts.{NetParts}
+use Rattle.mv_net.specs.Nets.{literals_in}
+use Rattle.mv_write.specs.Text.{text_of}
+use Rattle.mv_parse.specs.declared.design.Design.{Design}
+use Rattle.mv_parse.specs.Designs.{IsSound, drivers}
+use Rattle.mv_parse.specs.Grammar.{Says, IsRead}
+use Rattle.mv_parse.specs.Reading.{words_of}
+use Rattle.mv_parse.specs.Relation.{of_design}
+use Rattle.mvopt.specs.Scripts.{is_script}
+use Rattle.mvopt.specs.Words.{word_at}
+
+-- the bytes read as this design: they have no fault, their lines say the design, and it is sound
+pub record ReadsAs (bytes : List ℕ) (d : Design) : Type 0 where
+  pub clean : is_clean bytes ≡ true
+  pub says : Says (words_of (lines_of bytes)) d
+  pub sound : IsSound d
+
+-- a network file of the accepted form, within every limit
+pub record IsAccepted (bytes : List ℕ) : Type 0 where
+  pub design : Design
+  pub lexed : first_fault MAX_NETWORK_BYTES [] bytes ≡ None
+  pub read : IsRead (words_of (lines_of bytes)) design
+  pub sound : IsSound design
+  pub nets : length (drivers design) ≤ MAX_NETS
+
+-- the last line of the notes: the literals of the network as read and as written
+abbrev pub done_line : ℕ → ℕ → List ℕ
+done_line before after = codes "# done " ++ decimal before ++ 32 ∷ decimal after ++ 10 ∷ []
+
+-- the network file was read to its end, and what was written in its place: the text of a network that reads back as
+-- a design which may take the place of the one read
+pub record WasReplaced (words : List (List ℕ)) (before after : Held) (out now notes told : Option (List ℕ)) : Type 0 where
+  pub content : List ℕ
+  pub held : file_named (word_at words 1) before.files ≡ Some content
+  pub files : after.files ≡ before.files
+  pub current : after.current ≡ Some (word_at words 1)
+  pub ended : after.rest ≡ []
+  pub design : Design
+  pub read : ReadsAs content design
+  pub net : NetParts
+  pub gained : Gained out now (text_of net)
+  pub written : Design
+  pub back : ReadsAs (text_of net) written
+  pub refines : Refines (of_design written) (of_design design)
+  pub noted : Gained notes told (done_line (literals_in net.nets) (literals_in net.nets))
+
+-- the same where the files tell their contents
+abbrev pub Replaced : List (List ℕ) → Option Held → Option Held → Option (List ℕ) → Option (List ℕ) → Option (List ℕ) → Option (List ℕ) → Type 0
+Replaced words None after out now notes told = Unit {0}
+Replaced words (Some before) None out now notes told = ⊥
+Replaced words (Some before) (Some after) out now notes told = WasReplaced words before after out now notes told
+
+-- the named file's content is refused
+pub record IsRefused (Accepts : List ℕ → Type 0) (name : List ℕ) (held : Held) : Type 0 where
+  pub content : List ℕ
+  pub named : file_named name held.files ≡ Some content
+  pub refused : Accepts content → ⊥
+
+abbrev pub RefusesNetwork : List (List ℕ) → Option Held → Type 0
+RefusesNetwork words None = Unit {0}
+RefusesNetwork words (Some held) = IsRefused IsAccepted (word_at words 1) held
+
+abbrev pub RefusesScript : List (List ℕ) → Option Held → Type 0
+RefusesScript words None = Unit {0}
+RefusesScript words (Some held) = IsRefused (λ text. is_script text ≡ true) (word_at words 2) held
+
+-- sound files lack one of the two that the words name
+pub record LacksOne (words : List (List ℕ)) (held : Held) : Type 0 where
+  pub lacks : (file_named (word_at words 1) held.files ≡ None) ⊎ (file_named (word_at words 2) held.files ≡ None)
+
+abbrev pub LacksFile : List (List ℕ) → Option Held → Type 0
+LacksFile words None = Unit {0}
+LacksFile words (Some held) = held.sound ≡ true → LacksOne words held
+
+-- the line for each status that refuses
+abbrev pub fault_line : ℕ → List ℕ
+fault_line status = if status == 1 then codes "# fault words\n" else (if status == 2 then codes "# fault network 39 NotBuilt\n" else (if status == 3 then codes "# fault script 8 NotBuilt\n" else (if status == 4 then codes "# fault read\n" else codes "# fault memory\n")))
+
+-- the notes gained the line, or some first part of it where their count of faults rose
+abbrev pub Tells : Option (List ℕ) → Option (List ℕ) → ℕ → ℕ → List ℕ → Type 0
+Tells notes told before now line = Gained notes told line ⊎ (GainedPart notes told line × Rose before now)

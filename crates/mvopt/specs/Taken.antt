@@ -1,0 +1,30 @@
+-- Files that a run takes.
+use Rattle.std.specs.Prelude.{◌≡◌, ℕ, true, Option, Some, None, List}
+use Rattle.mv_base.specs.Outside.{Held, file_named, GainedPart}
+use Rattle.mv_net.specs.declared.parts.NetParts.{NetParts}
+use Rattle.mv_write.specs.Text.{text_of}
+use Rattle.mvopt.specs.Made.{Prepared}
+use Rattle.mvopt.specs.Run.{IsAccepted}
+use Rattle.mvopt.specs.Scripts.{is_script}
+use Rattle.mvopt.specs.Words.{word_at}
+
+-- the named file's content is accepted
+pub record IsTaken (Accepts : List ℕ → Type 0) (name : List ℕ) (held : Held) : Type 0 where
+  pub content : List ℕ
+  pub named : file_named name held.files ≡ Some content
+  pub accepted : Accepts content
+
+-- the same where the files tell their contents
+abbrev pub TakesScript : List (List ℕ) → Option Held → Type 0
+TakesScript words None = Unit {0}
+TakesScript words (Some held) = IsTaken (λ text. is_script text ≡ true) (word_at words 2) held
+
+abbrev pub TakesNetwork : List (List ℕ) → Option Held → Type 0
+TakesNetwork words None = Unit {0}
+TakesNetwork words (Some held) = IsTaken IsAccepted (word_at words 1) held
+
+-- a network was made, and the output gained some first part of its text
+pub record BeganText (words : List (List ℕ)) (before after : Option Held) (out now : Option (List ℕ)) : Type 0 where
+  pub net : NetParts
+  pub made : Prepared words before after net
+  pub part : GainedPart out now (text_of net)

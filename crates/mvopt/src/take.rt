@@ -1,0 +1,81 @@
+ghost use Rattle.std.specs.Prelude.{◌≡◌, ◌≤◌, map, length, string_bytes, true, Err, IfOk, IfErr, OnOk};
+ghost use Rattle.mv_net.specs.Binary.{IsBinary};
+ghost use Rattle.mvopt.specs.FileReading.{Stay};
+ghost use Rattle.mvopt.specs.Made.{Prepared};
+ghost use Rattle.mvopt.specs.Stops.{IsCause};
+ghost use Rattle.mvopt.specs.Taken.{TakesScript};
+ghost use Rattle.mvopt.specs.Words.{accepts};
+
+use crate::net_file::network_of;
+use crate::read::{ReadStop, read_file};
+use crate::script::is_script;
+use crate::stop::Stop;
+use crate::words::{is_accepted, word_at};
+use mv_base::{Files, MAX_NETWORK_BYTES, MAX_SCRIPT_BYTES};
+use mv_net::Network;
+use mv_parse::ParseStop;
+use std::alloc::Global;
+
+/// Reads the script file, and goes on where it is a script.
+#[tactic(auto, using(crate::proofs::Takes::takes_script))]
+fn take_script<F: Files>(alloc: Global, words: &[String], files: &mut F) -> Result<(), Stop>
+    requires { length words.now ≡ 3 }
+    ensures taken { OnOk result (TakesScript (map string_bytes words.now) (F.held files.old)) }
+    ensures stay { Stay (F.held files.old) (F.held files.new) }
+    ensures later { F.faults files.old ≤ F.faults files.new }
+    ensures only { result ≡ Err Stop.Network → ⊥ }
+    ensures stopped { IfErr result (IsCause (map string_bytes words.now) (F.held files.old) (F.faults files.old) (F.faults files.new)) }
+{
+    let text = match read_file(alloc, files, word_at(words, 2), MAX_SCRIPT_BYTES) {
+        Ok(text) => text,
+        Err(ReadStop::Failed) => return Err(Stop::Read),
+        Err(ReadStop::Memory) => return Err(Stop::Memory),
+    };
+    if !is_script(text.as_slice()) {
+        return Err(Stop::Script);
+    }
+    Ok(())
+}
+
+/// Reads the network file, and makes its network.
+#[tactic(auto, using(crate::proofs::Takes::takes_network))]
+fn take_network<F: Files>(alloc: Global, words: &[String], files: &mut F) -> Result<Network, Stop>
+    requires { length words.now ≡ 3 }
+    ensures made { IfOk result (Prepared (map string_bytes words.now) (F.held files.old) (F.held files.new)) }
+    ensures binary { IfOk result IsBinary }
+    ensures stopped { IfErr result (IsCause (map string_bytes words.now) (F.held files.old) (F.faults files.old) (F.faults files.new)) }
+{
+    let bytes = match read_file(alloc, files, word_at(words, 1), MAX_NETWORK_BYTES) {
+        Ok(bytes) => bytes,
+        Err(ReadStop::Failed) => return Err(Stop::Read),
+        Err(ReadStop::Memory) => return Err(Stop::Memory),
+    };
+    match network_of(alloc, bytes.as_slice()) {
+        Ok(net) => Ok(net),
+        Err(ParseStop::NotBuilt) => Err(Stop::Network),
+        Err(ParseStop::Memory) => Err(Stop::Memory),
+    }
+}
+
+/// The network that the words ask for: first they are judged, then the script, then the network.
+#[tactic(auto, using(crate::proofs::Takes::prepares))]
+pub fn prepare<F: Files>(alloc: Global, words: &[String], files: &mut F) -> Result<Network, Stop>
+    ensures taken { OnOk result (TakesScript (map string_bytes words.now) (F.held files.old)) }
+    ensures first { result ≡ Err Stop.Network → TakesScript (map string_bytes words.now) (F.held files.old) }
+    ensures made { IfOk result (Prepared (map string_bytes words.now) (F.held files.old) (F.held files.new)) }
+    ensures binary { IfOk result IsBinary }
+    ensures stopped { IfErr result (IsCause (map string_bytes words.now) (F.held files.old) (F.faults files.old) (F.faults files.new)) }
+    ensures accepted { (result ≡ Err Stop.Words → ⊥) → accepts (map string_bytes words.now) ≡ true }
+{
+    if !is_accepted(words) {
+        return Err(Stop::Words);
+    }
+    match take_script(alloc, words, files) {
+        Ok(()) => {}
+        Err(stop) => return Err(stop),
+    }
+    match take_network(alloc, words, files) {
+        Ok(net) => Ok(net),
+        Err(stop) => Err(stop),
+    }
+}
