@@ -6,7 +6,7 @@ use Rattle.std.proofs.lemmas.Bool.{false≢true, and_parts, cases_lt}
 use Rattle.std.proofs.lemmas.List.{get_or_past}
 use Rattle.std.proofs.lemmas.List.Elements.{All-nil, All-cons}
 use Rattle.std.proofs.lemmas.Option.{get_or_from_slice_get, none-some, same_Some}
-use Rattle.mv_base.specs.Names.{among, IsDistinct, is_net_name, is_model_name}
+use Rattle.mv_base.specs.Names.{among, IsDistinct, is_net_name, is_model_name, is_plain_name, is_plain_model}
 use Rattle.mv_base.specs.declared.limits.TheConstants.{MAX_NETS}
 use Rattle.mv_base.specs.declared.number.NetId.{NetId}
 use Rattle.mv_cover.specs.declared.cover.Cover.{Cover}
@@ -16,7 +16,6 @@ use Rattle.mv_net.specs.declared.parts.FlatLatch.{FlatLatch}
 use Rattle.mv_net.specs.declared.parts.NetParts.{NetParts}
 use Rattle.mv_net.specs.Nets.{slot, net_reads}
 use Rattle.mv_net.specs.Formed.{stands_in, all_differ, IsKind, IsReadable, IsCover, IsNamed, IsNet, AllLatches, latch_outputs, latch_resets, Acyclic, AreKind, WellFormed}
-use Rattle.mv_base.specs.Names.{is_plain_name, is_plain_model}
 use Rattle.mv_net.specs.Binary.{IsBinaryNet, IsBinary}
 use Rattle.mv_parse.specs.declared.design.FileTable.{FileTable}
 use Rattle.mv_parse.specs.declared.design.Design.{Design}

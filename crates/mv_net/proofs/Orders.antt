@@ -161,7 +161,7 @@ same_id : (m n : NetId) → m.0 ≡ n.0 → m ≡ n
 same_id m n e = λ i. record { 0 = e i }
 
 -- every number of an ascending list is above its first
-above_first : (n : NetId) (ns : List NetId) (m : ℕ) → ids_ascend (n ∷ ns) ≡ true → has_id ns m ≡ true → n.0 < m
+pub above_first : (n : NetId) (ns : List NetId) (m : ℕ) → ids_ascend (n ∷ ns) ≡ true → has_id ns m ≡ true → n.0 < m
 above_first n [] m up h = absurd (false≢true h)
 above_first n (k ∷ ns) m up h =
     let p = and_parts (nat_lt n.0 k.0) (ids_ascend (k ∷ ns)) up in
@@ -171,7 +171,7 @@ above_first n (k ∷ ns) m up h =
     (λ (rest : has_id ns m ≡ true). let far : k.0 < m = above_first k ns m p.1 rest in omega arith)
     (or_cases (nat_eq k.0 m) (has_id ns m) h)
 
-ascend_tail : (n : NetId) (ns : List NetId) → ids_ascend (n ∷ ns) ≡ true → ids_ascend ns ≡ true
+pub ascend_tail : (n : NetId) (ns : List NetId) → ids_ascend (n ∷ ns) ≡ true → ids_ascend ns ≡ true
 ascend_tail n [] up = refl
 ascend_tail n (m ∷ ns) up = (and_parts (nat_lt n.0 m.0) (ids_ascend (m ∷ ns)) up).1
 

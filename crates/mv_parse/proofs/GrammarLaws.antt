@@ -4,9 +4,8 @@ use Rattle.std.specs.Prelude.{codes, nat_eq, nat_le}
 use Rattle.std.specs.List.{list_all, flat_map}
 use Rattle.std.proofs.lemmas.Bool.{and_parts, and_from, eqb-true, leb-true, le-leb}
 use Rattle.std.proofs.Math.Seq.{take-append_seam}
-use Rattle.mv_base.specs.Names.{names_differ}
+use Rattle.mv_base.specs.Names.{names_differ, is_plain_name, is_plain_model}
 use Rattle.mv_base.proofs.NameLemmas.{same_word_is, same_word_refl}
-use Rattle.mv_base.specs.Names.{is_plain_name, is_plain_model}
 use Rattle.mv_parse.specs.declared.design.FileTable.{FileTable}
 use Rattle.mv_parse.specs.declared.design.Design.{Design}
 use Rattle.mv_parse.specs.Designs.{IsProper, AllTables, TablesWithin}

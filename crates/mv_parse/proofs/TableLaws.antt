@@ -5,10 +5,9 @@ use Rattle.std.specs.List.{list_all, flat_map}
 use Rattle.std.proofs.lemmas.Bool.{and_parts, and_from, cases_Bool, leb-true, le-leb}
 use Rattle.std.proofs.lemmas.List.{length-map, length-take, length-drop}
 use Rattle.std.proofs.Math.Seq.{take-append_seam}
-use Rattle.mv_base.specs.Names.{same_word, names_differ}
+use Rattle.mv_base.specs.Names.{same_word, names_differ, is_plain_name}
 use Rattle.mv_base.specs.declared.limits.TheConstants.{MAX_COLUMNS, MAX_TABLE_LINES}
 use Rattle.mv_base.proofs.NameLemmas.{same_word_is, same_word_refl}
-use Rattle.mv_base.specs.Names.{is_plain_name}
 use Rattle.mv_parse.specs.declared.design.Row.{Row}
 use Rattle.mv_parse.specs.declared.design.FileTable.{FileTable}
 use Rattle.mv_parse.specs.Designs.{AllRows, IsTable, AllTables, TablesWithin}

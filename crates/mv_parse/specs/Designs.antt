@@ -1,10 +1,9 @@
 -- Designs, as a network file of the accepted form says them: one model, binary nets, tables with one output.
 use Rattle.std.specs.Prelude.{◌≡◌, ℕ, ◌+◌, ◌<◌, ◌≤◌, Bool, true, ◌&&◌, ◌||◌, ◌==◌, List, [], ◌∷◌, ◌++◌, length, map}
 use Rattle.std.specs.List.{list_all}
-use Rattle.mv_base.specs.Names.{among, names_differ}
+use Rattle.mv_base.specs.Names.{among, names_differ, is_plain_name, is_plain_model}
 use Rattle.mv_base.specs.Set.{one, full}
-use Rattle.mv_base.specs.declared.limits.TheConstants.{MAX_COLUMNS, MAX_TABLE_LINES, MAX_NETS}
-use Rattle.mv_base.specs.Names.{is_plain_name, is_plain_model}
+use Rattle.mv_base.specs.declared.limits.TheConstants.{MAX_COLUMNS, MAX_TABLE_LINES}
 use Rattle.mv_parse.specs.declared.design.Row.{Row}
 use Rattle.mv_parse.specs.declared.design.FileTable.{FileTable}
 use Rattle.mv_parse.specs.declared.design.Design.{Design}
@@ -75,11 +74,7 @@ pub record IsSound (d : Design) : Type 0 where
   pub rank : List ℕ → ℕ
   pub falls : AllFall rank d.tables
 
--- no limit on columns, rows or nets is passed
+-- no limit on columns or rows is passed
 abbrev pub TablesWithin : List FileTable → Type 0
 TablesWithin [] = Unit {0}
 TablesWithin (t ∷ ts) = (length t.inputs + 1 ≤ MAX_COLUMNS) × (length t.rows ≤ MAX_TABLE_LINES) × TablesWithin ts
-
-pub record IsWithin (d : Design) : Type 0 where
-  pub tables : TablesWithin d.tables
-  pub nets : length (drivers d) ≤ MAX_NETS

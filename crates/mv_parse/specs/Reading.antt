@@ -2,11 +2,10 @@
 -- proved to compute these, and these to be the grammar.
 use Rattle.std.specs.Prelude.{ℕ, ◌+◌, ◌-◌, Bool, true, false, ◌&&◌, ◌||◌, nat_eq, nat_le, List, [], ◌∷◌, length, map, take, drop, codes, slice_index_or, slice_range, if◌then◌else◌}
 use Rattle.std.specs.List.{list_all}
-use Rattle.mv_base.specs.Names.{same_word, names_differ}
+use Rattle.mv_base.specs.Names.{same_word, names_differ, is_plain_name, is_plain_model}
 use Rattle.mv_base.specs.Set.{one, full}
 use Rattle.mv_base.specs.declared.limits.TheConstants.{MAX_COLUMNS, MAX_TABLE_LINES}
 use Rattle.mv_lex.specs.declared.lines.LexLine.{LexLine}
-use Rattle.mv_base.specs.Names.{is_plain_name, is_plain_model}
 use Rattle.mv_parse.specs.declared.design.Row.{Row}
 use Rattle.mv_parse.specs.declared.design.FileTable.{FileTable}
 use Rattle.mv_parse.specs.declared.design.Design.{Design}

@@ -4,6 +4,8 @@
 mod design;
 mod names;
 mod reader;
+#[cfg(test)]
+mod tests;
 
 pub use design::{Design, FileTable, Row};
 pub use reader::{ParseStop, parse};

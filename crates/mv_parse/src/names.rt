@@ -1,7 +1,6 @@
 ghost use Rattle.std.specs.Prelude.{◌≡◌, ◌<◌, ◌&&◌, ◌==◌, ◌||◌, not, length, nat_le, codes};
 ghost use Rattle.std.specs.List.{list_all, list_any};
-ghost use Rattle.mv_base.specs.Names.{is_word, is_net_name, is_model_name, is_bracketed, is_visible, same_word, ends_with, begins_with};
-ghost use Rattle.mv_base.specs.Names.{is_plain_name, is_plain_model, is_reserved};
+ghost use Rattle.mv_base.specs.Names.{is_word, is_net_name, is_model_name, is_bracketed, is_visible, same_word, ends_with, begins_with, is_plain_name, is_plain_model, is_reserved};
 
 use mv_base::{MAX_WORD_BYTES, Name};
 

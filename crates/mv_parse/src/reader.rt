@@ -1,7 +1,6 @@
 ghost use Rattle.std.specs.Prelude.{◌≡◌, ◌≤◌, ◌+◌, ◌-◌, ◌<◌, true, false, Err, length, map, IfOk};
 ghost use Rattle.std.specs.List.{list_all};
-ghost use Rattle.mv_base.specs.Names.{names_differ};
-ghost use Rattle.mv_base.specs.Names.{is_plain_name};
+ghost use Rattle.mv_base.specs.Names.{names_differ, is_plain_name};
 ghost use Rattle.mv_parse.specs.Reading.{words_of, names_fit, is_entry_word, row_fits, rows_fit, first_is, head_fits, is_head, rows_before, table_fits, tables_fit, model_fits, named_fits, end_fits, begins_table, tables_part_fits, line_at, behind_head, frame_fits, ports_fit, file_fits, entry_set, row_of, table_of, tables_of, design_of};
 ghost use Rattle.mv_parse.specs.Grammar.{Says, IsRead};
 ghost use Rattle.mv_parse.specs.declared.design.Design.{Design};

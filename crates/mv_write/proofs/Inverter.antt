@@ -1,7 +1,7 @@
 -- The network of the tests, an input and its inverse, is well formed and of the form that is written.
 use Rattle.std.proofs.Common.{◌≡◌, ◌∙◌, ℕ, zero, suc, ◌<◌, true, false, ◌||◌, nat_eq, List, [], ◌∷◌, get_or, Option, Some, None, IsTrue, refl, sym, ap, subst, inl, inr, ◌⊎◌, ⊎_elim, eqb-true, eq-eqb, arith}
 use Rattle.std.proofs.lemmas.Bool.{or_cases, false≢true, lt-ltb, ne_eqb}
-use Rattle.mv_base.specs.Names.{is_net_name, is_model_name, is_word}
+use Rattle.mv_base.specs.Names.{is_net_name, is_model_name, is_word, is_plain_name, is_plain_model}
 use Rattle.mv_base.specs.Set.{has, empty, one, full}
 use Rattle.mv_base.proofs.Sets.{has-one, has-full, has-empty}
 use Rattle.mv_base.specs.declared.number.NetId.{NetId}
@@ -13,7 +13,6 @@ use Rattle.mv_net.specs.declared.parts.FlatNet.{FlatNet}
 use Rattle.mv_net.specs.declared.parts.NetParts.{NetParts}
 use Rattle.mv_net.specs.Nets.{slot, net_reads}
 use Rattle.mv_net.specs.Formed.{stands_in, IsKind, IsReadable, IsOutput, IsLiteral, LinesDiffer, IsCover, IsNet, AreKind, WellFormed}
-use Rattle.mv_base.specs.Names.{is_plain_name, is_plain_model}
 use Rattle.mv_net.specs.Binary.{IsBinaryNet, IsBinary}
 
 abbrev pub input : FlatNet

@@ -6,24 +6,10 @@ use Rattle.mv_base.specs.declared.number.NetId.{NetId}
 use Rattle.mv_cover.specs.declared.cube.Lit.{Lit}
 use Rattle.mv_cover.specs.Cubes.{nets_ascend}
 use Rattle.mv_cover.specs.Covers.{cube_reads}
+use Rattle.mv_net.proofs.Orders.{above_first, ascend_tail}
 use Rattle.mv_net.specs.Index.{has_id, ids_ascend}
 use Rattle.mv_write.specs.Text.{set_in}
 use Rattle.mv_write.specs.Walk.{walked, numbers}
-
--- every net behind the first of ascending ones is above it
-nets_above : (n : NetId) (ns : List NetId) (m : ℕ) → ids_ascend (n ∷ ns) ≡ true → has_id ns m ≡ true → n.0 < m
-nets_above n [] m up h = absurd (false≢true h)
-nets_above n (k ∷ ns) m up h =
-    let p = and_parts (nat_lt n.0 k.0) (ids_ascend (k ∷ ns)) up in
-    let low : n.0 < k.0 = ltb-true n.0 k.0 p.0 in
-    ⊎_elim
-    (λ (y : nat_eq k.0 m ≡ true). let e : k.0 ≡ m = eqb-true k.0 m y in omega arith)
-    (λ (rest : has_id ns m ≡ true). let far : k.0 < m = nets_above k ns m p.1 rest in omega arith)
-    (or_cases (nat_eq k.0 m) (has_id ns m) h)
-
-nets_tail : (n : NetId) (ns : List NetId) → ids_ascend (n ∷ ns) ≡ true → ids_ascend ns ≡ true
-nets_tail n [] up = refl
-nets_tail n (m ∷ ns) up = (and_parts (nat_lt n.0 m.0) (ids_ascend (m ∷ ns)) up).1
 
 lits_above : (l : Lit) (ls : List Lit) (m : ℕ) → nets_ascend (l ∷ ls) ≡ true → cube_reads ls m ≡ true → l.net.0 < m
 lits_above l [] m up h = absurd (false≢true h)
@@ -75,7 +61,7 @@ later n m b h low =
 pub walked-is : (ls : List Lit) (ns : List NetId) → nets_ascend ls ≡ true → ids_ascend ns ≡ true → ((m : ℕ) → cube_reads ls m ≡ true → has_id ns m ≡ true) → walked ls ns ≡ map (λ m. set_in ls m) (numbers ns)
 walked-is ls [] up vp among = refl
 walked-is [] (n ∷ ns) up vp among =
-    ap (λ sets. full 2 ∷ sets) (walked-is [] ns refl (nets_tail n ns vp) (λ m h. absurd (false≢true h)))
+    ap (λ sets. full 2 ∷ sets) (walked-is [] ns refl (ascend_tail n ns vp) (λ m h. absurd (false≢true h)))
 walked-is (l ∷ ls) (n ∷ ns) up vp among =
     ⊎_elim
     (λ (y : nat_eq l.net.0 n.0 ≡ true).
@@ -83,21 +69,21 @@ walked-is (l ∷ ls) (n ∷ ns) up vp among =
     let inside : (m : ℕ) → cube_reads ls m ≡ true → has_id ns m ≡ true = λ m h.
     let far : l.net.0 < m = lits_above l ls m up h in
     later n.0 m (has_id ns m) (among m (or_right (nat_eq l.net.0 m) (cube_reads ls m) h)) (omega arith) in
-    let past : (m : ℕ) → has_id ns m ≡ true → l.net.0 < m = λ m h. let far : n.0 < m = nets_above n ns m vp h in omega arith in
-    rw y (ap (λ sets. l.set ∷ sets) (walked-is ls ns (lits_tail l ls up) (nets_tail n ns vp) inside ∙ sets_past l ls ns past)))
+    let past : (m : ℕ) → has_id ns m ≡ true → l.net.0 < m = λ m h. let far : n.0 < m = above_first n ns m vp h in omega arith in
+    rw y (ap (λ sets. l.set ∷ sets) (walked-is ls ns (lits_tail l ls up) (ascend_tail n ns vp) inside ∙ sets_past l ls ns past)))
     (λ (f : nat_eq l.net.0 n.0 ≡ false).
     let here : cube_reads (l ∷ ls) l.net.0 ≡ true = or_left (nat_eq l.net.0 l.net.0) (cube_reads ls l.net.0) (eq-eqb l.net.0 l.net.0 refl) in
     let low : n.0 < l.net.0 =
     ⊎_elim
     (λ (y : nat_eq n.0 l.net.0 ≡ true). absurd (eqb-false l.net.0 n.0 f (sym (eqb-true n.0 l.net.0 y))))
-    (λ (rest : has_id ns l.net.0 ≡ true). nets_above n ns l.net.0 vp rest)
+    (λ (rest : has_id ns l.net.0 ≡ true). above_first n ns l.net.0 vp rest)
     (or_cases (nat_eq n.0 l.net.0) (has_id ns l.net.0) (among l.net.0 here)) in
     let inside : (m : ℕ) → cube_reads (l ∷ ls) m ≡ true → has_id ns m ≡ true = λ m h.
     let far : l.net.0 ≤ m = lits_from l ls m up h in
     later n.0 m (has_id ns m) (among m h) (omega arith) in
     let none : cube_reads (l ∷ ls) n.0 ≡ true → n.0 < n.0 = λ h. let far : l.net.0 ≤ n.0 = lits_from l ls n.0 up h in omega arith in
     let both : set_in (l ∷ ls) n.0 ≡ full 2 = set_in-none (l ∷ ls) n.0 none in
-    let rest : walked (l ∷ ls) ns ≡ map (λ m. set_in (l ∷ ls) m) (numbers ns) = walked-is (l ∷ ls) ns up (nets_tail n ns vp) inside in
+    let rest : walked (l ∷ ls) ns ≡ map (λ m. set_in (l ∷ ls) m) (numbers ns) = walked-is (l ∷ ls) ns up (ascend_tail n ns vp) inside in
     let front : walked (l ∷ ls) (n ∷ ns) ≡ full 2 ∷ walked (l ∷ ls) ns = rw f refl in
     front ∙ (ap (λ s. s ∷ walked (l ∷ ls) ns) (sym both) ∙ ap (λ sets. set_in (l ∷ ls) n.0 ∷ sets) rest))
     (cases_Bool (nat_eq l.net.0 n.0))

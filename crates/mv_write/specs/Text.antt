@@ -1,8 +1,7 @@
 -- The text of a network: its lines as lists of words, each written with one space between its words.
-use Rattle.std.specs.Prelude.{◌≡◌, ℕ, ◌+◌, Bool, true, false, ◌==◌, nat_eq, not, ◌&&◌, Option, Some, None, List, [], ◌∷◌, ◌++◌, length, map, filter, codes, decimal, if◌then◌else◌}
-use Rattle.std.specs.List.{flat_map, list_all, list_any, range_with_len}
-use Rattle.mv_base.specs.Names.{is_net_name, is_model_name}
-use Rattle.mv_base.specs.Set.{one, full}
+use Rattle.std.specs.Prelude.{ℕ, nat_eq, Option, Some, None, List, [], ◌∷◌, ◌++◌, length, map, filter, codes, if◌then◌else◌}
+use Rattle.std.specs.List.{flat_map, range_with_len}
+use Rattle.mv_base.specs.Set.{full}
 use Rattle.mv_base.specs.declared.number.NetId.{NetId}
 use Rattle.mv_lex.specs.Text.{line_text}
 use Rattle.mv_parse.specs.Grammar.{entry_word}
@@ -10,8 +9,6 @@ use Rattle.mv_cover.specs.declared.cube.Lit.{Lit}
 use Rattle.mv_cover.specs.declared.line.Line.{Line}
 use Rattle.mv_cover.specs.declared.cover.Cover.{Cover}
 use Rattle.mv_cover.specs.Covers.{cover_reads}
-use Rattle.mv_net.specs.declared.parts.Kind.{Kind}
-use Rattle.mv_net.specs.declared.parts.Kind.TheVariants.{Input, Table}
 use Rattle.mv_net.specs.declared.parts.FlatNet.{FlatNet}
 use Rattle.mv_net.specs.declared.parts.NetParts.{NetParts}
 use Rattle.mv_net.specs.Nets.{slot, name_in}

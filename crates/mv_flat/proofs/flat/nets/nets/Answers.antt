@@ -1,6 +1,5 @@
-use Rattle.std.proofs.Common.{subst}
+use Rattle.std.proofs.Common.{subst, List, Some}
 use Rattle.mv_base.specs.declared.number.NetId.{NetId}
-use Rattle.std.proofs.Common.{List, Some}
 use Rattle.mv_parse.specs.Designs.{drivers}
 use Rattle.mv_flat.specs.Tables.{IsTableNet}
 use Rattle.mv_flat.proofs.Placement.{table_at, columns_at, all_differ_at, rows_at, nets_more}
