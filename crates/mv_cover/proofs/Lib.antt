@@ -2,3 +2,4 @@ pub mod Equal
 pub mod Counts
 pub mod Points
 pub mod Local
+pub mod Covering

@@ -1,4 +1,6 @@
 pub mod Cubes
 pub mod Covers
+pub mod Covering
+pub mod Cofactors
 pub mod Equal
 pub mod Keys

@@ -2,6 +2,7 @@
 #![tactic(auto)]
 
 mod cover;
+mod covers;
 mod cube;
 mod line;
 

@@ -1,4 +1,7 @@
-ghost use Rattle.std.specs.Prelude.{◌≡◌, ◌<◌, false, nat_eq};
+ghost use Rattle.std.specs.Prelude.{◌≡◌, ◌<◌, ◌∷◌, [], true, false, nat_eq, nat_lt, OnOk};
+ghost use Rattle.std.specs.List.{list_all};
+ghost use Rattle.mv_cover.specs.Cubes.{IsCube};
+ghost use Rattle.mv_cover.specs.Covering.{AreWithin};
 ghost use Rattle.mv_base.specs.Set.{empty};
 
 use crate::{Cover, Cube, Line, Lit};
@@ -71,5 +74,65 @@ fn a_cover_counts_its_literals(rt: HostRuntime) -> Result<(), Memory> {
     assert_eq!(rt; copy.literals(), 2);
     assert!(rt; copy.default == cover.default);
     assert!(rt; copy.lines.as_slice() == cover.lines.as_slice());
+    Ok(())
+}
+
+/// Adds a line of a cube over nets 0 and 1, which have two values each.
+#[tactic(auto, using(crate::proofs::Covering::added))]
+fn add(lines: &mut Items<Line>, lits: &[Lit]) -> Result<(), Memory>
+    requires cube { IsCube lits.now }
+    requires low { list_all (λ l. nat_lt l.net.0 2) lits.now ≡ true }
+    requires within { AreWithin (2 ∷ 2 ∷ []) lines.old }
+    ensures { OnOk result (AreWithin (2 ∷ 2 ∷ []) lines.new) }
+{
+    let cube = Cube::new(lines.allocator(), lits)?;
+    let out = ValueSet::one(Value(0));
+    lines.push(Line { cube, out })?;
+    Ok(())
+}
+
+/// The lines without one, over nets 0 and 1.
+#[tactic(auto, using(crate::proofs::Covering::added))]
+fn no_lines(alloc: Global) -> Items<Line>
+    ensures none { result ≡ [] }
+    ensures within { AreWithin (2 ∷ 2 ∷ []) result }
+{
+    Items::new(alloc)
+}
+
+/// Whether the lines match each of the four points.
+fn all(lines: Items<Line>, alloc: Global) -> Result<bool, Memory>
+    requires { AreWithin (2 ∷ 2 ∷ []) lines }
+{
+    let cover = Cover {
+        lines,
+        default: None,
+    };
+    cover.covers_all(alloc, &[2, 2])
+}
+
+#[test]
+fn lines_cover_all_points_or_miss_one(rt: HostRuntime) -> Result<(), Memory> {
+    let alloc = rt.alloc();
+    let mut lines = no_lines(alloc);
+    add(&mut lines, &[literal(0, 0)])?;
+    add(&mut lines, &[literal(0, 1), literal(1, 0)])?;
+    add(&mut lines, &[literal(0, 1), literal(1, 1)])?;
+    assert!(rt; all(lines, alloc)?);
+    let mut fewer = no_lines(alloc);
+    add(&mut fewer, &[literal(0, 0)])?;
+    add(&mut fewer, &[literal(0, 1), literal(1, 0)])?;
+    assert!(rt; !all(fewer, alloc)?);
+    Ok(())
+}
+
+#[test]
+fn no_line_misses_and_an_empty_cube_covers(rt: HostRuntime) -> Result<(), Memory> {
+    let alloc = rt.alloc();
+    assert!(rt; !all(no_lines(alloc), alloc)?);
+    let mut lines = no_lines(alloc);
+    add(&mut lines, &[literal(1, 1)])?;
+    add(&mut lines, &[])?;
+    assert!(rt; all(lines, alloc)?);
     Ok(())
 }

@@ -1,0 +1,25 @@
+-- Each part is the cofactor at the value: it is smaller, and what it misses the cubes miss.
+use Rattle.std.proofs.Common.{◌≡◌, ◌<◌, ◌∙◌, get_or, arith}
+use Rattle.mv_cover.specs.Cofactors.{literals_in, cofactor_of}
+use Rattle.mv_cover.proofs.Covering.{missed_by_none, part_within, part_smaller, part_covered, part_missed}
+use Rattle.mv_cover.proofs.covers.+covers.Goals as goal
+
+pub returns-in-Nowhere : goal.returns-in-Nowhere
+returns-in-Nowhere t c = missed_by_none _ _ c.in-Nowhere.ensures
+
+pub covers-requires : goal.covers-requires
+covers-requires t c =
+    let same : c.as_slice.result.now ≡ cofactor_of c.in-On.net.0 c.loop-value.value c.args.cubes.now = c.as_slice.ensures ∙ c.in_ok-part.ensures in
+    let less : literals_in c.as_slice.result.now < literals_in c.args.cubes.now = part_smaller c.as_slice.result.now c.args.cubes.now c.in-On.net.0 c.loop-value.value same c.in-On.ensures in
+    (omega arith, part_within c.args.counts.now c.as_slice.result.now c.args.cubes.now c.in-On.net.0 c.loop-value.value same c.requires)
+
+pub returns-then-not-branch : goal.returns-then-not-branch
+returns-then-not-branch t c =
+    let same : c.as_slice.result.now ≡ cofactor_of c.in-On.net.0 c.loop-value.value c.args.cubes.now = c.as_slice.ensures ∙ c.in_ok-part.ensures in
+    let low : c.loop-value.value < get_or c.args.counts.now c.in-On.net.0 0 = omega arith in
+    part_missed c.args.counts.now c.as_slice.result.now c.args.cubes.now c.in-On.net.0 c.loop-value.value c.in_ok-covers.field-0 same c.if-not-branch.true c.in_ok-covers.ensures low
+
+pub loop-value-preserved : goal.loop-value-preserved
+loop-value-preserved t c =
+    let same : c.as_slice.result.now ≡ cofactor_of c.in-On.net.0 c.loop-value.value c.args.cubes.now = c.as_slice.ensures ∙ c.in_ok-part.ensures in
+    part_covered c.args.counts.now c.as_slice.result.now c.args.cubes.now c.in-On.net.0 c.loop-value.value c.in_ok-covers.field-0 same c.if-not-branch.false c.in_ok-covers.ensures c.loop-value.invariant

@@ -1,0 +1,140 @@
+ghost use Rattle.std.specs.Prelude.{◌≡◌, ◌<◌, IfOk, MatchBool, MatchOption, slice_index, length, [], true};
+ghost use Rattle.mv_cover.specs.Covers.{cube_reads};
+ghost use Rattle.mv_cover.specs.Covering.{AreWithin, CoversAll, MissesSome};
+ghost use Rattle.mv_cover.specs.Cofactors.{AreCubesWithin, IsChoice, CubesCover, CubesMiss, cube_allows, cube_without, cofactor_of, cubes_of, cubes_read};
+
+use crate::{Cover, Line, Lit};
+use mv_base::{Items, Memory, NetId, Value};
+use std::alloc::Global;
+
+impl Cover {
+    /// Whether the lines match every point, where `counts` has the number of values of each net by its number.
+    /// Each net that the lines read has values there. It fails for want of memory alone.
+    pub fn covers_all(&self, alloc: Global, counts: &[u16]) -> Result<bool, Memory>
+        requires { AreWithin counts.now self.now.lines }
+        ensures { IfOk result (λ all. MatchBool all (CoversAll counts.now self.now.lines) (MissesSome counts.now self.now.lines)) }
+    {
+        let cubes = copied_cubes(alloc, self.lines.as_slice())?;
+        covers(alloc, cubes.as_slice(), counts)
+    }
+}
+
+/// The cubes of the lines, as lists of literals.
+fn copied_cubes(alloc: Global, lines: &[Line]) -> Result<Items<Items<Lit>>, Memory>
+    ensures { IfOk result (λ cubes. cubes ≡ cubes_of lines.now) }
+{
+    let mut cubes = Items::new(alloc);
+    for line in lines {
+        let lits = Vec::from_slice(alloc, line.cube.lits())?;
+        cubes.push(Items::of(lits))?;
+    }
+    Ok(cubes)
+}
+
+/// Whether the cubes match every point. It branches on a net, and stops at the first part that isn't covered.
+fn covers(alloc: Global, cubes: &[Items<Lit>], counts: &[u16]) -> Result<bool, Memory>
+    requires { AreCubesWithin counts.now cubes.now }
+    ensures { IfOk result (λ all. MatchBool all (CubesCover counts.now cubes.now) (CubesMiss counts.now cubes.now)) }
+{
+    let net = match choose(cubes) {
+        Choice::Every => return Ok(true),
+        Choice::Nowhere => return Ok(false),
+        Choice::On(net) => net,
+    };
+    for value in 0..count_of(counts, net) {
+        let part = cofactor(alloc, cubes, net, Value(value))?;
+        if !covers(alloc, part.as_slice(), counts)? {
+            return Ok(false);
+        }
+    }
+    Ok(true)
+}
+
+/// The cubes match everywhere or nowhere, or the net to branch on.
+#[derive(Clone, Copy)]
+enum Choice {
+    Every,
+    Nowhere,
+    On(NetId),
+}
+
+/// Looks at a cube with the fewest literals: without any it matches everywhere, else the net of one is branched on.
+fn choose(cubes: &[Items<Lit>]) -> Choice
+    ensures { IsChoice result cubes.now }
+{
+    if cubes.is_empty() {
+        return Choice::Nowhere;
+    }
+    match first_net(cubes[shortest(cubes)].as_slice()) {
+        None => Choice::Every,
+        Some(net) => Choice::On(net),
+    }
+}
+
+/// The net of the first literal, or None for the cube without literals.
+fn first_net(cube: &[Lit]) -> Option<NetId>
+    ensures { MatchOption result (cube.now ≡ []) (λ net. cube_reads cube.now net.0 ≡ true) }
+{
+    match cube.first() {
+        None => None,
+        Some(literal) => Some(literal.net),
+    }
+}
+
+/// The place of a cube with the fewest literals.
+fn shortest(cubes: &[Items<Lit>]) -> usize
+    requires { 0 < length cubes.now }
+    ensures { result < length cubes.now }
+{
+    let mut best = 0;
+    for (place, cube) in cubes.iter().enumerate() {
+        if cube.len() < cubes[best].len() {
+            best = place;
+        }
+    }
+    best
+}
+
+/// How many values the net has, which is none outside the counts.
+fn count_of(counts: &[u16], net: NetId) -> u16
+    ensures { result ≡ slice_index counts.now net.0 }
+{
+    counts.get(net.0 as usize).copied().unwrap_or(0)
+}
+
+/// What the cubes ask of the other nets where the net has the value.
+fn cofactor(
+    alloc: Global,
+    cubes: &[Items<Lit>],
+    net: NetId,
+    value: Value,
+) -> Result<Items<Items<Lit>>, Memory>
+    ensures { IfOk result (λ part. part ≡ cofactor_of net.0 value.0 cubes.now) }
+{
+    let mut part = Items::new(alloc);
+    for cube in cubes {
+        if allows(cube.as_slice(), net, value) {
+            part.push(without(alloc, cube.as_slice(), net)?)?;
+        }
+    }
+    Ok(part)
+}
+
+/// Whether each literal on the net has the value.
+fn allows(cube: &[Lit], net: NetId, value: Value) -> bool
+    ensures { result ≡ cube_allows net.0 value.0 cube.now }
+{
+    cube.iter().all(|l| l.net != net || l.set.has(value))
+}
+
+/// The literals that aren't on the net.
+fn without(alloc: Global, cube: &[Lit], net: NetId) -> Result<Items<Lit>, Memory>
+    ensures { IfOk result (λ rest. rest ≡ cube_without net.0 cube.now) }
+{
+    let rest = cube
+        .iter()
+        .copied()
+        .filter(|l| l.net != net)
+        .collect(alloc)?;
+    Ok(Items::of(rest))
+}
