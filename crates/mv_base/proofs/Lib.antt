@@ -2,3 +2,4 @@ pub mod Sets
 pub mod NameLemmas
 pub mod FileLemmas
 pub mod OutsideLemmas
+pub mod Gains

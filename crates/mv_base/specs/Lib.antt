@@ -4,3 +4,4 @@ pub mod Meaning
 pub mod Outside
 pub mod Memory
 pub mod Entries
+pub mod Appends

@@ -12,6 +12,7 @@ mod name;
 mod name_set;
 mod number;
 mod outside;
+mod pieces;
 #[cfg(test)]
 mod tests;
 mod value_set;
@@ -33,4 +34,5 @@ pub use name::Name;
 pub use name_set::NameSet;
 pub use number::{NetId, Value};
 pub use outside::{Failed, Files, Sink};
+pub use pieces::{put_both, put_piece};
 pub use value_set::{ValueSet, set_laws};

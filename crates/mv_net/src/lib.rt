@@ -2,6 +2,7 @@
 //! well formed with what is looked up in it.
 #![tactic(auto)]
 
+mod change;
 mod fanins;
 mod kept;
 mod names;
@@ -11,6 +12,7 @@ mod readers;
 mod seen;
 mod tallies;
 
+pub use change::{Change, NewCount, NewNet, NewTable};
 pub use network::Network;
 pub use parts::{FlatLatch, FlatNet, Kind, NetParts};
 

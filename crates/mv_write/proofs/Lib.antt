@@ -1,4 +1,3 @@
-pub mod Gains
 pub mod Ascending
 pub mod Walks
 pub mod Lines

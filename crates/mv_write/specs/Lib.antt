@@ -1,3 +1,2 @@
 pub mod Text
-pub mod Appends
 pub mod Walk

@@ -6,11 +6,11 @@ ghost use Rattle.mv_net.specs.Nets.{slot, name_in, table_in};
 ghost use Rattle.mv_net.specs.Index.{is_held};
 ghost use Rattle.mv_write.specs.Text.{table_words, net_words, text_of};
 ghost use Rattle.mv_net.specs.Binary.{IsBinary};
-ghost use Rattle.mv_write.specs.Appends.{Appends};
+ghost use Rattle.mv_base.specs.Appends.{Appends};
 
-use crate::pieces::{put_both, put_head, put_list, put_piece};
+use crate::pieces::{put_head, put_list};
 use crate::rows::put_rows;
-use mv_base::{Failed, NetId, Sink};
+use mv_base::{Failed, NetId, Sink, put_both, put_piece};
 use mv_cover::Cover;
 use mv_net::Network;
 

@@ -1,26 +1,11 @@
 ghost use Rattle.std.specs.Prelude.{◌++◌, ◌∷◌, [], codes};
 ghost use Rattle.mv_lex.specs.Text.{spaced, line_text};
 ghost use Rattle.mv_write.specs.Text.{names_of};
-ghost use Rattle.mv_write.specs.Appends.{Appends};
+ghost use Rattle.mv_base.specs.Appends.{Appends};
 ghost use Rattle.mv_write.specs.Walk.{AreHeld};
 
-use mv_base::{Failed, NetId, Sink};
+use mv_base::{Failed, NetId, Sink, put_both, put_piece};
 use mv_net::Network;
-
-/// Appends a piece.
-pub fn put_piece<K: Sink>(piece: &[u8], out: &mut K) -> Result<(), Failed>
-    ensures { Appends (K.told out.old) (K.told out.new) (K.faults out.old) (K.faults out.new) piece.now result }
-{
-    out.put(piece)
-}
-
-/// Appends both pieces.
-pub fn put_both<K: Sink>(first: &[u8], second: &[u8], out: &mut K) -> Result<(), Failed>
-    ensures { Appends (K.told out.old) (K.told out.new) (K.faults out.old) (K.faults out.new) (first.now ++ second.now) result }
-{
-    put_piece(first, out)?;
-    put_piece(second, out)
-}
 
 /// Appends the names of these nets, each behind a space.
 fn put_names<K: Sink>(net: &Network, nets: &[NetId], out: &mut K) -> Result<(), Failed>

@@ -6,12 +6,11 @@ ghost use Rattle.mv_net.specs.Formed.{IsOutput};
 ghost use Rattle.mv_net.specs.Index.{IsAscending};
 ghost use Rattle.mv_write.specs.Text.{line_words};
 ghost use Rattle.mv_parse.specs.Grammar.{entry_word};
-ghost use Rattle.mv_write.specs.Appends.{Appends};
+ghost use Rattle.mv_base.specs.Appends.{Appends};
 ghost use Rattle.mv_write.specs.Walk.{first_set, behind, walked, entries_text, numbers, AreFaninsOf, AllSets, IsBinaryLine, AllBinaryLines};
 
-use crate::pieces::put_both;
 use itoa::Buffer;
-use mv_base::{Failed, NetId, Sink, ValueSet};
+use mv_base::{Failed, NetId, Sink, ValueSet, put_both};
 use mv_cover::{Line, Lit};
 
 /// Appends the entry of a set of values of a binary net, with this piece behind it.

@@ -1,6 +1,6 @@
 use Rattle.std.proofs.Common.{Some, None, sym}
 use Rattle.mv_net.specs.Nets.{slot}
-use Rattle.mv_write.proofs.Gains.{Appends-none, Appends-same}
+use Rattle.mv_base.proofs.Gains.{Appends-none, Appends-same}
 use Rattle.mv_write.proofs.Lines.{net_words-is, net_words-none}
 use Rattle.mv_write.proofs.network.put_net.Goals as goal
 

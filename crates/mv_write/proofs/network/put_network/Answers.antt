@@ -2,7 +2,7 @@ use Rattle.std.proofs.Common.{◌∷◌, ◌++◌, codes, refl}
 use Rattle.std.specs.List.{flat_map}
 use Rattle.mv_lex.specs.Text.{line_text}
 use Rattle.mv_write.specs.Text.{names_of, net_words}
-use Rattle.mv_write.proofs.Gains.{start, next, stop, last}
+use Rattle.mv_base.proofs.Gains.{start, next, stop, last}
 use Rattle.mv_write.proofs.Lines.{whole-text}
 use Rattle.mv_write.proofs.Held.{inputs-held, outputs-held}
 use Rattle.mv_write.proofs.network.put_network.Goals as goal

@@ -1,5 +1,5 @@
 use Rattle.std.proofs.Common.{[], ◌∷◌}
-use Rattle.mv_write.proofs.Gains.{start, next, stop, last}
+use Rattle.mv_base.proofs.Gains.{start, next, stop, last}
 use Rattle.mv_write.proofs.Lines.{root-text}
 use Rattle.mv_write.proofs.network.put_root.Goals as goal
 

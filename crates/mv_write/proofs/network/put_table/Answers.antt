@@ -6,7 +6,7 @@ use Rattle.mv_net.specs.Nets.{slot, name_in}
 use Rattle.mv_write.specs.Text.{line_words}
 use Rattle.mv_write.specs.Walk.{numbers}
 use Rattle.mv_write.proofs.Binary.{lines-binary}
-use Rattle.mv_write.proofs.Gains.{start, next, stop, last}
+use Rattle.mv_base.proofs.Gains.{start, next, stop, last}
 use Rattle.mv_write.proofs.Lines.{table-text}
 use Rattle.mv_write.proofs.Held.{fanins-held, fanins-table, fanins-are}
 use Rattle.mv_write.proofs.network.put_table.Goals as goal

@@ -2,7 +2,7 @@ use Rattle.std.proofs.Common.{◌+◌, ◌<◌, ◌≤◌, length, drop, arith}
 use Rattle.std.specs.List.{flat_map}
 use Rattle.mv_lex.specs.Text.{line_text}
 use Rattle.mv_write.specs.Text.{net_words}
-use Rattle.mv_write.proofs.Gains.{next, stop, finish}
+use Rattle.mv_base.proofs.Gains.{next, stop, finish}
 use Rattle.mv_write.proofs.Lines.{tables-more, tables-none}
 use Rattle.mv_write.proofs.network.put_tables.Goals as goal
 

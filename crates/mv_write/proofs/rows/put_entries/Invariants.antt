@@ -1,6 +1,6 @@
 use Rattle.std.proofs.Common.{drop}
 use Rattle.mv_write.specs.Walk.{walked, entries_text, AllSets}
-use Rattle.mv_write.proofs.Gains.{Going}
+use Rattle.mv_base.proofs.Gains.{Going}
 use Rattle.mv_write.proofs.rows.put_entries.Given as goal
 
 abbrev pub invariant-loop-n : goal.invariant-loop-n

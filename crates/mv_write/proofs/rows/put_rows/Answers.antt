@@ -5,7 +5,7 @@ use Rattle.mv_cover.specs.declared.line.Line.{Line}
 use Rattle.mv_write.specs.Text.{line_words}
 use Rattle.mv_write.specs.Walk.{numbers}
 use Rattle.mv_write.proofs.Binary.{line-binary}
-use Rattle.mv_write.proofs.Gains.{next, stop, finish}
+use Rattle.mv_base.proofs.Gains.{next, stop, finish}
 use Rattle.mv_write.proofs.Lines.{rest-more, rest-none}
 use Rattle.mv_write.proofs.Held.{line-fanins}
 use Rattle.mv_write.proofs.rows.put_rows.Goals as goal

@@ -3,7 +3,7 @@ use Rattle.std.specs.List.{flat_map}
 use Rattle.mv_lex.specs.Text.{line_text}
 use Rattle.mv_write.specs.Text.{line_words}
 use Rattle.mv_write.specs.Walk.{numbers}
-use Rattle.mv_write.proofs.Gains.{Going}
+use Rattle.mv_base.proofs.Gains.{Going}
 use Rattle.mv_write.proofs.rows.put_rows.Given as goal
 
 abbrev pub invariant-loop-line : goal.invariant-loop-line

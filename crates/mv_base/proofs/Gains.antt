@@ -5,7 +5,7 @@ use Rattle.std.proofs.lemmas.List.{append-nil}
 use Rattle.mv_base.specs.declared.outside.Failed.{Failed}
 use Rattle.mv_base.specs.Outside.{Gained, GainedPart, HasCause}
 use Rattle.mv_base.proofs.OutsideLemmas.{told_gained, told_part, Rose-earlier}
-use Rattle.mv_write.specs.Appends.{Appends}
+use Rattle.mv_base.specs.Appends.{Appends}
 
 -- ---- what a sink tells
 

@@ -1,6 +1,6 @@
 use Rattle.std.proofs.Common.{refl}
-use Rattle.mv_write.proofs.Gains.{start, next, stop, last}
-use Rattle.mv_write.proofs.pieces.put_both.Goals as goal
+use Rattle.mv_base.proofs.Gains.{start, next, stop, last}
+use Rattle.mv_base.proofs.pieces.put_both.Goals as goal
 
 pub returns-in_err-put_piece : goal.returns-in_err-put_piece
 returns-in_err-put_piece g c =
