@@ -6,3 +6,4 @@ pub mod Named
 pub mod Marks
 pub mod Known
 pub mod Inverter
+pub mod Changed

@@ -1,5 +1,16 @@
-use mv_base::{Items, Name, NetId};
+ghost use Rattle.std.specs.Prelude.{◌≡◌, ℕ, ◌+◌, ◌≤◌, ◌++◌, Some, None, [], map, length, slice_set, if◌then◌else◌, IfOk, OnOk, OnErr};
+ghost use Rattle.std.specs.Option.{option_map};
+ghost use Rattle.mv_net.specs.Nets.{slot};
+ghost use Rattle.mv_net.specs.Formed.{WellFormed};
+ghost use Rattle.mv_net.specs.Kept.{IsNetwork};
+ghost use Rattle.mv_net.specs.Index.{has_id};
+ghost use Rattle.mv_net.specs.Changes.{table_for, count_for, with_table, with_count, changed_from, made_net, changed};
+
+use crate::kept::{Kept, kept_of};
+use crate::{FlatNet, Kind, NetParts};
+use mv_base::{Items, MAX_NETS, Memory, Name, NetId};
 use mv_cover::Cover;
+use std::alloc::Global;
 
 /// A net that comes: it has this table, and the numbers from 0 as the names of its values.
 #[derive(Drop)]
@@ -30,4 +41,155 @@ pub struct Change {
     pub set: Items<NewTable>,
     pub values: Items<NewCount>,
     pub gone: Items<NetId>,
+}
+
+/// Takes the net out of its place. A number past the last has none.
+fn take_net(nets: &mut Items<Option<FlatNet>>, n: NetId) -> Option<FlatNet>
+    ensures net { result ≡ slot nets.old n.0 }
+    ensures nets { nets.new ≡ slice_set nets.old n.0 None }
+{
+    let at = n.0 as usize;
+    if at < nets.len() {
+        return nets.replace(at, None);
+    }
+    None
+}
+
+/// Puts the net at this place. A number past the last gets none.
+fn put_net(nets: &mut Items<Option<FlatNet>>, n: NetId, net: Option<FlatNet>)
+    ensures { nets.new ≡ slice_set nets.old n.0 net }
+{
+    let at = n.0 as usize;
+    if at < nets.len() {
+        nets.replace(at, net);
+    }
+}
+
+/// The net with this table.
+fn tabled(net: Option<FlatNet>, table: Cover) -> Option<FlatNet>
+    ensures { result ≡ option_map (with_table (Some table)) net }
+{
+    match net {
+        Some(held) => Some(FlatNet {
+            name: held.name,
+            values: held.values,
+            value_names: held.value_names,
+            kind: held.kind,
+            table: Some(table),
+        }),
+        None => None,
+    }
+}
+
+/// The net with this number of values, whose names are the numbers from 0.
+fn counted(alloc: Global, net: Option<FlatNet>, values: u16) -> Option<FlatNet>
+    ensures { result ≡ option_map (with_count (Some values)) net }
+{
+    match net {
+        Some(held) => Some(FlatNet {
+            name: held.name,
+            values,
+            value_names: Items::new(alloc),
+            kind: held.kind,
+            table: held.table,
+        }),
+        None => None,
+    }
+}
+
+/// Gives nets their other tables: the first that the list has for a net.
+fn set_tables(nets: &mut Items<Option<FlatNet>>, mut set: Items<NewTable>)
+    ensures long { length nets.new ≡ length nets.old }
+    ensures each { (n : ℕ) → slot nets.new n ≡ option_map (with_table (table_for n set)) (slot nets.old n) }
+{
+    'all: while let Some(new) = set.pop() {
+        let net = take_net(nets, new.net);
+        put_net(nets, new.net, tabled(net, new.table));
+    }
+}
+
+/// Gives nets their other numbers of values: the first that the list has for a net.
+fn set_counts(alloc: Global, nets: &mut Items<Option<FlatNet>>, mut values: Items<NewCount>)
+    ensures long { length nets.new ≡ length nets.old }
+    ensures each { (n : ℕ) → slot nets.new n ≡ option_map (with_count (count_for n values)) (slot nets.old n) }
+{
+    'all: while let Some(new) = values.pop() {
+        let net = take_net(nets, new.net);
+        put_net(nets, new.net, counted(alloc, net, new.values));
+    }
+}
+
+/// Lets the nets of these numbers go.
+fn drop_nets(nets: &mut Items<Option<FlatNet>>, mut gone: Items<NetId>)
+    ensures long { length nets.new ≡ length nets.old }
+    ensures each { (n : ℕ) → slot nets.new n ≡ (if has_id gone n then None else slot nets.old n) }
+{
+    'all: while let Some(n) = gone.pop() {
+        put_net(nets, n, None);
+    }
+}
+
+/// The net that comes.
+fn made(new: &NewNet) -> Result<FlatNet, Memory>
+    ensures { IfOk result (λ net. Some net ≡ made_net new.now) }
+{
+    Ok(FlatNet {
+        name: new.name.copy()?,
+        values: new.values,
+        value_names: Items::new(new.table.lines.allocator()),
+        kind: Kind::Table,
+        table: Some(new.table.copy()?),
+    })
+}
+
+/// Adds the nets that come.
+fn add_nets(nets: &mut Items<Option<FlatNet>>, add: &[NewNet]) -> Result<(), Memory>
+    ensures { OnOk result (nets.new ≡ nets.old ++ map made_net add.now) }
+{
+    for new in add {
+        nets.push(Some(made(new)?))?;
+    }
+    Ok(())
+}
+
+/// Changes the nets, in time that grows with their number and with the change alone.
+fn change_nets(nets: &mut Items<Option<FlatNet>>, change: Change) -> Result<(), Memory>
+    ensures { OnOk result (nets.new ≡ changed_from change 0 nets.old ++ map made_net change.add) }
+{
+    let Change {
+        add,
+        set,
+        values,
+        gone,
+    } = change;
+    set_tables(nets, set);
+    set_counts(nets.allocator(), nets, values);
+    drop_nets(nets, gone);
+    add_nets(nets, add.as_slice())
+}
+
+/// The changed parts, beside those that they are made from.
+#[tactic(auto, unfolding(crate::specs::Changes::changed))]
+fn changed_parts(parts: &NetParts, change: Change) -> Result<NetParts, Memory>
+    ensures { IfOk result (λ now. now ≡ changed parts.now change) }
+{
+    let mut now = parts.copy()?;
+    change_nets(&mut now.nets, change)?;
+    Ok(now)
+}
+
+/// Changes the parts of a network and what is kept of them, both or neither.
+pub fn put_change(parts: &mut NetParts, kept: &mut Kept, change: Change) -> Result<(), Memory>
+    requires few { length parts.old.nets + length change.add ≤ MAX_NETS }
+    requires formed { WellFormed (changed parts.old change) }
+    ensures parts { OnOk result (parts.new ≡ changed parts.old change) }
+    ensures network { OnOk result (IsNetwork parts.new kept.new) }
+    ensures same_parts { OnErr result (parts.new ≡ parts.old) }
+    ensures same_kept { OnErr result (kept.new ≡ kept.old) }
+{
+    let now = changed_parts(parts, change)?;
+    let known = kept_of(now.nets.allocator(), &now)?;
+    *parts = now;
+    *kept = known;
+    Ok(())
 }

@@ -1,10 +1,12 @@
-ghost use Rattle.std.specs.Prelude.{◌≡◌, ℕ, ◌<◌, ◌≤◌, Some, IsTrue, map, length, option_copied, IfOk, IfSome, IsNone};
+ghost use Rattle.std.specs.Prelude.{◌≡◌, ℕ, ◌+◌, ◌<◌, ◌≤◌, Some, IsTrue, map, length, option_copied, IfOk, IfSome, IsNone, OnOk, OnErr};
 ghost use Rattle.mv_net.specs.Nets.{slot, values_in, name_in, table_in, net_reads, literals_in};
 ghost use Rattle.mv_net.specs.Formed.{WellFormed};
 ghost use Rattle.mv_net.specs.Index.{is_held, kind_in, value_names_in, is_seen, IsAscending, HasName};
+ghost use Rattle.mv_net.specs.Changes.{changed};
 
+use crate::change::put_change;
 use crate::kept::{Kept, kept_of};
-use crate::{FlatLatch, FlatNet, Kind, NetParts};
+use crate::{Change, FlatLatch, FlatNet, Kind, NetParts};
 use mv_base::{MAX_NETS, Memory, Name, NetId};
 use mv_cover::Cover;
 use std::alloc::Global;
@@ -38,6 +40,19 @@ impl Network {
     {
         let kept = kept_of(alloc, &parts)?;
         Ok(Network { parts, kept })
+    }
+
+    /// Changes the network: nets come, get other tables or numbers of values, or go. New nets get the numbers from
+    /// `next_number` on; a number that goes isn't used again. All memory is taken first: on an error the network is as
+    /// before. What is looked up is made anew, so the time grows with the whole network and the change, also if the
+    /// change is small.
+    pub fn change(&mut self, change: Change) -> Result<(), Memory>
+        requires few { length self.old.nets + length change.add ≤ MAX_NETS }
+        requires formed { WellFormed (changed self.old change) }
+        ensures ok { OnOk result (self.new ≡ changed self.old change) }
+        ensures err { OnErr result (self.new ≡ self.old) }
+    {
+        put_change(&mut self.parts, &mut self.kept, change)
     }
 
     /// The parts of the network are well formed.
