@@ -7,3 +7,4 @@ pub mod Marks
 pub mod Known
 pub mod Inverter
 pub mod Changed
+pub mod Patches

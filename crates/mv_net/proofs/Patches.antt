@@ -1,0 +1,101 @@
+-- Assignments with the value of one net changed, and nets with one slot written: when they agree.
+use Rattle.std.proofs.Common.{◌≡◌, ◌∙◌, ℕ, ◌<◌, ◌≤◌, true, false, List, length, set, Option, None, IsTrue, refl, sym, ap, subst, ◌⊎◌, inl, inr, ⊎_elim}
+use Rattle.std.proofs.lemmas.Bool.{cases_Bool, cases_eq, cases_lt, false≢true, ne_eqb}
+use Rattle.std.proofs.lemmas.List.{get_or-set_same, get_or-set_other, set_past, get_or_past}
+use Rattle.mv_cover.proofs.Covering.{changed, changed-agrees}
+use Rattle.mv_net.specs.declared.parts.FlatNet.{FlatNet}
+use Rattle.mv_net.specs.Nets.{slot, net_reads}
+use Rattle.mv_net.specs.Allowed.{net_allows, Agrees}
+use Rattle.mv_net.proofs.Local.{net_allows-local}
+
+-- ---- an assignment changed at one net
+
+-- x with the value v at n
+abbrev pub put : (n v : ℕ) → (ℕ → ℕ) → ℕ → ℕ
+put n v x = changed n v x
+
+pub put_same : (n v : ℕ) (x : ℕ → ℕ) → put n v x n ≡ v
+put_same n v x = (changed-agrees n v x).here
+
+pub put_other : (n v : ℕ) (x : ℕ → ℕ) (m : ℕ) → (m ≡ n → ⊥) → put n v x m ≡ x m
+put_other n v x m ne = (changed-agrees n v x).others m (ne_eqb m n ne)
+
+-- a table that doesn't read n allows as before
+pub net_allows-put : (f : Option FlatNet) (n v : ℕ) (x : ℕ → ℕ) (value : ℕ) → net_reads f n ≡ false → net_allows f (put n v x) value ≡ net_allows f x value
+net_allows-put f n v x value unread =
+    net_allows-local f (put n v x) x value (λ m r. put_other n v x m (λ e. false≢true (sym unread ∙ (ap (net_reads f) (sym e) ∙ r))))
+
+-- ---- nets with one slot written
+
+-- at n stands f, if n is one of the numbers
+pub slot-set_here : (nets : List (Option FlatNet)) (n : ℕ) (f : Option FlatNet) → n < length nets → slot (set nets n f) n ≡ f
+slot-set_here nets n f low = get_or-set_same nets n f None low
+
+pub slot-set_other : (nets : List (Option FlatNet)) (n m : ℕ) (f : Option FlatNet) → (m ≡ n → ⊥) → slot (set nets n f) m ≡ slot nets m
+slot-set_other nets n m f ne = get_or-set_other nets n m f None ne
+
+-- or none, if n is past the last
+slot-set : (nets : List (Option FlatNet)) (n : ℕ) (f : Option FlatNet) → (slot (set nets n f) n ≡ f) ⊎ (slot (set nets n f) n ≡ None)
+slot-set nets n f =
+    ⊎_elim
+    (λ (low : n < length nets). inl (slot-set_here nets n f low))
+    (λ (past : length nets ≤ n). inr (ap (λ l. slot l n) (set_past nets n f past) ∙ get_or_past nets n None past))
+    (cases_lt n (length nets))
+
+-- a net that is gone isn't held
+pub slot-set_none : (nets : List (Option FlatNet)) (n : ℕ) → slot (set nets n None) n ≡ None
+slot-set_none nets n = ⊎_elim (λ e. e) (λ e. e) (slot-set nets n None)
+
+-- the assignment agrees with each net but the one at n
+pub record AgreesBut (nets : List (Option FlatNet)) (n : ℕ) (at : ℕ → ℕ) : Type 0 where
+  pub each : (m : ℕ) → (m ≡ n → ⊥) → IsTrue (net_allows (slot nets m) at (at m))
+
+pub AgreesBut-from : (nets : List (Option FlatNet)) (n : ℕ) (x : ℕ → ℕ) → Agrees nets x → AgreesBut nets n x
+AgreesBut-from nets n x a = record { each = λ m ne. a.each m }
+
+-- with the one at n it agrees with all
+pub Agrees-all : (nets : List (Option FlatNet)) (n : ℕ) (x : ℕ → ℕ) → AgreesBut nets n x → IsTrue (net_allows (slot nets n) x (x n)) → Agrees nets x
+Agrees-all nets n x others here = record {
+  each = λ m.
+      ⊎_elim
+      (λ (e : m ≡ n). let P : ℕ → Type 0 = λ k. IsTrue (net_allows (slot nets k) x (x k)) in subst P (sym e) here)
+      (λ (ne : m ≡ n → ⊥). others.each m ne)
+      (cases_eq m n);
+}
+
+-- the slot at n is written with what the assignment agrees with
+pub Agrees-set : (nets : List (Option FlatNet)) (n : ℕ) (f : Option FlatNet) (x : ℕ → ℕ) → AgreesBut nets n x → IsTrue (net_allows f x (x n)) → Agrees (set nets n f) x
+Agrees-set nets n f x others here =
+    Agrees-all (set nets n f) n x
+    (record { each = λ m ne. moved m _ _ (slot-set_other nets n m f ne) (others.each m ne) })
+    (⊎_elim
+    (λ (e : slot (set nets n f) n ≡ f). moved n _ _ e here)
+    (λ (e : slot (set nets n f) n ≡ None). moved n _ _ e refl)
+    (slot-set nets n f))
+  where
+    moved : (m : ℕ) (new old : Option FlatNet) → new ≡ old → IsTrue (net_allows old x (x m)) → IsTrue (net_allows new x (x m))
+    moved m new old e a = subst (λ (g : Option FlatNet). IsTrue (net_allows g x (x m))) (sym e) a
+
+-- the others are as before
+pub Agrees-others : (nets : List (Option FlatNet)) (n : ℕ) (f : Option FlatNet) (x : ℕ → ℕ) → Agrees (set nets n f) x → AgreesBut nets n x
+Agrees-others nets n f x a = record {
+  each = λ m ne. subst (λ (g : Option FlatNet). IsTrue (net_allows g x (x m))) (slot-set_other nets n m f ne) (a.each m);
+}
+
+-- and it agrees with what was written
+pub Agrees-here : (nets : List (Option FlatNet)) (n : ℕ) (f : Option FlatNet) (x : ℕ → ℕ) → n < length nets → Agrees (set nets n f) x → IsTrue (net_allows f x (x n))
+Agrees-here nets n f x low a = subst (λ (g : Option FlatNet). IsTrue (net_allows g x (x n))) (slot-set_here nets n f low) (a.each n)
+
+-- n takes the value v: its table allows that, its readers allow their values with it, and the others allow as before
+pub Agrees-put : (nets : List (Option FlatNet)) (n v : ℕ) (x : ℕ → ℕ) → IsTrue (net_allows (slot nets n) (put n v x) v) → ((m : ℕ) → (m ≡ n → ⊥) → net_reads (slot nets m) n ≡ true → IsTrue (net_allows (slot nets m) (put n v x) (x m))) → ((m : ℕ) → (m ≡ n → ⊥) → net_reads (slot nets m) n ≡ false → IsTrue (net_allows (slot nets m) x (x m))) → Agrees nets (put n v x)
+Agrees-put nets n v x here readers others =
+    Agrees-all nets n (put n v x)
+    (record { each = λ m ne. subst (λ value. IsTrue (net_allows (slot nets m) (put n v x) value)) (sym (put_other n v x m ne)) (at m ne) })
+    (subst (λ value. IsTrue (net_allows (slot nets n) (put n v x) value)) (sym (put_same n v x)) here)
+  where
+    at : (m : ℕ) → (m ≡ n → ⊥) → IsTrue (net_allows (slot nets m) (put n v x) (x m))
+    at m ne =
+        ⊎_elim
+        (λ (r : net_reads (slot nets m) n ≡ true). readers m ne r)
+        (λ (u : net_reads (slot nets m) n ≡ false). net_allows-put (slot nets m) n v x (x m) u ∙ others m ne u)
+        (cases_Bool (net_reads (slot nets m) n))
