@@ -3,3 +3,4 @@ pub mod NameLemmas
 pub mod FileLemmas
 pub mod OutsideLemmas
 pub mod Gains
+pub mod Meanings

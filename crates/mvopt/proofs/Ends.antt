@@ -14,7 +14,7 @@ use Rattle.mv_parse.specs.Relation.{of_design}
 use Rattle.mvopt.specs.Run.{Replaced, RefusesNetwork, RefusesScript, LacksFile, done_line}
 use Rattle.mvopt.specs.Stops.{status_of, IsCause}
 use Rattle.mvopt.specs.Words.{accepts}
-use Rattle.mvopt.proofs.Meanings.{SameMeaning-then, Refines-from_same}
+use Rattle.mv_base.proofs.Meanings.{SameMeaning-then, Refines-from_same}
 use Rattle.mvopt.proofs.Takes.{prepared_taken}
 use Rattle.mvopt.proofs.ReadBack.{reads_back}
 

@@ -1,6 +1,5 @@
 pub mod Ends
 pub mod FileReads
-pub mod Meanings
 pub mod NetDesign
 pub mod NetFiles
 pub mod NetForm
