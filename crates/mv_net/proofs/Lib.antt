@@ -8,3 +8,5 @@ pub mod Known
 pub mod Inverter
 pub mod Changed
 pub mod Patches
+pub mod Ports
+pub mod Drivers
