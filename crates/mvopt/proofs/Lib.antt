@@ -8,5 +8,6 @@ pub mod NetNumbers
 pub mod NetProper
 pub mod NetRows
 pub mod ReadBack
+pub mod ScriptWords
 pub mod Takes
 pub mod WordLines

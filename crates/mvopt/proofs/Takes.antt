@@ -8,14 +8,15 @@ use Rattle.mv_base.specs.declared.limits.TheConstants.{MAX_NETWORK_BYTES, MAX_SC
 use Rattle.mv_base.proofs.OutsideLemmas.{Rose-earlier}
 use Rattle.mv_lex.proofs.Facts.{length-from_first_fault}
 use Rattle.mv_net.specs.declared.parts.NetParts.{NetParts}
+use Rattle.mvopt.specs.declared.script.Command.{Command}
 use Rattle.mvopt.specs.declared.stop.Stop.{Stop}
 use Rattle.mvopt.specs.declared.stop.Stop.TheVariants.{Words, Network, Script, Read as Unread, Memory}
 use Rattle.mvopt.specs.FileReading.{WasRead, Read, StaySame, Stay, Lacks}
 use Rattle.mvopt.specs.Made.{IsNetOf, Prepared}
 use Rattle.mvopt.specs.Run.{IsAccepted, IsRefused, RefusesNetwork, RefusesScript, LacksOne, LacksFile}
-use Rattle.mvopt.specs.Scripts.{is_script, is_silent}
+use Rattle.mvopt.specs.Scripts.{is_script, commands_in}
 use Rattle.mvopt.specs.Stops.{IsCause}
-use Rattle.mvopt.specs.Taken.{TakesScript, TakesNetwork}
+use Rattle.mvopt.specs.Taken.{TakesScript, TakesCommands, TakesNetwork}
 use Rattle.mvopt.specs.Words.{word_at, accepts}
 
 -- ---- what was read is the whole content, where that is within the limit
@@ -49,7 +50,7 @@ refused_read Accepts before after name limit bytes short r never =
 
 script_size : (text : List ℕ) → is_script text ≡ true → length text ≤ MAX_SCRIPT_BYTES
 unfolding is_script
-script_size text e = leb-true (length text) MAX_SCRIPT_BYTES (and_parts (nat_le (length text) MAX_SCRIPT_BYTES) (is_silent text) e).0
+script_size text e = leb-true (length text) MAX_SCRIPT_BYTES (and_parts _ _ (and_parts _ _ e).0).0
 
 pub script_refused : (words : List (List ℕ)) (old new : Option Held) (bytes : List ℕ) → Read old new (word_at words 2) MAX_SCRIPT_BYTES bytes → is_script bytes ≡ false → RefusesScript words old
 script_refused words None new bytes r e = tt
@@ -63,6 +64,12 @@ script_taken words (Some o) None bytes r e = absurd r
 script_taken words (Some o) (Some n) bytes r e =
     record { content = bytes; named = whole o n (word_at words 2) MAX_SCRIPT_BYTES bytes r (script_size bytes e); accepted = e }
 
+pub commands_taken : (words : List (List ℕ)) (old new : Option Held) (bytes : List ℕ) (commands : List Command) → Read old new (word_at words 2) MAX_SCRIPT_BYTES bytes → is_script bytes ≡ true → commands ≡ commands_in bytes → TakesCommands words old commands
+commands_taken words None new bytes commands r e given = tt
+commands_taken words (Some o) None bytes commands r e given = absurd r
+commands_taken words (Some o) (Some n) bytes commands r e given =
+    record { content = bytes; named = whole o n (word_at words 2) MAX_SCRIPT_BYTES bytes r (script_size bytes e); accepted = (e, given) }
+
 -- ---- a file that isn't there
 
 pub lacks_script : (words : List (List ℕ)) (old : Option Held) → Lacks old (word_at words 2) → LacksFile words old
@@ -73,7 +80,7 @@ pub lacks_network : (words : List (List ℕ)) (old : Option Held) → Lacks old 
 lacks_network words None l = tt
 lacks_network words (Some o) l = λ s. record { lacks = inl (l s) }
 
-pub ruleset takes_script = (script_refused, script_taken, lacks_script)
+pub ruleset takes_script = (script_refused, script_taken, commands_taken, lacks_script)
 
 -- ---- the network
 

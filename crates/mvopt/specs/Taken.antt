@@ -3,9 +3,10 @@ use Rattle.std.specs.Prelude.{◌≡◌, ℕ, true, Option, Some, None, List}
 use Rattle.mv_base.specs.Outside.{Held, file_named, GainedPart}
 use Rattle.mv_net.specs.declared.parts.NetParts.{NetParts}
 use Rattle.mv_write.specs.Text.{text_of}
+use Rattle.mvopt.specs.declared.script.Command.{Command}
 use Rattle.mvopt.specs.Made.{Prepared}
 use Rattle.mvopt.specs.Run.{IsAccepted}
-use Rattle.mvopt.specs.Scripts.{is_script}
+use Rattle.mvopt.specs.Scripts.{is_script, commands_in}
 use Rattle.mvopt.specs.Words.{word_at}
 
 -- the named file's content is accepted
@@ -18,6 +19,11 @@ pub record IsTaken (Accepts : List ℕ → Type 0) (name : List ℕ) (held : Hel
 abbrev pub TakesScript : List (List ℕ) → Option Held → Type 0
 TakesScript words None = Unit {0}
 TakesScript words (Some held) = IsTaken (λ text. is_script text ≡ true) (word_at words 2) held
+
+-- the named script is accepted, and these are its commands
+abbrev pub TakesCommands : List (List ℕ) → Option Held → List Command → Type 0
+TakesCommands words None commands = Unit {0}
+TakesCommands words (Some held) commands = IsTaken (λ text. (is_script text ≡ true) × (commands ≡ commands_in text)) (word_at words 2) held
 
 abbrev pub TakesNetwork : List (List ℕ) → Option Held → Type 0
 TakesNetwork words None = Unit {0}

@@ -3,24 +3,25 @@ ghost use Rattle.mv_net.specs.Binary.{IsBinary};
 ghost use Rattle.mvopt.specs.FileReading.{Stay};
 ghost use Rattle.mvopt.specs.Made.{Prepared};
 ghost use Rattle.mvopt.specs.Stops.{IsCause};
-ghost use Rattle.mvopt.specs.Taken.{TakesScript};
+ghost use Rattle.mvopt.specs.Taken.{TakesScript, TakesCommands};
 ghost use Rattle.mvopt.specs.Words.{accepts};
 
 use crate::net_file::network_of;
 use crate::read::{ReadStop, read_file};
-use crate::script::is_script;
+use crate::script::{Command, ScriptStop, read_script};
 use crate::stop::Stop;
 use crate::words::{is_accepted, word_at};
-use mv_base::{Files, MAX_NETWORK_BYTES, MAX_SCRIPT_BYTES};
+use mv_base::{Files, Items, MAX_NETWORK_BYTES, MAX_SCRIPT_BYTES};
 use mv_net::Network;
 use mv_parse::ParseStop;
 use std::alloc::Global;
 
-/// Reads the script file, and goes on where it is a script.
+/// Reads the script file, and gives its commands.
 #[tactic(auto, using(crate::proofs::Takes::takes_script))]
-fn take_script<F: Files>(alloc: Global, words: &[String], files: &mut F) -> Result<(), Stop>
+fn take_script<F: Files>(alloc: Global, words: &[String], files: &mut F) -> Result<Items<Command>, Stop>
     requires { length words.now ≡ 3 }
     ensures taken { OnOk result (TakesScript (map string_bytes words.now) (F.held files.old)) }
+    ensures commands { IfOk result (λ commands. TakesCommands (map string_bytes words.now) (F.held files.old) commands) }
     ensures stay { Stay (F.held files.old) (F.held files.new) }
     ensures later { F.faults files.old ≤ F.faults files.new }
     ensures only { result ≡ Err Stop.Network → ⊥ }
@@ -31,10 +32,11 @@ fn take_script<F: Files>(alloc: Global, words: &[String], files: &mut F) -> Resu
         Err(ReadStop::Failed) => return Err(Stop::Read),
         Err(ReadStop::Memory) => return Err(Stop::Memory),
     };
-    if !is_script(text.as_slice()) {
-        return Err(Stop::Script);
+    match read_script(alloc, text.as_slice()) {
+        Ok(commands) => Ok(commands),
+        Err(ScriptStop::NotBuilt) => Err(Stop::Script),
+        Err(ScriptStop::Memory) => Err(Stop::Memory),
     }
-    Ok(())
 }
 
 /// Reads the network file, and makes its network.
@@ -71,7 +73,7 @@ pub fn prepare<F: Files>(alloc: Global, words: &[String], files: &mut F) -> Resu
         return Err(Stop::Words);
     }
     match take_script(alloc, words, files) {
-        Ok(()) => {}
+        Ok(_commands) => {}
         Err(stop) => return Err(stop),
     }
     match take_network(alloc, words, files) {
