@@ -1,8 +1,9 @@
 ghost use Rattle.std.specs.Prelude.{◌≡◌, ◌≤◌, ◌∷◌, [], Some, None, length, IfOk};
 ghost use Rattle.mv_base.specs.Set.{one};
 ghost use Rattle.mv_net.specs.Formed.{WellFormed};
+ghost use Rattle.mv_net.specs.Changes.{changed};
 
-use crate::{FlatNet, Kind, NetParts, Network};
+use crate::{Change, FlatNet, Kind, NetParts, Network, NewTable};
 use mv_base::{Items, MAX_NETS, Memory, Name, NetId, Value, ValueSet};
 use mv_cover::{Cover, Cube, Line, Lit};
 use std::alloc::Global;
@@ -81,6 +82,8 @@ fn alone(alloc: Global, net: NetId) -> Result<Items<NetId>, Memory>
 fn inverter(alloc: Global) -> Result<NetParts, Memory>
     ensures formed { IfOk result (λ parts. WellFormed parts) }
     ensures few { IfOk result (λ parts. length parts.nets ≤ MAX_NETS) }
+    ensures grounded { IfOk result
+        (λ parts. WellFormed (changed parts (record { add = []; set = record { net = record { 0 = 2 }; table = record { lines = []; default = Some (one 0) } } ∷ []; values = []; gone = [] }))) }
 {
     Ok(NetParts {
         root: Name::new(alloc, b"m")?,
@@ -94,6 +97,37 @@ fn inverter(alloc: Global) -> Result<NetParts, Memory>
 /// That network, made.
 fn network(alloc: Global) -> Result<Network, Memory> {
     Network::make(alloc, inverter(alloc)?)
+}
+
+/// The change by which z is 0 whatever a is.
+#[tactic(auto, using(mv_cover::proofs::Points::one_some))]
+fn grounding(alloc: Global) -> Result<Change, Memory>
+    ensures { IfOk result
+        (λ change. change ≡ record { add = []; set = record { net = record { 0 = 2 }; table = record { lines = []; default = Some (one 0) } } ∷ []; values = []; gone = [] }) }
+{
+    let table = Cover {
+        lines: Items::new(alloc),
+        default: Some(ValueSet::one(Value(0))),
+    };
+    let mut set = Items::new(alloc);
+    set.push(NewTable {
+        net: NetId(2),
+        table,
+    })?;
+    Ok(Change {
+        add: Items::new(alloc),
+        set,
+        values: Items::new(alloc),
+        gone: Items::new(alloc),
+    })
+}
+
+/// That network, whose z was then grounded.
+#[tactic(auto, using(crate::proofs::Inverter::formed_alike))]
+fn grounded(alloc: Global) -> Result<Network, Memory> {
+    let mut net = Network::make(alloc, inverter(alloc)?)?;
+    net.change(grounding(alloc)?)?;
+    Ok(net)
 }
 
 /// What a network says of one net.
@@ -126,37 +160,45 @@ fn said_of(net: &Network, n: NetId) -> Option<Said> {
     })
 }
 
-#[test]
-fn an_input_answers(rt: HostRuntime) -> Result<(), Memory> {
-    let net = network(rt.alloc())?;
-    let wanted = Said {
+/// What is to be said of the input a that this net reads.
+fn said_of_input(reader: Option<NetId>) -> Said {
+    Said {
         letter: Some(b'a'),
         kind: Kind::Input,
         values: 2,
         value_names: 0,
         literals: None,
         fanin: None,
-        reader: Some(NetId(2)),
+        reader,
         seen: false,
-    };
-    assert!(rt; said_of(&net, NetId(0)) == Some(wanted));
+    }
+}
+
+/// What is to be said of the output z whose table has so many literals and reads this net.
+fn said_of_output(literals: u128, fanin: Option<NetId>) -> Said {
+    Said {
+        letter: Some(b'z'),
+        kind: Kind::Table,
+        values: 2,
+        value_names: 0,
+        literals: Some(literals),
+        fanin,
+        reader: None,
+        seen: true,
+    }
+}
+
+#[test]
+fn an_input_answers(rt: HostRuntime) -> Result<(), Memory> {
+    let net = network(rt.alloc())?;
+    assert!(rt; said_of(&net, NetId(0)) == Some(said_of_input(Some(NetId(2)))));
     Ok(())
 }
 
 #[test]
 fn a_table_answers(rt: HostRuntime) -> Result<(), Memory> {
     let net = network(rt.alloc())?;
-    let wanted = Said {
-        letter: Some(b'z'),
-        kind: Kind::Table,
-        values: 2,
-        value_names: 0,
-        literals: Some(1),
-        fanin: Some(NetId(0)),
-        reader: None,
-        seen: true,
-    };
-    assert!(rt; said_of(&net, NetId(2)) == Some(wanted));
+    assert!(rt; said_of(&net, NetId(2)) == Some(said_of_output(1, Some(NetId(0)))));
     assert!(rt; said_of(&net, NetId(1)).is_none());
     Ok(())
 }
@@ -195,5 +237,24 @@ fn copied_parts_are_a_network_too(rt: HostRuntime) -> Result<(), Memory> {
     let parts = inverter(rt.alloc())?;
     let net = Network::make(rt.alloc(), parts.copy()?)?;
     assert_eq!(rt; net.literals(), 1);
+    Ok(())
+}
+
+#[test]
+fn a_changed_table_answers(rt: HostRuntime) -> Result<(), Memory> {
+    let net = grounded(rt.alloc())?;
+    assert!(rt; said_of(&net, NetId(2)) == Some(said_of_output(0, None)));
+    assert!(rt; said_of(&net, NetId(1)).is_none());
+    assert!(rt; said_of(&net, NetId(0)) == Some(said_of_input(None)));
+    Ok(())
+}
+
+#[test]
+fn a_changed_network_is_looked_up(rt: HostRuntime) -> Result<(), Memory> {
+    let net = grounded(rt.alloc())?;
+    assert!(rt; net.counts() == [2, 0, 2].as_slice());
+    assert_eq!(rt; net.literals(), 0);
+    assert_eq!(rt; net.next_number(), 3);
+    assert!(rt; net.find(b"z") == Some(NetId(2)));
     Ok(())
 }
