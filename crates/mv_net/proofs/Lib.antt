@@ -10,3 +10,6 @@ pub mod Changed
 pub mod Patches
 pub mod Ports
 pub mod Drivers
+pub mod Stays
+pub mod Totals
+pub mod Removal

@@ -1,12 +1,12 @@
 -- The ports of a network, by which it is seen from outside: assignments with the same values there, and nets that look
 -- the same there.
-use Rattle.std.proofs.Common.{◌≡◌, ◌∙◌, ℕ, Bool, true, false, ◌||◌, List, Option, sym, ap, refl}
-use Rattle.std.proofs.lemmas.Bool.{or_left, or_right, false≢true}
+use Rattle.std.proofs.Common.{◌≡◌, ◌∙◌, ℕ, Bool, true, false, ◌||◌, nat_eq, List, [], ◌∷◌, Option, sym, ap, refl}
+use Rattle.std.proofs.lemmas.Bool.{or_left, or_right, or_from, or_parts, false≢true}
 use Rattle.mv_net.specs.declared.parts.FlatNet.{FlatNet}
 use Rattle.mv_net.specs.declared.parts.FlatLatch.{FlatLatch}
 use Rattle.mv_net.specs.declared.parts.NetParts.{NetParts}
 use Rattle.mv_net.specs.Nets.{slot, values_in, name_in, spelled_in}
-use Rattle.mv_net.specs.Formed.{latch_resets}
+use Rattle.mv_net.specs.Formed.{latch_outputs, latch_resets}
 use Rattle.mv_net.specs.Allowed.{Agrees}
 use Rattle.mv_net.specs.Index.{has_id, is_input}
 use Rattle.mv_net.proofs.Marks.{has_number}
@@ -54,6 +54,33 @@ next_port net n h =
 pub reset_port : (net : NetParts) (n : ℕ) → is_reset_net net.latches n ≡ true → is_port net n ≡ true
 reset_port net n h =
     or_right (is_shown net n) (is_input net.latches n || is_reset_net net.latches n) (or_right (is_input net.latches n) (is_reset_net net.latches n) h)
+
+-- the net is no port, kind by kind
+pub record IsHidden (net : NetParts) (n : ℕ) : Type 0 where
+  pub input : has_id net.inputs n ≡ false
+  pub output : has_id net.outputs n ≡ false
+  pub next : is_input net.latches n ≡ false
+  pub state : is_output net.latches n ≡ false
+  pub reset : is_reset_net net.latches n ≡ false
+
+pub IsHidden-from : (net : NetParts) (n : ℕ) → is_port net n ≡ false → IsHidden net n
+IsHidden-from net n none =
+    let all = or_parts (is_shown net n) (is_input net.latches n || is_reset_net net.latches n) none in
+    let latch = or_parts (is_input net.latches n) (is_reset_net net.latches n) all.1 in
+    let shown = or_parts (is_source net n) (has_id net.outputs n) all.0 in
+    let source = or_parts (has_id net.inputs n) (is_output net.latches n) shown.0 in
+    record { input = source.0; output = shown.1; next = latch.0; state = source.1; reset = latch.1 }
+
+pub hidden_no_port : (net : NetParts) (n : ℕ) → IsHidden net n → is_port net n ≡ false
+hidden_no_port net n h =
+    or_from (is_shown net n) (is_input net.latches n || is_reset_net net.latches n)
+    (or_from (is_source net n) (has_id net.outputs n) (or_from (has_id net.inputs n) (is_output net.latches n) h.input h.state) h.output)
+    (or_from (is_input net.latches n) (is_reset_net net.latches n) h.next h.reset)
+
+-- the outputs of latches, as a list
+pub outputs_listed : (ls : List FlatLatch) (n : ℕ) → has_id (latch_outputs ls) n ≡ is_output ls n
+outputs_listed [] n = refl
+outputs_listed (l ∷ ls) n = ap (λ b. nat_eq l.output.0 n || b) (outputs_listed ls n)
 
 -- ---- assignments
 
