@@ -1,5 +1,5 @@
 -- Assignments with the value of one net changed, and nets with one slot written: when they agree.
-use Rattle.std.proofs.Common.{◌≡◌, ◌∙◌, ℕ, ◌<◌, ◌≤◌, true, false, List, length, set, Option, None, IsTrue, refl, sym, ap, subst, ◌⊎◌, inl, inr, ⊎_elim}
+use Rattle.std.proofs.Common.{◌≡◌, ◌∙◌, ℕ, ◌<◌, ◌≤◌, true, false, List, length, set, Option, None, IsTrue, sym, ap, subst, ⊎_elim}
 use Rattle.std.proofs.lemmas.Bool.{cases_Bool, cases_eq, cases_lt, false≢true, ne_eqb}
 use Rattle.std.proofs.lemmas.List.{get_or-set_same, get_or-set_other, set_past, get_or_past}
 use Rattle.mv_cover.proofs.Covering.{changed, changed-agrees}
@@ -27,24 +27,24 @@ net_allows-put f n v x value unread =
 
 -- ---- nets with one slot written
 
--- at n stands f, if n is one of the numbers
-pub slot-set_here : (nets : List (Option FlatNet)) (n : ℕ) (f : Option FlatNet) → n < length nets → slot (set nets n f) n ≡ f
-slot-set_here nets n f low = get_or-set_same nets n f None low
+-- new is old with f at n
+pub record IsWritten (old : List (Option FlatNet)) (n : ℕ) (f : Option FlatNet) (new : List (Option FlatNet)) : Type 0 where
+  pub here : slot new n ≡ f
+  pub others : (m : ℕ) → (m ≡ n → ⊥) → slot new m ≡ slot old m
 
-pub slot-set_other : (nets : List (Option FlatNet)) (n m : ℕ) (f : Option FlatNet) → (m ≡ n → ⊥) → slot (set nets n f) m ≡ slot nets m
-slot-set_other nets n m f ne = get_or-set_other nets n m f None ne
+pub IsWritten-set : (nets : List (Option FlatNet)) (n : ℕ) (f : Option FlatNet) → n < length nets → IsWritten nets n f (set nets n f)
+IsWritten-set nets n f low = record { here = get_or-set_same nets n f None low; others = λ m ne. get_or-set_other nets n m f None ne }
 
--- or none, if n is past the last
-slot-set : (nets : List (Option FlatNet)) (n : ℕ) (f : Option FlatNet) → (slot (set nets n f) n ≡ f) ⊎ (slot (set nets n f) n ≡ None)
-slot-set nets n f =
-    ⊎_elim
-    (λ (low : n < length nets). inl (slot-set_here nets n f low))
-    (λ (past : length nets ≤ n). inr (ap (λ l. slot l n) (set_past nets n f past) ∙ get_or_past nets n None past))
-    (cases_lt n (length nets))
-
--- a net that is gone isn't held
-pub slot-set_none : (nets : List (Option FlatNet)) (n : ℕ) → slot (set nets n None) n ≡ None
-slot-set_none nets n = ⊎_elim (λ e. e) (λ e. e) (slot-set nets n None)
+-- a net that is gone isn't held, also past the last
+pub IsWritten-gone : (nets : List (Option FlatNet)) (n : ℕ) → IsWritten nets n None (set nets n None)
+IsWritten-gone nets n = record {
+  here =
+      ⊎_elim
+      (λ (low : n < length nets). get_or-set_same nets n None None low)
+      (λ (past : length nets ≤ n). ap (λ l. slot l n) (set_past nets n None past) ∙ get_or_past nets n None past)
+      (cases_lt n (length nets));
+  others = λ m ne. get_or-set_other nets n m None None ne;
+}
 
 -- the assignment agrees with each net but the one at n
 pub record AgreesBut (nets : List (Option FlatNet)) (n : ℕ) (at : ℕ → ℕ) : Type 0 where
@@ -63,28 +63,22 @@ Agrees-all nets n x others here = record {
       (cases_eq m n);
 }
 
--- the slot at n is written with what the assignment agrees with
-pub Agrees-set : (nets : List (Option FlatNet)) (n : ℕ) (f : Option FlatNet) (x : ℕ → ℕ) → AgreesBut nets n x → IsTrue (net_allows f x (x n)) → Agrees (set nets n f) x
-Agrees-set nets n f x others here =
-    Agrees-all (set nets n f) n x
-    (record { each = λ m ne. moved m _ _ (slot-set_other nets n m f ne) (others.each m ne) })
-    (⊎_elim
-    (λ (e : slot (set nets n f) n ≡ f). moved n _ _ e here)
-    (λ (e : slot (set nets n f) n ≡ None). moved n _ _ e refl)
-    (slot-set nets n f))
-  where
-    moved : (m : ℕ) (new old : Option FlatNet) → new ≡ old → IsTrue (net_allows old x (x m)) → IsTrue (net_allows new x (x m))
-    moved m new old e a = subst (λ (g : Option FlatNet). IsTrue (net_allows g x (x m))) (sym e) a
+module _ (old : List (Option FlatNet)) (n : ℕ) (f : Option FlatNet) (new : List (Option FlatNet)) (x : ℕ → ℕ) (written : IsWritten old n f new) where
+  -- it agrees with what is written and with the others, and so with all
+  pub Agrees-set : AgreesBut old n x → IsTrue (net_allows f x (x n)) → Agrees new x
+  Agrees-set others here =
+      Agrees-all new n x
+      (record { each = λ m ne. ap (λ g. net_allows g x (x m)) (written.others m ne) ∙ others.each m ne })
+      (ap (λ g. net_allows g x (x n)) written.here ∙ here)
 
--- the others are as before
-pub Agrees-others : (nets : List (Option FlatNet)) (n : ℕ) (f : Option FlatNet) (x : ℕ → ℕ) → Agrees (set nets n f) x → AgreesBut nets n x
-Agrees-others nets n f x a = record {
-  each = λ m ne. subst (λ (g : Option FlatNet). IsTrue (net_allows g x (x m))) (slot-set_other nets n m f ne) (a.each m);
-}
+  -- and the other way round
+  pub Agrees-others : Agrees new x → AgreesBut old n x
+  Agrees-others a = record { each = λ m ne. ap (λ g. net_allows g x (x m)) (sym (written.others m ne)) ∙ a.each m }
 
--- and it agrees with what was written
-pub Agrees-here : (nets : List (Option FlatNet)) (n : ℕ) (f : Option FlatNet) (x : ℕ → ℕ) → n < length nets → Agrees (set nets n f) x → IsTrue (net_allows f x (x n))
-Agrees-here nets n f x low a = subst (λ (g : Option FlatNet). IsTrue (net_allows g x (x n))) (slot-set_here nets n f low) (a.each n)
+  pub Agrees-here : Agrees new x → IsTrue (net_allows f x (x n))
+  Agrees-here a = ap (λ g. net_allows g x (x n)) (sym written.here) ∙ a.each n
+
+-- ---- agreement with one value changed
 
 -- n takes the value v: its table allows that, its readers allow their values with it, and the others allow as before
 pub Agrees-put : (nets : List (Option FlatNet)) (n v : ℕ) (x : ℕ → ℕ) → IsTrue (net_allows (slot nets n) (put n v x) v) → ((m : ℕ) → (m ≡ n → ⊥) → net_reads (slot nets m) n ≡ true → IsTrue (net_allows (slot nets m) (put n v x) (x m))) → ((m : ℕ) → (m ≡ n → ⊥) → net_reads (slot nets m) n ≡ false → IsTrue (net_allows (slot nets m) x (x m))) → Agrees nets (put n v x)

@@ -13,11 +13,11 @@ use Rattle.mv_net.specs.Formed.{IsKind, WellFormed, has_table}
 use Rattle.mv_net.specs.Allowed.{net_allows, table_allows, of_net}
 use Rattle.mv_net.specs.Changes.{with_nets, without}
 use Rattle.mv_net.specs.Index.{has_id, is_input, is_reset, kind_in, is_seen}
-use Rattle.mv_net.specs.Total.{IsRemovable}
+use Rattle.mv_net.specs.Total.{IsTotalNet, IsRemovable}
 use Rattle.mv_net.proofs.Known.{counts_at}
-use Rattle.mv_net.proofs.Patches.{put, put_same, put_other, net_allows-put, slot-set_other, AgreesBut, AgreesBut-from, Agrees-set, Agrees-others, Agrees-put}
+use Rattle.mv_net.proofs.Patches.{put, put_same, put_other, net_allows-put, IsWritten, IsWritten-gone, AgreesBut, AgreesBut-from, Agrees-set, Agrees-others, Agrees-put}
 use Rattle.mv_net.proofs.Ports.{is_port, shown_port, hidden_no_port, outputs_listed, SamePorts-refl, SamePorts-but, AgreesAtPorts, KeepsPorts-same}
-use Rattle.mv_net.proofs.Stays.{IsGone, IsGone-set, IsLoose, other_than, held_other, gone_formed}
+use Rattle.mv_net.proofs.Stays.{IsLoose, other_than, held_other, gone_formed}
 use Rattle.mv_net.proofs.Totals.{IsTotal-before, total_allows}
 use Rattle.mv_net.proofs.Drivers.{SameMeaning-by}
 
@@ -58,45 +58,52 @@ removable_loose net n formed can = record {
 
 pub removal_formed : (net : NetParts) (n : ℕ) → WellFormed net → IsRemovable net n → WellFormed (without net n)
 removal_formed net n formed can =
-    gone_formed net n (set net.nets n None) formed (removable_loose net n formed can) (IsGone-set net.nets n)
+    gone_formed net n (set net.nets n None) formed (removable_loose net n formed can) (IsWritten-gone net.nets n)
 
 -- ---- a value for the net that went
 
 -- an assignment that agrees with the other nets is a point, if the net has any of its values
 point_put : (nets : List (Option FlatNet)) (n v : ℕ) (x : ℕ → ℕ) → AgreesBut nets n x → (0 < values_in (slot nets n) → v < values_in (slot nets n)) → IsPoint (map values_in nets) (put n v x)
-point_put nets n v x others here = record { below = λ m some. subst (λ k. put n v x m < k) (sym (counts_at nets m)) (at m (subst (λ k. 0 < k) (counts_at nets m) some)) }
+point_put nets n v x others here = record {
+  below = λ m some. subst (λ k. put n v x m < k) (sym (counts_at nets m)) (at m (subst (λ k. 0 < k) (counts_at nets m) some));
+}
   where
-    below : (f : Option FlatNet) (m : ℕ) → 0 < values_in f → IsTrue (net_allows f x (x m)) → x m < values_in f
-    below None m some a = absurd (omega arith)
-    below (Some f) m some a = ltb-true (x m) f.values (and_parts (nat_lt (x m) f.values) (table_allows f.table x (x m)) a).0
+    low : (f : Option FlatNet) (m : ℕ) → 0 < values_in f → IsTrue (net_allows f x (x m)) → x m < values_in f
+    low None m some a = absurd (omega arith)
+    low (Some f) m some a = ltb-true (x m) f.values (and_parts (nat_lt (x m) f.values) (table_allows f.table x (x m)) a).0
 
     at : (m : ℕ) → 0 < values_in (slot nets m) → put n v x m < values_in (slot nets m)
     at m some =
         ⊎_elim
-        (λ (e : m ≡ n). let P : ℕ → Type 0 = λ k. 0 < values_in (slot nets k) → put n v x k < values_in (slot nets k) in
+        (λ (e : m ≡ n).
+        let P : ℕ → Type 0 = λ k. 0 < values_in (slot nets k) → put n v x k < values_in (slot nets k) in
         subst P (sym e) (λ h. subst (λ k. k < values_in (slot nets n)) (sym (put_same n v x)) (here h)) some)
-        (λ (ne : m ≡ n → ⊥). subst (λ k. k < values_in (slot nets m)) (sym (put_other n v x m ne)) (below (slot nets m) m some (others.each m ne)))
+        (λ (ne : m ≡ n → ⊥). subst (λ k. k < values_in (slot nets m)) (sym (put_other n v x m ne)) (low (slot nets m) m some (others.each m ne)))
         (cases_eq m n)
 
--- the net has a value that its table allows
-put_back : (net : NetParts) (n : ℕ) (x : ℕ → ℕ) → WellFormed net → IsRemovable net n → AgreesBut net.nets n x → AgreesAtPorts net net.nets x
-put_back net n x formed can others =
-    let some = total_allows net n (put n 0 x) formed can.total (point_put net.nets n 0 x others (λ h. h)) in
+-- it has a value that its table allows
+put_back : (net : NetParts) (n : ℕ) (x : ℕ → ℕ) → WellFormed net → IsLoose net n → IsTotalNet net.nets n → AgreesBut net.nets n x → AgreesAtPorts net net.nets x
+put_back net n x formed loose total others =
+    let some = total_allows net n (put n 0 x) formed total (point_put net.nets n 0 x others (λ h. h)) in
     let v = some.value in
-    let here : IsTrue (net_allows (slot net.nets n) (put n v x) v) = net_allows-put (slot net.nets n) n v x v (can.unread n) ∙ (sym (net_allows-put (slot net.nets n) n 0 x v (can.unread n)) ∙ some.is_allowed) in
+    let unread = net_allows-put (slot net.nets n) n v x v (loose.unread n) ∙ sym (net_allows-put (slot net.nets n) n 0 x v (loose.unread n)) in
     record {
       at = put n v x;
-      agrees = Agrees-put net.nets n v x here (λ m ne r. absurd (false≢true (sym (can.unread m) ∙ r))) (λ m ne u. others.each m ne);
-      same = SamePorts-but net n x (put n v x) (removable_loose net n formed can).hidden (λ m ne. sym (put_other n v x m ne));
+      agrees = Agrees-put net.nets n v x (unread ∙ some.is_allowed) (λ m ne r. absurd (false≢true (sym (loose.unread m) ∙ r))) (λ m ne u. others.each m ne);
+      same = SamePorts-but net n x (put n v x) loose.hidden (λ m ne. sym (put_other n v x m ne));
     }
+
+-- a network without a net that nothing reads or names, and whose table is total, means the same
+pub gone_means : (net : NetParts) (n : ℕ) (nets : List (Option FlatNet)) → WellFormed net → IsLoose net n → IsTotalNet net.nets n → IsWritten net.nets n None nets → SameMeaning (of_net (with_nets net nets)) (of_net net)
+gone_means net n nets formed loose total gone =
+    SameMeaning-by net nets
+    (KeepsPorts-same net nets (λ m shown. gone.others m (other_than (is_port net) n m loose.hidden (shown_port net m shown))))
+    (λ x a. put_back net n x formed loose total (Agrees-others net.nets n None nets x gone a))
+    (λ x a. record { at = x; agrees = Agrees-set net.nets n None nets x gone (AgreesBut-from net.nets n x a) refl; same = SamePorts-refl net x })
 
 pub removal_means : (net : NetParts) (n : ℕ) → WellFormed net → IsRemovable net n → SameMeaning (of_net (without net n)) (of_net net)
 removal_means net n formed can =
-    let loose = removable_loose net n formed can in
-    SameMeaning-by net (set net.nets n None)
-    (KeepsPorts-same net (set net.nets n None) (λ m shown. slot-set_other net.nets n m None (other_than (is_port net) n m loose.hidden (shown_port net m shown))))
-    (λ x a. put_back net n x formed can (Agrees-others net.nets n None x a))
-    (λ x a. record { at = x; agrees = Agrees-set net.nets n None x (AgreesBut-from net.nets n x a) refl; same = SamePorts-refl net x })
+    gone_means net n (set net.nets n None) formed (removable_loose net n formed can) can.total (IsWritten-gone net.nets n)
 
 -- ---- a net that can go once another has gone
 
@@ -104,7 +111,11 @@ pub removable-later : (net : NetParts) (n m : ℕ) → IsRemovable (without net 
 unfolding is_seen with_nets
 removable-later net n m later unread = record {
   unseen = ap (λ f. has_id net.outputs m || is_input net.latches m || is_reset (kind_in f)) (sym (gone.others m other)) ∙ later.unseen;
-  unread = λ k. ⊎_elim (λ (e : k ≡ n). let P : ℕ → Type 0 = λ j. net_reads (slot net.nets j) m ≡ false in subst P (sym e) unread) (λ (ne : k ≡ n → ⊥). ap (λ f. net_reads f m) (sym (gone.others k ne)) ∙ later.unread k) (cases_eq k n);
+  unread = λ k.
+      ⊎_elim
+      (λ (e : k ≡ n). ap (λ j. net_reads (slot net.nets j) m) e ∙ unread)
+      (λ (ne : k ≡ n → ⊥). ap (λ f. net_reads f m) (sym (gone.others k ne)) ∙ later.unread k)
+      (cases_eq k n);
   total = record {
     net = later.total.net;
     held = sym (gone.others m other) ∙ later.total.held;
@@ -114,11 +125,14 @@ removable-later net n m later unread = record {
   };
 }
   where
-    gone : IsGone net.nets n (set net.nets n None)
-    gone = IsGone-set net.nets n
+    gone : IsWritten net.nets n None (set net.nets n None)
+    gone = IsWritten-gone net.nets n
 
     other : m ≡ n → ⊥
     other = held_other net.nets n (set net.nets n None) gone m later.total.net later.total.held
 
+    none : (k : ℕ) → k ≡ n → values_in (slot (set net.nets n None) k) ≡ 0
+    none k e = ap (λ j. values_in (slot (set net.nets n None) j)) e ∙ ap values_in gone.here
+
     same : (k : ℕ) → 0 < values_in (slot (set net.nets n None) k) → values_in (slot (set net.nets n None) k) ≡ values_in (slot net.nets k)
-    same k some = ap values_in (gone.others k (λ e. let P : ℕ → Type 0 = λ j. 0 < values_in (slot (set net.nets n None) j) in let none : 0 < values_in None = subst (λ f. 0 < values_in f) gone.none (subst P e some) in absurd (omega arith)))
+    same k some = ap values_in (gone.others k (λ e. absurd (omega (arith, none k e))))

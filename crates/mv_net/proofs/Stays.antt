@@ -1,5 +1,5 @@
 -- What stays well formed where some nets change, and where one goes that nothing reads or names.
-use Rattle.std.proofs.Common.{◌≡◌, ◌∙◌, ℕ, Bool, true, false, nat_eq, List, [], ◌∷◌, set, Option, Some, None, refl, sym, ap, subst, eq-eqb}
+use Rattle.std.proofs.Common.{◌≡◌, ◌∙◌, ℕ, Bool, true, false, nat_eq, List, [], ◌∷◌, Option, Some, None, refl, sym, ap, subst, eq-eqb}
 use Rattle.std.proofs.lemmas.Bool.{or_left, or_right, or_parts, false≢true, eqb-false}
 use Rattle.mv_base.specs.Set.{full}
 use Rattle.mv_base.specs.declared.number.NetId.{NetId}
@@ -16,7 +16,7 @@ use Rattle.mv_net.specs.Nets.{slot, values_in, net_reads, table_reads}
 use Rattle.mv_net.specs.Formed.{IsKind, IsReadable, IsOutput, IsLiteral, AllLiterals, AllLines, IsCover, IsNet, IsResetNet, IsLatch, AllLatches, latch_outputs, latch_resets, with_reset, AreKind, WellFormed}
 use Rattle.mv_net.specs.Changes.{with_nets}
 use Rattle.mv_net.specs.Index.{has_id, is_input}
-use Rattle.mv_net.proofs.Patches.{slot-set_other, slot-set_none}
+use Rattle.mv_net.proofs.Patches.{IsWritten}
 use Rattle.mv_net.proofs.Ports.{is_output, is_reset_net, is_port, IsHidden-from, outputs_listed}
 
 -- ---- a table whose fanins stay
@@ -75,14 +75,6 @@ IsNet-kept old new f keeps is = record {
 
 -- ---- one net gone
 
--- new is old without the net at n
-pub record IsGone (old : List (Option FlatNet)) (n : ℕ) (new : List (Option FlatNet)) : Type 0 where
-  pub none : slot new n ≡ None
-  pub others : (m : ℕ) → (m ≡ n → ⊥) → slot new m ≡ slot old m
-
-pub IsGone-set : (nets : List (Option FlatNet)) (n : ℕ) → IsGone nets n (set nets n None)
-IsGone-set nets n = record { none = slot-set_none nets n; others = λ m ne. slot-set_other nets n m None ne }
-
 -- nothing reads the net, and it is no port
 pub record IsLoose (net : NetParts) (n : ℕ) : Type 0 where
   pub unread : (m : ℕ) → net_reads (slot net.nets m) n ≡ false
@@ -101,16 +93,16 @@ reset_other reset ns n m h e =
     let out : has_id (with_reset (Some m) ns) n ≡ false = ap (λ o. has_id (with_reset o ns) n) (sym e) ∙ h in
     eqb-false m.0 n (or_parts (nat_eq m.0 n) (has_id ns n) out).0
 
-module _ (old : List (Option FlatNet)) (n : ℕ) (new : List (Option FlatNet)) (gone : IsGone old n new) where
+module _ (old : List (Option FlatNet)) (n : ℕ) (new : List (Option FlatNet)) (gone : IsWritten old n None new) where
   -- what is held was held, and reads what it read
   pub held_other : (m : ℕ) (f : FlatNet) → slot new m ≡ Some f → m ≡ n → ⊥
-  held_other m f e same = let bad : None ≡ Some f = sym gone.none ∙ (ap (slot new) (sym same) ∙ e) in cc
+  held_other m f e same = let bad : None ≡ Some f = sym gone.here ∙ (ap (slot new) (sym same) ∙ e) in cc
 
   pub held_before : (m : ℕ) (f : FlatNet) → slot new m ≡ Some f → slot old m ≡ Some f
   held_before m f e = sym (gone.others m (held_other m f e)) ∙ e
 
   pub read_before : (m k : ℕ) → net_reads (slot new m) k ≡ true → net_reads (slot old m) k ≡ true
-  read_before m k r = ap (λ f. net_reads f k) (sym (gone.others m (other_than (λ j. net_reads (slot new j) k) n m (ap (λ f. net_reads f k) gone.none) r))) ∙ r
+  read_before m k r = ap (λ f. net_reads f k) (sym (gone.others m (other_than (λ j. net_reads (slot new j) k) n m (ap (λ f. net_reads f k) gone.here) r))) ∙ r
 
   kind_before : (m : ℕ) (kind : Kind) → IsKind new m kind → IsKind old m kind
   kind_before m kind k = record { net = k.net; held = held_before m k.net k.held; is = k.is }
@@ -157,7 +149,7 @@ module _ (old : List (Option FlatNet)) (n : ℕ) (new : List (Option FlatNet)) (
       )
 
 -- a network without a net that nothing reads or names is well formed
-pub gone_formed : (net : NetParts) (n : ℕ) (nets : List (Option FlatNet)) → WellFormed net → IsLoose net n → IsGone net.nets n nets → WellFormed (with_nets net nets)
+pub gone_formed : (net : NetParts) (n : ℕ) (nets : List (Option FlatNet)) → WellFormed net → IsLoose net n → IsWritten net.nets n None nets → WellFormed (with_nets net nets)
 unfolding with_nets
 gone_formed net n nets formed loose gone = let hidden = IsHidden-from net n loose.hidden in record {
   root = formed.root;
