@@ -1,5 +1,5 @@
 -- When a table allows some value at every point, and which values it can allow.
-use Rattle.std.proofs.Common.{◌≡◌, ◌∙◌, ℕ, ◌<◌, ◌≤◌, true, false, ◌&&◌, not, nat_lt, List, [], ◌∷◌, map, get_or, Option, Some, None, IsTrue, is_some, refl, sym, ap, subst, ⊎_elim, arith}
+use Rattle.std.proofs.Common.{◌≡◌, ◌∙◌, ℕ, ◌<◌, ◌≤◌, Bool, true, false, ◌&&◌, not, nat_lt, List, [], ◌∷◌, map, get_or, Option, Some, None, IsTrue, is_some, Result, Ok, Err, IfOk, MatchBool, refl, sym, ap, subst, ⊎_elim, arith}
 use Rattle.std.proofs.lemmas.Bool.{cases_Bool, or_cases, or_parts, or_from, or_left, or_right, and_parts, and_from, and_left, and_right, false≢true, ltb-true, lt-ltb}
 use Rattle.mv_base.specs.Set.{has, IsSet}
 use Rattle.mv_base.specs.declared.limits.TheConstants.{MAX_VALUES}
@@ -145,3 +145,58 @@ total_allows net n at formed total point =
     let below : some.value < f.values = allowed_below net.nets f.values total.cover at some.value ((formed.nets n f total.held).cover total.cover total.table) some.is_allowed in
     let allows : net_allows (Some f) at some.value ≡ true = and_from (nat_lt some.value f.values) (table_allows f.table at some.value) (lt-ltb some.value f.values below) (ap (λ t. table_allows t at some.value) total.table ∙ some.is_allowed) in
     record { value = some.value; is_allowed = ap (λ g. net_allows g at some.value) total.held ∙ allows }
+
+-- ---- what is looked at to tell whether a net's table is total
+
+-- the net at a number has this table
+record HasCover (nets : List (Option FlatNet)) (n : ℕ) (c : Cover) : Type 0 where
+  pub net : FlatNet
+  pub held : slot nets n ≡ Some net
+  pub table : net.table ≡ Some c
+
+has_cover : (nets : List (Option FlatNet)) (n : ℕ) (c : Cover) → table_in (slot nets n) ≡ Some c → HasCover nets n c
+has_cover nets n c e = by_slot (slot nets n) refl e
+  where
+    by_slot : (f : Option FlatNet) → slot nets n ≡ f → table_in f ≡ Some c → HasCover nets n c
+    by_slot None held table = cc
+    by_slot (Some f) held table = record { net = f; held = held; table = table }
+
+-- a total table makes a total net, and the other way round
+net_total : (nets : List (Option FlatNet)) (n : ℕ) (c : Cover) → HasCover nets n c → IsTotal nets c → IsTotalNet nets n
+net_total nets n c has total = record { net = has.net; held = has.held; cover = c; table = has.table; total = total }
+
+table_total : (nets : List (Option FlatNet)) (n : ℕ) (c : Cover) → table_in (slot nets n) ≡ Some c → IsTotalNet nets n → IsTotal nets c
+table_total nets n c e total =
+    let same : Some total.cover ≡ Some c = sym (ap table_in total.held ∙ total.table) ∙ e in
+    let covers : total.cover ≡ c = cc in
+    subst (IsTotal nets) covers total.total
+
+no_default : (default : Option ℕ) → is_some default ≡ false → default ≡ None
+no_default None h = refl
+no_default (Some out) h = cc
+
+-- a table with a default is total
+pub default_total : (net : NetParts) (n : ℕ) (c : Cover) → WellFormed net → table_in (slot net.nets n) ≡ Some c → is_some c.default ≡ true → IsTotalNet net.nets n
+default_total net n c formed e some = by_default c.default refl some
+  where
+    by_default : (default : Option ℕ) → c.default ≡ default → is_some default ≡ true → IsTotalNet net.nets n
+    by_default None d h = cc
+    by_default (Some out) d h =
+        let has = has_cover net.nets n c e in
+        let is = formed.nets n has.net has.held in
+        net_total net.nets n c has (IsTotal-default net.nets has.net.values out c is.few (is.cover c has.table) d)
+
+-- one without is total if its lines match every point
+pub lines_total : (all : Bool) (net : NetParts) (n : ℕ) (c : Cover) → WellFormed net → table_in (slot net.nets n) ≡ Some c → is_some c.default ≡ false → MatchBool all (CoversAll (map values_in net.nets) c.lines) (MissesSome (map values_in net.nets) c.lines) → MatchBool all (IsTotalNet net.nets n) (IsTotalNet net.nets n → ⊥)
+lines_total true net n c formed e none covers =
+    let has = has_cover net.nets n c e in
+    let is = formed.nets n has.net has.held in
+    net_total net.nets n c has (IsTotal-covered net.nets has.net.values c is.few (is.cover c has.table) covers)
+lines_total false net n c formed e none misses =
+    λ total. not_total net.nets c (no_default c.default none) misses (table_total net.nets n c e total)
+
+-- the same of what is answered over the counts that are kept
+pub total_answer : {E : Type 0} (result : Result Bool E) (net : NetParts) (n : ℕ) (c : Cover) (counts : List ℕ) → WellFormed net → table_in (slot net.nets n) ≡ Some c → is_some c.default ≡ false → counts ≡ map values_in net.nets → IfOk result (λ all. MatchBool all (CoversAll counts c.lines) (MissesSome counts c.lines)) → IfOk result (λ total. MatchBool total (IsTotalNet net.nets n) (IsTotalNet net.nets n → ⊥))
+total_answer (Ok all) net n c counts formed e none same h =
+    lines_total all net n c formed e none (subst (λ (ks : List ℕ). MatchBool all (CoversAll ks c.lines) (MissesSome ks c.lines)) same h)
+total_answer (Err f) net n c counts formed e none same h = h

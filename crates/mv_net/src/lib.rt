@@ -11,6 +11,7 @@ mod parts;
 mod readers;
 mod seen;
 mod tallies;
+mod total;
 
 pub use change::{Change, NewCount, NewNet, NewTable};
 pub use network::Network;

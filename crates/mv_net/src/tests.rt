@@ -232,6 +232,23 @@ fn a_net_is_found_by_its_name(rt: HostRuntime) -> Result<(), Memory> {
     Ok(())
 }
 
+/// Whether the net is total, if it is held.
+fn total_of(alloc: Global, net: &Network, n: NetId) -> Result<Option<bool>, Memory> {
+    if !net.holds(n) {
+        return Ok(None);
+    }
+    Ok(Some(net.is_total(alloc, n)?))
+}
+
+#[test]
+fn a_default_makes_a_table_total(rt: HostRuntime) -> Result<(), Memory> {
+    let net = network(rt.alloc())?;
+    assert!(rt; total_of(rt.alloc(), &net, NetId(0))? == Some(false));
+    assert!(rt; total_of(rt.alloc(), &net, NetId(2))? == Some(true));
+    assert!(rt; total_of(rt.alloc(), &net, NetId(1))?.is_none());
+    Ok(())
+}
+
 #[test]
 fn copied_parts_are_a_network_too(rt: HostRuntime) -> Result<(), Memory> {
     let parts = inverter(rt.alloc())?;
