@@ -1,4 +1,3 @@
-pub mod CycleLemmas
 pub mod Lines
 pub mod Numbering
 pub mod Orders

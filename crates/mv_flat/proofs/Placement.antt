@@ -12,7 +12,7 @@ use Rattle.mv_net.specs.Formed.{all_differ}
 use Rattle.mv_parse.specs.declared.design.FileTable.{FileTable}
 use Rattle.mv_parse.specs.declared.design.Design.{Design}
 use Rattle.mv_parse.specs.Designs.{drivers, output_of, all_driven, tables_driven, AllRows, IsTable, AllTables, IsProper}
-use Rattle.mv_flat.specs.Ranks.{AllBelow}
+use Rattle.mv_net.specs.Ranks.{AllBelow}
 use Rattle.mv_flat.specs.Numbers.{net_of, nets_of, no_columns, columns_in, columns_by_net}
 use Rattle.mv_flat.specs.Tables.{IsTableNet, AreTables, AreNets, input_net}
 use Rattle.mv_flat.proofs.Numbering.{IsNumber_driven, nets_differ}

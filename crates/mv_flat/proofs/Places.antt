@@ -15,7 +15,7 @@ use Rattle.mv_net.specs.Formed.{stands_in}
 use Rattle.mv_parse.specs.declared.design.FileTable.{FileTable}
 use Rattle.mv_parse.specs.declared.design.Design.{Design}
 use Rattle.mv_parse.specs.Designs.{drivers, output_of, all_driven}
-use Rattle.mv_flat.specs.Ranks.{columns_of}
+use Rattle.mv_net.specs.Index.{row}
 use Rattle.mv_flat.specs.Numbers.{number_of, net_of, nets_of, no_columns, columns_in, columns_by_net}
 use Rattle.mv_flat.specs.Tables.{IsTableNet, AreTables, AreNets, input_net, numbers_from}
 use Rattle.mv_flat.proofs.Numbering.{number_at}
@@ -150,13 +150,13 @@ held_within d nets n f a e =
 
 -- ---- the columns of a net by its number
 
-pub columns_input : (names : List (List ℕ)) (d : Design) (n : ℕ) → InputPlace d n → columns_of (columns_by_net names d) n ≡ []
+pub columns_input : (names : List (List ℕ)) (d : Design) (n : ℕ) → InputPlace d n → row (columns_by_net names d) n ≡ []
 columns_input names d n p =
     get_or_from_slice_get (columns_by_net names d) n [] []
     (get_left (map no_columns d.inputs) (map (columns_in names) d.tables) n []
     (slice_get-map no_columns d.inputs n ∙ ap (option_map no_columns) p.listed))
 
-pub columns_table : (names : List (List ℕ)) (d : Design) (n : ℕ) → (p : TablePlace d n) → columns_of (columns_by_net names d) n ≡ nets_of names p.table.inputs
+pub columns_table : (names : List (List ℕ)) (d : Design) (n : ℕ) → (p : TablePlace d n) → row (columns_by_net names d) n ≡ nets_of names p.table.inputs
 columns_table names d n p =
     get_or_from_slice_get (columns_by_net names d) n (nets_of names p.table.inputs) []
     (get_right (map no_columns d.inputs) (map (columns_in names) d.tables) p.place n

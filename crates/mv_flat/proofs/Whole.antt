@@ -21,7 +21,8 @@ use Rattle.mv_parse.specs.declared.design.FileTable.{FileTable}
 use Rattle.mv_parse.specs.declared.design.Design.{Design}
 use Rattle.mv_parse.specs.Designs.{drivers, output_of, all_driven, Falls, AllFall, IsSound}
 use Rattle.mv_flat.specs.Flat.{IsFlat}
-use Rattle.mv_flat.specs.Ranks.{columns_of, IsRanked}
+use Rattle.mv_net.specs.Index.{row}
+use Rattle.mv_net.specs.Ranks.{IsRanked}
 use Rattle.mv_flat.specs.Numbers.{number_of, net_of, nets_of, columns_by_net}
 use Rattle.mv_flat.specs.Tables.{input_net}
 use Rattle.mv_flat.proofs.Numbering.{number_at, name_at, IsNumber_driven, nets_differ}
@@ -169,7 +170,7 @@ output_reads d net n is h =
 
 -- ---- ranks
 
-reads_column : (d : Design) (net : NetParts) (n m : ℕ) → IsPlaced d net → net_reads (slot net.nets n) m ≡ true → list_any (λ (c : NetId). nat_eq c.0 m) (columns_of (columns_by_net (drivers d) d) n) ≡ true
+reads_column : (d : Design) (net : NetParts) (n m : ℕ) → IsPlaced d net → net_reads (slot net.nets n) m ≡ true → list_any (λ (c : NetId). nat_eq c.0 m) (row (columns_by_net (drivers d) d) n) ≡ true
 reads_column d net n m is h =
     ⊎_elim
     (λ (lt : n < length (drivers d)).
@@ -227,7 +228,7 @@ sound d net is r = record {
 }
 
 -- and ranks by name give ranks by number
-column_falls : (d : Design) (s : IsSound d) (n m : ℕ) → list_any (λ (c : NetId). nat_eq c.0 m) (columns_of (columns_by_net (drivers d) d) n) ≡ true → s.rank (get_or (drivers d) m []) < s.rank (get_or (drivers d) n [])
+column_falls : (d : Design) (s : IsSound d) (n m : ℕ) → list_any (λ (c : NetId). nat_eq c.0 m) (row (columns_by_net (drivers d) d) n) ≡ true → s.rank (get_or (drivers d) m []) < s.rank (get_or (drivers d) n [])
 column_falls d s n m h =
     ⊎_elim
     (λ (lt : n < length (drivers d)).

@@ -1,5 +1,3 @@
 pub mod Flat
 pub mod Numbers
-pub mod Ranks
-pub mod Sorting
 pub mod Tables

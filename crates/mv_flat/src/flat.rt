@@ -8,8 +8,7 @@ mod numbers;
 mod stop;
 mod table;
 
-use crate::cycle::is_acyclic;
-use mv_net::NetParts;
+use mv_net::{NetParts, sorted};
 use mv_parse::Design;
 use std::alloc::Global;
 pub use stop::FlatStop;
@@ -24,8 +23,8 @@ pub fn flatten(alloc: Global, design: &Design) -> Result<NetParts, FlatStop>
     let names = numbers::numbered(alloc, design)?;
     let outputs = numbers::numbers(alloc, &names, design.outputs.as_slice())?;
     let columns = numbers::columns(alloc, &names, design)?;
-    if !is_acyclic(alloc, columns.as_slice())? {
+    let Some(_) = sorted(alloc, columns.as_slice())? else {
         return Err(FlatStop::NotSound);
-    }
+    };
     Ok(nets::built(alloc, design, outputs, columns.as_slice())?)
 }

@@ -1,7 +1,6 @@
 //! A design to the parts of a network. In this version: one model of binary tables with one output.
 #![tactic(auto)]
 
-mod cycle;
 mod flat;
 
 pub use flat::{FlatStop, flatten};

@@ -5,6 +5,9 @@ pub mod Turning
 pub mod Named
 pub mod Marks
 pub mod Known
+pub mod Waiting
+pub mod Finished
+pub mod HeldOrder
 pub mod Inverter
 pub mod Changed
 pub mod Patches

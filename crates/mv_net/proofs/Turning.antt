@@ -78,19 +78,20 @@ IsPutOn-all old new ns i k e h = let P : List NetId → Type 0 = λ l. IsPutOn o
 
 -- ---- number by number
 
+-- lists without nets have none at any number
+pub no_row : (count m : ℕ) → row (replicate count []) m ≡ []
+no_row count m =
+    ⊎_elim
+    (λ (l : m < count). get_or-replicate count m [] [] l)
+    (λ (g : count ≤ m). get_or_past (replicate count []) m [] (omega (arith, length-replicate {A = List NetId} count [])))
+    (cases_lt m count)
+
 pub AreTurnedBelow-none : (rows : List (List NetId)) → AreTurnedBelow 0 rows (replicate (length rows) [])
 AreTurnedBelow-none rows = record {
   long = length-replicate (length rows) [];
   each = λ m. let P : List NetId → Type 0 = IsAscending (λ n. nat_lt n 0 && has_id (row rows n) m) in
       subst P (sym (no_row (length rows) m)) (IsAscending-none _ (λ n. and_left (nat_lt n 0) (has_id (row rows n) m) (le-ltb n 0 (omega arith))));
 }
-  where
-    no_row : (count m : ℕ) → row (replicate count []) m ≡ []
-    no_row count m =
-        ⊎_elim
-        (λ (l : m < count). get_or-replicate count m [] [] l)
-        (λ (g : count ≤ m). get_or_past (replicate count []) m [] (omega (arith, length-replicate {A = List NetId} count [])))
-        (cases_lt m count)
 
 pub AreTurnedBelow-more : (i : ℕ) (rows mid new : List (List NetId)) (k : NetId) → k.0 ≡ i → AreTurnedBelow i rows mid → IsPutOn mid (row rows i) k new → AreTurnedBelow (i + 1) rows new
 AreTurnedBelow-more i rows mid new k is below put = record { long = put.long ∙ below.long; each = each }

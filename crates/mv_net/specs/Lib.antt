@@ -10,3 +10,5 @@ pub mod Binary
 pub mod Changes
 pub mod Total
 pub mod Order
+pub mod Ranks
+pub mod Sorting

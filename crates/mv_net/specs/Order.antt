@@ -1,5 +1,5 @@
 -- An order of the nets in which each stands behind its fanins.
-use Rattle.std.specs.Prelude.{◌≡◌, ℕ, ◌<◌, true, Option, List, length, take, slice_get, Some}
+use Rattle.std.specs.Prelude.{◌≡◌, ℕ, true, Option, List, take, slice_get, Some}
 use Rattle.mv_base.specs.declared.number.NetId.{NetId}
 use Rattle.mv_net.specs.declared.parts.FlatNet.{FlatNet}
 use Rattle.mv_net.specs.Nets.{slot, net_reads}

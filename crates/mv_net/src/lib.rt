@@ -10,12 +10,14 @@ mod network;
 mod parts;
 mod readers;
 mod seen;
+mod sorting;
 mod tallies;
 mod total;
 
 pub use change::{Change, NewCount, NewNet, NewTable};
 pub use network::Network;
 pub use parts::{FlatLatch, FlatNet, Kind, NetParts};
+pub use sorting::sorted;
 
 #[cfg(test)]
 mod tests;

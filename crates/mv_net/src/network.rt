@@ -1,11 +1,15 @@
 ghost use Rattle.std.specs.Prelude.{◌≡◌, ℕ, ◌+◌, ◌<◌, ◌≤◌, Some, IsTrue, map, length, option_copied, IfOk, IfSome, IsNone, OnOk, OnErr};
+ghost use Rattle.std.specs.List.{filter};
+ghost use Rattle.mv_base.specs.declared.number.NetId.{NetId};
 ghost use Rattle.mv_net.specs.Nets.{slot, values_in, name_in, table_in, net_reads, literals_in};
 ghost use Rattle.mv_net.specs.Formed.{WellFormed};
 ghost use Rattle.mv_net.specs.Index.{is_held, kind_in, value_names_in, is_seen, IsAscending, HasName};
 ghost use Rattle.mv_net.specs.Changes.{changed};
+ghost use Rattle.mv_net.specs.Order.{IsOrder};
 
 use crate::change::put_change;
 use crate::kept::{Kept, kept_of};
+use crate::sorting::sorted;
 use crate::{Change, FlatLatch, FlatNet, Kind, NetParts};
 use mv_base::{MAX_NETS, Memory, Name, NetId};
 use mv_cover::Cover;
@@ -209,5 +213,29 @@ impl Network {
         ensures { result ≡ is_seen self.now n.0 }
     {
         self.kept.seen.as_slice()[n.0 as usize]
+    }
+
+    /// The held nets, each behind its fanins: a topological order (Kahn 1962). The time grows with the numbers and
+    /// the fanins.
+    pub fn order(&self) -> Result<Vec<NetId>, Memory>
+        ensures { IfOk result (λ order. IsOrder self.now.nets order.items) }
+    {
+        let alloc = self.parts.nets.allocator();
+        let nets = sorted(alloc, self.kept.fanins.as_slice())?.unwrap();
+        self.held_among(nets.as_slice())
+    }
+
+    /// Those of these nets that are held.
+    fn held_among(&self, nets: &[NetId]) -> Result<Vec<NetId>, Memory>
+        ensures { IfOk result
+            (λ held. held.items ≡ filter (λ (n : NetId). is_held self.now.nets n.0) nets.now) }
+    {
+        let mut held = Vec::new(self.parts.nets.allocator());
+        for net in nets {
+            if self.holds(*net) {
+                held.push(*net)?;
+            }
+        }
+        Ok(held)
     }
 }

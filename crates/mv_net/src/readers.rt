@@ -6,7 +6,7 @@ use mv_base::{Items, MAX_NETS, Memory, NetId};
 use std::alloc::Global;
 
 /// As many empty lists.
-fn empty_rows(alloc: Global, count: usize) -> Result<Items<Items<NetId>>, Memory>
+pub fn empty_rows(alloc: Global, count: usize) -> Result<Items<Items<NetId>>, Memory>
     ensures { IfOk result (λ rows. rows ≡ replicate count []) }
 {
     let mut rows = Items::new(alloc);
@@ -17,7 +17,7 @@ fn empty_rows(alloc: Global, count: usize) -> Result<Items<Items<NetId>>, Memory
 }
 
 /// Puts the net at the end of the list at this place.
-fn push_to(rows: &mut Items<Items<NetId>>, at: usize, net: NetId) -> Result<(), Memory>
+pub fn push_to(rows: &mut Items<Items<NetId>>, at: usize, net: NetId) -> Result<(), Memory>
     requires { at < length rows.old }
     ensures { OnOk result (rows.new ≡ slice_set rows.old at (row rows.old at ++ net ∷ [])) }
 {

@@ -275,3 +275,10 @@ fn a_changed_network_is_looked_up(rt: HostRuntime) -> Result<(), Memory> {
     assert!(rt; net.find(b"z") == Some(NetId(2)));
     Ok(())
 }
+
+#[test]
+fn held_nets_are_put_in_order(rt: HostRuntime) -> Result<(), Memory> {
+    let net = network(rt.alloc())?;
+    assert!(rt; net.order()?.as_slice() == [NetId(0), NetId(2)].as_slice());
+    Ok(())
+}

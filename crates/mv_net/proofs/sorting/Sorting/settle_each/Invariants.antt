@@ -1,6 +1,6 @@
 use Rattle.std.proofs.Common.{◌-◌, ◌^◌, length}
-use Rattle.mv_flat.specs.Sorting.{ArePlaced}
-use Rattle.mv_flat.proofs.cycle.Sorting.settle_each.Given as goal
+use Rattle.mv_net.specs.Sorting.{ArePlaced}
+use Rattle.mv_net.proofs.sorting.Sorting.settle_each.Given as goal
 
 abbrev pub invariant-loop-place : goal.invariant-loop-place
 invariant-loop-place l = ArePlaced l.columns l.self l.place (length l.columns)

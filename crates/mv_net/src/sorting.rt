@@ -1,24 +1,33 @@
-ghost use Rattle.std.specs.Prelude.{◌≡◌, ◌<◌, ◌↔◌, IsTrue, ◌≤◌, ◌+◌, ◌∷◌, ℕ, List, [], length, slice_index, slice_index_or, IfOk, OnOk, All, MatchBool, nat_lt};
+ghost use Rattle.std.specs.Prelude.{◌≡◌, ◌<◌, ◌≤◌, ◌+◌, ◌∷◌, ◌↔◌, ℕ, [], length, slice_index, IfOk, IfSome, IsTrue, OnOk, All, MatchOption, nat_lt};
 ghost use Rattle.std.specs.List.{list_all};
 ghost use Rattle.mv_base.specs.declared.number.NetId.{NetId};
-ghost use Rattle.mv_flat.specs.Ranks.{IsRanked, AllBelow, columns_of};
-ghost use Rattle.mv_flat.specs.Sorting.{IsSorting, ArePlaced, HasWaited, HasFinished, HasReleased, HasLooked, net_at, waiters};
+ghost use Rattle.mv_base.specs.declared.limits.TheConstants.{MAX_NETS};
+ghost use Rattle.mv_net.specs.Ranks.{IsRanked, AllBelow, IsSortedBy};
+ghost use Rattle.mv_net.specs.Sorting.{IsSorting, ArePlaced, HasWaited, HasFinished, HasReleased, HasLooked, net_at, waiters};
 
-use mv_base::{Items, Memory, NetId};
+use crate::readers::{empty_rows, push_to};
+use mv_base::{Items, MAX_NETS, Memory, NetId};
 use std::alloc::Global;
-use std::mem;
 
-/// Whether no net is above itself, where `columns` has for each net the nets that its table has as columns.
-/// The time grows with the number of nets and columns. The only error is want of memory.
-#[tactic(auto, using(crate::proofs::CycleLemmas::answer))]
-pub fn is_acyclic(alloc: Global, columns: &[Items<NetId>]) -> Result<bool, Memory>
-    requires { AllBelow columns.now }
-    ensures { IfOk result (λ ranked. MatchBool ranked (IsRanked columns.now) (IsRanked columns.now → ⊥)) }
+/// The nets by number in an order in which each stands behind its columns (Kahn 1962), or None where some net is
+/// above itself. `columns` has for each net the nets that its table has as columns. The time grows with the number
+/// of nets and columns. The only error is want of memory.
+#[tactic(auto, using(crate::proofs::Finished::at_end))]
+pub fn sorted(alloc: Global, columns: &[Items<NetId>]) -> Result<Option<Items<NetId>>, Memory>
+    requires below { AllBelow columns.now }
+    requires few { length columns.now ≤ MAX_NETS }
+    ensures order { IfOk result (λ order. IfSome order (λ nets. IsSortedBy columns.now nets)) }
+    ensures ranked { IfOk result
+        (λ order. MatchOption order (IsRanked columns.now → ⊥) (λ _. IsRanked columns.now)) }
 {
     let mut sorting = Sorting::new(alloc, columns)?;
     sorting.look_at_each(columns)?;
-    sorting.settle_each(alloc, columns)?;
-    Ok(are_ranked(sorting.ranks.as_slice()))
+    sorting.settle_each(columns)?;
+    if are_ranked(sorting.ranks.as_slice()) {
+        Ok(Some(Items::of(sorting.order)))
+    } else {
+        Ok(None)
+    }
 }
 
 /// Nets as they are put in an order in which each stands behind its columns.
@@ -29,9 +38,9 @@ struct Sorting {
     /// How many of a net's columns, from the first on, are known to be in the order.
     passed: Vec<usize>,
     /// For each net the nets that wait until it is in the order.
-    waiting: Vec<Items<usize>>,
+    waiting: Items<Items<NetId>>,
     /// The nets that are in the order.
-    order: Vec<usize>,
+    order: Vec<NetId>,
 }
 
 impl Sorting {
@@ -42,69 +51,66 @@ impl Sorting {
         Ok(Sorting {
             ranks: vec![in alloc; 0; columns.len()]?,
             passed: vec![in alloc; 0; columns.len()]?,
-            waiting: empty_lists(alloc, columns.len())?,
+            waiting: empty_rows(alloc, columns.len())?,
             order: Vec::new(alloc),
         })
     }
 
     /// Looks at each net once.
-    #[tactic(auto, using(crate::proofs::CycleLemmas::placed_next))]
+    #[tactic(auto, using(crate::proofs::Waiting::placed_next))]
     fn look_at_each(&mut self, columns: &[Items<NetId>]) -> Result<(), Memory>
         requires below { AllBelow columns.now }
+        requires few { length columns.now ≤ MAX_NETS }
         requires none { ArePlaced columns.now self.old 0 0 }
         ensures { OnOk result (ArePlaced columns.now self.new 0 (length columns.now)) }
     {
-        for net in 0..columns.len() {
-            self.look(columns, net)?;
+        for number in 0..columns.len() {
+            self.look(columns, NetId(number as u32))?;
         }
         Ok(())
     }
 
     /// Goes along the order, and looks again at the nets that wait for each of its nets.
-    fn settle_each(&mut self, alloc: Global, columns: &[Items<NetId>]) -> Result<(), Memory>
+    fn settle_each(&mut self, columns: &[Items<NetId>]) -> Result<(), Memory>
         requires below { AllBelow columns.now }
         requires placed { ArePlaced columns.now self.old 0 (length columns.now) }
         ensures { OnOk result (ArePlaced columns.now self.new (length self.new.order.items) (length columns.now)) }
     {
         let mut place = 0;
         while place < self.order.len() {
-            self.settle(alloc, columns, place)?;
+            self.settle(columns, place)?;
             place += 1;
         }
         Ok(())
     }
 
     /// Looks again at the nets that wait for the net at this place of the order.
-    fn settle(
-        &mut self,
-        alloc: Global,
-        columns: &[Items<NetId>],
-        place: usize,
-    ) -> Result<(), Memory>
+    fn settle(&mut self, columns: &[Items<NetId>], place: usize) -> Result<(), Memory>
         requires below { AllBelow columns.now }
         requires placed { ArePlaced columns.now self.old place (length columns.now) }
         requires inside { place < length self.old.order.items }
         ensures { OnOk result (ArePlaced columns.now self.new (place + 1) (length columns.now)) }
     {
         let net = self.order[place];
-        let nets = self.release(alloc, net);
+        let nets = self.release(net);
         self.look_at(columns, nets.as_slice())
     }
 
     /// Takes the nets that wait for a net.
-    fn release(&mut self, alloc: Global, net: usize) -> Items<usize>
-        requires { net < length self.old.waiting.items }
-        ensures nets { result ≡ waiters self.old net }
+    fn release(&mut self, net: NetId) -> Items<NetId>
+        requires { net.0 < length self.old.waiting }
+        ensures nets { result ≡ waiters self.old net.0 }
         ensures rest { HasReleased self.old self.new net }
     {
-        mem::replace(&mut self.waiting[net], Items::new(alloc))
+        let none = Items::new(self.waiting.allocator());
+        self.waiting.replace(net.0 as usize, none)
     }
 
     /// Looks at these nets.
-    fn look_at(&mut self, columns: &[Items<NetId>], nets: &[usize]) -> Result<(), Memory>
+    fn look_at(&mut self, columns: &[Items<NetId>], nets: &[NetId]) -> Result<(), Memory>
         requires below { AllBelow columns.now }
         requires sorting { IsSorting columns.now self.old }
-        requires nets { All (λ n. n < length columns.now) nets.now }
+        requires nets { All (λ (n : NetId). n.0 < length columns.now) nets.now }
         ensures { OnOk result (HasLooked columns.now self.old self.new nets.now) }
     {
         for net in nets {
@@ -114,42 +120,42 @@ impl Sorting {
     }
 
     /// Puts a net at the end of the order, or lets it wait for the first of its columns that isn't in the order.
-    fn look(&mut self, columns: &[Items<NetId>], net: usize) -> Result<(), Memory>
+    fn look(&mut self, columns: &[Items<NetId>], net: NetId) -> Result<(), Memory>
         requires below { AllBelow columns.now }
         requires sorting { IsSorting columns.now self.old }
-        requires net { net < length columns.now }
+        requires net { net.0 < length columns.now }
         ensures { OnOk result (HasLooked columns.now self.old self.new (net ∷ [])) }
     {
-        if self.ranks[net] > 0 {
+        let number = net.0 as usize;
+        if self.ranks[number] > 0 {
             return Ok(());
         }
-        let fanins = columns[net].as_slice();
-        let place = first_open(self.ranks.as_slice(), fanins, self.passed[net]);
+        let fanins = columns[number].as_slice();
+        let place = first_open(self.ranks.as_slice(), fanins, self.passed[number]);
         if place < fanins.len() {
-            self.wait(net, place, fanins[place].0 as usize)
+            self.wait(net, place, fanins[place])
         } else {
             self.finish(net)
         }
     }
 
     /// Lets a net wait for another, which stands at this place of its columns.
-    fn wait(&mut self, net: usize, place: usize, above: usize) -> Result<(), Memory>
-        requires net { net < length self.old.passed.items }
-        requires above { above < length self.old.waiting.items }
+    fn wait(&mut self, net: NetId, place: usize, above: NetId) -> Result<(), Memory>
+        requires net { net.0 < length self.old.passed.items }
+        requires above { above.0 < length self.old.waiting }
         ensures { OnOk result (HasWaited self.old self.new net place above) }
     {
-        self.passed[net] = place;
-        self.waiting[above].push(net)?;
-        Ok(())
+        self.passed[net.0 as usize] = place;
+        push_to(&mut self.waiting, above.0 as usize, net)
     }
 
     /// Puts a net at the end of the order.
-    fn finish(&mut self, net: usize) -> Result<(), Memory>
-        requires { net < length self.old.ranks.items }
+    fn finish(&mut self, net: NetId) -> Result<(), Memory>
+        requires { net.0 < length self.old.ranks.items }
         ensures { OnOk result (HasFinished self.old self.new net) }
     {
         self.order.push(net)?;
-        self.ranks[net] = self.order.len();
+        self.ranks[net.0 as usize] = self.order.len();
         Ok(())
     }
 }
@@ -175,22 +181,9 @@ fn first_open(ranks: &[usize], nets: &[NetId], start: usize) -> usize
     nets.len()
 }
 
-/// So many lists without elements.
-#[tactic(auto, using(crate::proofs::CycleLemmas::same_more))]
-fn empty_lists(alloc: Global, count: usize) -> Result<Vec<Items<usize>>, Memory>
-    ensures length { IfOk result (λ v. length v.items ≡ count) }
-    ensures each { IfOk result (λ v. (n : ℕ) → slice_index_or v.items n [] ≡ []) }
-{
-    let mut lists = Vec::with_capacity(alloc, count)?;
-    'fill: for made in 0..count {
-        lists.push(Items::new(alloc))?;
-    }
-    Ok(lists)
-}
-
 #[cfg(test)]
 mod tests {
-    use super::is_acyclic;
+    use super::sorted;
     use mv_base::{Items, NetId};
     use std::alloc::Global;
     use std::test::Fail;
@@ -219,31 +212,40 @@ mod tests {
         Ok(nets)
     }
 
-    /// The answer for nets with these columns.
-    fn answer(alloc: Global, numbers: &[&[u32]]) -> Result<bool, Fail> {
+    /// The order of nets with these columns.
+    fn order(alloc: Global, numbers: &[&[u32]]) -> Result<Option<Items<NetId>>, Fail> {
         let mut columns = Vec::new(alloc);
         for list in numbers {
             columns.push(nets_of(alloc, list)?)?;
         }
-        if !are_below(columns.as_slice()) {
-            return Err("a column that is no net")?;
+        if columns.len() > 10 || !are_below(columns.as_slice()) {
+            return Err("too many nets, or a column that is no net")?;
         }
-        Ok(is_acyclic(alloc, columns.as_slice())?)
+        Ok(sorted(alloc, columns.as_slice())?)
     }
 
     #[test]
-    fn tells_cycles(rt: HostRuntime) -> Result<(), Fail> {
-        let table: [(&[&[u32]], bool); 7] = [
-            (&[], true),
-            (&[&[0]], false),
-            (&[&[1], &[0]], false),
-            (&[&[1], &[2], &[3], &[4], &[]], true),
-            (&[&[], &[0], &[0], &[1, 2]], true),
-            (&[&[1, 2], &[], &[1, 3], &[1, 0]], false),
-            (&[&[2, 2], &[0, 2, 0], &[]], true),
+    fn sorts_nets(rt: HostRuntime) -> Result<(), Fail> {
+        let table: [(&[&[u32]], &[u32]); 4] = [
+            (&[], &[]),
+            (&[&[1], &[2], &[3], &[4], &[]], &[4, 3, 2, 1, 0]),
+            (&[&[], &[0], &[0], &[1, 2]], &[0, 1, 2, 3]),
+            (&[&[2, 2], &[0, 2, 0], &[]], &[2, 0, 1]),
         ];
-        for (numbers, acyclic) in table {
-            assert_eq!(rt; answer(rt.alloc(), numbers)?, acyclic);
+        for (columns, wanted) in table {
+            let Some(nets) = order(rt.alloc(), columns)? else {
+                return Err("a cycle where there is none")?;
+            };
+            assert!(rt; nets.as_slice() == nets_of(rt.alloc(), wanted)?.as_slice());
+        }
+        Ok(())
+    }
+
+    #[test]
+    fn finds_cycles(rt: HostRuntime) -> Result<(), Fail> {
+        let table: [&[&[u32]]; 3] = [&[&[0]], &[&[1], &[0]], &[&[1, 2], &[], &[1, 3], &[1, 0]]];
+        for columns in table {
+            assert!(rt; order(rt.alloc(), columns)?.is_none());
         }
         Ok(())
     }

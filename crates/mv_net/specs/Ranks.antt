@@ -1,0 +1,20 @@
+-- Ranks of nets by number, which show that no net is above itself, and orders of the nets in which each stands behind its columns.
+use Rattle.std.specs.Prelude.{◌≡◌, ℕ, ◌<◌, true, nat_lt, List, length, take, slice_get, Some, All}
+use Rattle.mv_base.specs.declared.number.NetId.{NetId}
+use Rattle.mv_net.specs.Formed.{all_differ}
+use Rattle.mv_net.specs.Index.{has_id, row}
+
+-- some rank falls from each net to each of its columns
+pub record IsRanked (columns : List (List NetId)) : Type 0 where
+  pub rank : ℕ → ℕ
+  pub falls : (n m : ℕ) → has_id (row columns n) m ≡ true → rank m < rank n
+
+-- every column is a net of the list
+abbrev pub AllBelow : List (List NetId) → Type 0
+AllBelow columns = All (λ ns. All (λ (c : NetId). c.0 < length columns) ns) columns
+
+-- each net of the list stands in the order once, and its columns stand before it
+pub record IsSortedBy (columns : List (List NetId)) (order : List NetId) : Type 0 where
+  pub members : (n : ℕ) → has_id order n ≡ nat_lt n (length columns)
+  pub once : all_differ order ≡ true
+  pub behind : (place : ℕ) (n : NetId) (m : ℕ) → slice_get order place ≡ Some n → has_id (row columns n.0) m ≡ true → has_id (take place order) m ≡ true
