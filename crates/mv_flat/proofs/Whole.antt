@@ -295,6 +295,7 @@ pub flat : (d : Design) (net : NetParts) → IsPlaced d net → length (drivers 
 flat d net is few r = record {
   sound = sound d net is r;
   nets = few;
+  built = is.built;
   formed = formed d net is r;
   few = let l = length_nets d net.nets is.built.nets in omega arith;
   binary = binary d net is;

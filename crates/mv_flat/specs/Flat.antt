@@ -9,11 +9,14 @@ use Rattle.mv_net.specs.Binary.{IsBinary}
 use Rattle.mv_parse.specs.declared.design.Design.{Design}
 use Rattle.mv_parse.specs.Designs.{IsSound, drivers}
 use Rattle.mv_parse.specs.Relation.{of_design}
+use Rattle.mv_flat.specs.Tables.{IsBuilt}
 
--- a sound design with few enough nets, and a well formed network of the form that is written, which means the same
+-- a sound design with few enough nets, and its network: a net for each input and each table of the design, well formed,
+-- of the form that is written, which means the same
 pub record IsFlat (net : NetParts) (d : Design) : Type 0 where
   pub sound : IsSound d
   pub nets : length (drivers d) ≤ MAX_NETS
+  pub built : IsBuilt d net
   pub formed : WellFormed net
   pub few : length net.nets ≤ MAX_NETS
   pub binary : IsBinary net

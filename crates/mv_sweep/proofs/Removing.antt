@@ -1,0 +1,146 @@
+-- Entries one after the other: what a network went through, and what a sink gained of it.
+use Rattle.std.proofs.Common.{◌≡◌, ℕ, List, [], ◌∷◌, ◌++◌, Option, Ok, Err, inl, inr, refl, sym, subst}
+use Rattle.std.proofs.lemmas.Grind.{flat_map-append}
+use Rattle.std.proofs.lemmas.List.{map-append, append-nil}
+use Rattle.mv_base.specs.declared.outside.Failed.{Failed}
+use Rattle.mv_base.specs.Appends.{Appends}
+use Rattle.mv_base.specs.Outside.{Gained, GainedPart}
+use Rattle.mv_base.proofs.Gains.{Gained-none, Gained-then, GainedPart-then}
+use Rattle.mv_net.specs.declared.parts.NetParts.{NetParts}
+use Rattle.mv_net.specs.Nets.{slot, name_in, literals_in}
+use Rattle.mv_net.specs.Changes.{without}
+use Rattle.mv_sweep.specs.Entries.{Entry, Begin, Remove, End, entry_line, print}
+use Rattle.mv_sweep.specs.Drops.{Goes, Went, WentPart, HasDropped, IsDropping, IsFront, IsCutOff, begun, whole}
+use Rattle.mv_sweep.specs.Search.{NoneLeft, IsFirst, HasRemoved, IsRemoving}
+
+-- ---- the entries of two stretches
+
+pub Goes-append : (a b c : NetParts) (xs ys : List Entry) → Goes a xs b → Goes b ys c → Goes a (xs ++ ys) c
+Goes-append a b c [] ys g h = let P : NetParts → Type 0 = λ n. Goes n ys c in subst P g h
+Goes-append a b c (Begin ∷ xs) ys g h = Goes-append a b c xs ys g h
+Goes-append a b c (Remove w ∷ xs) ys g h = (g.0, (g.1.0, Goes-append g.0 b c xs ys g.1.1 h))
+Goes-append a b c (End k ∷ xs) ys g h = (g.0, Goes-append a b c xs ys g.1 h)
+
+pub print-append : (xs ys : List Entry) → print (xs ++ ys) ≡ print xs ++ print ys
+unfolding print
+print-append xs ys = flat_map-append entry_line xs ys
+
+pub print-one : (e : Entry) → print (e ∷ []) ≡ entry_line e
+unfolding print
+print-one e = append-nil (entry_line e)
+
+print-none : print [] ≡ []
+unfolding print
+print-none = refl
+
+module _ {a b c : NetParts} {t u v : Option (List ℕ)} {xs ys : List Entry} where
+  pub Went-then : Went a b t u xs → Went b c u v ys → Went a c t v (xs ++ ys)
+  Went-then p q = record {
+    goes = Goes-append a b c xs ys p.goes q.goes;
+    gained =
+        let P : List ℕ → Type 0 = λ z. Gained t v z in
+        subst P (sym (print-append xs ys)) (Gained-then t u v (print xs) (print ys) p.gained q.gained);
+  }
+
+  pub WentPart-then : Went a b t u xs → WentPart b c u v ys → WentPart a c t v (xs ++ ys)
+  WentPart-then p q = record {
+    goes = Goes-append a b c xs ys p.goes q.goes;
+    gained =
+        let P : List ℕ → Type 0 = λ z. GainedPart t v z in
+        subst P (sym (print-append xs ys)) (GainedPart-then t u v (print xs) (print ys) p.gained q.gained);
+  }
+
+-- a network that stays, with one entry
+pub Went-one : (a b : NetParts) (t u : Option (List ℕ)) (e : Entry) → Goes a (e ∷ []) b → Gained t u (entry_line e) → Went a b t u (e ∷ [])
+Went-one a b t u e g h = record { goes = g; gained = let P : List ℕ → Type 0 = λ z. Gained t u z in subst P (sym (print-one e)) h }
+
+pub WentPart-one : (a b : NetParts) (t u : Option (List ℕ)) (e : Entry) → Goes a (e ∷ []) b → GainedPart t u (entry_line e) → WentPart a b t u (e ∷ [])
+WentPart-one a b t u e g h = record { goes = g; gained = let P : List ℕ → Type 0 = λ z. GainedPart t u z in subst P (sym (print-one e)) h }
+
+-- ---- nets that went
+
+pub HasRemoved-none : (a : NetParts) (t : Option (List ℕ)) → HasRemoved a a t t
+HasRemoved-none a t = record {
+  names = [];
+  went = record { goes = refl; gained = let P : List ℕ → Type 0 = λ z. Gained t t z in subst P (sym print-none) (Gained-none t) };
+}
+
+pub HasRemoved-then : (a b c : NetParts) (t u v : Option (List ℕ)) → HasRemoved a b t u → HasRemoved b c u v → HasRemoved a c t v
+HasRemoved-then a b c t u v p q = record {
+  names = p.names ++ q.names;
+  went =
+      let P : List Entry → Type 0 = λ es. Went a c t v es in
+      subst P (sym (map-append Remove p.names q.names)) (Went-then p.went q.went);
+}
+
+pub IsRemoving-then : (a b c : NetParts) (t u v : Option (List ℕ)) → HasRemoved a b t u → IsRemoving b c u v → IsRemoving a c t v
+IsRemoving-then a b c t u v p q = record {
+  names = p.names ++ q.names;
+  went =
+      let P : List Entry → Type 0 = λ es. WentPart a c t v es in
+      subst P (sym (map-append Remove p.names q.names)) (WentPart-then p.went q.went);
+}
+
+goes_away : (old new : NetParts) (n : ℕ) (name : List ℕ) → IsFirst old n → name ≡ name_in (slot old.nets n) → new ≡ without old n → Goes old (Remove name ∷ []) new
+goes_away old new n name first is e = (
+  without old n,
+  (
+    record {
+      number = n;
+      removable = first.removable;
+      least = first.least.none;
+      name_is = sym is;
+      new_is = refl;
+    },
+    e,
+  ),
+)
+
+pub removed : (old new : NetParts) (n : ℕ) (name : List ℕ) (t u : Option (List ℕ)) (before now : ℕ) → IsFirst old n → name ≡ name_in (slot old.nets n) → new ≡ without old n → Appends t u before now (entry_line (Remove name)) (Ok tt) → HasRemoved old new t u
+removed old new n name t u before now first is e p = record {
+  names = name ∷ [];
+  went = Went-one old new t u (Remove name) (goes_away old new n name first is e) p.ok;
+}
+
+pub removing : (old new : NetParts) (n : ℕ) (name : List ℕ) (t u : Option (List ℕ)) (before now : ℕ) (f : Failed) → IsFirst old n → name ≡ name_in (slot old.nets n) → new ≡ without old n → Appends t u before now (entry_line (Remove name)) (Err f) → IsRemoving old new t u
+removing old new n name t u before now f first is e p = record {
+  names = name ∷ [];
+  went = WentPart-one old new t u (Remove name) (goes_away old new n name first is e) p.part;
+}
+
+-- ---- a whole `drop`, and one that stops
+
+begins : (a : NetParts) (t u : Option (List ℕ)) → Gained t u (entry_line Begin) → Went a a t u (Begin ∷ [])
+begins a t u g = Went-one a a t u Begin refl g
+
+pub front_begun : (names : List (List ℕ)) → IsFront (begun names)
+front_begun names = record { names = names; literals = 0; is = inl refl }
+
+pub drop_begun : (a b : NetParts) (t u v : Option (List ℕ)) (before now : ℕ) → Appends t u before now (entry_line Begin) (Ok tt) → HasRemoved a b u v → IsDropping a b t v
+drop_begun a b t u v before now p q = record { names = q.names; went = Went-then (begins a t u p.ok) q.went }
+
+pub drop_unbegun : (a : NetParts) (t u : Option (List ℕ)) (before now : ℕ) (f : Failed) → Appends t u before now (entry_line Begin) (Err f) → IsCutOff a a t u
+drop_unbegun a t u before now f p = record { entries = begun []; front = front_begun []; went = WentPart-one a a t u Begin refl p.part }
+
+pub drop_cut : (a b : NetParts) (t u v : Option (List ℕ)) (before now : ℕ) → Appends t u before now (entry_line Begin) (Ok tt) → IsRemoving a b u v → IsCutOff a b t v
+drop_cut a b t u v before now p q = record { entries = begun q.names; front = front_begun q.names; went = WentPart-then (begins a t u p.ok) q.went }
+
+settles : (b : NetParts) (literals : ℕ) → NoneLeft b → literals ≡ literals_in b.nets → Goes b (End literals ∷ []) b
+settles b literals none e = (record { none_left = none.none; counted = e }, refl)
+
+pub drop_ended : (a b : NetParts) (t u v w : Option (List ℕ)) (literals before now mid then : ℕ) → Appends t u before now (entry_line Begin) (Ok tt) → HasRemoved a b u v → NoneLeft b → literals ≡ literals_in b.nets → Appends v w mid then (entry_line (End literals)) (Ok tt) → HasDropped a b t w
+drop_ended a b t u v w literals before now mid then p q none e r = record {
+  names = q.names;
+  literals = literals;
+  went = Went-then (Went-then (begins a t u p.ok) q.went) (Went-one b b v w (End literals) (settles b literals none e) r.ok);
+}
+
+pub drop_end_cut : (a b : NetParts) (t u v w : Option (List ℕ)) (literals before now mid then : ℕ) (f : Failed) → Appends t u before now (entry_line Begin) (Ok tt) → HasRemoved a b u v → NoneLeft b → literals ≡ literals_in b.nets → Appends v w mid then (entry_line (End literals)) (Err f) → IsCutOff a b t w
+drop_end_cut a b t u v w literals before now mid then f p q none e r = record {
+  entries = whole q.names literals;
+  front = record { names = q.names; literals = literals; is = inr refl };
+  went = WentPart-then (Went-then (begins a t u p.ok) q.went) (WentPart-one b b v w (End literals) (settles b literals none e) r.part);
+}
+
+-- where nothing went yet
+pub ruleset none_yet = (HasRemoved-none)

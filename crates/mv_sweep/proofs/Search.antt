@@ -1,0 +1,145 @@
+-- The search for the least net that can go.
+use Rattle.std.proofs.Common.{◌≡◌, ◌∙◌, ℕ, ◌+◌, ◌<◌, ◌≤◌, Bool, true, false, List, [], ◌∷◌, Option, Some, None, IsTrue, MatchBool, Result, Ok, Err, IfOk, is_some, set, refl, sym, ap, subst, arith, ⊎_elim, length, nat_eq, eqb-true, eq-eqb}
+use Rattle.std.specs.Prelude.{sum_by, slice_get, min}
+use Rattle.std.proofs.lemmas.Bool.{false≢true, cases_lt, or_cases, or_left}
+use Rattle.std.proofs.lemmas.List.Sums.{sum_by-set}
+use Rattle.mv_base.specs.declared.number.NetId.{NetId}
+use Rattle.mv_net.specs.declared.parts.FlatNet.{FlatNet}
+use Rattle.mv_net.specs.declared.parts.NetParts.{NetParts}
+use Rattle.mv_net.specs.Nets.{slot, net_reads}
+use Rattle.mv_net.specs.Index.{is_held, is_seen, IsAscending, has_id}
+use Rattle.mv_net.specs.Changes.{without, with_nets}
+use Rattle.mv_net.specs.Total.{IsTotalNet, IsRemovable}
+use Rattle.mv_net.proofs.Named.{held_below}
+use Rattle.mv_net.proofs.Orders.{above_first}
+use Rattle.mv_sweep.specs.Search.{NoneLeft, NoneFrom, NoneBelow, IsFirst, IsFirstFrom}
+use Rattle.mv_net.proofs.Removal.{removable-later}
+
+-- ---- one net
+
+pub unheld_stays : (net : NetParts) (n : ℕ) → is_held net.nets n ≡ false → IsRemovable net n → ⊥
+unheld_stays net n e r = false≢true (sym e ∙ ap is_some r.total.held)
+
+pub seen_stays : (net : NetParts) (n : ℕ) → is_seen net n ≡ true → IsRemovable net n → ⊥
+seen_stays net n e r = false≢true (sym r.unseen ∙ e)
+
+pub read_stays : (net : NetParts) (n : ℕ) (ms : List NetId) → IsAscending (λ k. net_reads (slot net.nets k) n) ms → nat_eq (length ms) 0 ≡ false → IsRemovable net n → ⊥
+read_stays net n [] a some r = false≢true (sym some)
+read_stays net n (m ∷ ms) a some r =
+    let here : has_id (m ∷ ms) m.0 ≡ true = or_left (nat_eq m.0 m.0) (has_id ms m.0) (eq-eqb m.0 m.0 refl) in
+    false≢true (sym (r.unread m.0) ∙ (sym (a.members m.0) ∙ here))
+
+unread_by_none : (net : NetParts) (n : ℕ) (ms : List NetId) → IsAscending (λ k. net_reads (slot net.nets k) n) ms → nat_eq (length ms) 0 ≡ true → (m : ℕ) → net_reads (slot net.nets m) n ≡ false
+unread_by_none net n [] a none m = sym (a.members m)
+unread_by_none net n (k ∷ ms) a none m = absurd (let e : length (k ∷ ms) ≡ 0 = eqb-true (length (k ∷ ms)) 0 none in omega arith)
+
+-- a net that nobody sees or reads can go exactly where its table is total
+total_goes : (net : NetParts) (n : ℕ) (ms : List NetId) (total : Bool) → is_seen net n ≡ false → IsAscending (λ k. net_reads (slot net.nets k) n) ms → nat_eq (length ms) 0 ≡ true → MatchBool total (IsTotalNet net.nets n) (IsTotalNet net.nets n → ⊥) → MatchBool total (IsRemovable net n) (IsRemovable net n → ⊥)
+total_goes net n ms true unseen a none t = record { unseen = unseen; unread = unread_by_none net n ms a none; total = t }
+total_goes net n ms false unseen a none t = λ r. t r.total
+
+pub goes_as_total : {E : Type 0} (net : NetParts) (n : ℕ) (ms : List NetId) (result : Result Bool E) → is_seen net n ≡ false → IsAscending (λ k. net_reads (slot net.nets k) n) ms → nat_eq (length ms) 0 ≡ true → IfOk result (λ total. MatchBool total (IsTotalNet net.nets n) (IsTotalNet net.nets n → ⊥)) → IfOk result (λ goes. MatchBool goes (IsRemovable net n) (IsRemovable net n → ⊥))
+goes_as_total net n ms (Ok total) unseen a none t = total_goes net n ms total unseen a none t
+goes_as_total net n ms (Err e) unseen a none t = tt
+
+pub removable_held : (net : NetParts) (n : ℕ) → IsRemovable net n → IsTrue (is_held net.nets n)
+removable_held net n r = ap is_some r.total.held
+
+-- ---- the numbers one after the other
+
+-- no net from one number up to another can go
+pub record NoneBetween (net : NetParts) (from to : ℕ) : Type 0 where
+  pub none : (m : ℕ) → from ≤ m → m < to → IsRemovable net m → ⊥
+
+pub between_none : (net : NetParts) (from : ℕ) → NoneBetween net from from
+between_none net from = record { none = λ m above below r. omega arith }
+
+pub between_more : (net : NetParts) (from to : ℕ) → NoneBetween net from to → (IsRemovable net to → ⊥) → NoneBetween net from (to + 1)
+between_more net from to h stays = record {
+  none = λ m above below r.
+      ⊎_elim
+      (λ (l : m < to). h.none m above l r)
+      (λ (g : to ≤ m). let e : m ≡ to = omega arith in stays (subst (IsRemovable net) e r))
+      (cases_lt m to);
+}
+
+pub between_first : (net : NetParts) (from to : ℕ) → from ≤ to → NoneBetween net from to → IsRemovable net to → IsFirstFrom net from to
+between_first net from to above h r = record { removable = r; above = above; least = h.none }
+
+-- past the last number there is no net
+pub between_end : (net : NetParts) (from to : ℕ) → NoneBetween net from to → length net.nets ≤ to → NoneFrom net from
+between_end net from to h past = record {
+  none = λ n above r.
+      ⊎_elim
+      (λ (l : n < to). h.none n above l r)
+      (λ (g : to ≤ n). let low = held_below net.nets n r.total.net r.total.held in omega arith)
+      (cases_lt n to);
+}
+
+-- ---- where the search goes on
+
+pub none_at_first : (net : NetParts) → NoneBelow net 0
+none_at_first net = record { none = λ n below r. omega arith }
+
+pub first_of_all : (net : NetParts) (from n : ℕ) → NoneBelow net from → IsFirstFrom net from n → IsFirst net n
+first_of_all net from n below first = record {
+  removable = first.removable;
+  least = record {
+    none = λ m low r. ⊎_elim (λ (l : m < from). below.none m l r) (λ (g : from ≤ m). first.least m g low r) (cases_lt m from);
+  };
+}
+
+pub none_left : (net : NetParts) (from : ℕ) → NoneBelow net from → NoneFrom net from → NoneLeft net
+none_left net from below above = record {
+  none = λ n r. ⊎_elim (λ (l : n < from). below.none n l r) (λ (g : from ≤ n). above.none n g r) (cases_lt n from);
+}
+
+some_net : (f g : NetId) → Some f ≡ Some g → f.0 ≡ g.0
+some_net f g e = let same : f ≡ g = cc in ap (λ (h : NetId). h.0) same
+
+-- the fanins of a net come no lower than the first of them
+pub below_first : (test : ℕ → Bool) (f : NetId) (fs : List NetId) (m : ℕ) → IsAscending test (f ∷ fs) → m < f.0 → test m ≡ false
+below_first test f fs m a low =
+    sym (a.members m) ∙ none (has_id (f ∷ fs) m) refl
+  where
+    none : (b : Bool) → has_id (f ∷ fs) m ≡ b → b ≡ false
+    none false e = refl
+    none true e =
+        ⊎_elim
+        (λ (y : nat_eq f.0 m ≡ true). let same : f.0 ≡ m = eqb-true f.0 m y in absurd (omega arith))
+        (λ (o : has_id fs m ≡ true). let above : f.0 < m = above_first f fs m a.ascending o in absurd (omega arith))
+        (or_cases (nat_eq f.0 m) (has_id fs m) e)
+
+-- the least of a net and the first of its fanins
+pub below_fanins : (net : NetParts) (n back : ℕ) (fs : List NetId) (f : NetId) → IsAscending (λ m. net_reads (slot net.nets n) m) fs → Some f ≡ slice_get fs 0 → back ≡ min f.0 n → (m : ℕ) → m < back → net_reads (slot net.nets n) m ≡ false
+below_fanins net n back [] f a e is m low = absurd (let bad : Some f ≡ None = e in cc)
+below_fanins net n back (g ∷ gs) f a e is m low =
+    let one : Some f ≡ Some g = e in
+    let same : f.0 ≡ g.0 = some_net f g one in
+    below_first (λ k. net_reads (slot net.nets n) k) g gs m a (omega arith)
+
+-- behind a net that went no net below it that it doesn't read can go
+pub none_below_again : (net new : NetParts) (n back : ℕ) → IsFirst net n → new ≡ without net n → back ≤ n → ((m : ℕ) → m < back → net_reads (slot net.nets n) m ≡ false) → NoneBelow new back
+none_below_again net new n back first e low unread = record {
+  none = λ m below r.
+      first.least.none m (omega arith) (removable-later net n m (let P : NetParts → Type 0 = λ p. IsRemovable p m in subst P e r) (unread m below));
+}
+
+-- ---- each net that goes is one less
+
+one_held : Option FlatNet → ℕ
+one_held None = 0
+one_held (Some f) = 1
+
+-- how many nets are held
+pub held_count : NetParts → ℕ
+held_count net = sum_by one_held net.nets
+
+pub fewer_held : (net new : NetParts) (n : ℕ) → IsRemovable net n → new ≡ without net n → held_count new < held_count net
+unfolding held_count one_held with_nets
+fewer_held net new n r e =
+    let low = held_below net.nets n r.total.net r.total.held in
+    let count : sum_by one_held (set net.nets n None) + one_held (slot net.nets n) ≡ sum_by one_held net.nets + one_held None = sum_by-set one_held net.nets n None None low in
+    let here : one_held (slot net.nets n) ≡ 1 = ap one_held r.total.held in
+    let gone : held_count new ≡ held_count (without net n) = ap held_count e in
+    omega (arith, count, here, gone)

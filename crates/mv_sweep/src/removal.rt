@@ -1,0 +1,71 @@
+ghost use Rattle.std.specs.Prelude.{◌≡◌, ℕ, ◌<◌, ◌≤◌, IsTrue, false, IfOk, OnOk, OnErr, MatchBool, MatchOption};
+ghost use Rattle.mv_base.specs.Meaning.{SameMeaning};
+ghost use Rattle.mv_net.specs.Allowed.{of_net};
+ghost use Rattle.mv_net.specs.Changes.{without};
+ghost use Rattle.mv_net.specs.Index.{is_held};
+ghost use Rattle.mv_net.specs.Nets.{slot, net_reads};
+ghost use Rattle.mv_net.specs.Total.{IsRemovable};
+ghost use Rattle.mv_sweep.specs.Search.{IsFirstFrom, NoneFrom};
+
+use mv_base::{Items, Memory, NetId};
+use mv_net::{Change, Network};
+use std::alloc::Global;
+
+/// Whether the net of this number can go.
+pub fn is_removable(alloc: Global, net: &Network, n: NetId) -> Result<bool, Memory>
+    ensures { IfOk result (λ goes. MatchBool goes (IsRemovable net.now n.0) (IsRemovable net.now n.0 → ⊥)) }
+{
+    if !net.holds(n) {
+        return Ok(false);
+    }
+    if net.is_seen(n) {
+        return Ok(false);
+    }
+    if !net.readers(n).is_empty() {
+        return Ok(false);
+    }
+    net.is_total(alloc, n)
+}
+
+/// The least number from this one on whose net can go.
+pub fn next_removable(alloc: Global, net: &Network, from: u32) -> Result<Option<NetId>, Memory>
+    ensures { IfOk result (λ found. MatchOption found (NoneFrom net.now from) (λ n. IsFirstFrom net.now from n.0)) }
+{
+    for number in from..net.next_number() {
+        if is_removable(alloc, net, NetId(number))? {
+            return Ok(Some(NetId(number)));
+        }
+    }
+    Ok(None)
+}
+
+/// The least of a held net and its fanins.
+pub fn least_fanin(net: &Network, n: NetId) -> u32
+    requires { IsTrue (is_held net.now.nets n.0) }
+    ensures first { result ≤ n.0 }
+    ensures unread { (m : ℕ) → m < result → net_reads (slot net.now.nets n.0) m ≡ false }
+{
+    match net.fanins(n).first() {
+        Some(fanin) => fanin.0.min(n.0),
+        None => n.0,
+    }
+}
+
+/// Takes a net away that can go. What the network means stays.
+pub fn take_away(alloc: Global, net: &mut Network, n: NetId) -> Result<(), Memory>
+    requires { IsRemovable net.old n.0 }
+    ensures ok { OnOk result (net.new ≡ without net.old n.0) }
+    ensures means { SameMeaning (of_net net.new) (of_net net.old) }
+    ensures err { OnErr result (net.new ≡ net.old) }
+{
+    net.well_formed();
+    net.few();
+    let mut gone = Items::new(alloc);
+    gone.push(n)?;
+    net.change(Change {
+        add: Items::new(alloc),
+        set: Items::new(alloc),
+        values: Items::new(alloc),
+        gone,
+    })
+}

@@ -1,0 +1,93 @@
+ghost use Rattle.std.specs.Prelude.{◌≡◌, ◌≤◌, Err, OnOk};
+ghost use Rattle.mv_base.specs.Meaning.{SameMeaning};
+ghost use Rattle.mv_base.specs.Outside.{Rose};
+ghost use Rattle.mv_net.specs.Allowed.{of_net};
+ghost use Rattle.mv_net.specs.Changes.{without};
+ghost use Rattle.mv_sweep.specs.Drops.{HasDropped, IsDropping, IsCutOff};
+ghost use Rattle.mv_sweep.specs.Search.{HasRemoved, IsFirst, IsRemoving, NoneLeft};
+
+use crate::Stop;
+use crate::notes::{put_begin, put_end, put_remove};
+use crate::removal::{least_fanin, next_removable, take_away};
+use mv_base::{Name, NetId, Sink};
+use mv_net::Network;
+use std::alloc::Global;
+
+/// Takes away the net, which is the least that can go, and puts so to the notes.
+#[tactic(auto, using(crate::proofs::Removing::none_yet))]
+fn step<E: Sink>(alloc: Global, net: &mut Network, n: NetId, notes: &mut E) -> Result<(), Stop>
+    requires { IsFirst net.old n.0 }
+    ensures ok { OnOk result (HasRemoved net.old net.new (E.told notes.old) (E.told notes.new)) }
+    ensures gone { OnOk result (net.new ≡ without net.old n.0) }
+    ensures means { SameMeaning (of_net net.new) (of_net net.old) }
+    ensures memory { result ≡ Err Stop.Memory → HasRemoved net.old net.new (E.told notes.old) (E.told notes.new) }
+    ensures note { result ≡ Err Stop.Note → IsRemoving net.old net.new (E.told notes.old) (E.told notes.new) }
+    ensures cause { result ≡ Err Stop.Note → Rose (E.faults notes.old) (E.faults notes.new) }
+    ensures later { E.faults notes.old ≤ E.faults notes.new }
+{
+    let name = match Name::new(alloc, net.name(n)) {
+        Ok(name) => name,
+        Err(_memory) => return Err(Stop::Memory),
+    };
+    match take_away(alloc, net, n) {
+        Ok(()) => {}
+        Err(_memory) => return Err(Stop::Memory),
+    }
+    match put_remove(name.bytes(), notes) {
+        Ok(()) => Ok(()),
+        Err(_failed) => Err(Stop::Note),
+    }
+}
+
+/// Takes away the least net that can go, until there is none. Behind a net that went the search goes on at the least
+/// of it and its fanins, since only they can have become nets that can go.
+#[tactic(auto, using(crate::proofs::Removing::none_yet))]
+fn remove_each<E: Sink>(alloc: Global, net: &mut Network, notes: &mut E) -> Result<(), Stop>
+    ensures ok { OnOk result (HasRemoved net.old net.new (E.told notes.old) (E.told notes.new)) }
+    ensures none_left { OnOk result (NoneLeft net.new) }
+    ensures means { SameMeaning (of_net net.new) (of_net net.old) }
+    ensures memory { result ≡ Err Stop.Memory → HasRemoved net.old net.new (E.told notes.old) (E.told notes.new) }
+    ensures note { result ≡ Err Stop.Note → IsRemoving net.old net.new (E.told notes.old) (E.told notes.new) }
+    ensures cause { result ≡ Err Stop.Note → Rose (E.faults notes.old) (E.faults notes.new) }
+    ensures later { E.faults notes.old ≤ E.faults notes.new }
+{
+    let mut from = 0;
+    'removing: loop {
+        let n = match next_removable(alloc, net, from) {
+            Ok(Some(n)) => n,
+            Ok(None) => return Ok(()),
+            Err(_memory) => return Err(Stop::Memory),
+        };
+        from = least_fanin(net, n);
+        match step(alloc, net, n, notes) {
+            Ok(()) => {}
+            Err(stop) => return Err(stop),
+        }
+    }
+}
+
+/// The command `drop`: takes away the least-numbered net that nobody sees or reads and whose table is total, until
+/// there is none, and puts the beginning, each net that goes and the end to the notes. What the network means stays,
+/// also where the command stops: at Note the network is without the nets whose lines were put or begun, at Memory
+/// without those whose lines were put.
+pub fn remove_unread<E: Sink>(alloc: Global, net: &mut Network, notes: &mut E) -> Result<(), Stop>
+    ensures ok { OnOk result (HasDropped net.old net.new (E.told notes.old) (E.told notes.new)) }
+    ensures means { SameMeaning (of_net net.new) (of_net net.old) }
+    ensures memory { result ≡ Err Stop.Memory → IsDropping net.old net.new (E.told notes.old) (E.told notes.new) }
+    ensures note { result ≡ Err Stop.Note → IsCutOff net.old net.new (E.told notes.old) (E.told notes.new) }
+    ensures cause { result ≡ Err Stop.Note → Rose (E.faults notes.old) (E.faults notes.new) }
+    ensures later { E.faults notes.old ≤ E.faults notes.new }
+{
+    match put_begin(notes) {
+        Ok(()) => {}
+        Err(_failed) => return Err(Stop::Note),
+    }
+    match remove_each(alloc, net, notes) {
+        Ok(()) => {}
+        Err(stop) => return Err(stop),
+    }
+    match put_end(net.literals(), notes) {
+        Ok(()) => Ok(()),
+        Err(_failed) => Err(Stop::Note),
+    }
+}
