@@ -2,7 +2,7 @@
 use Rattle.std.proofs.Common.{◌≡◌, ◌∙◌, ℕ, zero, suc, ◌+◌, ◌<◌, ◌≤◌, Bool, true, false, nat_eq, List, [], ◌∷◌, ◌++◌, length, map, set, Option, Some, None, if◌then◌else◌, refl, sym, ap, subst, ⊎_elim, eqb-true, append-nil, length-append, arith}
 use Rattle.std.specs.Option.{option_map, option_or}
 use Rattle.std.proofs.lemmas.Bool.{cases_Bool, cases_lt, cond_both, eqb-false}
-use Rattle.std.proofs.lemmas.List.{ext_get_or, get_or-set_same, get_or-set_other, get_or_past, get_or_append_left, set_past, set-set, length-set, length-map}
+use Rattle.std.proofs.lemmas.List.{ext_get_or, get_or-set_same, get_or-set_other, get_or_past, get_or_append_left, get_or-append-add, set_past, set-set, length-set, length-map}
 use Rattle.mv_base.specs.declared.number.NetId.{NetId}
 use Rattle.mv_cover.specs.declared.cover.Cover.{Cover}
 use Rattle.mv_net.specs.declared.change.NewTable.{NewTable}
@@ -10,7 +10,11 @@ use Rattle.mv_net.specs.declared.change.NewCount.{NewCount}
 use Rattle.mv_net.specs.declared.change.Change.{Change}
 use Rattle.mv_net.specs.declared.parts.FlatNet.{FlatNet}
 use Rattle.mv_net.specs.declared.parts.NetParts.{NetParts}
+use Rattle.mv_net.specs.declared.kept.Kept.{Kept}
+use Rattle.mv_base.specs.declared.limits.TheConstants.{MAX_NETS}
 use Rattle.mv_net.specs.Nets.{slot}
+use Rattle.mv_net.specs.Formed.{WellFormed}
+use Rattle.mv_net.specs.Kept.{AreKept, IsNetwork}
 use Rattle.mv_net.specs.Index.{has_id}
 use Rattle.mv_net.specs.Changes.{table_for, count_for, with_table, with_count, changed_net, changed_from, made_net, changed, with_nets, without}
 
@@ -38,6 +42,24 @@ pub length-changed : (net : NetParts) (c : Change) → length (changed net c).ne
 unfolding changed
 length-changed net c =
     omega (arith, length-append (changed_from c 0 net.nets) (map made_net c.add), length-changed_from c 0 net.nets, length-map c.add made_net)
+
+-- a net that comes
+pub slot-added : (net : NetParts) (c : Change) (k : ℕ) → slot (changed net c).nets (length net.nets + k) ≡ slot (map made_net c.add) k
+unfolding changed
+slot-added net c k =
+    let long : length (changed_from c 0 net.nets) + k ≡ length net.nets + k = omega (arith, length-changed_from c 0 net.nets) in
+    ap (slot (changed_from c 0 net.nets ++ map made_net c.add)) (sym long) ∙ get_or-append-add (changed_from c 0 net.nets) (map made_net c.add) k None
+
+-- a changed network whose kept things are made anew
+pub few_changed : (net now : NetParts) (c : Change) (most : ℕ) → now ≡ changed net c → length net.nets + length c.add ≤ most → length now.nets ≤ most
+few_changed net now c most is few = omega (arith, ap (λ (p : NetParts). length p.nets) is, length-changed net c)
+
+pub kept_network : (net now : NetParts) (c : Change) (kept : Kept) → now ≡ changed net c → length net.nets + length c.add ≤ MAX_NETS → WellFormed (changed net c) → AreKept now kept → IsNetwork now kept
+kept_network net now c kept is few formed known = record {
+  formed = subst WellFormed (sym is) formed;
+  few = few_changed net now c MAX_NETS is few;
+  known = known;
+}
 
 -- nets that are the changed ones at each number
 from_slots : (c : Change) (old new : List (Option FlatNet)) → length new ≡ length old → ((n : ℕ) → slot new n ≡ changed_net c n (slot old n)) → new ≡ changed_from c 0 old

@@ -71,11 +71,8 @@ fn tabled(net: Option<FlatNet>, table: Cover) -> Option<FlatNet>
 {
     match net {
         Some(held) => Some(FlatNet {
-            name: held.name,
-            values: held.values,
-            value_names: held.value_names,
-            kind: held.kind,
             table: Some(table),
+            ..held
         }),
         None => None,
     }
@@ -87,17 +84,15 @@ fn counted(alloc: Global, net: Option<FlatNet>, values: u16) -> Option<FlatNet>
 {
     match net {
         Some(held) => Some(FlatNet {
-            name: held.name,
             values,
             value_names: Items::new(alloc),
-            kind: held.kind,
-            table: held.table,
+            ..held
         }),
         None => None,
     }
 }
 
-/// Gives nets their other tables: the first that the list has for a net.
+/// Gives nets their other tables: the first that the list has for a net. From the list's end on, so that it is put last.
 fn set_tables(nets: &mut Items<Option<FlatNet>>, mut set: Items<NewTable>)
     ensures long { length nets.new ≡ length nets.old }
     ensures each { (n : ℕ) → slot nets.new n ≡ option_map (with_table (table_for n set)) (slot nets.old n) }
@@ -108,7 +103,7 @@ fn set_tables(nets: &mut Items<Option<FlatNet>>, mut set: Items<NewTable>)
     }
 }
 
-/// Gives nets their other numbers of values: the first that the list has for a net.
+/// Gives nets their other numbers of values: the first that the list has for a net. From the list's end on, as above.
 fn set_counts(alloc: Global, nets: &mut Items<Option<FlatNet>>, mut values: Items<NewCount>)
     ensures long { length nets.new ≡ length nets.old }
     ensures each { (n : ℕ) → slot nets.new n ≡ option_map (with_count (count_for n values)) (slot nets.old n) }
@@ -152,7 +147,7 @@ fn add_nets(nets: &mut Items<Option<FlatNet>>, add: &[NewNet]) -> Result<(), Mem
     Ok(())
 }
 
-/// Changes the nets, in time that grows with their number and with the change alone.
+/// Changes the nets, with one write for each part of the change, so in time linear in it.
 fn change_nets(nets: &mut Items<Option<FlatNet>>, change: Change) -> Result<(), Memory>
     ensures { OnOk result (nets.new ≡ changed_from change 0 nets.old ++ map made_net change.add) }
 {
@@ -179,6 +174,7 @@ fn changed_parts(parts: &NetParts, change: Change) -> Result<NetParts, Memory>
 }
 
 /// Changes the parts of a network and what is kept of them, both or neither.
+#[tactic(auto, using(crate::proofs::Changed::kept_network))]
 pub fn put_change(parts: &mut NetParts, kept: &mut Kept, change: Change) -> Result<(), Memory>
     requires few { length parts.old.nets + length change.add ≤ MAX_NETS }
     requires formed { WellFormed (changed parts.old change) }
