@@ -20,10 +20,12 @@ use Rattle.mv_net.specs.Changes.{table_for, count_for, with_table, with_count, c
 
 -- ---- the nets of a changed network
 
+-- as many nets as before
 length-changed_from : (c : Change) (k : ℕ) (nets : List (Option FlatNet)) → length (changed_from c k nets) ≡ length nets
 length-changed_from c k [] = refl
 length-changed_from c k (f ∷ fs) = ap suc (length-changed_from c (k + 1) fs)
 
+-- the changed net at a number, where the first has the number k, and where it has 0
 slot-changed_from : (c : Change) (k : ℕ) (nets : List (Option FlatNet)) (m : ℕ) → slot (changed_from c k nets) m ≡ changed_net c (k + m) (slot nets m)
 slot-changed_from c k [] m = refl
 slot-changed_from c k (f ∷ fs) zero = let e : k ≡ k + zero = omega arith in ap (λ n. changed_net c n f) e
@@ -31,11 +33,16 @@ slot-changed_from c k (f ∷ fs) (suc m) =
     let e : (k + 1) + m ≡ k + suc m = omega arith in
     slot-changed_from c (k + 1) fs m ∙ ap (λ n. changed_net c n (slot fs m)) e
 
+slot-changed_nets : (c : Change) (nets : List (Option FlatNet)) (m : ℕ) → slot (changed_from c 0 nets) m ≡ changed_net c m (slot nets m)
+slot-changed_nets c nets m =
+    let e : 0 + m ≡ m = omega arith in
+    slot-changed_from c 0 nets m ∙ ap (λ n. changed_net c n (slot nets m)) e
+
 -- a net that was there before
 pub slot-changed : (net : NetParts) (c : Change) (m : ℕ) → m < length net.nets → slot (changed net c).nets m ≡ changed_net c m (slot net.nets m)
 unfolding changed
 slot-changed net c m low =
-    get_or_append_left (changed_from c 0 net.nets) (map made_net c.add) None m (omega (arith, length-changed_from c 0 net.nets)) ∙ (slot-changed_from c 0 net.nets m ∙ ap (λ n. changed_net c n (slot net.nets m)) (let e : 0 + m ≡ m = omega arith in e))
+    get_or_append_left (changed_from c 0 net.nets) (map made_net c.add) None m (omega (arith, length-changed_from c 0 net.nets)) ∙ slot-changed_nets c net.nets m
 
 -- as many numbers as before, and those of the nets that come
 pub length-changed : (net : NetParts) (c : Change) → length (changed net c).nets ≡ length net.nets + length c.add
@@ -50,21 +57,21 @@ slot-added net c k =
     let long : length (changed_from c 0 net.nets) + k ≡ length net.nets + k = omega (arith, length-changed_from c 0 net.nets) in
     ap (slot (changed_from c 0 net.nets ++ map made_net c.add)) (sym long) ∙ get_or-append-add (changed_from c 0 net.nets) (map made_net c.add) k None
 
--- a changed network whose kept things are made anew
-pub few_changed : (net now : NetParts) (c : Change) (most : ℕ) → now ≡ changed net c → length net.nets + length c.add ≤ most → length now.nets ≤ most
-few_changed net now c most is few = omega (arith, ap (λ (p : NetParts). length p.nets) is, length-changed net c)
+-- a changed network has few numbers, and is a network with what is made anew to be kept of it
+pub few_changed : (net now : NetParts) (c : Change) → now ≡ changed net c → length net.nets + length c.add ≤ MAX_NETS → length now.nets ≤ MAX_NETS
+few_changed net now c is few = omega (arith, ap (λ (p : NetParts). length p.nets) is, length-changed net c)
 
 pub kept_network : (net now : NetParts) (c : Change) (kept : Kept) → now ≡ changed net c → length net.nets + length c.add ≤ MAX_NETS → WellFormed (changed net c) → AreKept now kept → IsNetwork now kept
 kept_network net now c kept is few formed known = record {
   formed = subst WellFormed (sym is) formed;
-  few = few_changed net now c MAX_NETS is few;
+  few = few_changed net now c is few;
   known = known;
 }
 
 -- nets that are the changed ones at each number
 from_slots : (c : Change) (old new : List (Option FlatNet)) → length new ≡ length old → ((n : ℕ) → slot new n ≡ changed_net c n (slot old n)) → new ≡ changed_from c 0 old
 from_slots c old new long each =
-    ext_get_or None new (changed_from c 0 old) (long ∙ sym (length-changed_from c 0 old)) (λ n low. each n ∙ sym (slot-changed_from c 0 old n ∙ ap (λ m. changed_net c m (slot old n)) (let e : 0 + n ≡ n = omega arith in e)))
+    ext_get_or None new (changed_from c 0 old) (long ∙ sym (length-changed_from c 0 old)) (λ n low. each n ∙ sym (slot-changed_nets c old n))
 
 -- ---- one write
 
@@ -111,16 +118,19 @@ pub record IsWrite {V : Type 0} (write : Option V → FlatNet → FlatNet) : Typ
   pub none : (f : FlatNet) → write None f ≡ f
   pub over : (a b : Option V) (f : FlatNet) → write (option_or a b) f ≡ write a (write b f)
 
+-- another value stands behind both
 or_behind : {V : Type 0} (b : Bool) (v : V) (all rest last : Option V) → all ≡ option_or rest last → (if b then Some v else all) ≡ option_or (if b then Some v else rest) last
 or_behind true v all rest last e = refl
 or_behind false v all rest last e = e
 
+-- the value of a list and one more element
 first-last : {E V : Type 0} (num : E → ℕ) (val : E → V) (look : ℕ → List E → Option V) → IsFirst num val look → (n : ℕ) (es : List E) (e : E) → look n (es ++ e ∷ []) ≡ option_or (look n es) (if nat_eq (num e) n then Some (val e) else None)
 first-last num val look is n [] e =
     is.more n e [] ∙ (ap (λ o. if nat_eq (num e) n then Some (val e) else o) (is.none n) ∙ ap (λ o. option_or o (if nat_eq (num e) n then Some (val e) else None)) (sym (is.none n)))
 first-last num val look is n (x ∷ es) e =
     is.more n x (es ++ e ∷ []) ∙ (or_behind (nat_eq (num x) n) (val x) (look n (es ++ e ∷ [])) (look n es) (if nat_eq (num e) n then Some (val e) else None) (first-last num val look is n es e) ∙ ap (λ o. option_or o (if nat_eq (num e) n then Some (val e) else None)) (sym (is.more n x es)))
 
+-- the last element is written first, and then the others
 write_last : {V : Type 0} (write : Option V → FlatNet → FlatNet) → IsWrite write → (b : Bool) (first : Option V) (v : V) (f : Option FlatNet) → option_map (write first) (if b then option_map (write (Some v)) f else f) ≡ option_map (write (option_or first (if b then Some v else None))) f
 write_last write is true first v None = refl
 write_last write is false first v None = refl
@@ -139,6 +149,7 @@ write_done {E = E} {V = V} {num = num} {val = val} {look = look} {write = write}
     whole =
         back ∙ (ap (λ l. set l (num e) (act (slot old (num e)))) out ∙ set-set old (num e) None (act (slot old (num e))))
 
+-- tables and numbers of values are such lists, and such writes
 pub tables_first : IsFirst (λ (t : NewTable). t.net.0) (λ (t : NewTable). t.table) table_for
 tables_first = record { none = λ n. refl; more = λ n t ts. refl }
 

@@ -7,7 +7,6 @@ use Rattle.mv_base.proofs.Sets.{has-one, has-full, has-empty}
 use Rattle.mv_base.specs.declared.number.NetId.{NetId}
 use Rattle.mv_cover.specs.declared.cover.Cover.{Cover}
 use Rattle.mv_cover.specs.Covers.{cover_reads}
-use Rattle.mv_net.specs.declared.change.NewTable.{NewTable}
 use Rattle.mv_net.specs.declared.change.Change.{Change}
 use Rattle.mv_net.specs.Changes.{changed}
 use Rattle.mv_net.specs.declared.parts.Kind.{Kind}
@@ -28,8 +27,8 @@ inverse = record {
   default = Some (one 0);
 }
 
-abbrev pub nothing : Cover
-nothing = record { lines = []; default = Some (one 0) }
+abbrev pub ground : Cover
+ground = record { lines = []; default = Some (one 0) }
 
 -- the output and the network with this table
 abbrev pub output : Cover → FlatNet
@@ -105,8 +104,8 @@ inverse_is_cover = record {
   met = λ e. absurd (false≢true e);
 }
 
-nothing_is_cover : IsCover (nets nothing) 2 nothing
-nothing_is_cover = record { cubes = tt; lines = tt; differ = tt; default = default_is_output; met = λ e. absurd (false≢true e) }
+ground_is_cover : IsCover (nets ground) 2 ground
+ground_is_cover = record { cubes = tt; lines = tt; differ = tt; default = default_is_output; met = λ e. absurd (false≢true e) }
 
 input_is_net : (c : Cover) → IsNet (nets c) input
 unfolding is_net_name is_word
@@ -235,8 +234,8 @@ network_formed c is reads = record {
 pub inverter_formed : WellFormed (network inverse)
 inverter_formed = network_formed inverse inverse_is_cover inverse_reads
 
-grounded_formed : WellFormed (network nothing)
-grounded_formed = network_formed nothing nothing_is_cover (λ m h. absurd (false≢true h))
+grounded_formed : WellFormed (network ground)
+grounded_formed = network_formed ground ground_is_cover (λ m h. absurd (false≢true h))
 
 -- parts that were made one by one are the network
 pub is_inverter : {root : List ℕ} {inputs outputs : List NetId} {latches : List FlatLatch} {held : List (Option FlatNet)} {first last : FlatNet} → root ≡ 109 ∷ [] → inputs ≡ record { 0 = 0 } ∷ [] → outputs ≡ record { 0 = 2 } ∷ [] → latches ≡ [] → held ≡ Some first ∷ None ∷ Some last ∷ [] → first ≡ input → last ≡ output inverse → record { root = root; inputs = inputs; outputs = outputs; latches = latches; nets = held } ≡ network inverse
@@ -250,7 +249,7 @@ is_inverter r a z l h f t = λ i. record {
 
 -- the change that grounds the output
 abbrev pub grounding : Change
-grounding = record { add = []; set = record { net = record { 0 = 2 }; table = nothing } ∷ []; values = []; gone = [] }
+grounding = record { add = []; set = record { net = record { 0 = 2 }; table = ground } ∷ []; values = []; gone = [] }
 
 pub inverter_grounded : WellFormed (changed (network inverse) grounding)
 unfolding changed
