@@ -1,5 +1,5 @@
 -- Assignments with the value of one net changed, and nets with one slot written: when they agree.
-use Rattle.std.proofs.Common.{◌≡◌, ◌∙◌, ℕ, ◌<◌, ◌≤◌, true, false, List, length, set, Option, None, IsTrue, sym, ap, subst, ⊎_elim}
+use Rattle.std.proofs.Common.{◌≡◌, ◌∙◌, ℕ, ◌<◌, ◌≤◌, Bool, true, false, List, length, set, Option, None, IsTrue, sym, ap, subst, ⊎_elim}
 use Rattle.std.proofs.lemmas.Bool.{cases_Bool, cases_eq, cases_lt, false≢true, ne_eqb}
 use Rattle.std.proofs.lemmas.List.{get_or-set_same, get_or-set_other, set_past, get_or_past}
 use Rattle.mv_cover.proofs.Covering.{changed, changed-agrees}
@@ -7,6 +7,10 @@ use Rattle.mv_net.specs.declared.parts.FlatNet.{FlatNet}
 use Rattle.mv_net.specs.Nets.{slot, net_reads}
 use Rattle.mv_net.specs.Allowed.{net_allows, Agrees}
 use Rattle.mv_net.proofs.Local.{net_allows-local}
+
+-- what passes a test that n fails isn't n
+pub other_than : (test : ℕ → Bool) (n m : ℕ) → test n ≡ false → test m ≡ true → m ≡ n → ⊥
+other_than test n m fails passes e = false≢true (sym fails ∙ (ap test (sym e) ∙ passes))
 
 -- ---- an assignment changed at one net
 
@@ -23,7 +27,7 @@ put_other n v x m ne = (changed-agrees n v x).others m (ne_eqb m n ne)
 -- a table that doesn't read n allows as before
 pub net_allows-put : (f : Option FlatNet) (n v : ℕ) (x : ℕ → ℕ) (value : ℕ) → net_reads f n ≡ false → net_allows f (put n v x) value ≡ net_allows f x value
 net_allows-put f n v x value unread =
-    net_allows-local f (put n v x) x value (λ m r. put_other n v x m (λ e. false≢true (sym unread ∙ (ap (net_reads f) (sym e) ∙ r))))
+    net_allows-local f (put n v x) x value (λ m r. put_other n v x m (other_than (net_reads f) n m unread r))
 
 -- ---- nets with one slot written
 

@@ -1,7 +1,7 @@
 -- The ports of a network, by which it is seen from outside: assignments with the same values there, and nets that look
 -- the same there.
-use Rattle.std.proofs.Common.{◌≡◌, ◌∙◌, ℕ, Bool, true, false, ◌||◌, nat_eq, List, [], ◌∷◌, Option, sym, ap, refl}
-use Rattle.std.proofs.lemmas.Bool.{or_left, or_right, or_from, or_parts, false≢true}
+use Rattle.std.proofs.Common.{◌≡◌, ℕ, Bool, true, false, ◌||◌, nat_eq, List, [], ◌∷◌, Option, ap, refl}
+use Rattle.std.proofs.lemmas.Bool.{or_left, or_right, or_from, or_parts}
 use Rattle.mv_net.specs.declared.parts.FlatNet.{FlatNet}
 use Rattle.mv_net.specs.declared.parts.FlatLatch.{FlatLatch}
 use Rattle.mv_net.specs.declared.parts.NetParts.{NetParts}
@@ -10,6 +10,7 @@ use Rattle.mv_net.specs.Formed.{latch_outputs, latch_resets}
 use Rattle.mv_net.specs.Allowed.{Agrees}
 use Rattle.mv_net.specs.Index.{has_id, is_input}
 use Rattle.mv_net.proofs.Marks.{has_number}
+use Rattle.mv_net.proofs.Patches.{other_than}
 
 -- ---- which nets are ports
 
@@ -99,7 +100,7 @@ SamePorts-refl net x = record { each = λ n h. refl }
 
 -- they have, if they differ at a net alone that is no port
 pub SamePorts-but : (net : NetParts) (n : ℕ) (x y : ℕ → ℕ) → is_port net n ≡ false → ((m : ℕ) → (m ≡ n → ⊥) → x m ≡ y m) → SamePorts net x y
-SamePorts-but net n x y hidden others = record { each = λ m h. others m (λ e. false≢true (sym hidden ∙ (ap (is_port net) (sym e) ∙ h))) }
+SamePorts-but net n x y hidden others = record { each = λ m h. others m (other_than (is_port net) n m hidden h) }
 
 -- some assignment with the values of x at the sources, or at all ports, agrees with the nets
 pub record AgreesAtSources (net : NetParts) (nets : List (Option FlatNet)) (x : ℕ → ℕ) : Type 0 where

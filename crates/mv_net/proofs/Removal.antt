@@ -15,9 +15,9 @@ use Rattle.mv_net.specs.Changes.{with_nets, without}
 use Rattle.mv_net.specs.Index.{has_id, is_input, is_reset, kind_in, is_seen}
 use Rattle.mv_net.specs.Total.{IsTotalNet, IsRemovable}
 use Rattle.mv_net.proofs.Known.{counts_at}
-use Rattle.mv_net.proofs.Patches.{put, put_same, put_other, net_allows-put, IsWritten, IsWritten-gone, AgreesBut, AgreesBut-from, Agrees-set, Agrees-others, Agrees-put}
+use Rattle.mv_net.proofs.Patches.{other_than, put, put_same, put_other, net_allows-put, IsWritten, IsWritten-gone, AgreesBut, AgreesBut-from, Agrees-set, Agrees-others, Agrees-put}
 use Rattle.mv_net.proofs.Ports.{is_port, shown_port, hidden_no_port, outputs_listed, SamePorts-refl, SamePorts-but, AgreesAtPorts, KeepsPorts-same}
-use Rattle.mv_net.proofs.Stays.{IsLoose, other_than, held_other, gone_formed}
+use Rattle.mv_net.proofs.Stays.{IsLoose, held_other, gone_formed}
 use Rattle.mv_net.proofs.Totals.{IsTotal-before, total_allows}
 use Rattle.mv_net.proofs.Drivers.{SameMeaning-by}
 

@@ -1,6 +1,6 @@
 -- What stays well formed where some nets change, and where one goes that nothing reads or names.
-use Rattle.std.proofs.Common.{◌≡◌, ◌∙◌, ℕ, Bool, true, false, nat_eq, List, [], ◌∷◌, Option, Some, None, refl, sym, ap, subst, eq-eqb}
-use Rattle.std.proofs.lemmas.Bool.{or_left, or_right, or_parts, false≢true, eqb-false}
+use Rattle.std.proofs.Common.{◌≡◌, ◌∙◌, ℕ, true, false, nat_eq, List, [], ◌∷◌, Option, Some, None, refl, sym, ap, subst, eq-eqb}
+use Rattle.std.proofs.lemmas.Bool.{or_left, or_right, or_parts, eqb-false}
 use Rattle.mv_base.specs.Set.{full}
 use Rattle.mv_base.specs.declared.number.NetId.{NetId}
 use Rattle.mv_cover.specs.declared.cover.Cover.{Cover}
@@ -16,7 +16,7 @@ use Rattle.mv_net.specs.Nets.{slot, values_in, net_reads, table_reads}
 use Rattle.mv_net.specs.Formed.{IsKind, IsReadable, IsOutput, IsLiteral, AllLiterals, AllLines, IsCover, IsNet, IsResetNet, IsLatch, AllLatches, latch_outputs, latch_resets, with_reset, AreKind, WellFormed}
 use Rattle.mv_net.specs.Changes.{with_nets}
 use Rattle.mv_net.specs.Index.{has_id, is_input}
-use Rattle.mv_net.proofs.Patches.{IsWritten}
+use Rattle.mv_net.proofs.Patches.{IsWritten, other_than}
 use Rattle.mv_net.proofs.Ports.{is_output, is_reset_net, is_port, IsHidden-from, outputs_listed}
 
 -- ---- a table whose fanins stay
@@ -80,10 +80,7 @@ pub record IsLoose (net : NetParts) (n : ℕ) : Type 0 where
   pub unread : (m : ℕ) → net_reads (slot net.nets m) n ≡ false
   pub hidden : is_port net n ≡ false
 
--- what passes a test that n fails isn't n
-pub other_than : (test : ℕ → Bool) (n m : ℕ) → test n ≡ false → test m ≡ true → m ≡ n → ⊥
-other_than test n m fails passes e = false≢true (sym fails ∙ (ap test (sym e) ∙ passes))
-
+-- a net that is no reset net of a latch and those behind it is none of those behind it, and isn't the latch's own
 reset_rest : (reset : Option NetId) (ns : List NetId) (n : ℕ) → has_id (with_reset reset ns) n ≡ false → has_id ns n ≡ false
 reset_rest None ns n h = h
 reset_rest (Some m) ns n h = (or_parts (nat_eq m.0 n) (has_id ns n) h).1
@@ -94,7 +91,7 @@ reset_other reset ns n m h e =
     eqb-false m.0 n (or_parts (nat_eq m.0 n) (has_id ns n) out).0
 
 module _ (old : List (Option FlatNet)) (n : ℕ) (new : List (Option FlatNet)) (gone : IsWritten old n None new) where
-  -- what is held was held, and reads what it read
+  -- what is held is another net, was held, and reads what it read
   pub held_other : (m : ℕ) (f : FlatNet) → slot new m ≡ Some f → m ≡ n → ⊥
   held_other m f e same = let bad : None ≡ Some f = sym gone.here ∙ (ap (slot new) (sym same) ∙ e) in cc
 
@@ -104,6 +101,7 @@ module _ (old : List (Option FlatNet)) (n : ℕ) (new : List (Option FlatNet)) (
   pub read_before : (m k : ℕ) → net_reads (slot new m) k ≡ true → net_reads (slot old m) k ≡ true
   read_before m k r = ap (λ f. net_reads f k) (sym (gone.others m (other_than (λ j. net_reads (slot new j) k) n m (ap (λ f. net_reads f k) gone.here) r))) ∙ r
 
+  -- each other net is of the kind that it was
   kind_before : (m : ℕ) (kind : Kind) → IsKind new m kind → IsKind old m kind
   kind_before m kind k = record { net = k.net; held = held_before m k.net k.held; is = k.is }
 
@@ -120,6 +118,7 @@ module _ (old : List (Option FlatNet)) (n : ℕ) (new : List (Option FlatNet)) (
     once = are.once;
   }
 
+  -- latches of other nets stay
   reset_stays : (output m : ℕ) → (output ≡ n → ⊥) → (m ≡ n → ⊥) → IsResetNet old output m → IsResetNet new output m
   unfolding kind_stays
   reset_stays output m out ne is = record {

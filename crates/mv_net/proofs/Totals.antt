@@ -35,6 +35,7 @@ output_some values out few is =
 
 -- ---- a cover allows values of its net alone
 
+-- what a line or the default gives is a value of the net
 given_below : (nets : List (Option FlatNet)) (values : ℕ) (at : ℕ → ℕ) (v : ℕ) (ls : List Line) → AllLines nets values ls → some_gives at v ls ≡ true → v < values
 given_below nets values at v [] all h = absurd (false≢true h)
 given_below nets values at v (l ∷ ls) all h =
@@ -62,6 +63,7 @@ record GivesSome (at : ℕ → ℕ) (ls : List Line) : Type 0 where
   pub value : ℕ
   pub gives : some_gives at value ls ≡ true
 
+-- one does, if one matches
 gives_some : (nets : List (Option FlatNet)) (values : ℕ) (at : ℕ → ℕ) (ls : List Line) → values ≤ MAX_VALUES → AllLines nets values ls → some_matches at ls ≡ true → GivesSome at ls
 gives_some nets values at [] few all h = absurd (false≢true h)
 gives_some nets values at (l ∷ ls) few all h =
@@ -87,6 +89,7 @@ allows_matched nets values c at few is h =
     let some = gives_some nets values at c.lines few is.lines h in
     record { value = some.value; is_allowed = or_left (some_gives at some.value c.lines) (not (some_matches at c.lines) && default_gives c.default some.value) some.gives }
 
+-- a cover is total if its lines match every point, or if it has a default
 pub IsTotal-covered : (nets : List (Option FlatNet)) (values : ℕ) (c : Cover) → values ≤ MAX_VALUES → IsCover nets values c → CoversAll (map values_in nets) c.lines → IsTotal nets c
 IsTotal-covered nets values c few is covers = record { some = λ at p. allows_matched nets values c at few is (covers.each at p) }
 
