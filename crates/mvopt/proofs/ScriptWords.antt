@@ -2,17 +2,17 @@
 use Rattle.std.proofs.Common.{◌≡◌, ℕ, ◌+◌, ◌<◌, ◌≤◌, Bool, true, false, not, ◌&&◌, ◌==◌, Option, Some, None, List, [], ◌∷◌, ◌++◌, length, get_or, take, refl, sym, ◌∙◌, ap, subst, append_assoc, arith}
 use denote.Param.Members.{Mut}
 use denote.Ref.{Bor}
-use Rattle.std.specs.Prelude.{nat_le, filter_map, flat_map}
+use Rattle.std.specs.Prelude.{filter_map, flat_map}
 use Rattle.std.specs.Fn.{CalledAt}
 use Rattle.std.specs.Iterator.{Yields}
-use Rattle.std.specs.List.{list_all, prefix_len, slice_split}
+use Rattle.std.specs.List.{list_all, slice_split}
 use Rattle.std.specs.Slice.Iter.{split_rest, split_done, split_callee, split_steps}
 use Rattle.std.specs.Cmp.Derive.{both_true}
 use Rattle.std.proofs.lemmas.Bool.{and_left, and_right, le-leb, lt-leb}
 use Rattle.std.proofs.lemmas.Iterator.{YieldsList}
 use Rattle.std.proofs.lemmas.Iterator.Consumers.{YieldsList-turn, YieldsList-end}
 use Rattle.std.proofs.lemmas.Iterator.Splits.{YieldsList-from_slice_split}
-use Rattle.std.proofs.lemmas.List.{append-nil, take_all, take_more, flat_map_more}
+use Rattle.std.proofs.lemmas.List.{take_all, take_more, flat_map_more}
 use Rattle.std.proofs.lemmas.List.Elements.{filter-append, filter_map-append}
 use Rattle.std.proofs.lemmas.List.Folds.{length-prefix_len, list_all-append, list_all_at}
 use Rattle.std.proofs.lemmas.List.Sums.{prefix_len-le-length}
@@ -23,9 +23,6 @@ use Rattle.mvopt.specs.Scripts.{nonempty, script_words, command_of, are_commands
 pub ruleset before_comment = (length-prefix_len, prefix_len-le-length)
 
 -- ---- words behind one another
-
-pub Adds-none : (a : List Command) → Adds a a []
-Adds-none a = record { all = refl; gained = sym (append-nil a) }
 
 pub Adds-append : (a b c : List Command) (xs ys : List (List ℕ)) → Adds a b xs → Adds b c ys → Adds a c (xs ++ ys)
 Adds-append a b c xs ys h k =

@@ -1,6 +1,6 @@
 -- Files that a run reads and judges.
 use Rattle.std.proofs.Common.{◌≡◌, ℕ, ◌+◌, ◌≤◌, true, false, List, [], ◌∷◌, ◌++◌, length, map, Option, Some, None, inl, inr, refl, sym, ◌∙◌, ap, subst, arith, ⊎_elim, length-append}
-use Rattle.std.specs.Prelude.{nat_le, nat_eq}
+use Rattle.std.specs.Prelude.{nat_eq}
 use Rattle.std.proofs.lemmas.List.{length-map}
 use Rattle.std.proofs.lemmas.Bool.{and_parts, leb-true, eqb-true, false≢true}
 use Rattle.mv_base.specs.Outside.{Held, file_named}

@@ -18,7 +18,11 @@ use std::alloc::Global;
 
 /// Reads the script file, and gives its commands.
 #[tactic(auto, using(crate::proofs::Takes::takes_script))]
-fn take_script<F: Files>(alloc: Global, words: &[String], files: &mut F) -> Result<Items<Command>, Stop>
+fn take_script<F: Files>(
+    alloc: Global,
+    words: &[String],
+    files: &mut F,
+) -> Result<Items<Command>, Stop>
     requires { length words.now ≡ 3 }
     ensures taken { OnOk result (TakesScript (map string_bytes words.now) (F.held files.old)) }
     ensures commands { IfOk result (λ commands. TakesCommands (map string_bytes words.now) (F.held files.old) commands) }

@@ -1,5 +1,6 @@
 //! Whole runs over files and sinks in memory: what is accepted, each refusal, and each call that fails in turn.
 use crate::run;
+use crate::script::{ScriptStop, read_script};
 use mv_base::{MemoryFiles, MemorySink};
 use std::alloc::Global;
 use std::test::Fail;
@@ -233,13 +234,69 @@ fn a_script_may_say_nothing(rt: HostRuntime) -> Result<(), Fail> {
 
 #[test]
 fn a_script_that_says_more_is_refused(rt: HostRuntime) -> Result<(), Fail> {
-    for script in ["drop", "; drop ;", "x# ", "# x\ny", "{", "\\", "\u{b}"] {
+    for script in ["x# ", "# x\ny", "drop x", "{", "\\", "\u{b}"] {
         let end = run_on(rt.alloc(), "opt n s", b"", script.as_bytes(), no_fails())?;
         assert_eq!(rt; end.status, 3, "{script}");
         assert_eq!(rt;
             end.notes.bytes(),
             b"# fault script 8 NotBuilt\n".as_slice(),
             "{script}"
+        );
+    }
+    Ok(())
+}
+
+/// How many commands the script has, or None where it is refused.
+fn commands_of(alloc: Global, script: &[u8]) -> Result<Option<usize>, Fail> {
+    match read_script(alloc, script) {
+        Ok(commands) => Ok(Some(commands.len())),
+        Err(ScriptStop::NotBuilt) => Ok(None),
+        Err(stop) => Err(Fail::from(stop)),
+    }
+}
+
+#[test]
+fn the_commands_of_a_script_are_its_words(rt: HostRuntime) -> Result<(), Fail> {
+    for (script, commands) in [
+        ("", Some(0)),
+        (";", Some(0)),
+        ("# drop", Some(0)),
+        ("drop", Some(1)),
+        ("drop;drop", Some(2)),
+        ("drop drop", Some(2)),
+        ("drop#x\ndrop", Some(2)),
+        (";;drop\t\r\n drop;", Some(2)),
+        ("dropx", None),
+        ("x", None),
+        ("Drop", None),
+        ("drop{", None),
+        ("dro p", None),
+        ("\u{80}", None),
+        ("drop \u{b}", None),
+    ] {
+        assert_eq!(rt;
+            commands_of(rt.alloc(), script.as_bytes())?,
+            commands,
+            "{script}"
+        );
+    }
+    assert_eq!(rt; commands_of(rt.alloc(), b"\x80")?, None);
+    Ok(())
+}
+
+#[test]
+fn a_script_has_few_bytes_and_commands(rt: HostRuntime) -> Result<(), Fail> {
+    for (piece, times, commands) in [
+        (" ", 65_536, Some(0)),
+        (" ", 65_537, None),
+        ("drop ", 10_000, Some(10_000)),
+        ("drop ", 10_001, None),
+    ] {
+        let script = repeated(rt.alloc(), piece.as_bytes(), times)?;
+        assert_eq!(rt;
+            commands_of(rt.alloc(), script.as_slice())?,
+            commands,
+            "{times} times {piece}"
         );
     }
     Ok(())
