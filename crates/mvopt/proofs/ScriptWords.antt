@@ -20,10 +20,12 @@ use Rattle.mv_base.specs.declared.limits.TheConstants.{MAX_SCRIPT_BYTES, MAX_SCR
 use Rattle.mvopt.specs.declared.script.Command.{Command}
 use Rattle.mvopt.specs.Scripts.{nonempty, script_words, command_of, are_commands, commands_in, is_script, Adds}
 
+-- how many bytes stand before the comment
 pub ruleset before_comment = (length-prefix_len, prefix_len-le-length)
 
 -- ---- words behind one another
 
+-- commands added for some words and then for more
 pub Adds-append : (a b c : List Command) (xs ys : List (List ℕ)) → Adds a b xs → Adds b c ys → Adds a c (xs ++ ys)
 Adds-append a b c xs ys h k =
     record {
@@ -53,15 +55,18 @@ pub cut : {A F : Type 0} {s i : _} (g : Mut F (Bor A × Unit {0}) Bool) (p : A �
 cut g p xs same rest done callee closure =
     YieldsList-from_slice_split g p xs (ap split_rest same ∙ rest) (ap split_done same ∙ done) (ap split_callee same ∙ callee) closure
 
+-- commands added for the pieces so far and then for the next one
 pub Adds-next : {A : Type 0} (words : A → List (List ℕ)) (all : List A) (n m : ℕ) (x : A) (a b c : List Command) → m ≡ n + 1 → StandsAt all n x → Adds a b (flat_map words (take n all)) → Adds b c (words x) → Adds a c (flat_map words (take m all))
 Adds-next words all n m x a b c next s h k =
     let e : flat_map words (take n all) ++ words x ≡ flat_map words (take m all) = flat_map_more words [] (take n all) x ∙ ap (flat_map words) (sym (ap (λ i. take i all) next ∙ take_more all n x s.within ∙ ap (λ y. take n all ++ y ∷ []) (sym s.here))) in
     subst (Adds a c) e (Adds-append a b c (flat_map words (take n all)) (words x) h k)
 
+-- behind the last piece they were added for all
 pub Adds-whole : {A : Type 0} (words : A → List (List ℕ)) (all : List A) (n : ℕ) (a b : List Command) → n ≡ length all → Adds a b (flat_map words (take n all)) → Adds a b (flat_map words all)
 Adds-whole words all n a b e h =
     subst (Adds a b) (ap (flat_map words) (take_all n all (omega arith))) h
 
+-- a test of all that pieces become is a test of each piece
 list_all-flat_map : {A B : Type 0} (test : B → Bool) (f : A → List B) (xs : List A) → list_all test (flat_map f xs) ≡ list_all (λ x. list_all test (f x)) xs
 list_all-flat_map test f [] = refl
 list_all-flat_map test f (x ∷ xs) =
@@ -80,27 +85,33 @@ nonempty_each (p ∷ pieces) =
 
 -- ---- the limits
 
+-- a text past the limit of bytes is refused
 pub too_long : (text : List ℕ) → MAX_SCRIPT_BYTES < length text → is_script text ≡ false
 unfolding is_script
 too_long text h =
     and_left _ _ (and_left _ _ (lt-leb (length text) MAX_SCRIPT_BYTES h))
 
+-- so is one with a word that is no command
 pub not_commands : (text : List ℕ) → are_commands (script_words text) ≡ false → is_script text ≡ false
 unfolding is_script
 not_commands text e = and_left _ _ (and_right _ _ e)
 
+-- commands added for all words are those in the text
 pub added_commands : (text : List ℕ) (commands : List Command) → Adds [] commands (script_words text) → commands ≡ commands_in text
 unfolding commands_in
 added_commands text commands h = h.gained
 
+-- a text with commands past their limit is refused
 pub too_many : (text : List ℕ) (commands : List Command) → Adds [] commands (script_words text) → MAX_SCRIPT_COMMANDS < length commands → is_script text ≡ false
 unfolding is_script
 too_many text commands h k =
     and_right _ _ (lt-leb (length (commands_in text)) MAX_SCRIPT_COMMANDS (subst (λ (xs : List Command). MAX_SCRIPT_COMMANDS < length xs) (added_commands text commands h) k))
 
+-- within the limits a text of commands is accepted
 pub accepts_script : (text : List ℕ) (commands : List Command) → length text ≤ MAX_SCRIPT_BYTES → Adds [] commands (script_words text) → length commands ≤ MAX_SCRIPT_COMMANDS → is_script text ≡ true
 unfolding is_script
 accepts_script text commands size h k =
     both_true (both_true (le-leb (length text) MAX_SCRIPT_BYTES size) h.all) (le-leb (length (commands_in text)) MAX_SCRIPT_COMMANDS (subst (λ (xs : List Command). length xs ≤ MAX_SCRIPT_COMMANDS) (added_commands text commands h) k))
 
+-- how a text is judged by the commands that were added for it
 pub ruleset judged = (too_long, not_commands, added_commands, too_many, accepts_script)
