@@ -21,7 +21,7 @@ no_rank_below columns Stuck next r (suc b) n below h =
     let m = next n h in
     no_rank_below columns Stuck next r b m.0 (omega (arith, r.falls n m.0 m.1)) m.2
 
-pub no_rank : (columns : List (List NetId)) (Stuck : ℕ → Type 0) → ((n : ℕ) → Stuck n → (m : ℕ) × (has_id (row columns n) m ≡ true) × Stuck m) → IsRanked columns → (n : ℕ) → Stuck n → ⊥
+no_rank : (columns : List (List NetId)) (Stuck : ℕ → Type 0) → ((n : ℕ) → Stuck n → (m : ℕ) × (has_id (row columns n) m ≡ true) × Stuck m) → IsRanked columns → (n : ℕ) → Stuck n → ⊥
 no_rank columns Stuck next r n h = no_rank_below columns Stuck next r (r.rank n + 1) n (omega arith) h
 
 -- columns are nets of the list

@@ -10,7 +10,7 @@ use Rattle.mv_net.specs.declared.parts.NetParts.{NetParts}
 use Rattle.mv_net.specs.Formed.{stands_in, all_differ, WellFormed}
 use Rattle.mv_net.specs.Index.{has_id, is_held, row, AreFanins}
 use Rattle.mv_net.specs.Order.{IsOrder}
-use Rattle.mv_net.specs.Ranks.{IsRanked, AllBelow, IsSortedBy}
+use Rattle.mv_net.specs.Ranks.{AllBelow, IsSortedBy}
 use Rattle.mv_net.proofs.Known.{can_turn, is_held_below, reads_readable}
 use Rattle.mv_net.proofs.Turning.{has_id-at}
 
@@ -86,12 +86,6 @@ fanins_below net fanins formed f k d i j e l =
     let turn = can_turn net fanins formed f in
     let same : get_or fanins k d ≡ row fanins k = get_or_default fanins k d [] i in
     turn.within k (get_or (get_or fanins k d) j e).0 (rw (← same) (has_id-at (get_or fanins k d) j e l))
-
-pub fanins_ranked : (net : NetParts) (fanins : List (List NetId)) → WellFormed net → AreFanins net.nets fanins → IsRanked fanins
-fanins_ranked net fanins formed f = record {
-  rank = formed.acyclic.rank;
-  falls = λ n m e. formed.acyclic.falls n m (sym ((f.each n).members m) ∙ e);
-}
 
 -- ---- the order of the held nets
 
