@@ -1,55 +1,39 @@
 -- How a run ends: what was put to the notes and to the output, and what its status says.
-use Rattle.std.proofs.Common.{◌≡◌, ℕ, ◌≤◌, false, List, [], ◌∷◌, ◌++◌, Option, Some, None, Result, Err, ◌⊎◌, refl, sym, ◌∙◌, ap, subst, arith, append_assoc, ⊎_elim}
-use Rattle.std.specs.Prelude.{codes, decimal}
-use Rattle.mv_base.specs.Outside.{Held, Gained, GainedPart, Rose}
-use Rattle.mv_base.proofs.OutsideLemmas.{told_gained, Rose-earlier, Rose-later}
+use Rattle.std.proofs.Common.{◌≡◌, ℕ, ◌≤◌, true, false, List, [], ◌++◌, Option, Some, None, Result, Err, ◌⊎◌, inl, inr, refl, sym, ◌∙◌, ap, subst, arith, ⊎_elim}
+use Rattle.std.proofs.lemmas.Bool.{false≢true}
+use Rattle.mv_base.specs.Outside.{Held, file_named, Gained, GainedPart, Rose}
+use Rattle.mv_base.proofs.Gains.{Gained-then, GainedPart-then}
+use Rattle.mv_base.proofs.Meanings.{SameMeaning-then, Refines-from_same}
+use Rattle.mv_base.proofs.OutsideLemmas.{Rose-earlier}
 use Rattle.mv_net.specs.declared.parts.NetParts.{NetParts}
 use Rattle.mv_net.specs.Allowed.{of_net}
-use Rattle.mv_net.specs.Nets.{literals_in}
-use Rattle.mv_write.specs.Text.{text_of}
+use Rattle.mv_parse.specs.Relation.{of_design}
+use Rattle.mv_sweep.specs.Entries.{print}
+use Rattle.mvopt.specs.declared.script.Command.{Command}
 use Rattle.mvopt.specs.declared.stop.Stop.{Stop}
 use Rattle.mvopt.specs.declared.stop.Stop.TheVariants.{Words, Network, Script, Read, Memory}
+use Rattle.mvopt.specs.Exact.{ScriptIsRefused, NetworkIsRefused, ScriptIsTaken, IsExact, IsComplete}
 use Rattle.mvopt.specs.Made.{Prepared}
-use Rattle.mv_parse.specs.Relation.{of_design}
-use Rattle.mvopt.specs.Run.{Replaced, RefusesNetwork, RefusesScript, LacksFile, done_line}
+use Rattle.mvopt.specs.Outcomes.{HasWorked, HasStoppedAt, IsCut, EndsCut, EndsShort}
+use Rattle.mvopt.specs.Replaced.{Replaced}
+use Rattle.mvopt.specs.Run.{IsAccepted, IsRefused, RefusesNetwork, RefusesScript, LacksFile, Tells, fault_line}
+use Rattle.mvopt.specs.Runs.{Runs}
+use Rattle.mvopt.specs.Scripts.{is_script}
 use Rattle.mvopt.specs.Stops.{status_of, IsCause}
-use Rattle.mvopt.specs.Words.{accepts}
-use Rattle.mv_base.proofs.Meanings.{SameMeaning-then, Refines-from_same}
+use Rattle.mvopt.specs.Taken.{IsTaken, TakesScript, TakesCommands, TakesNetwork}
+use Rattle.mvopt.specs.Words.{word_at, accepts}
 use Rattle.mvopt.proofs.Takes.{prepared_taken}
 use Rattle.mvopt.proofs.ReadBack.{reads_back}
 
--- ---- the done line
+-- ---- the network that was left takes the place of the design
 
-pub gained_then : (a b c : Option (List ℕ)) (xs ys : List ℕ) → Gained a b xs → Gained b c ys → Gained a c (xs ++ ys)
-gained_then None b c xs ys g h = tt
-gained_then (Some o) b c xs ys g h =
-    told_gained b c (o ++ xs) ys g h ∙ ap Some (append_assoc o xs ys)
-
-done_pieces : (before after : ℕ) → codes "# done " ++ (decimal before ++ (32 ∷ [] ++ (decimal after ++ 10 ∷ []))) ≡ done_line before after
-done_pieces before after = simp append_assoc
-
-pub done_gained : (a b c d e f : Option (List ℕ)) (before after : ℕ) → Gained a b (codes "# done ") → Gained b c (decimal before) → Gained c d (32 ∷ []) → Gained d e (decimal after) → Gained e f (10 ∷ []) → Gained a f (done_line before after)
-done_gained a b c d e f before after g h i j k =
-    let P : List ℕ → Type 0 = λ line. Gained a f line in
-    subst P (done_pieces before after) (gained_then a b f _ _ g (gained_then b c f _ _ h (gained_then c d f _ _ i (gained_then d e f _ _ j k))))
-
--- ---- parts
-
-pub part_nothing : (a : Option (List ℕ)) (bytes : List ℕ) → GainedPart a a bytes
-part_nothing None bytes = tt
-part_nothing (Some o) bytes = record { front = []; back = bytes; whole = refl; gained = ap Some (sym (append_nothing o)) }
-  where
-    append_nothing : (xs : List ℕ) → xs ++ [] ≡ xs
-    append_nothing [] = refl
-    append_nothing (x ∷ xs) = ap (λ r. x ∷ r) (append_nothing xs)
-
--- ---- the network takes the place of the design
-
-pub replaced : (words : List (List ℕ)) (before after : Option Held) (net : NetParts) (out now notes told : Option (List ℕ)) → Prepared words before after net → Gained out now (text_of net) → Gained notes told (done_line (literals_in net.nets) (literals_in net.nets)) → Replaced words before after out now notes told
-replaced words None after net out now notes told p g h = tt
-replaced words (Some b) None net out now notes told p g h = absurd p
-replaced words (Some b) (Some a) net out now notes told p g h =
-    let back = reads_back net p.net_of.formed p.net_of.binary in
+pub replaced : (words : List (List ℕ)) (before after : Option Held) (commands : List Command) (first : NetParts) (out now notes told : Option (List ℕ)) → Prepared words before after first → TakesCommands words before commands → HasWorked commands first out now notes told → Replaced words before after out now notes told
+replaced words None after commands first out now notes told p t w = tt
+replaced words (Some b) None commands first out now notes told p t w = absurd p
+replaced words (Some b) (Some a) commands first out now notes told p t w =
+    let back = reads_back w.net w.formed w.binary in
+    let same = SameMeaning-then (of_net w.net) (of_net first) (of_design p.net_of.design) w.means p.net_of.flat.means in
+    let P : List Command → Type 0 = λ cs. Runs cs first w.parts w.net in
     record {
       content = p.content;
       held = p.held;
@@ -58,13 +42,133 @@ replaced words (Some b) (Some a) net out now notes told p g h =
       ended = p.ended;
       design = p.net_of.design;
       read = p.net_of.reads;
-      net = net;
-      gained = g;
+      first = first;
+      flat = p.net_of.flat;
+      script = t.content;
+      script_held = t.named;
+      accepted = t.accepted.0;
+      parts = w.parts;
+      net = w.net;
+      runs = subst P t.accepted.1 w.runs;
+      noted = w.noted;
+      gained = w.gained;
       written = back.design;
       back = back.reads;
-      refines = Refines-from_same (of_design back.design) (of_design p.net_of.design) (SameMeaning-then (of_design back.design) (of_net net) (of_design p.net_of.design) back.means p.net_of.means);
-      noted = h;
+      refines = Refines-from_same (of_design back.design) (of_design p.net_of.design) (SameMeaning-then (of_design back.design) (of_net w.net) (of_design p.net_of.design) back.means same);
     }
+
+-- ---- runs that end early
+
+pub ends_cut : (words : List (List ℕ)) (before after : Option Held) (commands : List Command) (first : NetParts) (out now notes told : Option (List ℕ)) (a b c d : ℕ) → Prepared words before after first → TakesCommands words before commands → IsCut commands first out now notes told a b c d → EndsCut words before after out now notes told a b c d
+ends_cut words before after commands first out now notes told a b c d p t h = record { first = first; made = p; commands = commands; taken = t; cut = h }
+
+-- the cause of a write that failed
+pub cut_cause : (commands : List Command) (first : NetParts) (out now notes told : Option (List ℕ)) (a b c d : ℕ) → IsCut commands first out now notes told a b c d → Rose a b ⊎ Rose c d
+cut_cause commands first out now notes told a b c d h = ⊎_elim (λ text. inl text.0) (λ line. inr line.1) h.how
+
+Tells-later : (notes mid told : Option (List ℕ)) (c d e : ℕ) (lines line : List ℕ) → Gained notes mid lines → c ≤ d → Tells mid told d e line → Tells notes told c e (lines ++ line)
+Tells-later notes mid told c d e lines line g later t =
+    ⊎_elim
+    (λ (all : Gained mid told line). inl (Gained-then notes mid told lines line g all))
+    (λ (part : GainedPart mid told line × Rose d e). inr (GainedPart-then notes mid told lines line g part.0, Rose-earlier c d e later part.1))
+    t
+
+pub short_work : (words : List (List ℕ)) (before after : Option Held) (commands : List Command) (first : NetParts) (notes mid told : Option (List ℕ)) (c d e : ℕ) → Prepared words before after first → TakesCommands words before commands → HasStoppedAt commands first notes mid → c ≤ d → Tells mid told d e (fault_line 6) → EndsShort words before after notes told c e
+short_work words before after commands first notes mid told c d e p t h later tells = record {
+  entries = h.stopped.entries;
+  ran = inr (record { first = first; made = p; commands = commands; taken = t; net = h.net; stops = h.stopped.stops });
+  tells = Tells-later notes mid told c d e (print h.stopped.entries) (fault_line 6) h.stopped.gained later tells;
+}
+
+pub short_early : (words : List (List ℕ)) (before after : Option Held) (notes told : Option (List ℕ)) (c d status : ℕ) → Tells notes told c d (fault_line status) → status ≡ 6 → EndsShort words before after notes told c d
+unfolding print
+short_early words before after notes told c d status tells e =
+    let P : ℕ → Type 0 = λ n. Tells notes told c d (fault_line n) in
+    record { entries = []; ran = inl refl; tells = subst P e tells }
+
+-- ---- the other way round
+
+some_content : (a b : List ℕ) → Some a ≡ Some b → a ≡ b
+some_content a b e = cc
+
+-- one content isn't both accepted and refused
+taken_refused : (Accepts : List ℕ → Type 0) (name : List ℕ) (held : Held) → IsTaken Accepts name held → IsRefused Accepts name held → ⊥
+taken_refused Accepts name held t r =
+    r.refused (subst Accepts (some_content t.content r.content (sym t.named ∙ r.named)) t.accepted)
+
+script_both : (words : List (List ℕ)) (held : Option Held) → ScriptIsRefused words held → TakesScript words held → ⊥
+script_both words None r t = r
+script_both words (Some h) r t = taken_refused (λ text. is_script text ≡ true) (word_at words 2) h t r
+
+script_either : (words : List (List ℕ)) (held : Option Held) → ScriptIsTaken words held → RefusesScript words held → ⊥
+script_either words None t r = t
+script_either words (Some h) t r = taken_refused (λ text. is_script text ≡ true) (word_at words 2) h t r
+
+network_both : (words : List (List ℕ)) (held : Option Held) → NetworkIsRefused words held → TakesNetwork words held → ⊥
+network_both words None r t = r
+network_both words (Some h) r t = taken_refused IsAccepted (word_at words 1) h t r
+
+-- a stop of the reading
+pub exact_stop : (words : List (List ℕ)) (held : Option Held) (before now : ℕ) (stop : Stop) → ((stop ≡ Words → ⊥) → accepts words ≡ true) → (stop ≡ Network → TakesScript words held) → IsCause words held before now stop → IsExact words held (status_of stop)
+exact_stop words held before now Words accepted first cause = record {
+  words_refused = λ e. refl;
+  script_refused = λ e r u. absurd (false≢true (sym cause ∙ e));
+  network_refused = λ e t r u. absurd (false≢true (sym cause ∙ e));
+}
+exact_stop words held before now Network accepted first cause = record {
+  words_refused = λ e. absurd (false≢true (sym e ∙ accepted (λ n. cc)));
+  script_refused = λ e r u. absurd (script_both words held r (first refl));
+  network_refused = λ e t r u. refl;
+}
+exact_stop words held before now Script accepted first cause = record {
+  words_refused = λ e. absurd (false≢true (sym e ∙ accepted (λ n. cc)));
+  script_refused = λ e r u. refl;
+  network_refused = λ e t r u. absurd (script_either words held t cause);
+}
+exact_stop words held before now Read accepted first cause = record {
+  words_refused = λ e. absurd (false≢true (sym e ∙ accepted (λ n. cc)));
+  script_refused = λ e r u. absurd (u.read refl);
+  network_refused = λ e t r u. absurd (u.read refl);
+}
+exact_stop words held before now Memory accepted first cause = record {
+  words_refused = λ e. absurd (false≢true (sym e ∙ accepted (λ n. cc)));
+  script_refused = λ e r u. absurd (u.memory refl);
+  network_refused = λ e t r u. absurd (u.memory refl);
+}
+
+-- where script and network were taken nothing is refused
+pub exact_taken : (words : List (List ℕ)) (held : Option Held) (status : ℕ) → accepts words ≡ true → TakesScript words held → TakesNetwork words held → IsExact words held status
+exact_taken words held status accepted script network = record {
+  words_refused = λ e. absurd (false≢true (sym e ∙ accepted));
+  script_refused = λ e r u. absurd (script_both words held r script);
+  network_refused = λ e t r u. absurd (network_both words held r network);
+}
+
+-- files that hold all that is named refuse nothing
+pub complete_stop : (words : List (List ℕ)) (held : Option Held) (a b c d before now : ℕ) (stop : Stop) → IsCause words held before now stop → IsComplete words held a b c d (status_of stop)
+complete_stop words None a b c d before now stop cause = record { succeeds = λ r o n. absurd r }
+complete_stop words (Some h) a b c d before now Words cause = record { succeeds = λ r o n. absurd (false≢true (sym cause ∙ r.words_accepted)) }
+complete_stop words (Some h) a b c d before now Network cause = record { succeeds = λ r o n. absurd (taken_refused IsAccepted (word_at words 1) h r.network cause) }
+complete_stop words (Some h) a b c d before now Script cause = record { succeeds = λ r o n. absurd (taken_refused (λ text. is_script text ≡ true) (word_at words 2) h r.script cause) }
+complete_stop words (Some h) a b c d before now Read cause = record {
+  succeeds = λ r o n.
+      absurd (⊎_elim
+      (λ (e : file_named (word_at words 1) h.files ≡ None). let named = r.network.named in cc)
+      (λ (e : file_named (word_at words 2) h.files ≡ None). let named = r.script.named in cc)
+      (cause.1 r.sound).lacks);
+}
+complete_stop words (Some h) a b c d before now Memory cause = record { succeeds = λ r o n. inr refl }
+
+pub complete_done : (words : List (List ℕ)) (held : Option Held) (a b c d : ℕ) → IsComplete words held a b c d 0
+complete_done words held a b c d = record { succeeds = λ r o n. inl refl }
+
+pub complete_memory : (words : List (List ℕ)) (held : Option Held) (a b c d : ℕ) → IsComplete words held a b c d 6
+complete_memory words held a b c d = record { succeeds = λ r o n. inr refl }
+
+pub complete_cut : (words : List (List ℕ)) (held : Option Held) (commands : List Command) (first : NetParts) (out now notes told : Option (List ℕ)) (a b c d : ℕ) → IsCut commands first out now notes told a b c d → IsComplete words held a b c d 5
+complete_cut words held commands first out now notes told a b c d h = record {
+  succeeds = λ r o n. absurd (⊎_elim (λ (rose : Rose a b). o rose) (λ (rose : Rose c d). n rose) (cut_cause commands first out now notes told a b c d h));
+}
 
 -- ---- what a status says
 
@@ -144,8 +248,4 @@ pub status_first : {T F : Type 0} (result : Result T Stop) (stop : Stop) → res
 status_first result stop e fact h =
     ⊎_elim (λ (z : status_of stop ≡ 0). absurd (status_not_done stop z)) (λ (k : (status_of stop ≡ 2) ⊎ (status_of stop ≡ 5)). ⊎_elim (λ (z : status_of stop ≡ 2). fact (e ∙ ap Err (network_status stop z))) (λ (z : status_of stop ≡ 5). absurd (status_not_write stop z)) k) h
 
-pub ruleset done = (done_gained)
-
-pub ruleset finishes = (part_nothing, Rose-earlier, Rose-later)
-
-pub ruleset runs = (replaced, status_words, status_network, status_script, status_read, status_not_done, status_not_write, status_known, status_other, status_unwritten, status_first, prepared_taken)
+pub ruleset runs = (replaced, ends_cut, cut_cause, short_early, short_work, exact_taken, complete_done, complete_memory, complete_cut, status_words, status_network, status_script, status_read, status_not_done, status_not_write, status_known, status_other, status_unwritten, status_first, prepared_taken)

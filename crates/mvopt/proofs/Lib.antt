@@ -1,3 +1,4 @@
+pub mod CommandRuns
 pub mod Ends
 pub mod FileReads
 pub mod NetDesign
@@ -11,3 +12,4 @@ pub mod ReadBack
 pub mod ScriptWords
 pub mod Takes
 pub mod WordLines
+pub mod Works

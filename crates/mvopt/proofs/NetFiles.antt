@@ -68,9 +68,7 @@ net_made bytes d parts net h f e =
       accepted = record { design = d; lexed = h.lexed; read = h.read; sound = f.sound; nets = f.nets };
       design = d;
       reads = record { clean = is_clean-from_first_fault MAX_NETWORK_BYTES [] bytes h.lexed; says = h.read.says; sound = f.sound };
-      formed = f.formed;
-      binary = f.binary;
-      means = f.means;
+      flat = f;
     })
 
 pub ruleset networks = (unsaid, unsound, net_made)

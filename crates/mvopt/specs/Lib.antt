@@ -1,7 +1,11 @@
+pub mod Exact
 pub mod FileReading
 pub mod Made
+pub mod Outcomes
 pub mod Pieces
+pub mod Replaced
 pub mod Run
+pub mod Runs
 pub mod Scripts
 pub mod Stops
 pub mod Taken

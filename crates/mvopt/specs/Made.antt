@@ -1,17 +1,13 @@
 -- What the bytes of a network file become: a design, then a network that means the same.
 use Rattle.std.specs.Prelude.{◌≡◌, ℕ, Option, Some, None, List, []}
-use Rattle.mv_base.specs.Meaning.{SameMeaning}
 use Rattle.mv_base.specs.Outside.{Held, file_named}
 use Rattle.mv_base.specs.declared.limits.TheConstants.{MAX_NETWORK_BYTES}
+use Rattle.mv_flat.specs.Flat.{IsFlat}
 use Rattle.mv_lex.specs.Lines.{lines_of, first_fault}
 use Rattle.mv_net.specs.declared.parts.NetParts.{NetParts}
-use Rattle.mv_net.specs.Allowed.{of_net}
-use Rattle.mv_net.specs.Formed.{WellFormed}
-use Rattle.mv_net.specs.Binary.{IsBinary}
 use Rattle.mv_parse.specs.declared.design.Design.{Design}
 use Rattle.mv_parse.specs.Grammar.{Says, IsRead}
 use Rattle.mv_parse.specs.Reading.{words_of}
-use Rattle.mv_parse.specs.Relation.{of_design}
 use Rattle.mvopt.specs.Run.{ReadsAs, IsAccepted}
 use Rattle.mvopt.specs.Words.{word_at}
 
@@ -27,14 +23,12 @@ pub record SaysSome (bytes : List ℕ) : Type 0 where
   pub lexed : first_fault MAX_NETWORK_BYTES [] bytes ≡ None
   pub read : IsRead (words_of (lines_of bytes)) design
 
--- a well formed network of the form that is written, which means what the bytes say
+-- the network of the design that the bytes say
 pub record IsNetOf (bytes : List ℕ) (net : NetParts) : Type 0 where
   pub accepted : IsAccepted bytes
   pub design : Design
   pub reads : ReadsAs bytes design
-  pub formed : WellFormed net
-  pub binary : IsBinary net
-  pub means : SameMeaning (of_net net) (of_design design)
+  pub flat : IsFlat net design
 
 -- the network file was read to its end, and its content became this network
 pub record WasPrepared (words : List (List ℕ)) (before after : Held) (net : NetParts) : Type 0 where

@@ -1,17 +1,12 @@
 -- What a run promises.
 use Rattle.std.specs.Prelude.{◌≡◌, ℕ, ◌≤◌, true, Option, Some, None, List, [], ◌∷◌, ◌++◌, length, codes, decimal, ◌⊎◌, ◌==◌, if◌then◌else◌}
-use Rattle.mv_base.specs.Meaning.{Refines}
 use Rattle.mv_base.specs.Outside.{Held, file_named, Gained, GainedPart, Rose}
 use Rattle.mv_base.specs.declared.limits.TheConstants.{MAX_NETWORK_BYTES, MAX_NETS}
 use Rattle.mv_lex.specs.Lines.{lines_of, is_clean, first_fault}
-use Rattle.mv_net.specs.declared.parts.NetParts.{NetParts}
-use Rattle.mv_net.specs.Nets.{literals_in}
-use Rattle.mv_write.specs.Text.{text_of}
 use Rattle.mv_parse.specs.declared.design.Design.{Design}
 use Rattle.mv_parse.specs.Designs.{IsSound, drivers}
 use Rattle.mv_parse.specs.Grammar.{Says, IsRead}
 use Rattle.mv_parse.specs.Reading.{words_of}
-use Rattle.mv_parse.specs.Relation.{of_design}
 use Rattle.mvopt.specs.Scripts.{is_script}
 use Rattle.mvopt.specs.Words.{word_at}
 
@@ -32,29 +27,6 @@ pub record IsAccepted (bytes : List ℕ) : Type 0 where
 -- the last line of the notes: the literals of the network as read and as written
 abbrev pub done_line : ℕ → ℕ → List ℕ
 done_line before after = codes "# done " ++ decimal before ++ 32 ∷ decimal after ++ 10 ∷ []
-
--- the network file was read to its end, and what was written in its place: the text of a network that reads back as
--- a design which may take the place of the one read
-pub record WasReplaced (words : List (List ℕ)) (before after : Held) (out now notes told : Option (List ℕ)) : Type 0 where
-  pub content : List ℕ
-  pub held : file_named (word_at words 1) before.files ≡ Some content
-  pub files : after.files ≡ before.files
-  pub current : after.current ≡ Some (word_at words 1)
-  pub ended : after.rest ≡ []
-  pub design : Design
-  pub read : ReadsAs content design
-  pub net : NetParts
-  pub gained : Gained out now (text_of net)
-  pub written : Design
-  pub back : ReadsAs (text_of net) written
-  pub refines : Refines (of_design written) (of_design design)
-  pub noted : Gained notes told (done_line (literals_in net.nets) (literals_in net.nets))
-
--- the same where the files tell their contents
-abbrev pub Replaced : List (List ℕ) → Option Held → Option Held → Option (List ℕ) → Option (List ℕ) → Option (List ℕ) → Option (List ℕ) → Type 0
-Replaced words None after out now notes told = Unit {0}
-Replaced words (Some before) None out now notes told = ⊥
-Replaced words (Some before) (Some after) out now notes told = WasReplaced words before after out now notes told
 
 -- the named file's content is refused
 pub record IsRefused (Accepts : List ℕ → Type 0) (name : List ℕ) (held : Held) : Type 0 where

@@ -1,10 +1,7 @@
 -- Files that a run takes.
 use Rattle.std.specs.Prelude.{◌≡◌, ℕ, true, Option, Some, None, List}
-use Rattle.mv_base.specs.Outside.{Held, file_named, GainedPart}
-use Rattle.mv_net.specs.declared.parts.NetParts.{NetParts}
-use Rattle.mv_write.specs.Text.{text_of}
+use Rattle.mv_base.specs.Outside.{Held, file_named}
 use Rattle.mvopt.specs.declared.script.Command.{Command}
-use Rattle.mvopt.specs.Made.{Prepared}
 use Rattle.mvopt.specs.Run.{IsAccepted}
 use Rattle.mvopt.specs.Scripts.{is_script, commands_in}
 use Rattle.mvopt.specs.Words.{word_at}
@@ -28,9 +25,3 @@ TakesCommands words (Some held) commands = IsTaken (λ text. (is_script text ≡
 abbrev pub TakesNetwork : List (List ℕ) → Option Held → Type 0
 TakesNetwork words None = Unit {0}
 TakesNetwork words (Some held) = IsTaken IsAccepted (word_at words 1) held
-
--- a network was made, and the output gained some first part of its text
-pub record BeganText (words : List (List ℕ)) (before after : Option Held) (out now : Option (List ℕ)) : Type 0 where
-  pub net : NetParts
-  pub made : Prepared words before after net
-  pub part : GainedPart out now (text_of net)

@@ -1,6 +1,7 @@
 //! mvopt reads a network in BLIF-MV and a script, and writes a network that may take its place.
 #![tactic(auto)]
 
+mod commands;
 mod net_file;
 mod read;
 mod run;
@@ -10,6 +11,7 @@ mod take;
 #[cfg(test)]
 mod tests;
 mod words;
+mod work;
 
 use mv_base::{HostErr, HostFiles, HostOut, Memory};
 pub use run::run;

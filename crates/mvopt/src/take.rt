@@ -63,25 +63,33 @@ fn take_network<F: Files>(alloc: Global, words: &[String], files: &mut F) -> Res
     }
 }
 
-/// The network that the words ask for: first they are judged, then the script, then the network.
+/// What a run works on: the network of the network file, and the commands of the script.
+#[derive(Drop)]
+pub struct Work {
+    pub net: Network,
+    pub commands: Items<Command>,
+}
+
+/// What the words ask for: first they are judged, then the script, then the network.
 #[tactic(auto, using(crate::proofs::Takes::prepares))]
-pub fn prepare<F: Files>(alloc: Global, words: &[String], files: &mut F) -> Result<Network, Stop>
+pub fn prepare<F: Files>(alloc: Global, words: &[String], files: &mut F) -> Result<Work, Stop>
     ensures taken { OnOk result (TakesScript (map string_bytes words.now) (F.held files.old)) }
     ensures first { result ≡ Err Stop.Network → TakesScript (map string_bytes words.now) (F.held files.old) }
-    ensures made { IfOk result (Prepared (map string_bytes words.now) (F.held files.old) (F.held files.new)) }
-    ensures binary { IfOk result IsBinary }
+    ensures commands { IfOk result (λ work. TakesCommands (map string_bytes words.now) (F.held files.old) work.commands) }
+    ensures made { IfOk result (λ work. Prepared (map string_bytes words.now) (F.held files.old) (F.held files.new) work.net) }
+    ensures binary { IfOk result (λ work. IsBinary work.net) }
     ensures stopped { IfErr result (IsCause (map string_bytes words.now) (F.held files.old) (F.faults files.old) (F.faults files.new)) }
     ensures accepted { (result ≡ Err Stop.Words → ⊥) → accepts (map string_bytes words.now) ≡ true }
 {
     if !is_accepted(words) {
         return Err(Stop::Words);
     }
-    match take_script(alloc, words, files) {
-        Ok(_commands) => {}
+    let commands = match take_script(alloc, words, files) {
+        Ok(commands) => commands,
         Err(stop) => return Err(stop),
-    }
+    };
     match take_network(alloc, words, files) {
-        Ok(net) => Ok(net),
+        Ok(net) => Ok(Work { net, commands }),
         Err(stop) => Err(stop),
     }
 }

@@ -1,0 +1,113 @@
+-- Commands that ran one after the other: the parts that they wrote, and a network of the form stays of the form.
+use Rattle.std.proofs.Common.{◌≡◌, ◌∙◌, ℕ, ◌+◌, ◌<◌, ◌≤◌, List, [], ◌∷◌, ◌++◌, length, take, set, Option, Some, None, refl, sym, ap, subst, arith, ⊎_elim, length-append}
+use Rattle.std.proofs.lemmas.Bool.{cases_eq, cases_lt}
+use Rattle.std.proofs.lemmas.Grind.{flat_map-append}
+use Rattle.std.proofs.lemmas.List.{append-nil, length-take, get_or-set_same, get_or-set_other, get_or_past, length-set}
+use Rattle.mv_base.specs.Outside.{Gained, GainedPart}
+use Rattle.mv_base.proofs.Gains.{Gained-none, Gained-then, GainedPart-then}
+use Rattle.mv_net.specs.declared.parts.FlatNet.{FlatNet}
+use Rattle.mv_net.specs.declared.parts.NetParts.{NetParts}
+use Rattle.mv_net.specs.Binary.{IsBinary}
+use Rattle.mv_net.specs.Changes.{with_nets, without}
+use Rattle.mv_net.specs.Nets.{slot}
+use Rattle.mv_sweep.specs.Entries.{Entry, Begin, Remove, End, print}
+use Rattle.mv_sweep.specs.Drops.{Goes, IsFront, HasDropped, IsDropping, IsCutOff, begun, whole}
+use Rattle.mv_sweep.proofs.Removing.{Goes-append, print-append, front_begun}
+use Rattle.mvopt.specs.declared.script.Command.{Command}
+use Rattle.mvopt.specs.Outcomes.{HasRun, HasStopped, IsNoteCut}
+use Rattle.mvopt.specs.Runs.{Part, entries_of, StopsIn}
+
+entries_of-push : (ps : List Part) (p : Part) → entries_of (ps ++ p ∷ []) ≡ entries_of ps ++ whole p.names p.literals
+entries_of-push ps p =
+    flat_map-append (λ (q : Part). whole q.names q.literals) ps (p ∷ []) ∙ ap (λ es. entries_of ps ++ es) (append-nil (whole p.names p.literals))
+
+pub HasRun-none : (commands : List Command) (a : NetParts) (t : Option (List ℕ)) → HasRun (take 0 commands) a a t t
+unfolding print
+HasRun-none commands a t = record { parts = []; runs = record { each = refl; goes = refl }; gained = Gained-none t }
+
+pub HasRun-more : (commands : List Command) (i : ℕ) (a b c : NetParts) (t u v : Option (List ℕ)) → i < length commands → HasRun (take i commands) a b t u → HasDropped b c u v → HasRun (take (i + 1) commands) a c t v
+HasRun-more commands i a b c t u v lt ran dropped =
+    let p : Part = record { names = dropped.names; literals = dropped.literals } in
+    let entries : entries_of ran.parts ++ whole p.names p.literals ≡ entries_of (ran.parts ++ p ∷ []) = sym (entries_of-push ran.parts p) in
+    record {
+      parts = ran.parts ++ p ∷ [];
+      runs = record {
+        each = omega (arith, ran.runs.each, length-append ran.parts (p ∷ []), length-take i commands, length-take (i + 1) commands);
+        goes =
+            let P : List Entry → Type 0 = λ es. Goes a es c in
+            subst P entries (Goes-append a b c (entries_of ran.parts) (whole p.names p.literals) ran.runs.goes dropped.went.goes);
+      };
+      gained =
+          let P : List ℕ → Type 0 = λ z. Gained t v z in
+          subst P (sym (print-append (entries_of ran.parts) (whole p.names p.literals)) ∙ ap print entries) (Gained-then t u v _ _ ran.gained dropped.went.gained);
+    }
+
+pub HasRun-whole : (commands : List Command) (i : ℕ) (a b : NetParts) (t u : Option (List ℕ)) → length commands ≤ i → HasRun (take i commands) a b t u → HasRun commands a b t u
+HasRun-whole commands i a b t u past ran = record {
+  parts = ran.parts;
+  runs = record { each = omega (arith, ran.runs.each, length-take i commands); goes = ran.runs.goes };
+  gained = ran.gained;
+}
+
+stops_in : (commands : List Command) (i : ℕ) (a b c : NetParts) (t u : Option (List ℕ)) (last : List Entry) → i < length commands → (ran : HasRun (take i commands) a b t u) → IsFront last → Goes b last c → StopsIn commands a (entries_of ran.parts ++ last) c
+stops_in commands i a b c t u last lt ran front goes = record {
+  parts = ran.parts;
+  last = last;
+  some = omega (arith, ran.runs.each, length-take i commands);
+  front = front;
+  entries_are = refl;
+  goes = Goes-append a b c (entries_of ran.parts) last ran.runs.goes goes;
+}
+
+pub HasRun-stopped : (commands : List Command) (i : ℕ) (a b c : NetParts) (t u v : Option (List ℕ)) → i < length commands → HasRun (take i commands) a b t u → IsDropping b c u v → HasStopped commands a c t v
+HasRun-stopped commands i a b c t u v lt ran dropping = record {
+  entries = entries_of ran.parts ++ begun dropping.names;
+  stops = stops_in commands i a b c t u (begun dropping.names) lt ran (front_begun dropping.names) dropping.went.goes;
+  gained =
+      let P : List ℕ → Type 0 = λ z. Gained t v z in
+      subst P (sym (print-append (entries_of ran.parts) (begun dropping.names))) (Gained-then t u v _ _ ran.gained dropping.went.gained);
+}
+
+pub HasRun-cut : (commands : List Command) (i : ℕ) (a b c : NetParts) (t u v : Option (List ℕ)) → i < length commands → HasRun (take i commands) a b t u → IsCutOff b c u v → IsNoteCut commands a c t v
+HasRun-cut commands i a b c t u v lt ran cut = record {
+  entries = entries_of ran.parts ++ cut.entries;
+  stops = stops_in commands i a b c t u cut.entries lt ran cut.front cut.went.goes;
+  gained =
+      let P : List ℕ → Type 0 = λ z. GainedPart t v z in
+      subst P (sym (print-append (entries_of ran.parts) cut.entries)) (GainedPart-then t u v _ _ ran.gained cut.went.gained);
+}
+
+-- ---- networks of the form
+
+-- a net that is held behind a removal was held before
+held_before : (nets : List (Option FlatNet)) (n m : ℕ) (f : FlatNet) → slot (set nets n None) m ≡ Some f → slot nets m ≡ Some f
+held_before nets n m f e =
+    ⊎_elim
+    (λ (same : m ≡ n).
+    ⊎_elim
+    (λ (low : n < length nets).
+    let gone : slot (set nets n None) m ≡ None = rw same (get_or-set_same nets n None None low) in
+    let bad : None ≡ Some f = sym gone ∙ e in
+    absurd cc)
+    (λ (past : length nets ≤ n).
+    let gone : slot (set nets n None) m ≡ None = get_or_past (set nets n None) m None (omega (arith, length-set nets n None)) in
+    let bad : None ≡ Some f = sym gone ∙ e in
+    absurd cc)
+    (cases_lt n (length nets)))
+    (λ other. sym (get_or-set_other nets n m None None other) ∙ e)
+    (cases_eq m n)
+
+removal_binary : (net : NetParts) (n : ℕ) → IsBinary net → IsBinary (without net n)
+unfolding with_nets
+removal_binary net n is = record {
+  root = is.root;
+  nets = λ m f e. is.nets m f (held_before net.nets n m f e);
+  latches = is.latches;
+}
+
+pub Goes-binary : (a b : NetParts) (es : List Entry) → IsBinary a → Goes a es b → IsBinary b
+Goes-binary a b [] is g = subst IsBinary (sym g) is
+Goes-binary a b (Begin ∷ es) is g = Goes-binary a b es is g
+Goes-binary a b (Remove w ∷ es) is g =
+    Goes-binary g.0 b es (subst IsBinary (sym g.1.0.new_is) (removal_binary a g.1.0.number is)) g.1.1
+Goes-binary a b (End k ∷ es) is g = Goes-binary a b es is g.1

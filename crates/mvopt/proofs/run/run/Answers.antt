@@ -1,0 +1,10 @@
+-- Memory ran out within the commands, and the notes tell so behind their entries.
+use Rattle.std.proofs.Common.{ap}
+use Rattle.std.specs.Prelude.{Err}
+use Rattle.mvopt.proofs.Ends.{short_work}
+use Rattle.mvopt.proofs.run.run.Goals as goal
+
+pub returns-in-Err-Memory-clause-short : goal.returns-in-Err-Memory-clause-short
+returns-in-Err-Memory-clause-short g c =
+    let e = ap Err c.in-Err-Memory.field-0-is in
+    λ s. short_work _ _ _ _ _ _ _ _ _ _ _ c.in-Ok.ensures.made c.in-Ok.ensures.commands (c.in-Err-Memory.ensures.memory e) (c.in-Err-Memory.ensures.later e) c.refuse-in-Err-Memory.ensures

@@ -1,0 +1,101 @@
+-- How the work on a network ends: its commands, then the done line, then its text.
+use Rattle.std.specs.Prelude.{◌≡◌, ◌⊎◌, ℕ, Option, List, [], ◌++◌}
+use Rattle.mv_base.specs.Meaning.{SameMeaning}
+use Rattle.mv_base.specs.Outside.{Held, Gained, GainedPart, Rose}
+use Rattle.mv_net.specs.declared.parts.NetParts.{NetParts}
+use Rattle.mv_net.specs.Allowed.{of_net}
+use Rattle.mv_net.specs.Binary.{IsBinary}
+use Rattle.mv_net.specs.Formed.{WellFormed}
+use Rattle.mv_net.specs.Nets.{literals_in}
+use Rattle.mv_sweep.specs.Entries.{Entry, print}
+use Rattle.mv_write.specs.Text.{text_of}
+use Rattle.mvopt.specs.declared.script.Command.{Command}
+use Rattle.mvopt.specs.Made.{Prepared}
+use Rattle.mvopt.specs.Run.{Tells, done_line, fault_line}
+use Rattle.mvopt.specs.Runs.{Part, entries_of, Runs, StopsIn}
+use Rattle.mvopt.specs.Taken.{TakesCommands}
+
+-- the commands ran, and the notes gained their entries
+pub record HasRun (commands : List Command) (old new : NetParts) (notes told : Option (List ℕ)) : Type 0 where
+  pub parts : List Part
+  pub runs : Runs commands old parts new
+  pub gained : Gained notes told (print (entries_of parts))
+
+-- they stopped, and the notes gained the entries that came
+pub record HasStopped (commands : List Command) (old new : NetParts) (notes told : Option (List ℕ)) : Type 0 where
+  pub entries : List Entry
+  pub stops : StopsIn commands old entries new
+  pub gained : Gained notes told (print entries)
+
+-- or some first part of their lines
+pub record IsNoteCut (commands : List Command) (old new : NetParts) (notes told : Option (List ℕ)) : Type 0 where
+  pub entries : List Entry
+  pub stops : StopsIn commands old entries new
+  pub gained : GainedPart notes told (print entries)
+
+-- what is put to the notes in all
+abbrev pub all_notes : List Part → NetParts → NetParts → List ℕ
+all_notes parts first net = print (entries_of parts) ++ done_line (literals_in first.nets) (literals_in net.nets)
+
+-- the same of some network that the commands left
+pub record HasStoppedAt (commands : List Command) (old : NetParts) (notes told : Option (List ℕ)) : Type 0 where
+  pub net : NetParts
+  pub stopped : HasStopped commands old net notes told
+
+-- the done line, and behind it the text, were written as far as the notes or the output failed
+pub record IsEndCut (out now notes told : Option (List ℕ)) (a b c d : ℕ) (line text : List ℕ) : Type 0 where
+  pub how : (Rose a b × (Gained notes told line × GainedPart out now text)) ⊎ ((now ≡ out) × Rose c d × GainedPart notes told line)
+
+-- the work is done: the network that was left means the same, and its text was written
+pub record HasWorked (commands : List Command) (first : NetParts) (out now notes told : Option (List ℕ)) : Type 0 where
+  pub parts : List Part
+  pub net : NetParts
+  pub runs : Runs commands first parts net
+  pub noted : Gained notes told (all_notes parts first net)
+  pub gained : Gained out now (text_of net)
+  pub formed : WellFormed net
+  pub binary : IsBinary net
+  pub means : SameMeaning (of_net net) (of_net first)
+
+-- the notes failed at the done line
+pub record IsDoneCut (commands : List Command) (first : NetParts) (notes told : Option (List ℕ)) : Type 0 where
+  pub parts : List Part
+  pub net : NetParts
+  pub runs : Runs commands first parts net
+  pub noted : GainedPart notes told (all_notes parts first net)
+
+-- the output failed at the text
+pub record IsTextCut (commands : List Command) (first : NetParts) (out now notes told : Option (List ℕ)) : Type 0 where
+  pub parts : List Part
+  pub net : NetParts
+  pub runs : Runs commands first parts net
+  pub noted : Gained notes told (all_notes parts first net)
+  pub part : GainedPart out now (text_of net)
+
+-- a write failed: one to the output, which the notes stand before, or one to the notes, which leaves the output as it was
+pub record IsCut (commands : List Command) (first : NetParts) (out now notes told : Option (List ℕ)) (a b c d : ℕ) : Type 0 where
+  pub how : (Rose a b × IsTextCut commands first out now notes told) ⊎ ((now ≡ out) × Rose c d × (IsDoneCut commands first notes told ⊎ ((net : NetParts) × IsNoteCut commands first net notes told)))
+
+-- the same of a run, whose network and commands are those of the named files; the counts are those of the output's and
+-- of the notes' faults, before and after
+pub record EndsCut (words : List (List ℕ)) (before after : Option Held) (out now notes told : Option (List ℕ)) (a b c d : ℕ) : Type 0 where
+  pub first : NetParts
+  pub made : Prepared words before after first
+  pub commands : List Command
+  pub taken : TakesCommands words before commands
+  pub cut : IsCut commands first out now notes told a b c d
+
+-- commands of the named script stopped on the network of the named file
+pub record HasStoppedOn (words : List (List ℕ)) (before after : Option Held) (entries : List Entry) : Type 0 where
+  pub first : NetParts
+  pub made : Prepared words before after first
+  pub commands : List Command
+  pub taken : TakesCommands words before commands
+  pub net : NetParts
+  pub stops : StopsIn commands first entries net
+
+-- memory ran out, before any command or within one, and the notes tell so behind the entries that came
+pub record EndsShort (words : List (List ℕ)) (before after : Option Held) (notes told : Option (List ℕ)) (c d : ℕ) : Type 0 where
+  pub entries : List Entry
+  pub ran : (entries ≡ []) ⊎ HasStoppedOn words before after entries
+  pub tells : Tells notes told c d (print entries ++ fault_line 6)

@@ -1,0 +1,83 @@
+ghost use Rattle.std.specs.Prelude.{◌≡◌, ◌≤◌, Err, OnOk, OnErr};
+ghost use Rattle.mv_base.specs.Appends.{Appends};
+ghost use Rattle.mv_base.specs.Outside.{Gained};
+ghost use Rattle.mv_net.specs.Nets.{literals_in};
+ghost use Rattle.mv_net.specs.Binary.{IsBinary};
+ghost use Rattle.mv_write.specs.Text.{text_of};
+ghost use Rattle.mvopt.specs.Outcomes.{HasStoppedAt, HasWorked, IsCut, IsEndCut};
+ghost use Rattle.mvopt.specs.Run.{done_line};
+
+use crate::commands::run_commands;
+use crate::take::Work;
+use itoa::Buffer;
+use mv_base::{Failed, Sink, put_both, put_piece};
+use mv_net::Network;
+use mv_sweep::Stop;
+use mv_write::write;
+use std::alloc::Global;
+
+/// Why the work on a network ends early.
+#[derive(Clone, Copy, Debug, PartialEq, Eq)]
+pub enum WorkStop {
+    Write,
+    Memory,
+}
+
+/// Puts the line that says how many literals were read and are written. It takes no memory.
+fn put_done<E: Sink>(before: u128, after: u128, notes: &mut E) -> Result<(), Failed>
+    ensures { Appends (E.told notes.old) (E.told notes.new) (E.faults notes.old) (E.faults notes.new) (done_line before after) result }
+{
+    let mut buffer = Buffer::new();
+    put_both(b"# done ", buffer.format(before).as_bytes(), notes)?;
+    put_both(b" ", buffer.format(after).as_bytes(), notes)?;
+    put_piece(b"\n", notes)
+}
+
+/// Puts the done line to the notes, and then the network's text to the output. It takes no memory.
+fn finish<O: Sink, E: Sink>(
+    net: &Network,
+    before: u128,
+    out: &mut O,
+    notes: &mut E,
+) -> Result<(), Failed>
+    requires { IsBinary net.now }
+    ensures written { OnOk result (Gained (O.told out.old) (O.told out.new) (text_of net.now)) }
+    ensures noted { OnOk result (Gained (E.told notes.old) (E.told notes.new) (done_line before (literals_in net.now.nets))) }
+    ensures cut { OnErr result (IsEndCut (O.told out.old) (O.told out.new) (E.told notes.old) (E.told notes.new) (O.faults out.old) (O.faults out.new) (E.faults notes.old) (E.faults notes.new) (done_line before (literals_in net.now.nets)) (text_of net.now)) }
+{
+    match put_done(before, net.literals(), notes) {
+        Ok(()) => {}
+        Err(failed) => return Err(failed),
+    }
+    write(net, out)
+}
+
+/// Runs the commands on the network, and puts what they do and the done line to the notes, and then the text of the
+/// network that is left to the output. From the done line on it takes no memory.
+pub fn carry_out<O: Sink, E: Sink>(
+    alloc: Global,
+    work: Work,
+    out: &mut O,
+    notes: &mut E,
+) -> Result<(), WorkStop>
+    requires { IsBinary work.net }
+    ensures ok { OnOk result (HasWorked work.commands work.net (O.told out.old) (O.told out.new) (E.told notes.old) (E.told notes.new)) }
+    ensures write { result ≡ Err WorkStop.Write → IsCut work.commands work.net (O.told out.old) (O.told out.new) (E.told notes.old) (E.told notes.new) (O.faults out.old) (O.faults out.new) (E.faults notes.old) (E.faults notes.new) }
+    ensures memory { result ≡ Err WorkStop.Memory → HasStoppedAt work.commands work.net (E.told notes.old) (E.told notes.new) }
+    ensures untouched { result ≡ Err WorkStop.Memory → O.told out.new ≡ O.told out.old }
+    ensures later { result ≡ Err WorkStop.Memory → E.faults notes.old ≤ E.faults notes.new }
+{
+    let Work { mut net, commands } = work;
+    net.well_formed();
+    let before = net.literals();
+    match run_commands(alloc, &mut net, commands.as_slice(), notes) {
+        Ok(()) => {}
+        Err(Stop::Note) => return Err(WorkStop::Write),
+        Err(Stop::Memory) => return Err(WorkStop::Memory),
+    }
+    net.well_formed();
+    match finish(&net, before, out, notes) {
+        Ok(()) => Ok(()),
+        Err(_failed) => Err(WorkStop::Write),
+    }
+}
