@@ -327,6 +327,159 @@ fn a_script_has_a_limit(rt: HostRuntime) -> Result<(), Fail> {
     Ok(())
 }
 
+/// An inverter beside a net that nobody reads, whose table gives a value for each of the input's.
+const UNREAD: &str =
+    ".model d\n.inputs a\n.outputs z\n.table a -> z\n0 1\n1 0\n.table a -> d\n0 0\n1 -\n.end\n";
+
+/// The inverter of that network alone.
+const KEPT: &str = ".model d\n.inputs a\n.outputs z\n.table a -> z\n0 1\n1 0\n.end\n";
+
+/// What a script of one `drop` notes of it.
+const NOTED: &str = "# begin drop\nremove d\n# end 2\n# done 4 2\n";
+
+/// Networks, and what `drop` leaves and notes of each.
+const DROPPED: [(&str, &str, &str); 8] = [
+    // A net that nobody reads goes.
+    (UNREAD, KEPT, NOTED),
+    // A partial table stays: where it allows nothing the network allows nothing.
+    (
+        ".model d\n.inputs a\n.outputs z\n.table a -> z\n0 1\n1 0\n.table a -> d\n0 0\n.end\n",
+        ".model d\n.inputs a\n.outputs z\n.table a -> z\n0 1\n1 0\n.table a -> d\n0 0\n.end\n",
+        "# begin drop\n# end 3\n# done 3 3\n",
+    ),
+    // A net that a partial table reads stays with it.
+    (
+        ".model d\n.inputs a\n.outputs\n.table a -> c\n0 1\n1 0\n.table c -> d\n0 0\n.end\n",
+        ".model d\n.inputs a\n.outputs\n.table a -> c\n0 1\n1 0\n.table c -> d\n0 0\n.end\n",
+        "# begin drop\n# end 3\n# done 3 3\n",
+    ),
+    // The least goes first, and behind it what it alone read, also where that stands before it.
+    (
+        ".model d\n.inputs a\n.outputs z\n.table a -> z\n0 1\n1 0\n.table a -> c\n0 1\n1 0\n.table c -> d\n0 1\n1 0\n.table -> e\n-\n.end\n",
+        KEPT,
+        "# begin drop\nremove d\nremove c\nremove e\n# end 2\n# done 6 2\n",
+    ),
+    // What it read may stand behind it too.
+    (
+        ".model d\n.inputs a\n.outputs z\n.table a -> z\n0 1\n1 0\n.table c -> d\n0 1\n1 0\n.table -> e\n-\n.table a -> c\n0 1\n1 0\n.end\n",
+        KEPT,
+        "# begin drop\nremove d\nremove e\nremove c\n# end 2\n# done 6 2\n",
+    ),
+    // A column that holds only `-` isn't read.
+    (
+        ".model d\n.inputs a\n.outputs z\n.table c a -> z\n- 0 1\n- 1 0\n.table -> c\n1\n.end\n",
+        KEPT,
+        "# begin drop\nremove c\n# end 2\n# done 2 2\n",
+    ),
+    // Outputs are seen, and inputs have no table.
+    (
+        ".model d\n.inputs a b\n.outputs z b\n.table a -> z\n0 1\n1 0\n.end\n",
+        ".model d\n.inputs a b\n.outputs z b\n.table a -> z\n0 1\n1 0\n.end\n",
+        "# begin drop\n# end 2\n# done 2 2\n",
+    ),
+    // A table without rows allows nothing.
+    (
+        ".model d\n.inputs\n.outputs\n.table -> c\n.end\n",
+        ".model d\n.inputs\n.outputs\n.table -> c\n.end\n",
+        "# begin drop\n# end 0\n# done 0 0\n",
+    ),
+];
+
+#[test]
+fn drop_removes_what_nobody_sees_or_reads(rt: HostRuntime) -> Result<(), Fail> {
+    for (net, left, noted) in DROPPED {
+        let end = run_on(rt.alloc(), "opt n s", net.as_bytes(), b"drop", no_fails())?;
+        assert_eq!(rt; end.status, 0, "{net}");
+        assert_eq!(rt; end.out.bytes(), left.as_bytes(), "{net}");
+        assert_eq!(rt; end.notes.bytes(), noted.as_bytes(), "{net}");
+    }
+    Ok(())
+}
+
+#[test]
+fn each_command_notes_its_part(rt: HostRuntime) -> Result<(), Fail> {
+    let noted = "# begin drop\nremove d\n# end 2\n# begin drop\n# end 2\n# done 4 2\n";
+    for script in ["drop;drop", "drop drop", ";drop # d\n;;drop;"] {
+        let end = run_on(
+            rt.alloc(),
+            "opt n s",
+            UNREAD.as_bytes(),
+            script.as_bytes(),
+            no_fails(),
+        )?;
+        assert_eq!(rt; end.status, 0, "{script}");
+        assert_eq!(rt; end.out.bytes(), KEPT.as_bytes(), "{script}");
+        assert_eq!(rt; end.notes.bytes(), noted.as_bytes(), "{script}");
+    }
+    Ok(())
+}
+
+/// A run of `drop` on the network with an unread net.
+fn dropping(alloc: Global, fails: Fails) -> Result<Ended, Fail> {
+    run_on(alloc, "opt n s", UNREAD.as_bytes(), b"drop", fails)
+}
+
+#[test]
+fn each_call_of_the_files_fails_before_a_drop(rt: HostRuntime) -> Result<(), Fail> {
+    for call in 0..6u64 {
+        let end = dropping(
+            rt.alloc(),
+            Fails {
+                files: &[call],
+                ..no_fails()
+            },
+        )?;
+        assert_eq!(rt; end.status, 4, "at {call}");
+        assert_eq!(rt; end.out.bytes(), b"".as_slice(), "at {call}");
+        assert_eq!(rt;
+            end.notes.bytes(),
+            b"# fault read\n".as_slice(),
+            "at {call}"
+        );
+    }
+    Ok(())
+}
+
+#[test]
+fn each_put_of_the_notes_fails_while_drop_runs(rt: HostRuntime) -> Result<(), Fail> {
+    for call in 0..12u64 {
+        for taken in 0..3usize {
+            let end = dropping(
+                rt.alloc(),
+                Fails {
+                    notes: &[(call, taken)],
+                    ..no_fails()
+                },
+            )?;
+            assert_eq!(rt; end.status, 5, "at {call}");
+            assert_eq!(rt; end.out.bytes(), b"".as_slice(), "at {call}");
+            assert!(rt;
+                NOTED.as_bytes().starts_with(end.notes.bytes()),
+                "at {call}"
+            );
+        }
+    }
+    Ok(())
+}
+
+#[test]
+fn each_put_of_the_output_fails_behind_a_drop(rt: HostRuntime) -> Result<(), Fail> {
+    for call in 0..26u64 {
+        let end = dropping(
+            rt.alloc(),
+            Fails {
+                out: &[(call, 0)],
+                ..no_fails()
+            },
+        )?;
+        assert_eq!(rt; end.status, 5, "at {call}");
+        assert!(rt; KEPT.as_bytes().starts_with(end.out.bytes()), "at {call}");
+        assert!(rt; end.out.bytes().len() < KEPT.len(), "at {call}");
+        assert_eq!(rt; end.notes.bytes(), NOTED.as_bytes(), "at {call}");
+    }
+    Ok(())
+}
+
 /// Networks that break one condition of the form each.
 const REFUSED: [&str; 37] = [
     "",
