@@ -1,6 +1,5 @@
 -- What a change makes of a network.
 use Rattle.std.specs.Prelude.{ℕ, ◌+◌, nat_eq, Option, Some, None, List, [], ◌∷◌, ◌++◌, map, slice_set, if◌then◌else◌}
-use Rattle.mv_base.specs.declared.number.NetId.{NetId}
 use Rattle.mv_cover.specs.declared.cover.Cover.{Cover}
 use Rattle.mv_net.specs.declared.change.NewNet.{NewNet}
 use Rattle.mv_net.specs.declared.change.NewTable.{NewTable}

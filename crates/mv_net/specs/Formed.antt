@@ -21,7 +21,6 @@ abbrev pub stands_in : NetId → List NetId → Bool
 stands_in n ns = list_any (λ (m : NetId). nat_eq m.0 n.0) ns
 
 -- no net stands twice in the list
--- no net stands twice in the list
 abbrev pub all_differ : List NetId → Bool
 all_differ [] = true
 all_differ (n ∷ ns) = not (stands_in n ns) && all_differ ns
