@@ -10,8 +10,8 @@ use Rattle.mv_net.specs.declared.parts.NetParts.{NetParts}
 use Rattle.mv_net.specs.Nets.{slot, name_in, literals_in}
 use Rattle.mv_net.specs.Changes.{without}
 use Rattle.mv_sweep.specs.Entries.{Entry, Begin, Remove, End, entry_line, print}
-use Rattle.mv_sweep.specs.Drops.{Goes, Went, WentPart, HasDropped, IsDropping, IsFront, IsCutOff, begun, whole}
-use Rattle.mv_sweep.specs.Search.{NoneLeft, IsFirst, HasRemoved, IsRemoving}
+use Rattle.mv_sweep.specs.Drops.{NoneLeft, IsFirst, Goes, Went, WentPart, IsFront, HasDropped, IsDropping, IsCutOff, begun, whole}
+use Rattle.mv_sweep.specs.Search.{HasRemoved, IsRemoving}
 
 -- ---- the entries of two stretches
 
@@ -87,8 +87,7 @@ goes_away old new n name first is e = (
   (
     record {
       number = n;
-      removable = first.removable;
-      least = first.least.none;
+      first = first;
       name_is = sym is;
       new_is = refl;
     },
@@ -126,7 +125,7 @@ pub drop_cut : (a b : NetParts) (t u v : Option (List ℕ)) (before now : ℕ) �
 drop_cut a b t u v before now p q = record { entries = begun q.names; front = front_begun q.names; went = WentPart-then (begins a t u p.ok) q.went }
 
 settles : (b : NetParts) (literals : ℕ) → NoneLeft b → literals ≡ literals_in b.nets → Goes b (End literals ∷ []) b
-settles b literals none e = (record { none_left = none.none; counted = e }, refl)
+settles b literals none e = (record { none_left = none; counted = e }, refl)
 
 pub drop_ended : (a b : NetParts) (t u v w : Option (List ℕ)) (literals before now mid then : ℕ) → Appends t u before now (entry_line Begin) (Ok tt) → HasRemoved a b u v → NoneLeft b → literals ≡ literals_in b.nets → Appends v w mid then (entry_line (End literals)) (Ok tt) → HasDropped a b t w
 drop_ended a b t u v w literals before now mid then p q none e r = record {

@@ -12,7 +12,8 @@ use Rattle.mv_net.specs.Changes.{without, with_nets}
 use Rattle.mv_net.specs.Total.{IsTotalNet, IsRemovable}
 use Rattle.mv_net.proofs.Named.{held_below}
 use Rattle.mv_net.proofs.Orders.{above_first}
-use Rattle.mv_sweep.specs.Search.{NoneLeft, NoneFrom, NoneBelow, IsFirst, IsFirstFrom}
+use Rattle.mv_sweep.specs.Drops.{NoneLeft, NoneBelow, IsFirst}
+use Rattle.mv_sweep.specs.Search.{NoneFrom, IsFirstFrom}
 use Rattle.mv_net.proofs.Removal.{removable-later}
 
 -- ---- one net

@@ -7,17 +7,28 @@ use Rattle.mv_net.specs.Changes.{without}
 use Rattle.mv_net.specs.Total.{IsRemovable}
 use Rattle.mv_sweep.specs.Entries.{Entry, Begin, Remove, End, print}
 
+-- no net can go: none at all, or none below a number
+pub record NoneLeft (net : NetParts) : Type 0 where
+  pub none : (n : ℕ) → IsRemovable net n → ⊥
+
+pub record NoneBelow (net : NetParts) (from : ℕ) : Type 0 where
+  pub none : (n : ℕ) → n < from → IsRemovable net n → ⊥
+
+-- the net at n is the least-numbered that can go
+pub record IsFirst (net : NetParts) (n : ℕ) : Type 0 where
+  pub removable : IsRemovable net n
+  pub least : NoneBelow net n
+
 -- the least-numbered net that can go has this name, and goes
 pub record RemovesLeast (old : NetParts) (name : List ℕ) (new : NetParts) : Type 0 where
   pub number : ℕ
-  pub removable : IsRemovable old number
-  pub least : (m : ℕ) → m < number → IsRemovable old m → ⊥
+  pub first : IsFirst old number
   pub name_is : name_in (slot old.nets number) ≡ name
   pub new_is : new ≡ without old number
 
 -- a command ends: no net is left that can go, and these are the literals
 pub record Settles (net : NetParts) (literals : ℕ) : Type 0 where
-  pub none_left : (n : ℕ) → IsRemovable net n → ⊥
+  pub none_left : NoneLeft net
   pub counted : literals ≡ literals_in net.nets
 
 -- the entries hold one after the other, each of the network at its place, and lead from the old one to the new one

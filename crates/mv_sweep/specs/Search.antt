@@ -5,25 +5,15 @@ use Rattle.mv_net.specs.Total.{IsRemovable}
 use Rattle.mv_sweep.specs.Entries.{Remove}
 use Rattle.mv_sweep.specs.Drops.{Went, WentPart}
 
--- no net can go: none at all, none from this number on, none below it
-pub record NoneLeft (net : NetParts) : Type 0 where
-  pub none : (n : ℕ) → IsRemovable net n → ⊥
-
+-- no net from this number on can go
 pub record NoneFrom (net : NetParts) (from : ℕ) : Type 0 where
   pub none : (n : ℕ) → from ≤ n → IsRemovable net n → ⊥
 
-pub record NoneBelow (net : NetParts) (from : ℕ) : Type 0 where
-  pub none : (n : ℕ) → n < from → IsRemovable net n → ⊥
-
--- the net at n is the first from this number on that can go, and the first of all
+-- the net at n is the first from this number on that can go
 pub record IsFirstFrom (net : NetParts) (from n : ℕ) : Type 0 where
   pub removable : IsRemovable net n
   pub above : from ≤ n
   pub least : (m : ℕ) → from ≤ m → m < n → IsRemovable net m → ⊥
-
-pub record IsFirst (net : NetParts) (n : ℕ) : Type 0 where
-  pub removable : IsRemovable net n
-  pub least : NoneBelow net n
 
 -- nets of these names went, the least first, and a sink gained their lines, whole or some first part of them
 pub record HasRemoved (old new : NetParts) (told now : Option (List ℕ)) : Type 0 where

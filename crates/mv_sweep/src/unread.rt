@@ -3,8 +3,8 @@ ghost use Rattle.mv_base.specs.Meaning.{SameMeaning};
 ghost use Rattle.mv_base.specs.Outside.{Rose};
 ghost use Rattle.mv_net.specs.Allowed.{of_net};
 ghost use Rattle.mv_net.specs.Changes.{without};
-ghost use Rattle.mv_sweep.specs.Drops.{HasDropped, IsDropping, IsCutOff};
-ghost use Rattle.mv_sweep.specs.Search.{HasRemoved, IsFirst, IsRemoving, NoneLeft};
+ghost use Rattle.mv_sweep.specs.Drops.{HasDropped, IsCutOff, IsDropping, IsFirst, NoneLeft};
+ghost use Rattle.mv_sweep.specs.Search.{HasRemoved, IsRemoving};
 
 use crate::Stop;
 use crate::notes::{put_begin, put_end, put_remove};

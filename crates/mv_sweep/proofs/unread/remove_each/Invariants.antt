@@ -1,7 +1,8 @@
 use Rattle.std.proofs.Common.{◌≤◌}
 use Rattle.mv_base.specs.Meaning.{SameMeaning}
 use Rattle.mv_net.specs.Allowed.{of_net}
-use Rattle.mv_sweep.specs.Search.{HasRemoved, NoneBelow}
+use Rattle.mv_sweep.specs.Search.{HasRemoved}
+use Rattle.mv_sweep.specs.Drops.{NoneBelow}
 use Rattle.mv_sweep.proofs.Search.{held_count}
 use Rattle.mv_sweep.proofs.unread.remove_each.Given as goal
 
