@@ -1,5 +1,5 @@
 -- The search for the least net that can go.
-use Rattle.std.proofs.Common.{◌≡◌, ◌∙◌, ℕ, ◌+◌, ◌<◌, ◌≤◌, Bool, true, false, List, [], ◌∷◌, Option, Some, None, IsTrue, MatchBool, Result, Ok, Err, IfOk, is_some, set, refl, sym, ap, subst, arith, ⊎_elim, length, nat_eq, eqb-true, eq-eqb}
+use Rattle.std.proofs.Common.{◌≡◌, ◌∙◌, ℕ, ◌+◌, ◌<◌, ◌≤◌, Bool, true, false, List, [], ◌∷◌, Option, Some, None, IsTrue, MatchBool, Result, Ok, Err, IfOk, is_some, set, refl, sym, ap, subst, arith, ⊎_elim, ◌⊎◌, inl, inr, length, nat_eq, eqb-true, eq-eqb}
 use Rattle.std.specs.Prelude.{sum_by, slice_get, min}
 use Rattle.std.proofs.lemmas.Bool.{false≢true, cases_lt, or_cases, or_left}
 use Rattle.std.proofs.lemmas.List.Sums.{sum_by-set}
@@ -118,6 +118,20 @@ below_fanins net n back (g ∷ gs) f a e is m low =
     let one : Some f ≡ Some g = e in
     let same : f.0 ≡ g.0 = some_net f g one in
     below_first (λ k. net_reads (slot net.nets n) k) g gs m a (omega arith)
+
+-- which is one of them
+pub one_of_fanins : (net : NetParts) (n back : ℕ) (fs : List NetId) (f : NetId) → IsAscending (λ m. net_reads (slot net.nets n) m) fs → Some f ≡ slice_get fs 0 → back ≡ min f.0 n → (back ≡ n) ⊎ (net_reads (slot net.nets n) back ≡ true)
+one_of_fanins net n back [] f a e is = absurd (let bad : Some f ≡ None = e in cc)
+one_of_fanins net n back (g ∷ gs) f a e is =
+    let one : Some f ≡ Some g = e in
+    let same : f.0 ≡ g.0 = some_net f g one in
+    ⊎_elim
+    (λ (low : g.0 < n).
+    let here : back ≡ g.0 = omega arith in
+    let first : has_id (g ∷ gs) g.0 ≡ true = or_left (nat_eq g.0 g.0) (has_id gs g.0) (eq-eqb g.0 g.0 refl) in
+    inr (rw here (sym (a.members g.0) ∙ first)))
+    (λ (high : n ≤ g.0). inl (omega arith))
+    (cases_lt g.0 n)
 
 -- behind a net that went no net below it that it doesn't read can go
 pub none_below_again : (net new : NetParts) (n back : ℕ) → IsFirst net n → new ≡ without net n → back ≤ n → ((m : ℕ) → m < back → net_reads (slot net.nets n) m ≡ false) → NoneBelow new back

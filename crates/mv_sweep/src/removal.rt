@@ -1,4 +1,4 @@
-ghost use Rattle.std.specs.Prelude.{◌≡◌, ℕ, ◌<◌, ◌≤◌, IsTrue, false, IfOk, OnOk, OnErr, MatchBool, MatchOption};
+ghost use Rattle.std.specs.Prelude.{◌≡◌, ◌⊎◌, ℕ, ◌<◌, ◌≤◌, IsTrue, true, false, IfOk, OnOk, OnErr, MatchBool, MatchOption};
 ghost use Rattle.mv_base.specs.Meaning.{SameMeaning};
 ghost use Rattle.mv_net.specs.Allowed.{of_net};
 ghost use Rattle.mv_net.specs.Changes.{without};
@@ -44,6 +44,7 @@ pub fn least_fanin(net: &Network, n: NetId) -> u32
     requires { IsTrue (is_held net.now.nets n.0) }
     ensures first { result ≤ n.0 }
     ensures unread { (m : ℕ) → m < result → net_reads (slot net.now.nets n.0) m ≡ false }
+    ensures one { (result ≡ n.0) ⊎ (net_reads (slot net.now.nets n.0) result ≡ true) }
 {
     match net.fanins(n).first() {
         Some(fanin) => fanin.0.min(n.0),

@@ -6,13 +6,12 @@ use Rattle.mv_net.specs.declared.parts.NetParts.{NetParts}
 use Rattle.mv_net.specs.Allowed.{of_net}
 use Rattle.mv_net.specs.Binary.{IsBinary}
 use Rattle.mv_net.specs.Formed.{WellFormed}
-use Rattle.mv_net.specs.Nets.{literals_in}
 use Rattle.mv_sweep.specs.Entries.{Entry, print}
 use Rattle.mv_write.specs.Text.{text_of}
 use Rattle.mvopt.specs.declared.script.Command.{Command}
 use Rattle.mvopt.specs.Made.{Prepared}
-use Rattle.mvopt.specs.Run.{Tells, done_line, fault_line}
-use Rattle.mvopt.specs.Runs.{Part, entries_of, Runs, StopsIn}
+use Rattle.mvopt.specs.Run.{Tells, fault_line}
+use Rattle.mvopt.specs.Runs.{Part, entries_of, Runs, StopsIn, all_notes}
 use Rattle.mvopt.specs.Taken.{TakesCommands}
 
 -- the commands ran, and the notes gained their entries
@@ -27,20 +26,16 @@ pub record HasStopped (commands : List Command) (old new : NetParts) (notes told
   pub stops : StopsIn commands old entries new
   pub gained : Gained notes told (print entries)
 
--- or some first part of their lines
+-- the same of some network that they left
+pub record HasStoppedAt (commands : List Command) (old : NetParts) (notes told : Option (List ℕ)) : Type 0 where
+  pub net : NetParts
+  pub stopped : HasStopped commands old net notes told
+
+-- they stopped, and the notes gained some first part of the lines of the entries that came
 pub record IsNoteCut (commands : List Command) (old new : NetParts) (notes told : Option (List ℕ)) : Type 0 where
   pub entries : List Entry
   pub stops : StopsIn commands old entries new
   pub gained : GainedPart notes told (print entries)
-
--- what is put to the notes in all
-abbrev pub all_notes : List Part → NetParts → NetParts → List ℕ
-all_notes parts first net = print (entries_of parts) ++ done_line (literals_in first.nets) (literals_in net.nets)
-
--- the same of some network that the commands left
-pub record HasStoppedAt (commands : List Command) (old : NetParts) (notes told : Option (List ℕ)) : Type 0 where
-  pub net : NetParts
-  pub stopped : HasStopped commands old net notes told
 
 -- the done line, and behind it the text, were written as far as the notes or the output failed
 pub record IsEndCut (out now notes told : Option (List ℕ)) (a b c d : ℕ) (line text : List ℕ) : Type 0 where

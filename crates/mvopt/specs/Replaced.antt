@@ -1,16 +1,14 @@
 -- What a run promises where its work is done.
-use Rattle.std.specs.Prelude.{◌≡◌, ℕ, true, Option, Some, None, List, [], ◌++◌}
+use Rattle.std.specs.Prelude.{◌≡◌, ℕ, true, Option, Some, None, List, []}
 use Rattle.mv_base.specs.Meaning.{Refines}
 use Rattle.mv_base.specs.Outside.{Held, file_named, Gained}
 use Rattle.mv_net.specs.declared.parts.NetParts.{NetParts}
-use Rattle.mv_net.specs.Nets.{literals_in}
 use Rattle.mv_parse.specs.declared.design.Design.{Design}
 use Rattle.mv_parse.specs.Relation.{of_design}
 use Rattle.mv_flat.specs.Flat.{IsFlat}
-use Rattle.mv_sweep.specs.Entries.{print}
 use Rattle.mv_write.specs.Text.{text_of}
-use Rattle.mvopt.specs.Run.{ReadsAs, done_line}
-use Rattle.mvopt.specs.Runs.{Part, entries_of, Runs}
+use Rattle.mvopt.specs.Run.{ReadsAs}
+use Rattle.mvopt.specs.Runs.{Part, Runs, all_notes}
 use Rattle.mvopt.specs.Scripts.{is_script, commands_in}
 use Rattle.mvopt.specs.Words.{word_at}
 
@@ -33,7 +31,7 @@ pub record WasReplaced (words : List (List ℕ)) (before after : Held) (out now 
   pub parts : List Part
   pub net : NetParts
   pub runs : Runs (commands_in script) first parts net
-  pub noted : Gained notes told (print (entries_of parts) ++ done_line (literals_in first.nets) (literals_in net.nets))
+  pub noted : Gained notes told (all_notes parts first net)
   pub gained : Gained out now (text_of net)
   pub written : Design
   pub back : ReadsAs (text_of net) written

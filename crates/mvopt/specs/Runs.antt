@@ -2,9 +2,11 @@
 use Rattle.std.specs.Prelude.{◌≡◌, ℕ, ◌<◌, List, ◌++◌, length}
 use Rattle.std.specs.List.{flat_map}
 use Rattle.mv_net.specs.declared.parts.NetParts.{NetParts}
-use Rattle.mv_sweep.specs.Entries.{Entry}
+use Rattle.mv_net.specs.Nets.{literals_in}
+use Rattle.mv_sweep.specs.Entries.{Entry, print}
 use Rattle.mv_sweep.specs.Drops.{Goes, IsFront, whole}
 use Rattle.mvopt.specs.declared.script.Command.{Command}
+use Rattle.mvopt.specs.Run.{done_line}
 
 -- what one `drop` wrote: the names of the nets that went, and the literals at its end
 pub record Part : Type 0 where
@@ -29,3 +31,7 @@ pub record StopsIn (commands : List Command) (old : NetParts) (entries : List En
   pub front : IsFront last
   pub entries_are : entries ≡ entries_of parts ++ last
   pub goes : Goes old entries new
+
+-- what is put to the notes where all of them ran: their entries, and the done line
+abbrev pub all_notes : List Part → NetParts → NetParts → List ℕ
+all_notes parts first net = print (entries_of parts) ++ done_line (literals_in first.nets) (literals_in net.nets)
