@@ -13,7 +13,7 @@ use Rattle.mv_cover.specs.Cofactors.{MatchEach, cubes_match, cubes_read, AreCube
 use Rattle.mv_cover.proofs.Points.{lines_read-append}
 use Rattle.mv_cover.proofs.Local.{or_left, or_right}
 
-same_number : (a b : ℕ) → nat_eq a b ≡ true → a ≡ b
+pub same_number : (a b : ℕ) → nat_eq a b ≡ true → a ≡ b
 same_number a b h = (unsigned_Decides a b).0 h
 
 -- a number below the next that is another
@@ -22,11 +22,11 @@ below_other a b low f =
     let ne : a ≡ b → ⊥ = λ e. false≢true (sym f ∙ eq-eqb a b e) in
     omega arith
 
-regroup : (a b c m : Bool) → m ≡ (b && c) → (a && m) ≡ ((a && b) && c)
+pub regroup : (a b c m : Bool) → m ≡ (b && c) → (a && m) ≡ ((a && b) && c)
 regroup true b c m e = e
 regroup false b c m e = refl
 
-swap : (a b c m : Bool) → m ≡ (b && c) → (a && m) ≡ (b && (a && c))
+pub swap : (a b c m : Bool) → m ≡ (b && c) → (a && m) ≡ (b && (a && c))
 swap true b c m e = e
 swap false true c m e = refl
 swap false false c m e = refl

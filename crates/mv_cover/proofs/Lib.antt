@@ -3,3 +3,5 @@ pub mod Counts
 pub mod Points
 pub mod Local
 pub mod Covering
+pub mod Meets
+pub mod Members

@@ -5,12 +5,13 @@ use Rattle.std.specs.List.Sorted.{IsPermutation}
 use Rattle.std.proofs.lemmas.Bool.{cases_Bool, false≢true, and_from, ne_eqb, eq-eqb}
 use Rattle.std.proofs.lemmas.List.Folds.{list_all-append, list_all_at}
 use Rattle.std.proofs.lemmas.List.Sorted.{list_any-IsPermutation}
-use Rattle.mv_base.specs.Set.{has, empty, one}
-use Rattle.mv_base.proofs.Sets.{has-one, has-empty}
+use Rattle.mv_base.specs.Set.{has, empty, one, join}
+use Rattle.mv_base.proofs.Sets.{has-one, has-empty, has-join}
 use Rattle.mv_cover.specs.declared.cube.Lit.{Lit}
 use Rattle.mv_cover.specs.declared.line.Line.{Line}
 use Rattle.mv_cover.specs.Cubes.{holds, matches}
 use Rattle.mv_cover.specs.Covers.{some_matches, some_gives, lines_read}
+use Rattle.mv_cover.proofs.Local.{or_left}
 
 -- a test of each element, as a test that fails of none
 none_fails : (b a c : Bool) → a ≡ not c → (b && a) ≡ not (not b || c)
@@ -67,3 +68,9 @@ lines_read-append (x ∷ xs) ys n = or_more (list_any (λ l. nat_eq l.net.0 n) x
 pub one_some : (v : ℕ) → nat_eq (one v) empty ≡ false
 one_some v =
     ne_eqb (one v) empty (λ e. false≢true (sym (has-empty v) ∙ (ap (λ s. has s v) (sym e) ∙ (has-one v v ∙ eq-eqb v v refl))))
+
+-- the set of either of two values isn't empty
+pub either_some : (u v : ℕ) → nat_eq (join (one u) (one v)) empty ≡ false
+either_some u v =
+    let first : has (join (one u) (one v)) u ≡ true = has-join (one u) (one v) u ∙ or_left (has (one u) u) (has (one v) u) (has-one u u ∙ eq-eqb u u refl) in
+    ne_eqb (join (one u) (one v)) empty (λ e. false≢true (sym (has-empty u) ∙ (ap (λ s. has s u) (sym e) ∙ first)))

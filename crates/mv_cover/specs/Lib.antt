@@ -4,3 +4,4 @@ pub mod Covering
 pub mod Cofactors
 pub mod Equal
 pub mod Keys
+pub mod Meets

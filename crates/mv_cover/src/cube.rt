@@ -98,12 +98,16 @@ impl Cube {
         self.lits.as_slice()
     }
 
+    /// The allocator that the cube got when it was made.
+    pub fn allocator(&self) -> Global {
+        *self.lits.allocator()
+    }
+
     /// An equal cube.
     pub fn copy(&self) -> Result<Cube, Memory>
         ensures { IfOk result (λ cube. cube ≡ self.now) }
     {
-        let alloc = *self.lits.allocator();
-        Cube::new(alloc, self.lits())
+        Cube::new(self.allocator(), self.lits())
     }
 
     /// How many literals there are. It takes no memory.

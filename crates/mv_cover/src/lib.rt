@@ -5,6 +5,7 @@ mod cover;
 mod covers;
 mod cube;
 mod line;
+mod meet;
 
 pub use cover::Cover;
 pub use cube::{Cube, Lit};

@@ -136,3 +136,28 @@ fn no_line_misses_and_an_empty_cube_covers(rt: HostRuntime) -> Result<(), Memory
     assert!(rt; all(lines, alloc)?);
     Ok(())
 }
+
+/// The literal that the net has one of these two values.
+#[tactic(auto, using(crate::proofs::Points::either_some))]
+fn either(net: u32, first: u16, second: u16) -> Lit
+    requires first { first < MAX_VALUES }
+    requires second { second < MAX_VALUES }
+    ensures net { result.net.0 ≡ net }
+    ensures some { nat_eq result.set empty ≡ false }
+{
+    Lit {
+        net: NetId(net),
+        set: ValueSet::one(Value(first)).join(ValueSet::one(Value(second))),
+    }
+}
+
+#[test]
+fn cubes_meet_net_by_net(rt: HostRuntime) -> Result<(), Memory> {
+    let alloc = rt.alloc();
+    let cube = Cube::new(alloc, &[either(1, 0, 2), literal(4, 0)])?;
+    let other = Cube::new(alloc, &[literal(0, 1), either(1, 1, 2), literal(5, 3)])?;
+    let met = [literal(0, 1), literal(1, 2), literal(4, 0), literal(5, 3)];
+    assert!(rt; matches!(&cube.meet(&other)?, Some(both) if both.lits() == met.as_slice()));
+    assert!(rt; cube.meet(&Cube::new(alloc, &[literal(1, 1)])?)?.is_none());
+    Ok(())
+}

@@ -1,0 +1,33 @@
+-- The merged list is the cube where no set is empty, and holds nowhere else.
+use Rattle.std.proofs.Common.{◌≡◌, ◌∙◌, sym, ap, true, not, nat_eq}
+use Rattle.std.specs.List.{list_all}
+use Rattle.std.proofs.lemmas.Bool.{false≢true}
+use Rattle.mv_base.specs.Set.{empty}
+use Rattle.mv_cover.specs.Cubes.{matches}
+use Rattle.mv_cover.specs.Meets.{merged, IsMet}
+use Rattle.mv_cover.proofs.Meets.{IsMet-merged, Rises-cube, apart, matches-merged}
+use Rattle.mv_cover.proofs.Members.{point_of}
+use Rattle.mv_cover.proofs.cube.Cube.meet.Goals as goal
+
+pub returns-then-not-possible-clause-none : goal.returns-then-not-possible-clause-none
+returns-then-not-possible-clause-none c e at =
+    let same : c.as_slice.result.now ≡ merged c.args.self.now c.args.other.now = c.as_slice.ensures.value ∙ (c.in_ok-lits.ensures ∙ λ i. merged (c.lits.ensures.lits i) (c.lits-2.ensures.lits i)) in
+    apart c.args.self.now c.args.other.now c.as_slice.result.now same (sym c.if-not-possible.ensures) at
+
+pub new-requires : goal.new-requires
+new-requires c =
+    let same : c.as_slice-2.result.now ≡ merged c.args.self.now c.args.other.now = c.as_slice-2.ensures.value ∙ (c.in_ok-lits.ensures ∙ λ i. merged (c.lits.ensures.lits i) (c.lits-2.ensures.lits i)) in
+    let some : list_all (λ l. not (nat_eq l.set empty)) c.as_slice-2.result.now ≡ true = ap (list_all (λ l. not (nat_eq l.set empty))) (c.as_slice-2.ensures.value ∙ sym c.as_slice.ensures.value) ∙ sym c.if-not-possible.ensures in
+    (IsMet-merged c.args.self.now c.args.other.now c.as_slice-2.result.now same c.lits.ensures.formed c.lits-2.ensures.formed some).cube
+
+pub returns : goal.returns
+returns c =
+    let same : c.in_ok-new.field-0 ≡ merged c.args.self.now c.args.other.now = c.in_ok-new.ensures ∙ (c.as_slice-2.ensures.value ∙ (c.in_ok-lits.ensures ∙ λ i. merged (c.lits.ensures.lits i) (c.lits-2.ensures.lits i))) in
+    let some : list_all (λ l. not (nat_eq l.set empty)) c.in_ok-new.field-0 ≡ true = ap (list_all (λ l. not (nat_eq l.set empty))) (c.in_ok-new.ensures ∙ (c.as_slice-2.ensures.value ∙ sym c.as_slice.ensures.value)) ∙ sym c.if-not-possible.ensures in
+    let met : IsMet c.args.self.now c.args.other.now c.in_ok-new.field-0 = IsMet-merged c.args.self.now c.args.other.now c.in_ok-new.field-0 same c.lits.ensures.formed c.lits-2.ensures.formed some in
+    record {
+      some = met;
+      points = λ at. ap (matches at) same ∙ matches-merged at c.args.self.now c.args.other.now;
+      point = point_of 0 c.in_ok-new.field-0 (Rises-cube c.in_ok-new.field-0 met.cube.ascending) some;
+      none = λ h. absurd (false≢true (sym h));
+    }
