@@ -5,3 +5,4 @@ pub mod Local
 pub mod Covering
 pub mod Meets
 pub mod Members
+pub mod Containing

@@ -202,7 +202,7 @@ matches-from k (l ∷ ls) x y r same =
     λ i. has l.set (here i) && rest i
 
 -- the first literal's set is on its net
-first_set : (l : Lit) (ls : List Lit) → literal_at (l ∷ ls) l.net.0 ≡ Some l.set
+pub first_set : (l : Lit) (ls : List Lit) → literal_at (l ∷ ls) l.net.0 ≡ Some l.set
 first_set l ls = rw (eq-eqb l.net.0 l.net.0 refl) refl
 
 same_lit : (l m : Lit) → l.net.0 ≡ m.net.0 → Some l.set ≡ Some m.set → l ≡ m

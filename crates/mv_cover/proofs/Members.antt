@@ -1,5 +1,5 @@
 -- Members of sets, found.
-use Rattle.std.proofs.Common.{◌≡◌, ◌∙◌, ℕ, zero, suc, ◌+◌, ◌<◌, ◌≤◌, ◌^◌, ◌*◌, Bool, true, false, not, ◌⊎◌, List, [], ◌∷◌, nat_eq, inl, inr, refl, sym, ap, arith, below_more}
+use Rattle.std.proofs.Common.{◌≡◌, ◌∙◌, ℕ, zero, suc, ◌+◌, ◌<◌, ◌≤◌, ◌^◌, ◌*◌, Bool, true, false, not, ◌⊎◌, ◌≢◌, Some, None, List, [], ◌∷◌, nat_eq, inl, inr, refl, sym, ap, arith, below_more}
 use Rattle.std.proofs.lemmas.Bool.{cases_Bool, false≢true, and_parts, and_from, eq-eqb, ne_eqb}
 use Rattle.std.proofs.lemmas.Nat.{pow_pos}
 use Rattle.std.proofs.Math.Nat.{pow-suc}
@@ -8,6 +8,7 @@ use Rattle.mv_base.proofs.Sets.{has-empty, has_above, same_set}
 use Rattle.std.specs.List.{list_all}
 use Rattle.mv_cover.specs.declared.cube.Lit.{Lit}
 use Rattle.mv_cover.specs.Cubes.{holds, matches}
+use Rattle.mv_cover.specs.Meets.{literal_at}
 use Rattle.mv_cover.proofs.Covering.{changed, changed-agrees}
 use Rattle.mv_cover.proofs.Meets.{order, Rises, matches-from}
 
@@ -49,14 +50,30 @@ isnt : (b : Bool) → not b ≡ true → b ≡ false
 isnt true h = sym h
 isnt false h = refl
 
--- an assignment at which the literals hold
-pub point_of : (k : ℕ) (c : List Lit) → Rises k c → list_all (λ l. not (nat_eq l.set empty)) c ≡ true → (at : ℕ → ℕ) × (matches at c ≡ true)
-point_of k [] r some = (λ _. 0, refl)
+-- an assignment at which the literals hold, which is 0 off their nets
+pub record PointOf (c : List Lit) : Type 0 where
+  pub at : ℕ → ℕ
+  pub there : matches at c ≡ true
+  pub zeros : (n : ℕ) → literal_at c n ≡ None → at n ≡ 0
+
+pub point_of : (k : ℕ) (c : List Lit) → Rises k c → list_all (λ l. not (nat_eq l.set empty)) c ≡ true → PointOf c
+point_of k [] r some = record { at = λ _. 0; there = refl; zeros = λ n e. refl }
 point_of k (l ∷ ls) r some =
     let p = and_parts (not (nat_eq l.set empty)) (list_all (λ (m : Lit). not (nat_eq m.set empty)) ls) some in
     let member = member_of l.set (isnt (nat_eq l.set empty) p.0) in
     let rest = point_of (l.net.0 + 1) ls r.1 p.1 in
-    let agree = changed-agrees l.net.0 member.0 rest.0 in
-    let here : has l.set (changed l.net.0 member.0 rest.0 l.net.0) ≡ true = ap (has l.set) agree.here ∙ member.1 in
-    let others : (n : ℕ) → l.net.0 + 1 ≤ n → changed l.net.0 member.0 rest.0 n ≡ rest.0 n = λ n above. agree.others n (ne_eqb n l.net.0 (λ e. absurd (omega arith))) in
-    (changed l.net.0 member.0 rest.0, and_from (holds (changed l.net.0 member.0 rest.0) l) (matches (changed l.net.0 member.0 rest.0) ls) here (matches-from (l.net.0 + 1) ls (changed l.net.0 member.0 rest.0) rest.0 r.1 others ∙ rest.1))
+    let at = changed l.net.0 member.0 rest.at in
+    let agree = changed-agrees l.net.0 member.0 rest.at in
+    let here : has l.set (at l.net.0) ≡ true = ap (has l.set) agree.here ∙ member.1 in
+    let others : (n : ℕ) → l.net.0 + 1 ≤ n → at n ≡ rest.at n = λ n above. agree.others n (ne_eqb n l.net.0 (λ e. absurd (omega arith))) in
+    record {
+      at = at;
+      there = and_from (holds at l) (matches at ls) here (matches-from (l.net.0 + 1) ls at rest.at r.1 others ∙ rest.there);
+      zeros = λ n e.
+          elim (cases_Bool (nat_eq l.net.0 n)) [
+            | inl t ↦ let no : Some l.set ≡ None = rw t at e in absurd (cc)
+            | inr f ↦
+                let ne : l.net.0 ≢ n = λ same. false≢true (sym f ∙ eq-eqb l.net.0 n same) in
+                agree.others n (ne_eqb n l.net.0 (λ same. ne (sym same))) ∙ rest.zeros n (rw f at e)
+          ];
+    }

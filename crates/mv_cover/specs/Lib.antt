@@ -5,3 +5,4 @@ pub mod Cofactors
 pub mod Equal
 pub mod Keys
 pub mod Meets
+pub mod Containing

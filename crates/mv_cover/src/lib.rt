@@ -1,6 +1,7 @@
 //! Tables of a network as covers: lines of a cube of literals and an output set, and a default.
 #![tactic(auto)]
 
+mod contain;
 mod cover;
 mod covers;
 mod cube;

@@ -161,3 +161,17 @@ fn cubes_meet_net_by_net(rt: HostRuntime) -> Result<(), Memory> {
     assert!(rt; cube.meet(&Cube::new(alloc, &[literal(1, 1)])?)?.is_none());
     Ok(())
 }
+
+#[test]
+fn a_cube_contains_the_cubes_inside(rt: HostRuntime) -> Result<(), Memory> {
+    let alloc = rt.alloc();
+    let wide = Cube::new(alloc, &[either(1, 0, 2)])?;
+    let inside = Cube::new(alloc, &[literal(0, 1), literal(1, 2)])?;
+    let across = Cube::new(alloc, &[either(1, 1, 2)])?;
+    assert!(rt; wide.contains(&inside));
+    assert!(rt; wide.contains(&wide));
+    assert!(rt; !inside.contains(&wide));
+    assert!(rt; !wide.contains(&across));
+    assert!(rt; !wide.contains(&Cube::new(alloc, &[literal(0, 1)])?));
+    Ok(())
+}

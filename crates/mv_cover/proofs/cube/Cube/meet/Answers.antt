@@ -25,9 +25,10 @@ returns c =
     let same : c.in_ok-new.field-0 ≡ merged c.args.self.now c.args.other.now = c.in_ok-new.ensures ∙ (c.as_slice-2.ensures.value ∙ (c.in_ok-lits.ensures ∙ λ i. merged (c.lits.ensures.lits i) (c.lits-2.ensures.lits i))) in
     let some : list_all (λ l. not (nat_eq l.set empty)) c.in_ok-new.field-0 ≡ true = ap (list_all (λ l. not (nat_eq l.set empty))) (c.in_ok-new.ensures ∙ (c.as_slice-2.ensures.value ∙ sym c.as_slice.ensures.value)) ∙ sym c.if-not-possible.ensures in
     let met : IsMet c.args.self.now c.args.other.now c.in_ok-new.field-0 = IsMet-merged c.args.self.now c.args.other.now c.in_ok-new.field-0 same c.lits.ensures.formed c.lits-2.ensures.formed some in
+    let point = point_of 0 c.in_ok-new.field-0 (Rises-cube c.in_ok-new.field-0 met.cube.ascending) some in
     record {
       some = met;
       points = λ at. ap (matches at) same ∙ matches-merged at c.args.self.now c.args.other.now;
-      point = point_of 0 c.in_ok-new.field-0 (Rises-cube c.in_ok-new.field-0 met.cube.ascending) some;
+      point = (point.at, point.there);
       none = λ h. absurd (false≢true (sym h));
     }
