@@ -34,6 +34,7 @@ value_at at (l ∷ ls) n s e h =
       | inr f ↦ value_at at ls n s (rw f at e) p.1
     ]
 
+-- the same where the set on the net lies in another
 lies_value : (at : ℕ → ℕ) (c : List Lit) (n s : ℕ) (o : Option ℕ) → literal_at c n ≡ o → set_lies o s ≡ true → matches at c ≡ true → has s (at n) ≡ true
 lies_value at c n s None e t h = absurd (false≢true t)
 lies_value at c n s (Some u) e t h = Within-from_meet u s (same_number (meet u s) u t) (at n) (value_at at c n u e h)
@@ -51,6 +52,7 @@ record Fails (test : Lit → Bool) (c : List Lit) : Type 0 where
   here : literal_at c l.net.0 ≡ Some l.set
   fails : test l ≡ false
 
+-- a failing literal further down
 fails_more : (k : ℕ) (test : Lit → Bool) (l : Lit) (ls : List Lit) → Rises k (l ∷ ls) → Fails test ls → Fails test (l ∷ ls)
 fails_more k test l ls r m = record {
   l = m.l;
@@ -73,6 +75,7 @@ find_failing k test (l ∷ ls) r h =
       | inr f ↦ record { l = l; here = first_set l ls; fails = f }
     ]
 
+-- tests of a member that isn't taken out
 only_left : (p q : Bool) → (p && not q) ≡ true → (p ≡ true) × (q ≡ false)
 only_left true true h = absurd (false≢true h)
 only_left true false h = (refl, refl)
@@ -125,8 +128,8 @@ fits_at counts (l ∷ ls) n s fits e =
     ]
 
 -- a member of a set that fits is one of the net's values
-small : (counts : List ℕ) (n s v : ℕ) → FitsNet counts n s → has s v ≡ true → v < get_or counts n 0
-small counts n s v fits h = ltb-true v (get_or counts n 0) (sym (has-full (get_or counts n 0) v) ∙ fits.within v h)
+value_low : (counts : List ℕ) (n s v : ℕ) → FitsNet counts n s → has s v ≡ true → v < get_or counts n 0
+value_low counts n s v fits h = ltb-true v (get_or counts n 0) (sym (has-full (get_or counts n 0) v) ∙ fits.within v h)
 
 -- a value that the net may have beside what a holds there, but not what b holds there
 record Outside (counts : List ℕ) (n s : ℕ) (o : Option ℕ) : Type 0 where
@@ -135,6 +138,7 @@ record Outside (counts : List ℕ) (n s : ℕ) (o : Option ℕ) : Type 0 where
   free : (t : ℕ) → o ≡ Some t → has t v ≡ true
   out : has s v ≡ false
 
+-- there is such a value where the set on the net doesn't lie in the other
 outside_value : (counts : List ℕ) (n s : ℕ) (o : Option ℕ) → ((t : ℕ) → o ≡ Some t → FitsNet counts n t) → FitsNet counts n s → set_lies o s ≡ false → Outside counts n s o
 outside_value counts n s None each fits lies =
     let m = left_out (full (get_or counts n 0)) s (λ w. fits.not_full (same_from_Within s (full (get_or counts n 0)) fits.within w)) in
@@ -148,7 +152,7 @@ outside_value counts n s (Some u) each fits lies =
     let m = left_out u s (λ w. false≢true (sym lies ∙ eq-eqb (meet u s) u (meet_of_Within u s w))) in
     record {
       v = m.0;
-      low = small counts n u m.0 (each u refl) m.1;
+      low = value_low counts n u m.0 (each u refl) m.1;
       free = λ t e. let same : u ≡ t = cc in ap (λ x. has x m.0) (sym same) ∙ m.1;
       out = m.2;
     }
@@ -175,13 +179,14 @@ changed_holds n v at c allows h =
     let others = and_parts (cube_allows n (at n) c) (matches at (cube_without n c)) (sym (matches-without n (at n) at at (record { here = refl; others = λ m f. refl }) c) ∙ h) in
     matches-without n v (changed n v at) at (changed-agrees n v at) c ∙ and_from (cube_allows n v c) (matches at (cube_without n c)) allows others.1
 
-value_low : (counts : List ℕ) (c : List Lit) (at : ℕ → ℕ) (n : ℕ) (o : Option ℕ) → FitsCube counts c → matches at c ≡ true → (literal_at c n ≡ None → at n ≡ 0) → 0 < get_or counts n 0 → literal_at c n ≡ o → at n < get_or counts n 0
-value_low counts c at n None fits h zeros some e = let none : at n ≡ 0 = zeros e in omega arith
-value_low counts c at n (Some s) fits h zeros some e = small counts n s (at n) (fits_at counts c n s fits e) (value_at at c n s e h)
+-- the value on a net is one of those that the net has
+point_low : (counts : List ℕ) (c : List Lit) (at : ℕ → ℕ) (n : ℕ) (o : Option ℕ) → FitsCube counts c → matches at c ≡ true → (literal_at c n ≡ None → at n ≡ 0) → 0 < get_or counts n 0 → literal_at c n ≡ o → at n < get_or counts n 0
+point_low counts c at n None fits h zeros some e = let none : at n ≡ 0 = zeros e in omega arith
+point_low counts c at n (Some s) fits h zeros some e = value_low counts n s (at n) (fits_at counts c n s fits e) (value_at at c n s e h)
 
 -- an assignment at which the cube holds, and which is 0 off its nets, is a point
 is_point : (counts : List ℕ) (c : List Lit) (at : ℕ → ℕ) → FitsCube counts c → matches at c ≡ true → ((n : ℕ) → literal_at c n ≡ None → at n ≡ 0) → IsPoint counts at
-is_point counts c at fits h zeros = record { below = λ n some. value_low counts c at n (literal_at c n) fits h (zeros n) some refl }
+is_point counts c at fits h zeros = record { below = λ n some. point_low counts c at n (literal_at c n) fits h (zeros n) some refl }
 
 -- a cube that doesn't lie in another has a point outside
 pub lies_outside : (counts : List ℕ) (a b : List Lit) → IsCube a → IsCube b → lies_in a b ≡ false → FitsCube counts b → FitsCube counts a → MissesPoint counts b a

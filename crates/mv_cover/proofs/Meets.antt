@@ -1,5 +1,5 @@
 -- Lists of literals that ascend: what is on a net, and what two of them have once merged.
-use Rattle.std.proofs.Common.{◌≡◌, ◌∙◌, ℕ, suc, ◌+◌, ◌≤◌, ◌<◌, ◌≢◌, Bool, true, false, not, ◌&&◌, ◌⊎◌, List, [], ◌∷◌, ◌++◌, length, drop, nat_eq, nat_lt, inl, inr, refl, sym, ap, subst, arith, get_or, drop-cons, drop-drop, append_assoc, append-nil, length-drop, take, ◌-◌, Option, Some, None}
+use Rattle.std.proofs.Common.{◌≡◌, ◌∙◌, ℕ, suc, ◌+◌, ◌≤◌, ◌<◌, ◌≢◌, Bool, true, false, not, ◌&&◌, ◌⊎◌, List, [], ◌∷◌, ◌++◌, length, drop, nat_eq, nat_lt, inl, inr, refl, sym, ap, subst, arith, get_or, drop-cons, drop-drop, append_assoc, append-nil, length-drop, take, ◌-◌, Some, None}
 use Rattle.std.specs.List.{list_all}
 use Rattle.std.proofs.lemmas.Bool.{cases_Bool, false≢true, and_parts, and_from, ltb-true, eq-eqb, ne_eqb}
 use Rattle.std.proofs.lemmas.Bool.Decides.{leb_tells, Decides-ltb}
@@ -9,6 +9,7 @@ use Rattle.mv_base.proofs.Sets.{has-meet, has-empty}
 use Rattle.mv_cover.specs.declared.cube.Lit.{Lit}
 use Rattle.mv_cover.specs.declared.meet.Step.{Step}
 use Rattle.mv_cover.specs.Cubes.{holds, matches, nets_ascend, IsCube}
+use Rattle.mv_cover.specs.Keys.{same_lit}
 use Rattle.mv_cover.specs.Meets.{literal_at, both, IsMet, next_of, put_in, merged}
 use Rattle.mv_cover.proofs.Covering.{regroup, swap, same_number}
 
@@ -17,6 +18,7 @@ abbrev pub Rises : ℕ → List Lit → Type 0
 Rises k [] = Unit {0}
 Rises k (l ∷ ls) = (k ≤ l.net.0) × Rises (l.net.0 + 1) ls
 
+-- a list that ascends does so from its first net on, from 0 on, and the other way round
 pub Rises-from : (k : ℕ) (l : Lit) (ls : List Lit) → k ≤ l.net.0 → nets_ascend (l ∷ ls) ≡ true → Rises k (l ∷ ls)
 Rises-from k l [] low h = (low, tt)
 Rises-from k l (m ∷ ms) low h =
@@ -50,6 +52,7 @@ four x y true false true s e f = rw e refl
 four x y true false false s e f = rw e refl
 four x y false q r s e f = rw e refl
 
+-- a literal put in holds beside the rest
 matches-put_in : (at : ℕ → ℕ) (l : Lit) (ls : List Lit) → ((c : List Lit) → matches at (merged ls c) ≡ (matches at ls && matches at c)) → (b : List Lit) → matches at (put_in l (λ c. merged ls c) b) ≡ (matches at (l ∷ ls) && matches at b)
 unfolding put_in
 matches-put_in at l ls rest [] = regroup (holds at l) (matches at ls) true (matches at (merged ls [])) (rest [])
@@ -74,6 +77,7 @@ unfolding merged
 matches-merged at [] b = refl
 matches-merged at (l ∷ ls) b = matches-put_in at l ls (λ c. matches-merged at ls c) b
 
+-- a literal put in leaves the list ascending
 Rises-put_in : (k : ℕ) (l : Lit) (ls : List Lit) → ((h : ℕ) (c : List Lit) → Rises h ls → Rises h c → Rises h (merged ls c)) → (b : List Lit) → Rises k (l ∷ ls) → Rises k b → Rises k (put_in l (λ c. merged ls c) b)
 unfolding put_in
 Rises-put_in k l ls rest [] p q = (p.0, rest (l.net.0 + 1) [] p.1 tt)
@@ -105,10 +109,7 @@ nothing_below k n (l ∷ ls) r low =
     let ne : l.net.0 ≢ n = omega arith in
     rw (ne_eqb l.net.0 n ne) (nothing_below (l.net.0 + 1) n ls r.1 (omega arith))
 
-both_none : (s : Option ℕ) → both s None ≡ s
-both_none None = refl
-both_none (Some s) = refl
-
+-- on each net a list with a literal put in has what both have there
 sets-put_in : (n k : ℕ) (l : Lit) (ls : List Lit) → ((h : ℕ) (c : List Lit) → Rises h ls → Rises h c → literal_at (merged ls c) n ≡ both (literal_at ls n) (literal_at c n)) → (b : List Lit) → Rises k (l ∷ ls) → Rises k b → literal_at (put_in l (λ c. merged ls c) b) n ≡ both (literal_at (l ∷ ls) n) (literal_at b n)
 unfolding put_in
 sets-put_in n k l ls rest [] p q =
@@ -161,6 +162,7 @@ unfolding merged
 sets-merged n k [] b p q = refl
 sets-merged n k (l ∷ ls) b p q = sets-put_in n k l ls (λ h c. sets-merged n h ls c) b p q
 
+-- merged cubes are a cube, in which the two meet, where no set is empty
 pub IsCube-merged : (a b : List Lit) → IsCube a → IsCube b → list_all (λ l. not (nat_eq l.set empty)) (merged a b) ≡ true → IsCube (merged a b)
 IsCube-merged a b p q some = record {
   ascending = ascend-Rises 0 (merged a b) (Rises-merged 0 a b (Rises-cube a p.ascending) (Rises-cube b q.ascending));
@@ -205,11 +207,6 @@ matches-from k (l ∷ ls) x y r same =
 pub first_set : (l : Lit) (ls : List Lit) → literal_at (l ∷ ls) l.net.0 ≡ Some l.set
 first_set l ls = rw (eq-eqb l.net.0 l.net.0 refl) refl
 
-same_lit : (l m : Lit) → l.net.0 ≡ m.net.0 → Some l.set ≡ Some m.set → l ≡ m
-same_lit l m n e =
-    let s : l.set ≡ m.set = cc in
-    λ i. record { net = record { 0 = n i }; set = s i }
-
 -- ascending lists with the same set on each net are equal
 pub same_lits : (j k : ℕ) (a b : List Lit) → Rises j a → Rises k b → ((n : ℕ) → literal_at a n ≡ literal_at b n) → a ≡ b
 same_lits j k [] [] p q same = refl
@@ -245,7 +242,8 @@ same_lits j k (l ∷ ls) (m ∷ ms) p q same =
                       let f' : nat_eq m.net.0 n ≡ false = ap (λ k. nat_eq k n) (sym here) ∙ f in
                       rw f' at (rw f at (same n))
                 ] in
-                let first : l ≡ m = same_lit l m here (sym (first_set l ls) ∙ (same l.net.0 ∙ there)) in
+                let sets : Some l.set ≡ Some m.set = sym (first_set l ls) ∙ (same l.net.0 ∙ there) in
+                let first : l ≡ m = same_lit l m here (cc) in
                 let others : ls ≡ ms = same_lits (l.net.0 + 1) (m.net.0 + 1) ls ms p.1 q.1 rest in
                 λ i. first i ∷ others i
           ]
@@ -258,6 +256,7 @@ IsMet-unique a b c d p q =
 
 -- ---- the walk along both lists
 
+-- merging with nothing changes nothing, and two lists begin with the next literal of their first
 merged_none : (a : List Lit) → merged a [] ≡ a
 unfolding merged put_in
 merged_none [] = refl

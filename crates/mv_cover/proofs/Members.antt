@@ -25,6 +25,7 @@ search_below (suc k) s =
           ]
     ]
 
+-- a number is below the power of 2 of it
 below_pow : (s : ℕ) → s < 2 ^ s
 below_pow zero = pow_pos 0
 below_pow (suc s) =
@@ -46,6 +47,7 @@ member_of s some =
           absurd (false≢true (sym some ∙ eq-eqb s empty (same_set s empty nowhere)))
     ]
 
+-- a test that fails, by its opposite
 isnt : (b : Bool) → not b ≡ true → b ≡ false
 isnt true h = sym h
 isnt false h = refl

@@ -7,7 +7,8 @@ use Rattle.mv_cover.specs.declared.cube.Lit.{Lit}
 use Rattle.mv_cover.specs.declared.line.Line.{Line}
 use Rattle.mv_cover.specs.Equal.{lit_eq, cube_eq, line_eq, cube_fed, line_fed}
 
-same_lit : (a b : Lit) → a.net.0 ≡ b.net.0 → a.set ≡ b.set → a ≡ b
+-- literals of one net and one set are equal
+pub same_lit : (a b : Lit) → a.net.0 ≡ b.net.0 → a.set ≡ b.set → a ≡ b
 same_lit a b n s = λ i. record { net = record { 0 = n i }; set = s i }
 
 same_line : (a b : Line) → a.cube ≡ b.cube → a.out ≡ b.out → a ≡ b
