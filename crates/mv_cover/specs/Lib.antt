@@ -2,6 +2,8 @@ pub mod Cubes
 pub mod Covers
 pub mod Covering
 pub mod Cofactors
+pub mod Overlap
+pub mod Plain
 pub mod Equal
 pub mod Keys
 pub mod Meets

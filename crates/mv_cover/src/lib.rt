@@ -7,6 +7,8 @@ mod covers;
 mod cube;
 mod line;
 mod meet;
+mod overlap;
+mod plain;
 
 pub use cover::Cover;
 pub use cube::{Cube, Lit};

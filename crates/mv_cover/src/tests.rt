@@ -175,3 +175,32 @@ fn a_cube_contains_the_cubes_inside(rt: HostRuntime) -> Result<(), Memory> {
     assert!(rt; !wide.contains(&Cube::new(alloc, &[literal(0, 1)])?));
     Ok(())
 }
+
+/// The line that gives the value where the cube holds.
+fn line(alloc: Global, lits: &[Lit], value: u16) -> Result<Line, Memory>
+    requires cube { IsCube lits.now }
+    requires value { value < MAX_VALUES }
+{
+    Ok(Line {
+        cube: Cube::new(alloc, lits)?,
+        out: ValueSet::one(Value(value)),
+    })
+}
+
+#[test]
+fn a_plain_cover_gives_one_value_where_lines_meet(rt: HostRuntime) -> Result<(), Memory> {
+    let alloc = rt.alloc();
+    let mut lines = Items::new(alloc);
+    lines.push(line(alloc, &[literal(1, 0)], 0)?)?;
+    lines.push(line(alloc, &[literal(1, 1), literal(4, 0)], 1)?)?;
+    lines.push(line(alloc, &[literal(1, 1)], 1)?)?;
+    let mut plain = Cover {
+        lines,
+        default: Some(ValueSet::one(Value(0))),
+    };
+    assert!(rt; plain.plainly_deterministic());
+    plain.default = Some(ValueSet::full(2));
+    assert!(rt; !plain.plainly_deterministic());
+    assert!(rt; !cover(alloc)?.plainly_deterministic());
+    Ok(())
+}
