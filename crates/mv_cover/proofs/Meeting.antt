@@ -1,52 +1,20 @@
 -- Cubes whose literals meet hold together at a point.
-use Rattle.std.proofs.Common.{◌≡◌, ◌∙◌, ℕ, ◌+◌, ◌<◌, ◌≤◌, ◌^◌, Bool, true, false, not, ◌&&◌, ◌||◌, List, [], ◌∷◌, length, drop, get_or, nat_eq, nat_lt, inl, inr, ◌⊎◌, refl, sym, ap, arith, zero, suc, IsTrue, drop-cons, add-one, lit<}
-use Rattle.std.proofs.Math.Nat.{lt-suc_self}
-use Rattle.std.proofs.Math.Pow.{pow-lt}
+use Rattle.std.proofs.Common.{◌≡◌, ◌∙◌, ℕ, ◌+◌, ◌<◌, ◌≤◌, Bool, true, false, not, ◌&&◌, ◌||◌, List, [], ◌∷◌, length, drop, get_or, nat_eq, nat_lt, inl, inr, ◌⊎◌, refl, sym, ap, arith, suc, IsTrue, drop-cons, add-one}
 use Rattle.std.proofs.lemmas.List.Folds.{list_all_at}
 use Rattle.std.proofs.lemmas.List.{drop_all}
 use Rattle.std.specs.Prelude.{◌↔◌}
 use Rattle.std.specs.List.{list_all, Contains}
 use Rattle.std.specs.Cmp.{unsigned_Decides}
-use Rattle.std.proofs.lemmas.Bool.{cases_Bool, cases_eq, cases_lt, false≢true, and_parts, and_from, and_left, or_left, or_right, ltb-true, lt-ltb, ne_eqb, eq-eqb, not-true, not_from_false, false_from_ne_true, eqb-false}
+use Rattle.std.proofs.lemmas.Bool.{cases_Bool, false≢true, and_parts, and_from, and_left, or_left, or_right, ltb-true, lt-ltb, ne_eqb, eq-eqb, not-true, not_from_false, false_from_ne_true, eqb-false}
 use Rattle.mv_base.specs.Set.{has, empty, meet}
-use Rattle.mv_base.proofs.Sets.{has-meet, has-empty, has_above, same_set}
+use Rattle.mv_base.proofs.Sets.{has-meet, has-empty}
 use Rattle.mv_cover.specs.declared.cube.Lit.{Lit}
 use Rattle.mv_cover.specs.declared.line.Line.{Line}
 use Rattle.mv_cover.specs.Cubes.{holds, matches, nets_ascend, IsCube}
 use Rattle.mv_cover.specs.Cofactors.{cube_allows}
 use Rattle.mv_cover.specs.Overlap.{lits_meet, cubes_meet}
 use Rattle.mv_cover.specs.Plain.{Agree}
-
-below_pow : (n : ℕ) → n < 2 ^ n
-below_pow zero = lit< tt
-below_pow (suc n) = let h = below_pow n in let k : 2 ^ n < 2 ^ suc n = pow-lt (lt-suc_self n) in omega arith
-
--- a member below the bound, or none there
-member_below : (s k : ℕ) → ((v : ℕ) × (has s v ≡ true)) ⊎ ((v : ℕ) → v < k → has s v ≡ false)
-member_below s zero = inr (λ v low. absurd (omega arith))
-member_below s (suc k) =
-    elim (member_below s k) [
-      | inl m ↦ inl m
-      | inr none ↦
-          elim (cases_Bool (has s k)) [
-            | inl t ↦ inl (k, t)
-            | inr f ↦
-                inr (λ v low. elim (cases_eq v k) [ inl e ↦ ap (λ n. has s n) e ∙ f | inr ne ↦ none v (omega arith) ])
-          ]
-    ]
-
--- a set that isn't empty has a member
-pub member_of : (s : ℕ) → nat_eq s empty ≡ false → (v : ℕ) × (has s v ≡ true)
-member_of s some =
-    elim (member_below s s) [
-      | inl m ↦ m
-      | inr none ↦
-          absurd (eqb-false s empty some (same_set s empty (λ v.
-          elim (cases_lt v s) [
-            | inl low ↦ none v low ∙ sym (has-empty v)
-            | inr high ↦ has_above s s v (below_pow s) high ∙ sym (has-empty v)
-          ])))
-    ]
+use Rattle.mv_cover.proofs.Members.{member_of}
 
 -- a test of each element passes at each
 pub list_all-Contains : {X : Type 0} (p : X → Bool) (xs : List X) (x : X) → Contains xs x → list_all p xs ≡ true → p x ≡ true
