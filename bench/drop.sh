@@ -1,5 +1,6 @@
 #!/usr/bin/env bash
-# Times runs on made networks of two sizes, one twice the other, and prints the user seconds of each and their ratio.
+# Times runs on made networks of two sizes, one twice the other, and prints the user seconds of each, the least of five
+# runs, and their ratio.
 #   bench/drop.sh [N]        N is 1000 unless given; the program is crates/mvopt/out/mvopt (`make demo` builds it)
 # loose: `drop` on a chain of N and of 2N tables that nobody sees, which all go, the last first
 # wide:  `drop` on N and on 2N tables on one input that nobody reads, which all go, the first first
@@ -27,12 +28,15 @@ network() {
 seconds() {
     network "$1" "$2" > "$folder/net"
     if [ "$1" = none ]; then : ; else echo drop; fi > "$folder/script"
-    local took gone want=0
-    took=$( { TIMEFORMAT=%U; time "$program" opt "$folder/net" "$folder/script" > "$folder/out" 2> "$folder/notes"; } 2>&1 )
+    local gone want=0
+    for _ in 1 2 3 4 5; do
+        { TIMEFORMAT=%U; time "$program" opt "$folder/net" "$folder/script" > "$folder/out" 2> "$folder/notes"; } 2>> "$folder/took"
+    done
     gone=$(grep -c '^remove ' "$folder/notes" || true)
     if [ "$1" = loose ] || [ "$1" = wide ]; then want=$2; fi
     [ "$gone" = "$want" ] || { echo "$1 $2: $gone nets went" >&2; exit 1; }
-    echo "$took"
+    sort -n "$folder/took" | head -n 1
+    rm "$folder/took"
 }
 
 n=${1:-1000}
