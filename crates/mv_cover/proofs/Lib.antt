@@ -8,3 +8,4 @@ pub mod Covering
 pub mod Meets
 pub mod Members
 pub mod Containing
+pub mod Sharps

@@ -148,12 +148,12 @@ allowed-matches at (l ∷ ls) each =
     and_from (holds at l) (matches at ls) (rw same at (part l.net.0).0) (allowed-matches at ls (λ n. (part n).1))
 
 -- a point at which both cubes hold
-record HoldTogether (a b : List Lit) : Type 0 where
-  at : ℕ → ℕ
-  first : matches at a ≡ true
-  second : matches at b ≡ true
+pub record HoldTogether (a b : List Lit) : Type 0 where
+  pub at : ℕ → ℕ
+  pub first : matches at a ≡ true
+  pub second : matches at b ≡ true
 
-together : (a b : List Lit) → IsCube a → IsCube b → cubes_meet a b ≡ true → HoldTogether a b
+pub together : (a b : List Lit) → IsCube a → IsCube b → cubes_meet a b ≡ true → HoldTogether a b
 unfolding Common
 together a b is it h =
     let point = common a b is it h in
@@ -183,7 +183,7 @@ lit_together at l (m ∷ b) p q =
     and_from (lits_meet l m) (list_all (lits_meet l) b) (lits_together at l m p k.0) (lit_together at l b p k.1)
 
 -- cubes that hold at one point meet
-meet_from_point : (at : ℕ → ℕ) (a b : List Lit) → matches at a ≡ true → matches at b ≡ true → cubes_meet a b ≡ true
+pub meet_from_point : (at : ℕ → ℕ) (a b : List Lit) → matches at a ≡ true → matches at b ≡ true → cubes_meet a b ≡ true
 meet_from_point at [] b p q = refl
 meet_from_point at (l ∷ a) b p q =
     let k = and_parts (holds at l) (matches at a) p in

@@ -8,3 +8,4 @@ pub mod Equal
 pub mod Keys
 pub mod Meets
 pub mod Containing
+pub mod Sharp

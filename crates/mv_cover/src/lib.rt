@@ -9,6 +9,7 @@ mod line;
 mod meet;
 mod overlap;
 mod plain;
+mod sharp;
 
 pub use cover::Cover;
 pub use cube::{Cube, Lit};

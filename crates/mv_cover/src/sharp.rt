@@ -1,0 +1,125 @@
+ghost use Rattle.std.specs.Prelude.{◌≡◌, ◌≤◌, ◌++◌, ◌&&◌, ℕ, true, not, length, slice_index, IfOk, OnOk, All, AllPairs};
+ghost use Rattle.mv_cover.specs.Cubes.{matches, IsCube};
+ghost use Rattle.mv_cover.specs.Covering.{IsPoint};
+ghost use Rattle.mv_cover.specs.Cofactors.{cubes_match};
+ghost use Rattle.mv_cover.specs.Overlap.{cubes_meet};
+ghost use Rattle.mv_cover.specs.Sharp.{Suits, IsCubeOver, AreApart, values_at, literals_below, with_literal, inside_of, outside_of, parts_outside, sharp_of};
+
+use crate::{Cube, Lit, overlap};
+use mv_base::{MAX_VALUES, Memory, NetId, ValueSet};
+
+impl Cube {
+    /// The points of this cube that are none of `other`, as cubes without common points.
+    /// `counts` has the number of values of each net by its number.
+    pub fn without(&self, other: &Cube, counts: &[u16]) -> Result<Vec<Cube>, Memory>
+        requires own { Suits counts.now self.now }
+        requires other { Suits counts.now other.now }
+        ensures list { IfOk result (λ cubes. cubes.items ≡ sharp_of counts.now self.now other.now) }
+        ensures points { IfOk result (λ cubes. (at : ℕ → ℕ) → IsPoint counts.now at → cubes_match at cubes.items ≡ (matches at self.now && not (matches at other.now))) }
+        ensures apart { IfOk result (λ cubes. AllPairs (AreApart counts.now) cubes.items) }
+        ensures suited { IfOk result (λ cubes. All (IsCubeOver counts.now) cubes.items) }
+    {
+        let mut cubes = Vec::new(self.allocator());
+        if !overlap::meet(self.lits(), other.lits()) {
+            cubes.push(self.copy()?)?;
+            return Ok(cubes);
+        }
+        put_parts(&mut cubes, self, other.lits(), counts)?;
+        Ok(cubes)
+    }
+}
+
+/// Adds the sharp of the cube by the literals of another to the list.
+pub(crate) fn put_sharp(
+    list: &mut Vec<Cube>,
+    cube: Cube,
+    other: &[Lit],
+    counts: &[u16],
+) -> Result<(), Memory>
+    requires cube { IsCube other.now }
+    requires suited { Suits counts.now other.now }
+    ensures { OnOk result (list.new.items ≡ list.old.items ++ sharp_of counts.now cube other.now) }
+{
+    if !overlap::meet(cube.lits(), other) {
+        list.push(cube)?;
+        return Ok(());
+    }
+    put_parts(list, &cube, other, counts)
+}
+
+/// Adds the parts of the cube outside another, given by its literals, which it meets, to the list.
+fn put_parts(list: &mut Vec<Cube>, cube: &Cube, other: &[Lit], counts: &[u16]) -> Result<(), Memory>
+    requires cube { IsCube other.now }
+    requires suited { Suits counts.now other.now }
+    requires meet { cubes_meet cube.now other.now ≡ true }
+    ensures { OnOk result (list.new.items ≡ list.old.items ++ parts_outside counts.now cube.now other.now) }
+{
+    let mut lits = Vec::from_slice(cube.allocator(), cube.lits())?;
+    for l in other {
+        put_part(list, &mut lits, *l, counts)?;
+    }
+    Ok(())
+}
+
+/// Adds the part of the cube outside the literal to the list, if there is one, and leaves the literals inside it.
+fn put_part(list: &mut Vec<Cube>, lits: &mut Vec<Lit>, l: Lit, counts: &[u16]) -> Result<(), Memory>
+    requires cube { IsCube lits.old.items }
+    requires few { slice_index counts.now l.net.0 ≤ MAX_VALUES }
+    ensures outside { OnOk result (list.new.items ≡ list.old.items ++ outside_of counts.now lits.old.items l) }
+    ensures inside { OnOk result (lits.new.items ≡ inside_of counts.now lits.old.items l) }
+{
+    let values = values_at(lits.as_slice(), l.net, counts);
+    let outside = Lit {
+        net: l.net,
+        set: values.minus(l.set),
+    };
+    let inside = Lit {
+        net: l.net,
+        set: values.meet(l.set),
+    };
+    if outside.set == ValueSet::empty() {
+        return put(lits, inside);
+    }
+    put(lits, outside)?;
+    list.push(Cube::new(*lits.allocator(), lits.as_slice())?)?;
+    put(lits, inside)
+}
+
+/// The values that the cube leaves the net: its literal's set there, or all that the net has.
+fn values_at(lits: &[Lit], net: NetId, counts: &[u16]) -> ValueSet
+    requires { slice_index counts.now net.0 ≤ MAX_VALUES }
+    ensures { result ≡ values_at counts.now lits.now net.0 }
+{
+    for l in lits {
+        if l.net == net {
+            return l.set;
+        }
+    }
+    ValueSet::full(counts.get(net.0 as usize).copied().unwrap_or(0))
+}
+
+/// Puts the literal on its net, in place of one that is there.
+fn put(lits: &mut Vec<Lit>, l: Lit) -> Result<(), Memory>
+    ensures { OnOk result (lits.new.items ≡ with_literal l lits.old.items) }
+{
+    let place = place_of(lits.as_slice(), l.net);
+    if place < lits.len() && lits[place].net == l.net {
+        lits[place] = l;
+        return Ok(());
+    }
+    lits.insert(place, l)?;
+    Ok(())
+}
+
+/// How many literals stand before the first on this net or a later one.
+fn place_of(lits: &[Lit], net: NetId) -> usize
+    ensures value { result ≡ literals_below net.0 lits.now }
+    ensures within { result ≤ length lits.now }
+{
+    for (place, l) in lits.iter().enumerate() {
+        if net.0 <= l.net.0 {
+            return place;
+        }
+    }
+    lits.len()
+}
