@@ -9,3 +9,4 @@ pub mod Meets
 pub mod Members
 pub mod Containing
 pub mod Sharps
+pub mod Complements

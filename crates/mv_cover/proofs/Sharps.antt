@@ -623,6 +623,10 @@ IsCube-outside c outside l s none is e f g =
 
 -- ---- the sharp in the list
 
+-- what is pushed first is the list
+pub pushed_first : (now list : List (List Lit)) (x c : List Lit) → now ≡ list ++ x ∷ [] → list ≡ [] → x ≡ c → now ≡ c ∷ []
+pushed_first now list x c put none same = put ∙ (λ i. none i ++ same i ∷ [])
+
 -- a cube that doesn't meet the other is put alone, and else its parts are put
 pub sharp_alone : (counts : List ℕ) (c d : List Lit) (list now : List (List Lit)) → cubes_meet c d ≡ false → now ≡ list ++ c ∷ [] → now ≡ list ++ sharp_of counts c d
 unfolding sharp_of

@@ -9,3 +9,4 @@ pub mod Keys
 pub mod Meets
 pub mod Containing
 pub mod Sharp
+pub mod Complement

@@ -1,6 +1,7 @@
 //! Tables of a network as covers: lines of a cube of literals and an output set, and a default.
 #![tactic(auto)]
 
+mod complement;
 mod contain;
 mod cover;
 mod covers;
@@ -10,10 +11,12 @@ mod meet;
 mod overlap;
 mod plain;
 mod sharp;
+mod stop;
 
 pub use cover::Cover;
 pub use cube::{Cube, Lit};
 pub use line::Line;
+pub use stop::CoverStop;
 
 #[cfg(test)]
 mod tests;
