@@ -10,3 +10,4 @@ pub mod Members
 pub mod Containing
 pub mod Sharps
 pub mod Complements
+pub mod Spelling

@@ -11,6 +11,7 @@ mod meet;
 mod overlap;
 mod plain;
 mod sharp;
+mod spell;
 mod stop;
 
 pub use cover::Cover;
