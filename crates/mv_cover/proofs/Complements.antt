@@ -18,14 +18,16 @@ use Rattle.mv_cover.specs.Sharp.{Suits, IsCubeOver, AreApart, sharp_of}
 use Rattle.mv_cover.specs.Complement.{sharps_of, complement_of, IsWide, IsNarrow}
 use Rattle.mv_cover.proofs.Points.{some_matches-append}
 use Rattle.mv_cover.proofs.Meets.{Rises-cube, order}
-use Rattle.mv_cover.proofs.Sharps.{one_if, held, held-append, held-sharp_of, suits-sharp_of, match-from_held, apart-from_HoldOnce}
+use Rattle.mv_cover.proofs.Sharps.{one_if, one_if-most, held, held-append, held-sharp_of, suits-sharp_of, match-from_held, apart-from_HoldOnce}
 
 -- ---- along one line
 
+-- no cubes leave none
 pub sharps-none : (counts : List ℕ) (d : List Lit) → sharps_of counts d [] ≡ []
 unfolding sharps_of
 sharps-none counts d = refl
 
+-- one cube more adds its sharp at the end
 pub sharps-more : (counts : List ℕ) (d : List Lit) (cs : List (List Lit)) (c : List Lit) → sharps_of counts d (cs ++ c ∷ []) ≡ sharps_of counts d cs ++ sharp_of counts c d
 unfolding sharps_of
 sharps-more counts d cs c =
@@ -46,12 +48,14 @@ abbrev pub kept : Bool → ℕ → ℕ
 kept true n = 0
 kept false n = n
 
+-- what is kept of one and of others is kept of all
 kept_more : (c d : Bool) (n : ℕ) → one_if (c && not d) + kept d n ≡ kept d (one_if c + n)
 kept_more true true n = omega arith
 kept_more true false n = omega arith
 kept_more false true n = omega arith
 kept_more false false n = omega arith
 
+-- of none none is kept
 kept_none : (d : Bool) → 0 ≡ kept d 0
 kept_none true = refl
 kept_none false = refl
@@ -90,10 +94,12 @@ everywhere counts = record {
   suits = record { fits = tt; few = λ n h. absurd (false≢true h) };
 }
 
+-- before the first line the list isn't too long
 complement_of-none : (counts : List ℕ) (lines : List Line) (k : ℕ) → k ≤ 0 → length (complement_of counts (take k lines)) ≤ MAX_COMPLEMENT_CUBES
 unfolding complement_of
 complement_of-none counts lines k low = let none : k ≡ 0 = omega arith in rw none (omega arith)
 
+-- before the first line there is the cube without literals
 pub left_none : (counts : List ℕ) (lines : List Line) (cubes : List (List Lit)) → cubes ≡ [] ∷ [] → Left counts lines 0 cubes
 unfolding complement_of
 left_none counts lines cubes e =
@@ -111,16 +117,19 @@ unfolding complement_of
 complement_of-more counts lines i line low e =
     fold_more (λ cubes (l : Line). sharps_of counts l.cube cubes) ([] ∷ []) lines i line low ∙ ap (λ (l : Line). sharps_of counts l.cube (fold (λ cubes (m : Line). sharps_of counts m.cube cubes) ([] ∷ []) (take i lines))) (sym e)
 
+-- neither of two, one after the other
 not_either : (a b : Bool) → kept b (one_if (not a)) ≡ one_if (not (a || (b || false)))
 not_either true true = refl
 not_either true false = refl
 not_either false true = refl
 not_either false false = refl
 
+-- one line more holds where it or one before does
 matches_more : (at : ℕ → ℕ) (lines : List Line) (i : ℕ) (line : Line) → i < length lines → line ≡ get_or lines i line → some_matches at (take (i + 1) lines) ≡ (some_matches at (take i lines) || (matches at line.cube || false))
 matches_more at lines i line low e =
     ap (some_matches at) (take_more lines i line low) ∙ (some_matches-append at (take i lines) (get_or lines i line ∷ []) ∙ ap (λ (l : Line). some_matches at (take i lines) || (matches at l.cube || false)) (sym e))
 
+-- a line more, after which the list isn't too long
 pub left_more : (counts : List ℕ) (lines : List Line) (i : ℕ) (cubes now : List (List Lit)) (line : Line) → i < length lines → line ≡ get_or lines i line → IsCube line.cube → Suits counts line.cube → now ≡ sharps_of counts line.cube cubes → length now ≤ MAX_COMPLEMENT_CUBES → Left counts lines i cubes → Left counts lines (i + 1) now
 left_more counts lines i cubes now line low e is s f few so_far =
     let list : now ≡ complement_of counts (take (i + 1) lines) = f ∙ (ap (sharps_of counts line.cube) so_far.list ∙ sym (complement_of-more counts lines i line low e)) in
@@ -139,6 +148,7 @@ left_more counts lines i cubes now line low e is s f few so_far =
       suited = subst (λ (x : List (List Lit)). All (IsCubeOver counts) x) (sym f) (suits-sharps_of counts line.cube cubes is s so_far.suited);
     }
 
+-- a line more, after which the list is too long
 pub left_wide : (counts : List ℕ) (lines : List Line) (i : ℕ) (cubes : List (List Lit)) (line : Line) → i < length lines → line ≡ get_or lines i line → MAX_COMPLEMENT_CUBES < length (sharps_of counts line.cube cubes) → Left counts lines i cubes → IsWide counts lines
 left_wide counts lines i cubes line low e many so_far = record {
   passed = i + 1;
@@ -153,10 +163,7 @@ pub record IsComplement (counts : List ℕ) (lines : List Line) (cubes : List (L
   pub apart : AllPairs (AreApart counts) cubes
   pub suited : All (IsCubeOver counts) cubes
 
-one_if-most : (b : Bool) → one_if b ≤ 1
-one_if-most true = omega arith
-one_if-most false = omega arith
-
+-- after the last line the list is the complement
 pub left_all : (counts : List ℕ) (lines : List Line) (i : ℕ) (cubes : List (List Lit)) → length lines ≤ i → Left counts lines i cubes → IsComplement counts lines cubes
 left_all counts lines i cubes end so_far =
     let all : take i lines ≡ lines = take_all i lines end in

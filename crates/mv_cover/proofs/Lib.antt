@@ -11,3 +11,4 @@ pub mod Containing
 pub mod Sharps
 pub mod Complements
 pub mod Spelling
+pub mod Suiting

@@ -1,6 +1,7 @@
 -- The parts of a cube outside another: they hold where they should, no two together, and they suit the counts.
 use Rattle.std.proofs.Common.{◌≡◌, ◌∙◌, ℕ, ◌+◌, ◌≤◌, ◌<◌, ◌≢◌, Bool, true, false, not, ◌&&◌, ◌⊎◌, List, [], ◌∷◌, ◌++◌, get_or, nat_eq, inl, inr, refl, sym, ap, subst, arith, Option, Some, None, unwrap_or, All, AllPairs, length, slice_set, insert, add-one, drop, suc, drop-cons, append_assoc, append-nil}
 use Rattle.std.specs.List.{list_all}
+use Rattle.std.proofs.Math.Bool.{and-false, and-true}
 use Rattle.std.proofs.lemmas.Bool.{cases_Bool, false≢true, and_parts, and_from, ltb-true, lt-ltb, le-ltb, eq-eqb, ne_eqb, not_from_false}
 use Rattle.std.proofs.lemmas.List.{drop_all}
 use Rattle.std.proofs.lemmas.List.Elements.{All-nil, All-cons, All-append}
@@ -25,7 +26,8 @@ use Rattle.mv_cover.proofs.Meeting.{HoldTogether, together, meet_from_point}
 
 -- ---- a literal put on its net
 
-pub Rises-with_literal : (k : ℕ) (l : Lit) (c : List Lit) → k ≤ l.net.0 → Rises k c → Rises k (with_literal l c)
+-- the list ascends as before
+Rises-with_literal : (k : ℕ) (l : Lit) (c : List Lit) → k ≤ l.net.0 → Rises k c → Rises k (with_literal l c)
 unfolding with_literal
 Rises-with_literal k l [] low r = (low, tt)
 Rises-with_literal k l (m ∷ ms) low r =
@@ -42,6 +44,7 @@ Rises-with_literal k l (m ∷ ms) low r =
           ]
     ]
 
+-- no set is empty, as before
 possible-with_literal : (l : Lit) (c : List Lit) → not (nat_eq l.set empty) ≡ true → list_all (λ (m : Lit). not (nat_eq m.set empty)) c ≡ true → list_all (λ (m : Lit). not (nat_eq m.set empty)) (with_literal l c) ≡ true
 unfolding with_literal
 possible-with_literal l [] some h = and_from (not (nat_eq l.set empty)) true some refl
@@ -56,6 +59,7 @@ possible-with_literal l (m ∷ ms) some h =
           ]
     ]
 
+-- each set is some of its net's values, as before
 fits-with_literal : (counts : List ℕ) (l : Lit) (c : List Lit) → FitsNet counts l.net.0 l.set → FitsCube counts c → FitsCube counts (with_literal l c)
 unfolding with_literal
 fits-with_literal counts l [] here h = (here, tt)
@@ -69,6 +73,7 @@ fits-with_literal counts l (m ∷ ms) here h =
           ]
     ]
 
+-- the list reads the net of the literal, and what it read
 reads-with_literal : (l : Lit) (c : List Lit) (n : ℕ) → cube_reads (with_literal l c) n ≡ true → (nat_eq l.net.0 n ≡ true) ⊎ (cube_reads c n ≡ true)
 unfolding with_literal
 reads-with_literal l [] n h =
@@ -99,7 +104,7 @@ reads-with_literal l (m ∷ ms) n h =
     ]
 
 -- a cube that suits the counts still does with a literal that does
-pub IsCubeOver-with_literal : (counts : List ℕ) (l : Lit) (c : List Lit) → IsCubeOver counts c → FitsNet counts l.net.0 l.set → get_or counts l.net.0 0 ≤ MAX_VALUES → nat_eq l.set empty ≡ false → IsCubeOver counts (with_literal l c)
+IsCubeOver-with_literal : (counts : List ℕ) (l : Lit) (c : List Lit) → IsCubeOver counts c → FitsNet counts l.net.0 l.set → get_or counts l.net.0 0 ≤ MAX_VALUES → nat_eq l.set empty ≡ false → IsCubeOver counts (with_literal l c)
 IsCubeOver-with_literal counts l c is fits few some = record {
   cube = record {
     ascending = ascend-Rises 0 (with_literal l c) (Rises-with_literal 0 l c (omega arith) (Rises-cube c is.cube.ascending));
@@ -152,7 +157,7 @@ matches-with_literal at k l (m ∷ ms) r =
     ]
 
 -- what stands on a net is replaced again
-pub with_literal-twice : (l m : Lit) (c : List Lit) → l.net.0 ≡ m.net.0 → with_literal l (with_literal m c) ≡ with_literal l c
+with_literal-twice : (l m : Lit) (c : List Lit) → l.net.0 ≡ m.net.0 → with_literal l (with_literal m c) ≡ with_literal l c
 unfolding with_literal
 with_literal-twice l m [] e = rw (le-ltb l.net.0 m.net.0 (omega arith)) (rw (le-ltb m.net.0 l.net.0 (omega arith)) refl)
 with_literal-twice l m (x ∷ xs) e =
@@ -195,13 +200,9 @@ allows-values_at counts k n v (l ∷ ls) r low =
           let here : l.net.0 ≡ n = same_number l.net.0 n t in
           let none : literal_at ls n ≡ None = nothing_below (l.net.0 + 1) n ls r.1 (omega arith) in
           let free : cube_allows n v ls ≡ true = rest ∙ (ap (λ o. has (unwrap_or o (full (get_or counts n 0))) v) none ∙ (has-full (get_or counts n 0) v ∙ lt-ltb v (get_or counts n 0) low)) in
-          rw t (ap (λ b. has l.set v && b) free ∙ and_true (has l.set v))
+          rw t (ap (λ b. has l.set v && b) free ∙ and-true (has l.set v))
       | inr f ↦ rw f rest
     ]
-  where
-    and_true : (b : Bool) → (b && true) ≡ b
-    and_true true = refl
-    and_true false = refl
 
 -- a cube holds where its value on a net is left, and the rest holds
 matches-values_at : (counts : List ℕ) (at : ℕ → ℕ) (n : ℕ) (c : List Lit) → Rises 0 c → at n < get_or counts n 0 → matches at c ≡ (has (values_at counts c n) (at n) && matches at (cube_without n c))
@@ -220,7 +221,7 @@ also m v s w e = rw e (both_ways v s w)
     both_ways true false false = refl
 
 -- inside a literal the cube holds where both do
-pub matches-inside_of : (counts : List ℕ) (at : ℕ → ℕ) (c : List Lit) (l : Lit) → Rises 0 c → at l.net.0 < get_or counts l.net.0 0 → matches at (inside_of counts c l) ≡ (matches at c && holds at l)
+matches-inside_of : (counts : List ℕ) (at : ℕ → ℕ) (c : List Lit) (l : Lit) → Rises 0 c → at l.net.0 < get_or counts l.net.0 0 → matches at (inside_of counts c l) ≡ (matches at c && holds at l)
 unfolding inside_of
 matches-inside_of counts at c l r low =
     let n = l.net.0 in
@@ -228,7 +229,7 @@ matches-inside_of counts at c l r low =
     matches-with_literal at 0 (record { net = l.net; set = meet v l.set }) c r ∙ (ap (λ b. b && matches at (cube_without n c)) (has-meet v l.set (at n)) ∙ also (matches at c) (has v (at n)) (has l.set (at n)) (matches at (cube_without n c)) (matches-values_at counts at n c r low))
 
 -- the cube outside a literal
-abbrev pub rest_of : List ℕ → List Lit → Lit → Lit
+abbrev rest_of : List ℕ → List Lit → Lit → Lit
 rest_of counts c l = record { net = l.net; set = minus (values_at counts c l.net.0) l.set }
 
 matches-outside : (counts : List ℕ) (at : ℕ → ℕ) (c : List Lit) (l : Lit) → Rises 0 c → at l.net.0 < get_or counts l.net.0 0 → matches at (with_literal (rest_of counts c l) c) ≡ (matches at c && not (holds at l))
@@ -249,10 +250,12 @@ abbrev pub held : (ℕ → ℕ) → List (List Lit) → ℕ
 held at [] = 0
 held at (c ∷ cs) = one_if (matches at c) + held at cs
 
+-- two lists hold as often as both
 pub held-append : (at : ℕ → ℕ) (xs ys : List (List Lit)) → held at (xs ++ ys) ≡ held at xs + held at ys
 held-append at [] ys = omega arith
 held-append at (x ∷ xs) ys = let ih = held-append at xs ys in omega arith
 
+-- a cube alone holds once where it does
 held-alone : (at : ℕ → ℕ) (c : List Lit) → held at (c ∷ []) ≡ one_if (matches at c)
 held-alone at c = omega arith
 
@@ -275,11 +278,13 @@ match-from_held at (c ∷ cs) false h =
 pub record HoldOnce (counts : List ℕ) (cs : List (List Lit)) : Type 0 where
   pub most : (at : ℕ → ℕ) → IsPoint counts at → held at cs ≤ 1
 
+-- two that hold together are too many
 apart_two : (a b : Bool) (n : ℕ) → one_if a + (one_if b + n) ≤ 1 → (a && b) ≡ false
 apart_two true true n h = absurd (omega arith)
 apart_two true false n h = refl
 apart_two false b n h = refl
 
+-- the first cube shares no point with a later one
 apart_all : (counts : List ℕ) (c : List Lit) (cs : List (List Lit)) → HoldOnce counts (c ∷ cs) → All (AreApart counts c) cs
 apart_all counts c [] h = All-nil (AreApart counts c)
 apart_all counts c (x ∷ xs) h =
@@ -316,13 +321,10 @@ outside_more true true m i e = rw e (omega arith)
 outside_more true false m i e = rw e (omega arith)
 outside_more false h m i e = rw e (omega arith)
 
-and_false : (b : Bool) → (b && false) ≡ false
-and_false true = refl
-and_false false = refl
-
-pub held-parts_outside : (counts : List ℕ) (at : ℕ → ℕ) → IsPoint counts at → (c d : List Lit) → Rises 0 c → FitsCube counts d → held at (parts_outside counts c d) ≡ one_if (matches at c && not (matches at d))
+-- the parts hold once where the first cube does and the second doesn't
+held-parts_outside : (counts : List ℕ) (at : ℕ → ℕ) → IsPoint counts at → (c d : List Lit) → Rises 0 c → FitsCube counts d → held at (parts_outside counts c d) ≡ one_if (matches at c && not (matches at d))
 unfolding parts_outside inside_of
-held-parts_outside counts at p c [] r fits = ap one_if (sym (and_false (matches at c)))
+held-parts_outside counts at p c [] r fits = ap one_if (sym (and-false (matches at c)))
 held-parts_outside counts at p c (l ∷ ls) r fits =
     let low = p.below l.net.0 fits.0.valued in
     let first = held-outside_of counts at c l r low in
@@ -361,7 +363,7 @@ all_from_meet v s f within e =
     (λ u.
     elim (cases_Bool (has s u)) [
       | inl t ↦ t ∙ sym (within u t)
-      | inr n ↦ n ∙ sym (ap (λ x. has x u) (sym e) ∙ (has-meet v s u ∙ (ap (λ b. has v u && b) n ∙ and_false (has v u))))
+      | inr n ↦ n ∙ sym (ap (λ x. has x u) (sym e) ∙ (has-meet v s u ∙ (ap (λ b. has v u && b) n ∙ and-false (has v u))))
     ])
 
 -- a value that a literal has is one of the net's
@@ -371,7 +373,7 @@ value_below counts at l fits h =
     ltb-true (at n) (get_or counts n 0) (sym (has-full (get_or counts n 0) (at n)) ∙ fits.within (at n) h)
 
 -- a set with a member isn't empty
-pub not_empty : (s v : ℕ) → has s v ≡ true → nat_eq s empty ≡ false
+not_empty : (s v : ℕ) → has s v ≡ true → nat_eq s empty ≡ false
 not_empty s v h = ne_eqb s empty (λ e. false≢true (sym (has-empty v) ∙ (ap (λ t. has t v) (sym e) ∙ h)))
 
 -- the value that a cube has on a net is left there
@@ -379,6 +381,7 @@ value_left : (counts : List ℕ) (at : ℕ → ℕ) (c : List Lit) (n : ℕ) →
 value_left counts at c n r low h =
     (and_parts (has (values_at counts c n) (at n)) (matches at (cube_without n c)) (sym (matches-values_at counts at n c r low) ∙ h)).0
 
+-- the values inside a literal are some of its own
 fits_inside : (counts : List ℕ) (c : List Lit) (l : Lit) → FitsNet counts l.net.0 l.set → FitsNet counts l.net.0 (meet (values_at counts c l.net.0) l.set)
 fits_inside counts c l fits =
     let n = l.net.0 in
@@ -390,7 +393,7 @@ fits_inside counts c l fits =
     }
 
 -- inside a literal that holds with it a cube stays one that suits the counts
-pub inside_suits : (counts : List ℕ) (at : ℕ → ℕ) (c : List Lit) (l : Lit) → IsCubeOver counts c → FitsNet counts l.net.0 l.set → get_or counts l.net.0 0 ≤ MAX_VALUES → matches at c ≡ true → holds at l ≡ true → IsCubeOver counts (inside_of counts c l)
+inside_suits : (counts : List ℕ) (at : ℕ → ℕ) (c : List Lit) (l : Lit) → IsCubeOver counts c → FitsNet counts l.net.0 l.set → get_or counts l.net.0 0 ≤ MAX_VALUES → matches at c ≡ true → holds at l ≡ true → IsCubeOver counts (inside_of counts c l)
 unfolding inside_of
 inside_suits counts at c l is fits few p q =
     let n = l.net.0 in
@@ -399,6 +402,7 @@ inside_suits counts at c l is fits few p q =
     IsCubeOver-with_literal counts (record { net = l.net; set = meet v l.set }) c is (fits_inside counts c l fits) few
     (not_empty (meet v l.set) (at n) (has-meet v l.set (at n) ∙ and_from (has v (at n)) (has l.set (at n)) left q))
 
+-- the values outside a literal lack one that the literal has
 fits_outside : (counts : List ℕ) (at : ℕ → ℕ) (c : List Lit) (l : Lit) → FitsCube counts c → FitsNet counts l.net.0 l.set → holds at l ≡ true → FitsNet counts l.net.0 (minus (values_at counts c l.net.0) l.set)
 fits_outside counts at c l is fits q =
     let n = l.net.0 in
@@ -409,12 +413,12 @@ fits_outside counts at c l is fits q =
       within = λ u h. values_within counts c n is u (and_parts (has v u) (not (has l.set u)) (sym (has-minus v l.set u) ∙ h)).0;
       not_full = λ e.
           let there : has (full k) (at n) ≡ true = fits.within (at n) q in
-          let here : has (minus v l.set) (at n) ≡ false = has-minus v l.set (at n) ∙ (ap (λ b. has v (at n) && not b) q ∙ and_false (has v (at n))) in
+          let here : has (minus v l.set) (at n) ≡ false = has-minus v l.set (at n) ∙ (ap (λ b. has v (at n) && not b) q ∙ and-false (has v (at n))) in
           absurd (false≢true (sym here ∙ (ap (λ s. has s (at n)) e ∙ there)));
     }
 
 -- and so does the part outside that literal
-pub outside_suits : (counts : List ℕ) (at : ℕ → ℕ) (c : List Lit) (l : Lit) → IsCubeOver counts c → FitsNet counts l.net.0 l.set → get_or counts l.net.0 0 ≤ MAX_VALUES → holds at l ≡ true → All (IsCubeOver counts) (outside_of counts c l)
+outside_suits : (counts : List ℕ) (at : ℕ → ℕ) (c : List Lit) (l : Lit) → IsCubeOver counts c → FitsNet counts l.net.0 l.set → get_or counts l.net.0 0 ≤ MAX_VALUES → holds at l ≡ true → All (IsCubeOver counts) (outside_of counts c l)
 unfolding outside_of
 outside_suits counts at c l is fits few q =
     let set = minus (values_at counts c l.net.0) l.set in
@@ -428,7 +432,7 @@ outside_suits counts at c l is fits few q =
     ]
 
 -- two cubes that hold together still do inside a literal of the second
-pub together_inside : (counts : List ℕ) (c : List Lit) (l : Lit) (ls : List Lit) → Rises 0 c → FitsNet counts l.net.0 l.set → HoldTogether c (l ∷ ls) → HoldTogether (inside_of counts c l) ls
+together_inside : (counts : List ℕ) (c : List Lit) (l : Lit) (ls : List Lit) → Rises 0 c → FitsNet counts l.net.0 l.set → HoldTogether c (l ∷ ls) → HoldTogether (inside_of counts c l) ls
 together_inside counts c l ls r fits h =
     let p = and_parts (holds h.at l) (matches h.at ls) h.second in
     record {
@@ -438,14 +442,14 @@ together_inside counts c l ls r fits h =
     }
 
 -- what suits the counts does so literal by literal
-pub few_first : (counts : List ℕ) (l : Lit) (ls : List Lit) → Suits counts (l ∷ ls) → get_or counts l.net.0 0 ≤ MAX_VALUES
+few_first : (counts : List ℕ) (l : Lit) (ls : List Lit) → Suits counts (l ∷ ls) → get_or counts l.net.0 0 ≤ MAX_VALUES
 few_first counts l ls s = s.few l.net.0 (or_left (nat_eq l.net.0 l.net.0) (cube_reads ls l.net.0) (eq-eqb l.net.0 l.net.0 refl))
 
-pub Suits-rest : (counts : List ℕ) (l : Lit) (ls : List Lit) → Suits counts (l ∷ ls) → Suits counts ls
+Suits-rest : (counts : List ℕ) (l : Lit) (ls : List Lit) → Suits counts (l ∷ ls) → Suits counts ls
 Suits-rest counts l ls s = record { fits = s.fits.1; few = λ n h. s.few n (or_right (nat_eq l.net.0 n) (cube_reads ls n) h) }
 
 -- each part is a cube that suits the counts
-pub suits-parts_outside : (counts : List ℕ) (c d : List Lit) → IsCubeOver counts c → Suits counts d → HoldTogether c d → All (IsCubeOver counts) (parts_outside counts c d)
+suits-parts_outside : (counts : List ℕ) (c d : List Lit) → IsCubeOver counts c → Suits counts d → HoldTogether c d → All (IsCubeOver counts) (parts_outside counts c d)
 unfolding parts_outside
 suits-parts_outside counts c [] is s h = All-nil (IsCubeOver counts)
 suits-parts_outside counts c (l ∷ ls) is s h =
@@ -455,6 +459,7 @@ suits-parts_outside counts c (l ∷ ls) is s h =
     (outside_suits counts h.at c l is s.fits.0 few p.0)
     (suits-parts_outside counts (inside_of counts c l) ls (inside_suits counts h.at c l is s.fits.0 few h.first p.0) (Suits-rest counts l ls s) (together_inside counts c l ls (Rises-cube c is.cube.ascending) s.fits.0 h))
 
+-- each cube of the sharp is one that suits the counts
 pub suits-sharp_of : (counts : List ℕ) (c d : List Lit) → IsCubeOver counts c → IsCube d → Suits counts d → All (IsCubeOver counts) (sharp_of counts c d)
 unfolding sharp_of
 suits-sharp_of counts c d is it s =
@@ -465,15 +470,18 @@ suits-sharp_of counts c d is it s =
 
 -- ---- what the sharp promises
 
-pub sharp-points : (counts : List ℕ) (c d : List Lit) → IsCube c → Suits counts d → (at : ℕ → ℕ) → IsPoint counts at → cubes_match at (sharp_of counts c d) ≡ (matches at c && not (matches at d))
+-- the sharp holds where the first cube does and the second doesn't
+sharp-points : (counts : List ℕ) (c d : List Lit) → IsCube c → Suits counts d → (at : ℕ → ℕ) → IsPoint counts at → cubes_match at (sharp_of counts c d) ≡ (matches at c && not (matches at d))
 sharp-points counts c d is s at p =
     match-from_held at (sharp_of counts c d) (matches at c && not (matches at d)) (held-sharp_of counts at p c d (Rises-cube c is.ascending) s.fits)
 
-one_if-most : (b : Bool) → one_if b ≤ 1
+-- one cube holds at most where it holds if a test does
+pub one_if-most : (b : Bool) → one_if b ≤ 1
 one_if-most true = omega arith
 one_if-most false = omega arith
 
-pub sharp-apart : (counts : List ℕ) (c d : List Lit) → IsCube c → Suits counts d → AllPairs (AreApart counts) (sharp_of counts c d)
+-- no point is in two cubes of the sharp
+sharp-apart : (counts : List ℕ) (c d : List Lit) → IsCube c → Suits counts d → AllPairs (AreApart counts) (sharp_of counts c d)
 sharp-apart counts c d is s =
     apart-from_HoldOnce counts (sharp_of counts c d)
     (record {
@@ -485,6 +493,7 @@ sharp-apart counts c d is s =
 
 -- ---- a literal put at its place
 
+-- where the place has the literal's net the literal replaces what is there
 pub with_literal-at : (l : Lit) (c : List Lit) (i : ℕ) (d : Lit) → i ≡ literals_below l.net.0 c → i < length c → (get_or c i d).net.0 ≡ l.net.0 → with_literal l c ≡ slice_set c i l
 unfolding with_literal
 with_literal-at l [] i d e low same = absurd (omega arith)
@@ -501,6 +510,7 @@ with_literal-at l (m ∷ ms) i d e low same =
           rw (le-ltb l.net.0 m.net.0 (omega arith)) (rw n.0 (rw e' refl))
     ]
 
+-- else it goes in before that place
 pub with_literal-before : (l : Lit) (c : List Lit) (i : ℕ) (d : Lit) → i ≡ literals_below l.net.0 c → (i < length c → (get_or c i d).net.0 ≡ l.net.0 → ⊥) → with_literal l c ≡ insert c i l
 unfolding with_literal
 with_literal-before l [] i d e other = rw e refl
@@ -530,6 +540,7 @@ pub record Cut (counts : List ℕ) (c d : List Lit) (before list : List (List Li
   pub suits : Suits counts (drop i d)
   pub together : HoldTogether lits (drop i d)
 
+-- nothing is cut before the first literal
 pub cut_none : (counts : List ℕ) (c d lits : List Lit) (before : List (List Lit)) → lits ≡ c → IsCube c → IsCube d → Suits counts d → cubes_meet c d ≡ true → Cut counts c d before before lits 0
 cut_none counts c d lits before e is it s meets =
     subst (λ (x : List Lit). Cut counts c d before before x 0) (sym e)
@@ -558,6 +569,7 @@ possible_inside counts at c l r some fits p q =
     let left = value_left counts at c n r (value_below counts at l fits q) p in
     possible-with_literal (record { net = l.net; set = meet v l.set }) c (not_from_false (nat_eq (meet v l.set) empty) (not_empty (meet v l.set) (at n) (has-meet v l.set (at n) ∙ and_from (has v (at n)) (has l.set (at n)) left q))) some
 
+-- inside a literal the list ascends as before
 Rises-inside_of : (counts : List ℕ) (c : List Lit) (l : Lit) → Rises 0 c → Rises 0 (inside_of counts c l)
 unfolding inside_of
 Rises-inside_of counts c l r = Rises-with_literal 0 (record { net = l.net; set = meet (values_at counts c l.net.0) l.set }) c (omega arith) r
@@ -582,6 +594,7 @@ cut_more counts c d before list now lits left i l low e f g w =
       together = together_inside counts lits l ls w.rises s.fits.0 h;
     })
 
+-- behind the last literal the list has all parts
 pub cut_all : (counts : List ℕ) (c d : List Lit) (before list : List (List Lit)) (lits : List Lit) (i : ℕ) → length d ≤ i → Cut counts c d before list lits i → list ≡ before ++ parts_outside counts c d
 unfolding parts_outside
 cut_all counts c d before list lits i end w =
@@ -609,10 +622,12 @@ pub inside_first : (counts : List ℕ) (c lits : List Lit) (l : Lit) (v s : ℕ)
 unfolding inside_of
 inside_first counts c lits l v s e f g = g ∙ ap (λ x. with_literal (record { net = l.net; set = x }) c) (f ∙ ap (λ x. meet x l.set) e)
 
+-- what was put for the part outside is replaced by the part inside
 pub inside_again : (counts : List ℕ) (c between lits : List Lit) (l : Lit) (u v s : ℕ) → v ≡ values_at counts c l.net.0 → s ≡ meet v l.set → between ≡ with_literal (record { net = l.net; set = u }) c → lits ≡ with_literal (record { net = l.net; set = s }) between → lits ≡ inside_of counts c l
 inside_again counts c between lits l u v s e f g h =
     inside_first counts c lits l v s e f (h ∙ (ap (with_literal (record { net = l.net; set = s })) g ∙ with_literal-twice (record { net = l.net; set = s }) (record { net = l.net; set = u }) c refl))
 
+-- the part outside is a cube
 pub IsCube-outside : (c outside : List Lit) (l : Lit) (s none : ℕ) → IsCube c → none ≡ empty → nat_eq s none ≡ false → outside ≡ with_literal (record { net = l.net; set = s }) c → IsCube outside
 IsCube-outside c outside l s none is e f g =
     subst (λ (x : List Lit). IsCube x) (sym g)
@@ -632,6 +647,7 @@ pub sharp_alone : (counts : List ℕ) (c d : List Lit) (list now : List (List Li
 unfolding sharp_of
 sharp_alone counts c d list now apart put = rw apart put
 
+-- else the parts are put
 pub sharp_parts : (counts : List ℕ) (c d : List Lit) (list now : List (List Lit)) → cubes_meet c d ≡ true → now ≡ list ++ parts_outside counts c d → now ≡ list ++ sharp_of counts c d
 unfolding sharp_of
 sharp_parts counts c d list now meets put = rw meets put
@@ -643,6 +659,7 @@ pub record IsSharp (counts : List ℕ) (c d : List Lit) (cubes : List (List Lit)
   pub apart : AllPairs (AreApart counts) cubes
   pub suited : All (IsCubeOver counts) cubes
 
+-- the sharp promises all that
 pub IsSharp-sharp_of : (counts : List ℕ) (c d : List Lit) (list : List (List Lit)) → list ≡ sharp_of counts c d → IsCube c → IsCube d → Suits counts c → Suits counts d → IsSharp counts c d list
 IsSharp-sharp_of counts c d list e is it s t =
     subst (λ (x : List (List Lit)). IsSharp counts c d x) (sym e)

@@ -13,6 +13,7 @@ use Rattle.mv_cover.specs.Sharp.{Suits, IsCubeOver}
 use Rattle.mv_cover.specs.Complement.{LinesSuit, complement_of, lines_for, default_lines, spelled_of, AllowSame}
 use Rattle.mv_cover.proofs.Points.{some_gives-append}
 
+-- one of two that give the same
 either_gives : (m c g r : Bool) → r ≡ (c && g) → ((m && g) || r) ≡ ((m || c) && g)
 either_gives true c true r e = refl
 either_gives true true false r e = e
@@ -24,6 +25,7 @@ pub gives-lines_for : (at : ℕ → ℕ) (v out : ℕ) (cs : List (List Lit)) �
 gives-lines_for at v out [] = refl
 gives-lines_for at v out (c ∷ cs) = either_gives (matches at c) (cubes_match at cs) (has out v) (some_gives at v (lines_for out cs)) (gives-lines_for at v out cs)
 
+-- without a default nothing is added
 or_none : (a b : Bool) → (a || (b && false)) ≡ a
 or_none true b = refl
 or_none false true = refl
@@ -34,6 +36,7 @@ allowed_lines : (lines : List Line) (at : ℕ → ℕ) (v : ℕ) → allowed (re
 unfolding allowed
 allowed_lines lines at v = or_none (some_gives at v lines) (not (some_matches at lines))
 
+-- the default's lines add what the default allowed
 allows-spelled : (counts : List ℕ) (lines : List Line) (default : Option ℕ) (at : ℕ → ℕ) (v : ℕ) → cubes_match at (complement_of counts lines) ≡ not (some_matches at lines) → some_gives at v (lines ++ default_lines counts lines default) ≡ (some_gives at v lines || (not (some_matches at lines) && default_gives default v))
 allows-spelled counts lines None at v e = ap (some_gives at v) (append-nil lines) ∙ sym (or_none (some_gives at v lines) (not (some_matches at lines)))
 allows-spelled counts lines (Some out) at v e =
@@ -43,6 +46,7 @@ allows-spelled counts lines (Some out) at v e =
 pub record ComplementHolds (counts : List ℕ) (lines : List Line) : Type 0 where
   pub points : (at : ℕ → ℕ) → IsPoint counts at → cubes_match at (complement_of counts lines) ≡ not (some_matches at lines)
 
+-- the cover spelled out allows the same values
 pub same-spelled : (counts : List ℕ) (c : Cover) → ComplementHolds counts c.lines → AllowSame counts (spelled_of counts c) c
 unfolding spelled_of allowed
 same-spelled counts c is = record {
@@ -62,6 +66,7 @@ spelled-some counts c lines now cubes out e f g put =
     let all : now ≡ c.lines ++ default_lines counts c.lines c.default = put ∙ ((λ i. f i ++ lines_for out (g i)) ∙ ap (λ o. c.lines ++ default_lines counts c.lines o) (sym e)) in
     λ i. record { lines = all i; default = None }
 
+-- lines of cubes that suit the counts do
 suits-lines_for : (counts : List ℕ) (out : ℕ) (cs : List (List Lit)) → All (IsCubeOver counts) cs → LinesSuit counts (lines_for out cs)
 suits-lines_for counts out [] are = All-nil (λ (l : Line). Suits counts l.cube)
 suits-lines_for counts out (c ∷ cs) are =

@@ -15,6 +15,7 @@ use std::alloc::Global;
 impl Cover {
     /// The points that no line matches, as cubes without common points.
     /// `counts` has the number of values of each net by its number.
+    /// It is Wide where the list that the lines leave has more than `MAX_COMPLEMENT_CUBES` after some line.
     pub fn complement(&self, alloc: Global, counts: &[u16]) -> Result<Vec<Cube>, CoverStop>
         requires { LinesSuit counts.now self.now.lines }
 

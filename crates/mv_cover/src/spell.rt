@@ -8,6 +8,7 @@ use std::alloc::Global;
 impl Cover {
     /// The same relation without a default, for which a line stands for each cube of the complement.
     /// `counts` has the number of values of each net by its number.
+    /// A cover without a default is answered as it is; else it is Wide as the complement is.
     pub fn spell_default(&self, alloc: Global, counts: &[u16]) -> Result<Cover, CoverStop>
         requires { LinesSuit counts.now self.now.lines }
 
