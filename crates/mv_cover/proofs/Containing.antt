@@ -1,5 +1,5 @@
 -- A cube lies in another where each of that one's literals has one of its own within; else a point tells them apart.
-use Rattle.std.proofs.Common.{◌≡◌, ◌∙◌, ℕ, ◌+◌, ◌<◌, Bool, true, false, not, ◌&&◌, List, [], ◌∷◌, nat_eq, inl, inr, refl, sym, ap, subst, arith, Option, Some, None, IsTrue, get_or}
+use Rattle.std.proofs.Common.{◌≡◌, ◌∙◌, ℕ, ◌+◌, ◌<◌, Bool, true, false, not, ◌&&◌, List, [], ◌∷◌, nat_eq, inl, inr, refl, sym, ap, subst, arith, Option, Some, None, get_or, IsTrue}
 use Rattle.std.specs.Prelude.{◌↔◌}
 use Rattle.std.specs.List.{list_all}
 use Rattle.std.proofs.lemmas.Bool.{cases_Bool, false≢true, and_parts, and_from, ltb-true, eq-eqb, ne_eqb}

@@ -1,7 +1,7 @@
 -- Cofactors of cubes: they match as the cubes do where the net has the value, and they are smaller.
 use Rattle.std.proofs.Common.{◌≡◌, ◌∙◌, ℕ, ◌+◌, ◌≤◌, ◌<◌, Bool, true, false, ◌&&◌, ◌||◌, List, [], ◌∷◌, length, ◌++◌, nat_eq, nat_lt, inl, inr, refl, sym, ap, arith, get_or, cond, MatchBool, subst, zero, suc, Result, Ok, Err, IfOk}
-use Rattle.std.specs.List.{list_all}
-use Rattle.std.proofs.lemmas.Bool.{cases_Bool, false≢true, and_parts, ltb-true, eq-eqb}
+use Rattle.std.specs.List.{list_all, list_any}
+use Rattle.std.proofs.lemmas.Bool.{cases_Bool, false≢true, and_parts, ltb-true, eq-eqb, ne_eqb}
 use Rattle.std.specs.Cmp.{unsigned_Decides}
 use Rattle.mv_base.specs.Set.{has}
 use Rattle.mv_cover.specs.declared.cube.Lit.{Lit}
@@ -218,9 +218,9 @@ part_within counts part cs n value e w = subst (λ (p : List (List Lit)). AreCub
 pub part_smaller : (part cs : List (List Lit)) (n value : ℕ) → part ≡ cofactor_of n value cs → cubes_read cs n ≡ true → literals_in part < literals_in cs
 part_smaller part cs n value e h = subst (λ (p : List (List Lit)). literals_in p < literals_in cs) (sym e) (cofactor-shorter n value cs h)
 
-pub part_covered : (counts : List ℕ) (part cs : List (List Lit)) (n value : ℕ) (all : Bool) → part ≡ cofactor_of n value cs → all ≡ true → MatchBool all (CubesCover counts part) (CubesMiss counts part) → CoverBelow counts cs n value → CoverBelow counts cs n (value + 1)
-part_covered counts part cs n value true e t m below = cover_more counts cs n value below (subst (λ (p : List (List Lit)). CubesCover counts p) e m)
-part_covered counts part cs n value false e t m below = absurd (false≢true t)
+pub part_covered : (counts : List ℕ) (part : List (List Lit)) (all : Bool) → all ≡ true → MatchBool all (CubesCover counts part) (CubesMiss counts part) → CubesCover counts part
+part_covered counts part true t m = m
+part_covered counts part false t m = absurd (false≢true t)
 
 pub part_missed : (counts : List ℕ) (part cs : List (List Lit)) (n value : ℕ) (all : Bool) → part ≡ cofactor_of n value cs → all ≡ false → MatchBool all (CubesCover counts part) (CubesMiss counts part) → value < get_or counts n 0 → CubesMiss counts cs
 part_missed counts part cs n value false e f m low = cofactor-missed counts n value cs low (subst (λ (p : List (List Lit)). CubesMiss counts p) e m)
@@ -234,18 +234,26 @@ lines_result (Ok all) counts cubes ls e h = lines_answer all counts ls (subst (�
 lines_result (Err f) counts cubes ls e h = h
 
 -- a cube of the list without literals matches everywhere
-pub matched_at : (cs : List (List Lit)) (i : ℕ) (d : List Lit) → i < length cs → get_or cs i d ≡ [] → MatchEach cs
-matched_at [] i d h e = absurd (omega arith)
-matched_at (c ∷ cs) zero d h e = record { each = λ at. or_left (matches at c) (cubes_match at cs) (ap (matches at) e) }
-matched_at (c ∷ cs) (suc i) d h e =
-    let rest : MatchEach cs = matched_at cs i d (omega arith) e in
-    record { each = λ at. or_right (matches at c) (cubes_match at cs) (rest.each at) }
+pub matched_empty : (cs : List (List Lit)) → list_any (λ (c : List Lit). nat_eq (length c) 0) cs ≡ true → MatchEach cs
+matched_empty [] h = absurd (false≢true h)
+matched_empty ([] ∷ cs) h = record { each = λ at. refl }
+matched_empty ((l ∷ c) ∷ cs) h =
+    let rest : MatchEach cs = matched_empty cs (rw (ne_eqb (length (l ∷ c)) 0 (λ e. absurd (omega arith))) at h) in
+    record { each = λ at. or_right (matches at (l ∷ c)) (cubes_match at cs) (rest.each at) }
 
 -- the list reads what a cube of it reads
 pub read_at : (cs : List (List Lit)) (i : ℕ) (d : List Lit) (n : ℕ) → i < length cs → cube_reads (get_or cs i d) n ≡ true → cubes_read cs n ≡ true
 read_at [] i d n h r = absurd (omega arith)
 read_at (c ∷ cs) zero d n h r = or_left (cube_reads c n) (cubes_read cs n) r
 read_at (c ∷ cs) (suc i) d n h r = or_right (cube_reads c n) (cubes_read cs n) (read_at cs i d n (omega arith) r)
+
+-- a net that the cubes read or that stands in one more of them is read
+pub read_more : (cs : List (List Lit)) (i : ℕ) (c : List Lit) (n m : ℕ) → i < length cs → c ≡ get_or cs i c → cubes_read cs m ≡ true → (cube_reads c n ≡ false → n ≡ m) → cubes_read cs n ≡ true
+read_more cs i c n m h here before same =
+    elim (cases_Bool (cube_reads c n)) [
+      | inl t ↦ read_at cs i c n h (ap (λ (x : List Lit). cube_reads x n) (sym here) ∙ t)
+      | inr f ↦ ap (cubes_read cs) (same f) ∙ before
+    ]
 
 -- one line more whose nets have values
 pub within-none : (counts : List ℕ) → AreWithin counts []
@@ -270,17 +278,18 @@ two_values zero h = omega arith
 two_values (suc zero) h = omega arith
 two_values (suc (suc n)) h = absurd (omega arith)
 
-low_read : (c : List Lit) (n : ℕ) → list_all (λ (l : Lit). nat_lt l.net.0 2) c ≡ true → cube_reads c n ≡ true → n < 2
-low_read [] n low h = absurd (false≢true h)
-low_read (l ∷ ls) n low h =
-    let p = and_parts (nat_lt l.net.0 2) (list_all (λ (m : Lit). nat_lt m.net.0 2) ls) low in
+-- a cube over the nets below k reads nets below k
+pub below-read : (k : ℕ) (c : List Lit) (n : ℕ) → list_all (λ (l : Lit). nat_lt l.net.0 k) c ≡ true → cube_reads c n ≡ true → n < k
+below-read k [] n low h = absurd (false≢true h)
+below-read k (l ∷ ls) n low h =
+    let p = and_parts (nat_lt l.net.0 k) (list_all (λ (m : Lit). nat_lt m.net.0 k) ls) low in
     elim (cases_Bool (nat_eq l.net.0 n)) [
-      | inl t ↦ let e : l.net.0 ≡ n = same_number l.net.0 n t in let k : l.net.0 < 2 = ltb-true l.net.0 2 p.0 in omega arith
-      | inr f ↦ low_read ls n p.1 (rw f at h)
+      | inl t ↦ let e : l.net.0 ≡ n = same_number l.net.0 n t in let j : l.net.0 < k = ltb-true l.net.0 k p.0 in omega arith
+      | inr f ↦ below-read k ls n p.1 (rw f at h)
     ]
 
 pub within-binary : (ls : List Line) (l : Line) → list_all (λ (m : Lit). nat_lt m.net.0 2) l.cube ≡ true → AreWithin (2 ∷ 2 ∷ []) ls → AreWithin (2 ∷ 2 ∷ []) (ls ++ l ∷ [])
-within-binary ls l low w = within-more (2 ∷ 2 ∷ []) ls l (λ n h. two_values n (low_read l.cube n low h)) w
+within-binary ls l low w = within-more (2 ∷ 2 ∷ []) ls l (λ n h. two_values n (below-read 2 l.cube n low h)) w
 
 pub ruleset added = (within-none, within-binary)
 

@@ -12,3 +12,7 @@ pub mod Sharps
 pub mod Complements
 pub mod Spelling
 pub mod Suiting
+pub mod Inclusion
+pub mod Absorbing
+pub mod Building
+pub mod ValueClasses

@@ -219,7 +219,7 @@ clear_first l (m ∷ ys) h =
     (or_left (not (nat_eq l.net.0 m.net.0)) (not (nat_eq (meet l.set m.set) empty)) (not_from_false (nat_eq l.net.0 m.net.0) (other_net_back l.net.0 m.net.0 p.0)))
     (clear_first l ys p.1)
 
-drop_true : (p q r : Bool) → p ≡ true → q ≡ r → (p && q) ≡ r
+pub drop_true : (p q r : Bool) → p ≡ true → q ≡ r → (p && q) ≡ r
 drop_true true q r e h = h
 drop_true false q r e h = absurd (false≢true e)
 
@@ -251,7 +251,7 @@ pub walked_none : (a b : List Lit) → nets_ascend a ≡ true → nets_ascend b 
 walked_none a b p q = record { same = refl; first = p; second = q }
 
 -- the rest of a list from its place
-rest_at : (a : List Lit) (i : ℕ) (l : Lit) → i < length a → l ≡ get_or a i l → drop i a ≡ l ∷ drop (i + 1) a
+pub rest_at : (a : List Lit) (i : ℕ) (l : Lit) → i < length a → l ≡ get_or a i l → drop i a ≡ l ∷ drop (i + 1) a
 rest_at a i l in_a here = rw add-one (drop-cons a i l in_a ∙ ap (λ (x : Lit). x ∷ drop (suc i) a) (sym here))
 
 step_first : (l m : Lit) (xs ys : List Lit) → nets_ascend (m ∷ ys) ≡ true → l.net.0 < m.net.0 → cubes_meet (l ∷ xs) (m ∷ ys) ≡ cubes_meet xs (m ∷ ys)

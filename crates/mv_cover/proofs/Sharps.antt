@@ -442,10 +442,10 @@ together_inside counts c l ls r fits h =
     }
 
 -- what suits the counts does so literal by literal
-few_first : (counts : List ℕ) (l : Lit) (ls : List Lit) → Suits counts (l ∷ ls) → get_or counts l.net.0 0 ≤ MAX_VALUES
+pub few_first : (counts : List ℕ) (l : Lit) (ls : List Lit) → Suits counts (l ∷ ls) → get_or counts l.net.0 0 ≤ MAX_VALUES
 few_first counts l ls s = s.few l.net.0 (or_left (nat_eq l.net.0 l.net.0) (cube_reads ls l.net.0) (eq-eqb l.net.0 l.net.0 refl))
 
-Suits-rest : (counts : List ℕ) (l : Lit) (ls : List Lit) → Suits counts (l ∷ ls) → Suits counts ls
+pub Suits-rest : (counts : List ℕ) (l : Lit) (ls : List Lit) → Suits counts (l ∷ ls) → Suits counts ls
 Suits-rest counts l ls s = record { fits = s.fits.1; few = λ n h. s.few n (or_right (nat_eq l.net.0 n) (cube_reads ls n) h) }
 
 -- each part is a cube that suits the counts

@@ -48,9 +48,13 @@ IsChoice (On net) cubes = cubes_read cubes net.0 ≡ true
 pub record CoverBelow (counts : List ℕ) (cubes : List (List Lit)) (n value : ℕ) : Type 0 where
   pub each : (at : ℕ → ℕ) → IsPoint counts at → at n < value → cubes_match at cubes ≡ true
 
+-- the literal, if it is on the net, has the value
+abbrev pub lit_allows : ℕ → ℕ → Lit → Bool
+lit_allows n value l = not (nat_eq l.net.0 n) || has l.set value
+
 -- each literal of the cube on the net has the value
 abbrev pub cube_allows : ℕ → ℕ → List Lit → Bool
-cube_allows n value cube = list_all (λ l. not (nat_eq l.net.0 n) || has l.set value) cube
+cube_allows n value cube = list_all (lit_allows n value) cube
 
 -- the cube without its literals on the net
 abbrev pub cube_without : ℕ → List Lit → List Lit

@@ -7,10 +7,14 @@ use Rattle.mv_cover.specs.Cubes.{matches}
 use Rattle.mv_cover.specs.Covering.{IsPoint}
 use Rattle.mv_cover.specs.Meets.{literal_at}
 
+-- each member of a set is one of the other
+abbrev pub set_within : ℕ → ℕ → Bool
+set_within t s = nat_eq (meet t s) t
+
 -- a set is there, and each of its members is one of the other
 abbrev pub set_lies : Option ℕ → ℕ → Bool
 set_lies None s = false
-set_lies (Some t) s = nat_eq (meet t s) t
+set_lies (Some t) s = set_within t s
 
 -- each literal of b has one of a on its net, whose set is within
 abbrev pub lies_in : List Lit → List Lit → Bool

@@ -11,7 +11,8 @@ use Rattle.mv_cover.specs.Equal.{lit_eq, cube_eq, line_eq, cube_fed, line_fed}
 pub same_lit : (a b : Lit) → a.net.0 ≡ b.net.0 → a.set ≡ b.set → a ≡ b
 same_lit a b n s = λ i. record { net = record { 0 = n i }; set = s i }
 
-same_line : (a b : Line) → a.cube ≡ b.cube → a.out ≡ b.out → a ≡ b
+-- lines of one cube and one output are equal
+pub same_line : (a b : Line) → a.cube ≡ b.cube → a.out ≡ b.out → a ≡ b
 same_line a b c o = λ i. record { cube = c i; out = o i }
 
 pub lit_eq-Decides : (a b : Lit) → Decides (lit_eq a b) (a ≡ b)

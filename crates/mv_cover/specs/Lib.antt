@@ -10,3 +10,4 @@ pub mod Meets
 pub mod Containing
 pub mod Sharp
 pub mod Complement
+pub mod Absorb

@@ -8,9 +8,14 @@ use Rattle.mv_cover.specs.Covers.{cube_reads}
 use Rattle.mv_cover.specs.Covering.{IsPoint}
 use Rattle.mv_cover.specs.Overlap.{cubes_meet}
 use Rattle.mv_cover.specs.Meets.{literal_at}
-use Rattle.mv_cover.specs.Containing.{FitsCube}
+use Rattle.mv_cover.specs.Containing.{FitsNet, FitsCube}
 
--- each literal's set is some of the values that its net has, but not all, and the net has no more than a net may have
+-- a literal's set is some of the values that its net has, but not all, and the net has no more than a net may have
+pub record SuitsNet (counts : List ℕ) (l : Lit) : Type 0 where
+  pub fits : FitsNet counts l.net.0 l.set
+  pub few : slice_index counts l.net.0 ≤ MAX_VALUES
+
+-- each literal's set is so
 pub record Suits (counts : List ℕ) (c : List Lit) : Type 0 where
   pub fits : FitsCube counts c
   pub few : (n : ℕ) → cube_reads c n ≡ true → slice_index counts n ≤ MAX_VALUES

@@ -1,10 +1,8 @@
 ghost use Rattle.std.specs.Prelude.{◌≡◌, ℕ, List, IsTrue, true, false};
-ghost use Rattle.mv_cover.specs.Cubes.{matches};
-ghost use Rattle.mv_cover.specs.Meets.{literal_at};
-ghost use Rattle.mv_cover.specs.Containing.{FitsCube, MissesPoint, lies_in, set_lies};
+ghost use Rattle.mv_cover.specs.Cubes.{matches, nets_ascend};
+ghost use Rattle.mv_cover.specs.Containing.{FitsCube, MissesPoint, lies_in};
 
 use crate::{Cube, Lit};
-use mv_base::{NetId, ValueSet};
 
 impl Cube {
     /// Whether every point of `other` is one of this cube. It takes no memory.
@@ -18,30 +16,27 @@ impl Cube {
 }
 
 /// Whether each literal of `b` has one of `a` on its net, whose set is within.
+/// One walk along both, since their nets ascend.
 fn all_lie_in(a: &[Lit], b: &[Lit]) -> bool
+    requires first { nets_ascend a.now ≡ true }
+    requires second { nets_ascend b.now ≡ true }
     ensures { result ≡ lies_in a.now b.now }
 {
-    b.iter().all(|l| has_within(a, l.net, l.set))
-}
-
-/// Whether there is a literal on the net, whose set is within this one.
-fn has_within(lits: &[Lit], net: NetId, set: ValueSet) -> bool
-    ensures { result ≡ set_lies (literal_at lits.now net.0) set }
-{
-    match set_on(lits, net) {
-        None => false,
-        Some(smaller) => smaller.within(set),
-    }
-}
-
-/// The set of the first literal on the net, if there is one.
-fn set_on(lits: &[Lit], net: NetId) -> Option<ValueSet>
-    ensures { result ≡ literal_at lits.now net.0 }
-{
-    for l in lits {
-        if l.net == net {
-            return Some(l.set);
+    let mut i = 0;
+    let mut j = 0;
+    'walk: while i < a.len() && j < b.len() {
+        let inner = a[i];
+        let outer = b[j];
+        if inner.net.0 < outer.net.0 {
+            i += 1;
+        } else if outer.net.0 < inner.net.0 {
+            return false;
+        } else if inner.set.within(outer.set) {
+            i += 1;
+            j += 1;
+        } else {
+            return false;
         }
     }
-    None
+    j == b.len()
 }

@@ -1,10 +1,13 @@
-ghost use Rattle.std.specs.Prelude.{◌≡◌, ◌<◌, IfOk, MatchBool, MatchOption, slice_index, length, [], true};
+ghost use Rattle.std.specs.Prelude.{◌≡◌, IfOk, MatchBool, MatchOption, slice_index, length, nat_eq, [], true};
+ghost use Rattle.std.specs.List.{list_any};
 ghost use Rattle.mv_cover.specs.Covers.{cube_reads};
 ghost use Rattle.mv_cover.specs.Covering.{AreWithin, CoversAll, MissesSome};
 ghost use Rattle.mv_cover.specs.Cofactors.{AreCubesWithin, IsChoice, CubesCover, CubesMiss, cube_allows, cube_without, cofactor_of, cubes_of, cubes_read};
 
+use crate::alike::alike;
+use crate::busiest::busiest_net;
 use crate::{Cover, Line, Lit};
-use mv_base::{Items, Memory, NetId, Value};
+use mv_base::{Items, Memory, NetId, Value, ValueSet};
 use std::alloc::Global;
 
 impl Cover {
@@ -31,21 +34,30 @@ fn copied_cubes(alloc: Global, lines: &[Line]) -> Result<Items<Items<Lit>>, Memo
     Ok(cubes)
 }
 
-/// Whether the cubes match every point. It branches on a net, and stops at the first part that isn't covered.
+/// Whether the cubes match every point. It branches on the net that weighs most in them, and stops at the first part that
+/// isn't covered. Of the values that no cube tells apart it tries one. At worst it makes a part for each way to give the
+/// nets values: the question is as hard as whether a formula always holds.
 fn covers(alloc: Global, cubes: &[Items<Lit>], counts: &[u16]) -> Result<bool, Memory>
     requires { AreCubesWithin counts.now cubes.now }
     ensures { IfOk result (λ all. MatchBool all (CubesCover counts.now cubes.now) (CubesMiss counts.now cubes.now)) }
 {
-    let net = match choose(cubes) {
+    let choice = choose(alloc, cubes)?;
+    let net = match choice {
         Choice::Every => return Ok(true),
         Choice::Nowhere => return Ok(false),
         Choice::On(net) => net,
     };
+    let mut settled = ValueSet::empty();
     for value in 0..count_of(counts, net) {
-        let part = cofactor(alloc, cubes, net, Value(value))?;
+        let value = Value(value);
+        if settled.has(value) {
+            continue;
+        }
+        let part = cofactor(alloc, cubes, net, value)?;
         if !covers(alloc, part.as_slice(), counts)? {
             return Ok(false);
         }
+        settled = settled.join(alike(cubes, net, value));
     }
     Ok(true)
 }
@@ -58,17 +70,27 @@ enum Choice {
     On(NetId),
 }
 
-/// Looks at a cube with the fewest literals: without any it matches everywhere, else the net of one is branched on.
-fn choose(cubes: &[Items<Lit>]) -> Choice
-    ensures { IsChoice result cubes.now }
+/// Without cubes nothing matches, and a cube without literals matches everywhere. Else the busiest net is branched on.
+fn choose(alloc: Global, cubes: &[Items<Lit>]) -> Result<Choice, Memory>
+    ensures { IfOk result (λ choice. IsChoice choice cubes.now) }
 {
     if cubes.is_empty() {
-        return Choice::Nowhere;
+        return Ok(Choice::Nowhere);
     }
-    match first_net(cubes[shortest(cubes)].as_slice()) {
-        None => Choice::Every,
-        Some(net) => Choice::On(net),
+    if some_is_empty(cubes) {
+        return Ok(Choice::Every);
     }
+    match first_net(cubes[0].as_slice()) {
+        None => Ok(Choice::Every),
+        Some(first) => Ok(Choice::On(busiest_net(alloc, cubes, first)?)),
+    }
+}
+
+/// Whether some cube has no literal, so that it holds everywhere.
+fn some_is_empty(cubes: &[Items<Lit>]) -> bool
+    ensures { result ≡ list_any (λ c. nat_eq (length c) 0) cubes.now }
+{
+    cubes.iter().any(|cube| cube.is_empty())
 }
 
 /// The net of the first literal, or None for the cube without literals.
@@ -79,20 +101,6 @@ fn first_net(cube: &[Lit]) -> Option<NetId>
         None => None,
         Some(literal) => Some(literal.net),
     }
-}
-
-/// The place of a cube with the fewest literals.
-fn shortest(cubes: &[Items<Lit>]) -> usize
-    requires { 0 < length cubes.now }
-    ensures { result < length cubes.now }
-{
-    let mut best = 0;
-    for (place, cube) in cubes.iter().enumerate() {
-        if cube.len() < cubes[best].len() {
-            best = place;
-        }
-    }
-    best
 }
 
 /// How many values the net has, which is none outside the counts.

@@ -1,6 +1,9 @@
 //! Tables of a network as covers: lines of a cube of literals and an output set, and a default.
 #![tactic(auto)]
 
+mod absorb;
+mod alike;
+mod busiest;
 mod complement;
 mod contain;
 mod cover;
@@ -13,6 +16,7 @@ mod plain;
 mod sharp;
 mod spell;
 mod stop;
+mod suit;
 
 pub use cover::Cover;
 pub use cube::{Cube, Lit};

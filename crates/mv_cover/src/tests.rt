@@ -1,10 +1,7 @@
-ghost use Rattle.std.specs.Prelude.{◌≡◌, ◌<◌, ◌∷◌, [], true, false, nat_eq, nat_lt, OnOk, IsTrue, ◌≤◌, slice_index};
+ghost use Rattle.std.specs.Prelude.{◌≡◌, ◌<◌, ◌≤◌, ◌∷◌, [], true, false, nat_eq, nat_lt, slice_index, IsTrue, OnOk, IfOk, IfSome};
 ghost use Rattle.std.specs.List.{list_all};
 ghost use Rattle.mv_cover.specs.Cubes.{IsCube};
 ghost use Rattle.mv_cover.specs.Covering.{AreWithin};
-ghost use Rattle.mv_cover.specs.Sharp.{Suits};
-ghost use Rattle.mv_cover.specs.Complement.{LinesSuit};
-ghost use Rattle.mv_cover.specs.Containing.{FitsNet};
 ghost use Rattle.mv_base.specs.Set.{empty};
 
 use crate::{Cover, CoverStop, Cube, Line, Lit};
@@ -210,46 +207,9 @@ fn a_plain_cover_gives_one_value_where_lines_meet(rt: HostRuntime) -> Result<(),
 
 // ---- the sharp, the complement and a default spelled out
 
-/// Whether the net has values, no more than it may have, and the literal's set is some of them but not all.
-fn fits(l: Lit, counts: &[u16]) -> bool
-    ensures net { IsTrue result → FitsNet counts.now l.net.0 l.set }
-    ensures few { IsTrue result → slice_index counts.now l.net.0 ≤ MAX_VALUES }
-{
-    let count = counts.get(l.net.0 as usize).copied().unwrap_or(0);
-    if count == 0 || MAX_VALUES < count {
-        return false;
-    }
-    let full = ValueSet::full(count);
-    l.set.within(full) && l.set != full
-}
-
-/// Whether each literal fits.
-fn suits(lits: &[Lit], counts: &[u16]) -> bool
-    ensures { IsTrue result → Suits counts.now lits.now }
-{
-    for l in lits {
-        if !fits(*l, counts) {
-            return false;
-        }
-    }
-    true
-}
-
-/// Whether each line's cube suits the counts.
-fn lines_suit(cover: &Cover, counts: &[u16]) -> bool
-    ensures { IsTrue result → LinesSuit counts.now cover.now.lines }
-{
-    for line in cover.lines.as_slice() {
-        if !suits(line.cube.lits(), counts) {
-            return false;
-        }
-    }
-    true
-}
-
 /// The sharp, or None where a cube doesn't suit the counts.
 fn sharp(cube: &Cube, other: &Cube, counts: &[u16]) -> Result<Option<Vec<Cube>>, Memory> {
-    if suits(cube.lits(), counts) && suits(other.lits(), counts) {
+    if cube.suits(counts) && other.suits(counts) {
         return Ok(Some(cube.without(other, counts)?));
     }
     Ok(None)
@@ -257,7 +217,7 @@ fn sharp(cube: &Cube, other: &Cube, counts: &[u16]) -> Result<Option<Vec<Cube>>,
 
 /// The complement, or Memory where a line doesn't suit the counts.
 fn complement(cover: &Cover, alloc: Global, counts: &[u16]) -> Result<Vec<Cube>, CoverStop> {
-    if !lines_suit(cover, counts) {
+    if !cover.suits(counts) {
         return Err(CoverStop::Memory);
     }
     cover.complement(alloc, counts)
@@ -265,7 +225,7 @@ fn complement(cover: &Cover, alloc: Global, counts: &[u16]) -> Result<Vec<Cube>,
 
 /// The cover with its default spelled out, or Memory where a line doesn't suit the counts.
 fn spelled(cover: &Cover, alloc: Global, counts: &[u16]) -> Result<Cover, CoverStop> {
-    if !lines_suit(cover, counts) {
+    if !cover.suits(counts) {
         return Err(CoverStop::Memory);
     }
     cover.spell_default(alloc, counts)
@@ -308,17 +268,6 @@ fn a_default_is_spelled_out_behind_the_lines(rt: HostRuntime) -> Result<(), Memo
     Ok(())
 }
 
-/// The set of the values whose bits are set in the number.
-fn set_of(bits: u16) -> ValueSet {
-    let mut set = ValueSet::empty();
-    for value in 0..MAX_VALUES {
-        if bits.checked_shr(u32::from(value)).unwrap_or(0) % 2 == 1 {
-            set = set.join(ValueSet::one(Value(value)));
-        }
-    }
-    set
-}
-
 /// The cube of one literal, or the cube without literals where the set is empty.
 fn one_literal(alloc: Global, net: u32, set: ValueSet) -> Result<Cube, Memory> {
     if set == ValueSet::empty() {
@@ -330,8 +279,8 @@ fn one_literal(alloc: Global, net: u32, set: ValueSet) -> Result<Cube, Memory> {
 
 /// Of the 21 cubes over net 0 with two values and net 1 with three the one with this number.
 fn numbered(alloc: Global, number: u16) -> Result<Option<Cube>, Memory> {
-    let first = one_literal(alloc, 0, set_of(number % 3))?;
-    let second = one_literal(alloc, 1, set_of(number / 3 % 7))?;
+    let first = one_literal(alloc, 0, set_of(u32::from(number % 3), 2))?;
+    let second = one_literal(alloc, 1, set_of(u32::from(number / 3 % 7), 3))?;
     first.meet(&second)
 }
 
@@ -479,5 +428,221 @@ fn a_complement_has_as_many_cubes_as_it_may(rt: HostRuntime) -> Result<(), Memor
     let more = pairs(alloc, 13)?;
     assert!(rt; matches!(&complement(&more, alloc, &[2; 26]), Err(CoverStop::Wide)));
     assert!(rt; matches!(&spelled(&more, alloc, &[2; 26]), Err(CoverStop::Wide)));
+    Ok(())
+}
+
+// ---- absorbing and covering
+
+#[test]
+fn lines_within_others_are_absorbed(rt: HostRuntime) -> Result<(), Memory> {
+    let alloc = rt.alloc();
+    let mut lines = Items::new(alloc);
+    lines.push(line(alloc, &[literal(0, 0)], 0)?)?;
+    lines.push(line(alloc, &[literal(0, 0), literal(1, 1)], 0)?)?;
+    let mut cover = Cover {
+        lines,
+        default: None,
+    };
+    cover.absorb()?;
+    let wide = line(alloc, &[literal(0, 0)], 0)?;
+    assert!(rt; matches!(cover.lines.as_slice(), [left] if *left == wide));
+    Ok(())
+}
+
+#[test]
+fn a_line_within_a_later_one_is_absorbed(rt: HostRuntime) -> Result<(), Memory> {
+    let alloc = rt.alloc();
+    let mut lines = Items::new(alloc);
+    lines.push(line(alloc, &[literal(0, 0), literal(1, 1)], 0)?)?;
+    lines.push(line(alloc, &[either(1, 0, 1)], 0)?)?;
+    lines.push(line(alloc, &[literal(2, 1)], 0)?)?;
+    let mut cover = Cover {
+        lines,
+        default: Some(ValueSet::one(Value(1))),
+    };
+    cover.absorb()?;
+    let wide = line(alloc, &[either(1, 0, 1)], 0)?;
+    let other = line(alloc, &[literal(2, 1)], 0)?;
+    assert!(rt;
+        matches!(cover.lines.as_slice(), [first, second] if *first == wide && *second == other)
+    );
+    assert!(rt; cover.default == Some(ValueSet::one(Value(1))));
+    Ok(())
+}
+
+#[test]
+fn one_of_two_equal_lines_stays(rt: HostRuntime) -> Result<(), Memory> {
+    let alloc = rt.alloc();
+    let mut lines = Items::new(alloc);
+    lines.push(line(alloc, &[literal(0, 0)], 0)?)?;
+    lines.push(line(alloc, &[literal(1, 1)], 1)?)?;
+    lines.push(line(alloc, &[literal(0, 0)], 0)?)?;
+    let mut cover = Cover {
+        lines,
+        default: None,
+    };
+    cover.absorb()?;
+    let first = line(alloc, &[literal(0, 0)], 0)?;
+    let second = line(alloc, &[literal(1, 1)], 1)?;
+    assert!(rt; matches!(cover.lines.as_slice(), [l, m] if *l == first && *m == second));
+    Ok(())
+}
+
+#[test]
+fn a_line_with_another_output_stays(rt: HostRuntime) -> Result<(), Memory> {
+    let alloc = rt.alloc();
+    let mut lines = Items::new(alloc);
+    lines.push(line(alloc, &[literal(0, 0)], 0)?)?;
+    lines.push(line(alloc, &[literal(0, 0), literal(1, 1)], 1)?)?;
+    let mut cover = Cover {
+        lines,
+        default: None,
+    };
+    cover.absorb()?;
+    assert_eq!(rt; cover.lines.len(), 2);
+    Ok(())
+}
+
+#[test]
+fn a_default_beside_a_line_without_literals_goes(rt: HostRuntime) -> Result<(), Memory> {
+    let mut cover = cover(rt.alloc())?;
+    cover.absorb()?;
+    assert_eq!(rt; cover.lines.len(), 2);
+    assert!(rt; cover.default.is_none());
+    Ok(())
+}
+
+/// The numbers of values of the nets 0 to 2.
+const COUNTS: [u16; 3] = [2, 3, 2];
+
+/// The next number of a simple generator.
+fn draw(state: &mut u32) -> u32 {
+    *state = state.wrapping_mul(1664525).wrapping_add(1013904223);
+    *state >> 16
+}
+
+/// The values below the count whose bits are set.
+fn set_of(bits: u32, count: u16) -> ValueSet
+    requires { count ≤ 8 }
+{
+    let mut set = ValueSet::empty();
+    for value in 0..count {
+        if (bits >> value) & 1 == 1 {
+            set = set.join(ValueSet::one(Value(value)));
+        }
+    }
+    set
+}
+
+/// A literal on the net with the set drawn, where an empty or a full set asks nothing.
+fn drawn_literal(net: u32, state: &mut u32) -> Option<Lit>
+    requires { net < 3 }
+    ensures net { IfSome result (λ l. l.net.0 ≡ net) }
+    ensures some { IfSome result (λ l. nat_eq l.set empty ≡ false) }
+{
+    let count = COUNTS[net as usize];
+    let set = set_of(draw(state), count);
+    if set == ValueSet::empty() || set == ValueSet::full(count) {
+        return None;
+    }
+    let net = NetId(net);
+    Some(Lit { net, set })
+}
+
+/// A cube over the three nets.
+#[tactic(auto, using(crate::proofs::Building::built))]
+fn drawn_cube(alloc: Global, state: &mut u32) -> Result<Cube, Memory>
+    ensures { IfOk result (λ cube. list_all (λ l. nat_lt l.net.0 3) cube ≡ true) }
+{
+    let mut lits = Items::new(alloc);
+    for net in 0..3 {
+        if let Some(l) = drawn_literal(net, state) {
+            lits.push(l)?;
+        }
+    }
+    Cube::new(alloc, lits.as_slice())
+}
+
+/// Some lines over the three nets.
+#[tactic(auto, using(crate::proofs::Covering::added))]
+fn drawn_lines(alloc: Global, state: &mut u32) -> Result<Items<Line>, Memory>
+    ensures { IfOk result (λ lines. AreWithin COUNTS lines) }
+{
+    let mut lines = Items::new(alloc);
+    'drawing: for _ in 0..draw(state) % 6 {
+        let cube = drawn_cube(alloc, state)?;
+        let out = set_of(draw(state), 3);
+        lines.push(Line { cube, out })?;
+    }
+    Ok(lines)
+}
+
+/// Whether the point has a value of each literal's set.
+fn has(cube: &Cube, point: &[u16]) -> bool {
+    for l in cube.lits() {
+        let value = point.get(l.net.0 as usize).copied().unwrap_or(0);
+        if !l.set.has(Value(value)) {
+            return false;
+        }
+    }
+    true
+}
+
+/// What the lines and the default say of a value at a point, line by line: whether some line matches, and whether the
+/// value is allowed.
+fn says(cover: &Cover, point: &[u16], value: Value) -> (bool, bool) {
+    let mut matched = false;
+    let mut given = false;
+    for line in cover.lines.as_slice() {
+        if has(&line.cube, point) {
+            matched = true;
+            given = given || line.out.has(value);
+        }
+    }
+    match cover.default {
+        Some(out) if !matched => (false, out.has(value)),
+        _ => (matched, given),
+    }
+}
+
+/// Whether the two covers say the same at each point, and whether the first has a line there.
+fn compare(cover: &Cover, other: &Cover) -> (bool, bool) {
+    let mut same = true;
+    let mut all = true;
+    for place in 0..12 {
+        let point = [place % 2, place / 2 % 3, place / 6];
+        for value in 0..3 {
+            let (matched, allowed) = says(cover, &point, Value(value));
+            all = all && matched;
+            same = same && says(other, &point, Value(value)).1 == allowed;
+        }
+    }
+    (same, all)
+}
+
+#[test]
+fn drawn_covers_are_as_a_look_at_each_point_says(rt: HostRuntime) -> Result<(), Memory> {
+    let alloc = rt.alloc();
+    let mut state = 1;
+    let mut covering: u32 = 0;
+    let mut gone: u32 = 0;
+    'drawing: for _ in 0..200 {
+        let lines = drawn_lines(alloc, &mut state)?;
+        let default = Some(set_of(draw(&mut state), 3));
+        let mut cover = Cover { lines, default };
+        let before = cover.copy()?;
+        let covers = cover.covers_all(alloc, &COUNTS)?;
+        cover.absorb()?;
+        let (same, all) = compare(&before, &cover);
+        assert!(rt; same);
+        assert!(rt; covers == all);
+        if covers {
+            covering = covering.saturating_add(1);
+        }
+        if before.lines.len() > cover.lines.len() {
+            gone = gone.saturating_add(1);
+        }
+    }
+    assert!(rt; covering > 20 && gone > 20);
     Ok(())
 }

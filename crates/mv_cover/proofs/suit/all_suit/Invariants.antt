@@ -1,5 +1,5 @@
 use Rattle.mv_cover.proofs.Suiting.{SuitsBehind}
-use Rattle.mv_cover.proofs.tests.suits.Given as goal
+use Rattle.mv_cover.proofs.suit.all_suit.Given as goal
 
 abbrev pub invariant-loop-l : goal.invariant-loop-l
 invariant-loop-l l = SuitsBehind l.counts l.lits l.l-index
