@@ -62,15 +62,3 @@ pub record IsDistinct (ws : List (List ℕ)) : Type 0 where
 abbrev pub names_differ : List (List ℕ) → Bool
 names_differ [] = true
 names_differ (w ∷ ws) = not (among w ws) && names_differ ws
-
--- one of the bytes `#`, `\`, `(` and `{`, which begin what the form doesn't have: comments, joined lines and brackets
-abbrev pub is_reserved : ℕ → Bool
-is_reserved b = (b == 35) || (b == 92) || (b == 40) || (b == 123)
-
--- a lawful name of a net, without these bytes
-unfoldable pub is_plain_name : List ℕ → Bool
-is_plain_name w = is_net_name w && not (list_any is_reserved w)
-
--- a lawful name of a model, without these bytes
-unfoldable pub is_plain_model : List ℕ → Bool
-is_plain_model w = is_model_name w && not (list_any is_reserved w)

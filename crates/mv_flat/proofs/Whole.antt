@@ -6,7 +6,7 @@ use Rattle.std.proofs.lemmas.Bool.{false≢true, and_parts, cases_lt}
 use Rattle.std.proofs.lemmas.List.{get_or_past}
 use Rattle.std.proofs.lemmas.List.Elements.{All-nil, All-cons}
 use Rattle.std.proofs.lemmas.Option.{get_or_from_slice_get, none-some, same_Some}
-use Rattle.mv_base.specs.Names.{among, IsDistinct, is_net_name, is_model_name, is_plain_name, is_plain_model}
+use Rattle.mv_base.specs.Names.{among, IsDistinct, is_net_name, is_model_name}
 use Rattle.mv_base.specs.declared.limits.TheConstants.{MAX_NETS}
 use Rattle.mv_base.specs.declared.number.NetId.{NetId}
 use Rattle.mv_cover.specs.declared.cover.Cover.{Cover}
@@ -59,14 +59,6 @@ no_reset d net n is k =
 
 -- ---- one net
 
-net_name : (w : List ℕ) → is_plain_name w ≡ true → is_net_name w ≡ true
-unfolding is_plain_name
-net_name w h = (and_parts (is_net_name w) _ h).0
-
-model_name : (w : List ℕ) → is_plain_model w ≡ true → is_model_name w ≡ true
-unfolding is_plain_model
-model_name w h = (and_parts (is_model_name w) _ h).0
-
 no_names : IsNamed 2 []
 no_names = record { lawful = refl; differ = refl; each = λ h. absurd (omega arith); spelled = λ e. refl }
 
@@ -81,17 +73,17 @@ plain_columns d net (w ∷ ws) is h =
 input_is_net : (d : Design) (net : NetParts) (n : ℕ) → IsPlaced d net → (p : InputPlace d n) → (f : FlatNet) → input_net p.name ≡ Some f → IsNet net.nets f × IsBinaryNet f
 input_is_net d net n is p f e =
     let P : FlatNet → Type 0 = λ g. IsNet net.nets g × IsBinaryNet g in
-    let plain = all_at is_plain_name d.inputs n p.name is.proper.inputs p.listed in
+    let lawful = all_at is_net_name d.inputs n p.name is.proper.inputs p.listed in
     subst P (same_Some _ f e) (
       record {
         some = omega arith;
         few = lit≤ tt;
         named = no_names;
-        name = λ _. net_name p.name plain;
+        name = λ _. lawful;
         table = refl;
         cover = λ c h. absurd (none-some c h);
       },
-      record { values = refl; numbered = refl; name = plain; default = λ c h. absurd (none-some c h) },
+      record { values = refl; numbered = refl; name = lawful; default = λ c h. absurd (none-some c h) },
     )
 
 table_is_net : (d : Design) (net : NetParts) (n : ℕ) → IsPlaced d net → (p : TablePlace d n) → (f : FlatNet) → slot net.nets n ≡ Some f → IsNet net.nets f × IsBinaryNet f
@@ -106,7 +98,7 @@ table_is_net d net n is p f e =
         some = omega arith;
         few = lit≤ tt;
         named = no_names;
-        name = λ _. net_name p.table.output fit.table.output;
+        name = λ _. fit.table.output;
         table = refl;
         cover = λ c h. subst Q (same_Some t.cover c h) covers;
       },
@@ -261,7 +253,7 @@ formed d net is r =
     let R : List FlatLatch → Type 0 = λ ls. AreKind net.nets Reset (latch_resets ls) in
     let none = sym is.built.latches in
     record {
-      root = ap is_model_name is.built.root ∙ model_name d.name is.proper.name;
+      root = ap is_model_name is.built.root ∙ is.proper.name;
       nets = λ n f e. (net_is d net n f is e).0;
       names = λ n m f g e h s. same_name d net n m f g is e h s;
       inputs = record {
@@ -285,7 +277,7 @@ formed d net is r =
 
 binary : (d : Design) (net : NetParts) → IsPlaced d net → IsBinary net
 binary d net is = record {
-  root = ap is_plain_model is.built.root ∙ is.proper.name;
+  root = ap is_model_name is.built.root ∙ is.proper.name;
   nets = λ n f e. (net_is d net n f is e).1;
   latches = is.built.latches;
 }

@@ -1,47 +1,162 @@
 -- What bytes without a fault are like, and what every line has.
-use Rattle.std.proofs.Common.{◌≡◌, ℕ, ◌+◌, ◌<◌, ◌≤◌, true, not, ◌==◌, List, [], ◌∷◌, ◌++◌, length, Option, Some, None, refl, arith, length-append}
+use Rattle.std.proofs.Common.{◌≡◌, ℕ, ◌+◌, ◌<◌, ◌≤◌, Bool, true, false, not, ◌&&◌, ◌||◌, ◌==◌, List, [], ◌∷◌, ◌++◌, length, Option, Some, None, if◌then◌else◌, refl, ap, sym, ◌∙◌, subst, arith, length-append, append_assoc, ⊎_elim}
 use Rattle.std.specs.Prelude.{nat_le}
 use Rattle.std.specs.List.{All, list_all}
 use Rattle.std.specs.Option.{option_or}
-use Rattle.std.proofs.lemmas.Bool.{cond_both, leb-false, not-false, and_from, not-true, eqb-false}
+use Rattle.std.proofs.lemmas.Bool.{cases_Bool, cond_both, cond-true, cond-false, leb-false, not-false, and_from, and_parts, and_right, not-true, or_left, or_right, eqb-false, false≢true, not_from_false}
+use Rattle.std.proofs.lemmas.List.{append-nil}
+use Rattle.std.proofs.lemmas.List.Folds.{list_all-append}
 use Rattle.std.proofs.lemmas.List.Elements.{All-nil, All-cons, All-append}
 use Rattle.mv_lex.specs.declared.lines.LexLine.{LexLine}
 use Rattle.mv_lex.specs.declared.fault.LexFault.{LexFault}
-use Rattle.mv_lex.specs.Lines.{is_acceptable, is_line_feed, is_blank, nonempty, pieces, words_of, line_at, numbered, lines_of, is_clean, fault_of, fault_at, first_fault, line_number, open_word}
+use Rattle.mv_lex.specs.declared.fault.LexFault.TheVariants.{BadByte, LongWord, OpenBracket}
+use Rattle.mv_lex.specs.declared.parts.Kind.{Kind}
+use Rattle.mv_lex.specs.declared.parts.Kind.TheVariants.{Start, Plain, Bracketed}
+use Rattle.mv_lex.specs.Words.{is_blank, opens, Cut, no_words, cut_of, finished, nonempty, has_long, waits}
+use Rattle.mv_lex.specs.Lines.{is_acceptable, is_line_feed, is_hash, has_hash, before_hash, certain, joins, text_of, texts, joined, unended, all_joined, ended_lines, open_line, pieces, words_of, line_at, numbered, lines_of, is_readable, is_closed, is_clean, line_number, in_comment, text_before, text_with, ends_with_byte, words_fault, fault_at, first_fault, end_fault}
+use Rattle.mv_lex.specs.Reading.{ended_word, kind_byte, with_byte, with_bytes, text_behind}
+use Rattle.mv_lex.proofs.Cuts.{closed-end, closed-more, open_piece-end, open_piece-more}
+use Rattle.mv_lex.proofs.Cutting.{cut_of-bytes}
+use Rattle.mv_lex.proofs.Groups.{joined-more, unended-more, joined-end, unended-end}
+use Rattle.mv_lex.proofs.Tails.{has_hash-push, before_hash-behind, before_hash-begins, before_hash-clear, stands-commented}
+use Rattle.mv_lex.proofs.After.{none_else, joins-commented, texts-push, text-ends}
 
 -- neither of two faults is there if the first of them isn't
 option_or-none : {A : Type 0} (a b : Option A) → option_or a b ≡ None → (a ≡ None) × (b ≡ None)
 option_or-none None b e = (refl, e)
 option_or-none (Some x) b e = cc
 
--- a byte without a fault may stand in a file, and stands within the limit
-fault_of-none : (limit size line : ℕ) (word : List ℕ) (b : ℕ) → fault_of limit size line word b ≡ None → (is_acceptable b ≡ true) × (size < limit)
-fault_of-none limit size line word b =
-    let P : Option LexFault → Type 0 = λ o. o ≡ None → (is_acceptable b ≡ true) × (size < limit) in
-    cond_both (nat_le limit size) _ _ P
-    (λ _ e. cc)
-    (λ n. cond_both (not (is_acceptable b)) _ _ P
-    (λ _ e. cc)
-    (λ a _. (not-false (is_acceptable b) a, leb-false limit size n)))
+-- ---- bytes without a fault are clean
 
--- bytes without a fault are clean
-pub is_clean-from_first_fault : (limit : ℕ) (seen bytes : List ℕ) → first_fault limit seen bytes ≡ None → is_clean bytes ≡ true
-unfolding is_clean fault_at
-is_clean-from_first_fault limit seen [] e = refl
-is_clean-from_first_fault limit seen (b ∷ bytes) e =
+-- where a text ends without a fault no bracket is open
+closed_words : (line : ℕ) (cut : Cut) → words_fault line true cut ≡ None → waits cut.kind ≡ false
+closed_words line cut e = (none_else (waits cut.kind) (OpenBracket line) None (none_else (has_long true cut) (LongWord line) _ e).1).0
+
+-- each line that has ended is readable and closed, and so is the open one where a comment has begun
+pub record IsCleanSoFar (bytes : List ℕ) : Type 0 where
+  pub ended : list_all is_readable (ended_lines bytes) ≡ true
+  pub here : is_readable (open_line bytes) ≡ true
+  pub closed : list_all is_closed (joined (ended_lines bytes)) ≡ true
+  pub commented : in_comment bytes ≡ true → waits (cut_of (text_behind bytes)).kind ≡ false
+
+all_push : {A : Type 0} (p : A → Bool) (xs : List A) (x : A) → list_all p xs ≡ true → p x ≡ true → list_all p (xs ++ x ∷ []) ≡ true
+all_push p xs x all one = list_all-append p xs (x ∷ []) ∙ and_from (list_all p xs) (p x && true) all (and_from (p x) true one refl)
+
+-- the whole open line ends the joined line outside brackets
+closed_group : (bytes : List ℕ) → waits (cut_of (text_before bytes ++ text_of (open_line bytes))).kind ≡ false → is_closed (unended (ended_lines bytes) ++ open_line bytes ∷ []) ≡ true
+closed_group bytes e = not_from_false _ (ap (λ t. waits (cut_of t).kind) (texts-push (unended (ended_lines bytes)) (open_line bytes)) ∙ e)
+
+-- the same behind a comment
+closed_comment : (bytes : List ℕ) → in_comment bytes ≡ true → IsCleanSoFar bytes → waits (cut_of (text_before bytes ++ text_of (open_line bytes))).kind ≡ false
+closed_comment bytes e h = ap (λ t. waits (cut_of t).kind) (text-ends bytes (joins-commented (open_line bytes) e)) ∙ h.commented e
+
+-- a byte without a fault outside a comment
+pub record IsGood (bytes : List ℕ) (b : ℕ) : Type 0 where
+  pub acceptable : is_acceptable b ≡ true
+  pub words : words_fault (line_number bytes) (ends_with_byte bytes b) (cut_of (text_with bytes b)) ≡ None
+
+good_byte : (limit : ℕ) (bytes : List ℕ) (b : ℕ) → fault_at limit bytes b ≡ None → in_comment bytes ≡ false → IsGood bytes b
+unfolding fault_at
+good_byte limit bytes b told e =
+    let within = (none_else (nat_le limit (length bytes)) _ _ told).1 in
+    let clear = sym (cond-false (in_comment bytes) None _ e) ∙ within in
+    let good = none_else (not (is_acceptable b)) (BadByte (line_number bytes) b) _ clear in
+    record { acceptable = not-false (is_acceptable b) good.0; words = good.1 }
+
+-- one more byte
+clean_feed : (limit : ℕ) (bytes : List ℕ) (b : ℕ) → IsCleanSoFar bytes → fault_at limit bytes b ≡ None → is_line_feed b ≡ true → IsCleanSoFar (bytes ++ b ∷ [])
+clean_feed limit bytes b h told f =
+    let line = open_line bytes in
+    let lines = closed-end is_line_feed bytes b f in
+    let nothing = open_piece-end is_line_feed bytes b f in
+    record {
+      ended = rw lines (all_push is_readable (ended_lines bytes) line h.ended h.here);
+      here = rw nothing refl;
+      closed = rw lines (⊎_elim
+          (λ (goes : joins line ≡ true). rw (joined-more (ended_lines bytes) line goes) h.closed)
+          (λ (stops : joins line ≡ false). rw (joined-end (ended_lines bytes) line stops) (all_push is_closed (joined (ended_lines bytes)) (unended (ended_lines bytes) ++ line ∷ []) h.closed (closed_group bytes (⊎_elim
+          (λ (e : in_comment bytes ≡ true). closed_comment bytes e h)
+          (λ (e : in_comment bytes ≡ false). (
+          let ends : ends_with_byte bytes b ≡ true = or_right (is_hash b) (is_line_feed b && not (joins line)) (and_from (is_line_feed b) (not (joins line)) f (not_from_false (joins line) stops)) in
+          let words = rw ends at (good_byte limit bytes b told e).words in
+          ap (λ t. waits (cut_of t).kind) (sym (ap (λ t. text_before bytes ++ t) (cond-true (is_line_feed b) _ _ f))) ∙ closed_words (line_number bytes) (cut_of (text_with bytes b)) words
+          ))
+          (cases_Bool (in_comment bytes))))))
+          (cases_Bool (joins line)));
+      commented = λ e. absurd (false≢true (sym (ap has_hash nothing) ∙ e));
+    }
+
+clean_byte : (limit : ℕ) (bytes : List ℕ) (b : ℕ) → IsCleanSoFar bytes → fault_at limit bytes b ≡ None → is_line_feed b ≡ false → IsCleanSoFar (bytes ++ b ∷ [])
+clean_byte limit bytes b h told n =
+    let line = open_line bytes in
+    let lines = closed-more is_line_feed bytes b n in
+    let longer = open_piece-more is_line_feed bytes b n in
+    let text : text_behind (bytes ++ b ∷ []) ≡ text_with bytes b = rw (lines, longer) (ap (λ t. text_before bytes ++ t) (sym (cond-false (is_line_feed b) _ _ n))) in
+    record {
+      ended = rw lines h.ended;
+      here = rw longer (⊎_elim
+          (λ (e : in_comment bytes ≡ true). rw (before_hash-behind line b e) h.here)
+          (λ (e : in_comment bytes ≡ false). (
+          let good = (good_byte limit bytes b told e).acceptable in
+          let all : list_all is_acceptable line ≡ true = sym (ap (list_all is_acceptable) (before_hash-clear line e)) ∙ h.here in
+          ⊎_elim
+          (λ (hash : is_hash b ≡ true). rw (before_hash-begins line b e hash) all)
+          (λ (clear : is_hash b ≡ false). rw (before_hash-clear (line ++ b ∷ []) (has_hash-push line b ∙ rw (e, clear) refl)) (all_push is_acceptable line b all good))
+          (cases_Bool (is_hash b))
+          ))
+          (cases_Bool (in_comment bytes)));
+      closed = rw lines h.closed;
+      commented = λ later. ⊎_elim
+          (λ (e : in_comment bytes ≡ true). (
+          let same : text_behind (bytes ++ b ∷ []) ≡ text_behind bytes = rw (lines, longer) (ap (λ t. text_before bytes ++ t) (stands-commented line b e).text_is) in
+          ap (λ t. waits (cut_of t).kind) same ∙ h.commented e
+          ))
+          (λ (e : in_comment bytes ≡ false). (
+          let shown : has_hash (line ++ b ∷ []) ≡ is_hash b = has_hash-push line b ∙ rw e refl in
+          let hash : is_hash b ≡ true = sym shown ∙ (sym (ap has_hash longer) ∙ later) in
+          let ends : ends_with_byte bytes b ≡ true = or_left (is_hash b) (is_line_feed b && not (joins line)) hash in
+          let words = rw ends at (good_byte limit bytes b told e).words in
+          ap (λ t. waits (cut_of t).kind) text ∙ closed_words (line_number bytes) (cut_of (text_with bytes b)) words
+          ))
+          (cases_Bool (in_comment bytes));
+    }
+
+clean_behind : (limit : ℕ) (seen bytes : List ℕ) → IsCleanSoFar seen → first_fault limit seen bytes ≡ None → IsCleanSoFar (seen ++ bytes)
+clean_behind limit seen [] h e = rw (append-nil seen) h
+clean_behind limit seen (b ∷ bytes) h e =
     let both = option_or-none (fault_at limit seen b) (first_fault limit (seen ++ b ∷ []) bytes) e in
-    and_from (is_acceptable b) (list_all is_acceptable bytes)
-    (fault_of-none limit (length seen) (line_number seen) (open_word seen) b both.0).0
-    (is_clean-from_first_fault limit (seen ++ b ∷ []) bytes both.1)
+    let next : IsCleanSoFar (seen ++ b ∷ []) = ⊎_elim (clean_feed limit seen b h both.0) (clean_byte limit seen b h both.0) (cases_Bool (is_line_feed b)) in
+    subst IsCleanSoFar (append_assoc seen (b ∷ []) bytes) (clean_behind limit (seen ++ b ∷ []) bytes next both.1)
+
+clean_end : (bytes : List ℕ) → IsCleanSoFar bytes → end_fault bytes ≡ None → is_clean bytes ≡ true
+unfolding is_clean end_fault cut_of
+clean_end bytes h told =
+    let line = open_line bytes in
+    let lines = ended_lines bytes in
+    let last : is_closed (unended lines ++ line ∷ []) ≡ true = closed_group bytes (⊎_elim
+    (λ (e : in_comment bytes ≡ true). closed_comment bytes e h)
+    (λ (e : in_comment bytes ≡ false). closed_words (line_number bytes) (cut_of (text_before bytes ++ text_of line)) (sym (cond-false (in_comment bytes) None _ e) ∙ told))
+    (cases_Bool (in_comment bytes))) in
+    let groups = all_push is_closed (joined lines) (unended lines ++ line ∷ []) h.closed last in
+    and_from _ _ (all_push is_readable lines line h.ended h.here) (⊎_elim
+    (λ (goes : joins line ≡ true). rw (joined-more lines line goes, unended-more lines line goes) groups)
+    (λ (stops : joins line ≡ false). rw (joined-end lines line stops, unended-end lines line stops) (all_push is_closed (joined lines ++ (unended lines ++ line ∷ []) ∷ []) [] groups refl))
+    (cases_Bool (joins line)))
+
+pub is_clean-from_first_fault : (limit : ℕ) (bytes : List ℕ) → first_fault limit [] bytes ≡ None → end_fault bytes ≡ None → is_clean bytes ≡ true
+is_clean-from_first_fault limit bytes first last =
+    clean_end bytes (clean_behind limit [] bytes (record { ended = refl; here = refl; closed = refl; commented = λ e. absurd (false≢true e) }) first) last
+
+-- ---- the limit
 
 length-from_first_fault_behind : (limit : ℕ) (seen bytes : List ℕ) → length seen ≤ limit → first_fault limit seen bytes ≡ None → length seen + length bytes ≤ limit
 unfolding fault_at
 length-from_first_fault_behind limit seen [] h e = omega arith
 length-from_first_fault_behind limit seen (b ∷ bytes) h e =
     let both = option_or-none (fault_at limit seen b) (first_fault limit (seen ++ b ∷ []) bytes) e in
-    let within = fault_of-none limit (length seen) (line_number seen) (open_word seen) b both.0 in
+    let within = leb-false limit (length seen) (none_else (nat_le limit (length seen)) _ _ both.0).0 in
     let longer : length (seen ++ b ∷ []) ≡ length seen + 1 = length-append seen (b ∷ []) in
-    let fits : length (seen ++ b ∷ []) ≤ limit = omega (arith, within.1, longer) in
+    let fits : length (seen ++ b ∷ []) ≤ limit = omega (arith, within, longer) in
     omega (arith, longer, length-from_first_fault_behind limit (seen ++ b ∷ []) bytes fits both.1)
 
 -- bytes without a fault are no more than the limit
@@ -49,20 +164,22 @@ pub length-from_first_fault : (limit : ℕ) (bytes : List ℕ) → first_fault l
 length-from_first_fault limit bytes e =
     omega (arith, length-from_first_fault_behind limit [] bytes (omega arith) e)
 
+-- ---- what every line has
+
 line_at-words : (number : ℕ) (words : List (List ℕ)) → All (λ (l : LexLine). 0 < length l.words) (line_at number words)
 line_at-words number [] = All-nil (λ (l : LexLine). 0 < length l.words)
 line_at-words number (w ∷ ws) =
     All-cons (λ (l : LexLine). 0 < length l.words) _ [] (omega arith) (All-nil (λ (l : LexLine). 0 < length l.words))
 
-numbered-words : (number : ℕ) (lines : List (List ℕ)) → All (λ (l : LexLine). 0 < length l.words) (numbered number lines)
+numbered-words : (number : ℕ) (groups : List (List (List ℕ))) → All (λ (l : LexLine). 0 < length l.words) (numbered number groups)
 numbered-words number [] = All-nil (λ (l : LexLine). 0 < length l.words)
-numbered-words number (line ∷ lines) =
-    All-append (λ (l : LexLine). 0 < length l.words) (line_at number (words_of line)) (numbered (number + 1) lines) (line_at-words number (words_of line)) (numbered-words (number + 1) lines)
+numbered-words number (group ∷ groups) =
+    All-append (λ (l : LexLine). 0 < length l.words) (line_at number (words_of (texts group))) (numbered (number + length group) groups) (line_at-words number (words_of (texts group))) (numbered-words (number + length group) groups)
 
 -- each line has a word
 pub lines_of-words : (bytes : List ℕ) → All (λ (l : LexLine). 0 < length l.words) (lines_of bytes)
 unfolding lines_of
-lines_of-words bytes = numbered-words 1 (pieces is_line_feed bytes)
+lines_of-words bytes = numbered-words 1 (all_joined (pieces is_line_feed bytes))
 
 nonempty-each : (words : List (List ℕ)) → All (λ w. 0 < length w) (nonempty words)
 nonempty-each [] = All-nil (λ w. 0 < length w)
@@ -71,17 +188,43 @@ nonempty-each (w ∷ words) =
     (λ e. let some = eqb-false (length w) 0 (not-true (length w == 0) e) in All-cons (λ w. 0 < length w) w (nonempty words) (omega arith) (nonempty-each words))
     (λ _. nonempty-each words)
 
+-- each word of a cut that has ended has a byte
+ended_each : (words : List (List ℕ)) (word : List ℕ) → All (λ w. 0 < length w) words → All (λ w. 0 < length w) (ended_word words word).words
+ended_each words word all = All-append (λ w. 0 < length w) words (nonempty (word ∷ [])) all (nonempty-each (word ∷ []))
+
+each_byte : (words : List (List ℕ)) (word : List ℕ) (kind : Kind) (b : ℕ) → All (λ w. 0 < length w) words → All (λ w. 0 < length w) (kind_byte words word kind b).words
+each_byte words word Start b all =
+    let P : Cut → Type 0 = λ c. All (λ w. 0 < length w) c.words in
+    cond_both (is_blank b) _ _ P (λ _. ended_each words word all) (λ _. cond_both (opens b) _ _ P (λ _. all) (λ _. all))
+each_byte words word Plain b all =
+    let P : Cut → Type 0 = λ c. All (λ w. 0 < length w) c.words in
+    cond_both (is_blank b) _ _ P (λ _. ended_each words word all) (λ _. all)
+each_byte words word (Bracketed end) b all =
+    let P : Cut → Type 0 = λ c. All (λ w. 0 < length w) c.words in
+    cond_both (is_blank b) _ _ P (λ _. all) (λ _. cond_both (b == end) _ _ P (λ _. ended_each words (word ++ b ∷ []) all) (λ _. all))
+
+each_bytes : (cut : Cut) (bs : List ℕ) → All (λ w. 0 < length w) cut.words → All (λ w. 0 < length w) (with_bytes cut bs).words
+unfolding with_byte
+each_bytes cut [] all = all
+each_bytes cut (b ∷ bs) all = each_bytes (kind_byte cut.words cut.word cut.kind b) bs (each_byte cut.words cut.word cut.kind b all)
+
+words_of-each : (text : List ℕ) → All (λ w. 0 < length w) (words_of text)
+words_of-each text =
+    let P : Cut → Type 0 = λ c. All (λ w. 0 < length w) c.words in
+    let ended = subst P (sym (cut_of-bytes text)) (each_bytes no_words text (All-nil (λ w. 0 < length w))) in
+    ended_each (cut_of text).words (cut_of text).word ended
+
 line_at-each : (number : ℕ) (words : List (List ℕ)) → All (λ w. 0 < length w) words → All (λ (l : LexLine). All (λ w. 0 < length w) l.words) (line_at number words)
 line_at-each number [] h = All-nil (λ (l : LexLine). All (λ w. 0 < length w) l.words)
 line_at-each number (w ∷ ws) h =
     All-cons (λ (l : LexLine). All (λ w. 0 < length w) l.words) _ [] h (All-nil (λ (l : LexLine). All (λ w. 0 < length w) l.words))
 
-numbered-each : (number : ℕ) (lines : List (List ℕ)) → All (λ (l : LexLine). All (λ w. 0 < length w) l.words) (numbered number lines)
+numbered-each : (number : ℕ) (groups : List (List (List ℕ))) → All (λ (l : LexLine). All (λ w. 0 < length w) l.words) (numbered number groups)
 numbered-each number [] = All-nil (λ (l : LexLine). All (λ w. 0 < length w) l.words)
-numbered-each number (line ∷ lines) =
-    All-append (λ (l : LexLine). All (λ w. 0 < length w) l.words) (line_at number (words_of line)) (numbered (number + 1) lines) (line_at-each number (words_of line) (nonempty-each (pieces is_blank line))) (numbered-each (number + 1) lines)
+numbered-each number (group ∷ groups) =
+    All-append (λ (l : LexLine). All (λ w. 0 < length w) l.words) (line_at number (words_of (texts group))) (numbered (number + length group) groups) (line_at-each number (words_of (texts group)) (words_of-each (texts group))) (numbered-each (number + length group) groups)
 
 -- each word has a byte
 pub lines_of-each_word : (bytes : List ℕ) → All (λ (l : LexLine). All (λ w. 0 < length w) l.words) (lines_of bytes)
 unfolding lines_of
-lines_of-each_word bytes = numbered-each 1 (pieces is_line_feed bytes)
+lines_of-each_word bytes = numbered-each 1 (all_joined (pieces is_line_feed bytes))

@@ -1,4 +1,9 @@
 pub mod Cuts
+pub mod Cutting
+pub mod Tails
+pub mod Groups
+pub mod Longs
 pub mod After
-pub mod Written
 pub mod Facts
+pub mod Written
+pub mod Letters

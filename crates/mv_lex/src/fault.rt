@@ -6,13 +6,13 @@ use thiserror::Error;
 /// can be told.
 #[derive(Clone, Copy, Debug, PartialEq, Eq, Error)]
 pub enum LexFault {
-    /// A byte that is neither visible nor a blank nor a line feed.
+    /// A byte outside a comment that is neither visible nor a blank nor a line feed.
     #[error("line {line}: the byte {byte} may not stand in a file")]
     BadByte { line: u32, byte: u8 },
-    /// A word of more than `MAX_WORD_BYTES` bytes.
+    /// A word of more than `MAX_WORD_BYTES` bytes, or a bracketed one of more than `MAX_BRACKETED_BYTES`.
     #[error("line {line}: a word is too long")]
     LongWord { line: u32 },
-    /// A bracketed word without its end. In this version no file has this fault.
+    /// A bracketed word that isn't closed where a comment begins, its line ends or the file does.
     #[error("line {line}: a bracket is not closed")]
     OpenBracket { line: u32 },
     /// A file of more bytes than the limit.

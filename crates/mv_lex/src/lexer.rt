@@ -1,26 +1,27 @@
-ghost use Rattle.std.specs.Prelude.{◌≡◌};
-ghost use Rattle.mv_lex.specs.Lines.{is_line_feed as line_feed, is_blank as blank};
-ghost use Rattle.mv_base.specs.Names.{is_visible as visible};
+ghost use Rattle.std.specs.Prelude.{◌≡◌, ◌++◌, OnOk, OnErr, IfErr, IfOk};
+ghost use Rattle.mv_lex.specs.Lines.{is_acceptable as acceptable, line_at};
 
+use crate::cutter::{Cutter, is_blank};
+use crate::parts::Place;
 use crate::{LexFault, LexLine, Lines};
-use mv_base::{Items, MAX_WORD_BYTES, Name};
+use mv_base::{Items, Name};
 use std::alloc::Global;
 use std::marker::Model;
-use std::mem;
 
 /// Cuts the bytes of a file, fed in pieces of any size, into lines of words.
 #[derive(Drop)]
 pub struct Lexer {
-    alloc: Global,
     limit: u64,
     /// How many bytes were read.
     size: u64,
     /// The number of the physical line that is still open.
     here: u32,
-    /// The finished words of that line.
-    words: Items<Name>,
-    /// The bytes of its last word, which may go on.
-    word: Vec<u8>,
+    /// The number of the first physical line of the joined line that it belongs to.
+    start: u32,
+    /// Where in the physical line the next byte stands.
+    place: Place,
+    /// The text of the joined line, cut into words.
+    text: Cutter,
     /// The fault that ended the reading.
     failed: Option<LexFault>,
 }
@@ -31,31 +32,33 @@ impl Model for Lexer {
 
     ghost Value = { Reading };
 
-    ghost view = { λ s. record { limit = s.limit; size = s.size; here = s.here; words = s.words; word = s.word.items; failed = s.failed } };
+    ghost view = { λ s. record { limit = s.limit; size = s.size; here = s.here; start = s.start; place = s.place; cut = s.text; failed = s.failed } };
 
     ghost invariant = { λ s. (s.here ≤ s.size + 1) × (s.size ≤ s.limit) × (s.limit < 2 ^ 32 - 1) };
 }
 
 impl Lexer {
-    ghost use Rattle.std.specs.Prelude.{◌≡◌, ℕ, ◌<◌, ◌-◌, ◌^◌, ◌+◌, ◌++◌, ◌⊎◌, List, [], ◌∷◌, length, take, OnOk, OnErr, IfErr, MatchResult};
+    ghost use Rattle.std.specs.Prelude.{ℕ, ◌<◌, ◌≤◌, ◌-◌, ◌^◌, ◌+◌, ◌⊎◌, List, [], ◌∷◌, length, take, true, false, MatchResult, Some, None, Err};
     ghost use Rattle.mv_lex.specs.declared.lines.LexLine.{LexLine};
     ghost use Rattle.mv_lex.specs.declared.fault.LexFault.{LexFault};
-    ghost use Rattle.mv_lex.specs.Lines.{line_at, complete, lines_of, first_fault, end_fault};
-    ghost use Rattle.mv_lex.specs.Reading.{IsAfter, HasRead, all_words, fault_now, stepped, ended};
+    ghost use Rattle.mv_lex.specs.Words.{finished, no_words};
+    ghost use Rattle.mv_lex.specs.Lines.{complete, lines_of, first_fault, end_fault};
+    ghost use Rattle.mv_lex.specs.Reading.{Reading, IsAfter, HasRead, TakesLetters, with_letters, long_with, end_fault_of, held, long_with_bytes, settled, text_fault, text_step, new_line, next_line, fault_now, stepped, ended, end_now, end_cut};
 
-    /// A lexer that has read nothing yet, and will read so many bytes at most.
+    /// A lexer that has read nothing yet, and will read so many bytes at most. It takes no memory.
+    #[tactic(auto, unfolding(crate::specs::Words::cut_of))]
     pub fn new(alloc: Global, limit: u64) -> Self
         requires { limit < 2 ^ 32 - 1 }
         ensures start { IsAfter result [] }
         ensures limit { result.limit ≡ limit }
     {
         Lexer {
-            alloc,
             limit,
             size: 0,
             here: 1,
-            words: Items::new(alloc),
-            word: Vec::new(alloc),
+            start: 1,
+            place: Place::Text,
+            text: Cutter::new(alloc),
             failed: None,
         }
     }
@@ -92,8 +95,8 @@ impl Lexer {
     /// Ends the bytes, and adds the last line, if it has words and no line feed.
     ///
     /// On an error the lines are as before the call. The error is want of memory, or the fault told at
-    /// the end, of which there is none in this version, or the one that an earlier call gave.
-    #[tactic(auto, unfolding(crate::specs::Lines::end_fault))]
+    /// the end of the bytes, or the one that an earlier call gave.
+    #[tactic(auto, using(crate::proofs::After::finishing))]
     pub fn finish(mut self, lines: &mut Lines) -> Result<(), LexFault>
         ensures lines { (bytes : List ℕ) (earlier : List LexLine) → IsAfter self bytes → lines.old ≡ earlier ++ complete bytes → OnOk result (lines.new ≡ earlier ++ lines_of bytes) }
         ensures fault { (bytes : List ℕ) → IsAfter self bytes → MatchResult result (λ _. end_fault bytes ≡ None) (λ f. (f ≡ LexFault.Memory) ⊎ (end_fault bytes ≡ Some f)) }
@@ -103,8 +106,10 @@ impl Lexer {
         if let Some(fault) = self.failed {
             return Err(fault);
         }
-        self.end_word()?;
-        self.give_line(lines)
+        match self.end_text() {
+            Ok(()) => self.give_line(lines),
+            Err(fault) => Err(fault),
+        }
     }
 
     /// Reads the bytes up to the first fault.
@@ -113,84 +118,67 @@ impl Lexer {
         ensures fault { (bytes : List ℕ) → IsAfter self.old bytes → IfErr result (λ f. (f ≡ LexFault.Memory) ⊎ (first_fault self.old.limit [] (bytes ++ piece.now) ≡ Some f)) }
         ensures front { OnErr result (take (length lines.old) lines.new ≡ lines.old) }
     {
-        for b in piece {
-            self.read(*b, lines)?;
+        let mut at = 0;
+        while at < piece.len() {
+            at += self.read_some(&piece[at..], lines)?;
         }
         Ok(())
     }
 
-    /// Puts the last word, if it has a byte, to the finished ones.
-    fn end_word(&mut self) -> Result<(), LexFault>
-        ensures ok { OnOk result (self.new ≡ record self.old { words = all_words self.old; word = [] }) }
-        ensures err { IfErr result (λ f. f ≡ LexFault.Memory) }
-    {
-        if self.word.is_empty() {
-            return Ok(());
-        }
-        let word = Name::new(self.alloc, self.word.as_slice())?;
-        self.words.push(word)?;
-        self.word.clear();
-        Ok(())
-    }
-
-    /// Gives the finished words as a line, if there are any.
-    fn give_line(&mut self, lines: &mut Lines) -> Result<(), LexFault>
-        ensures ok { OnOk result (self.new ≡ record self.old { words = [] }) }
-        ensures lines { OnOk result (lines.new ≡ lines.old ++ line_at self.old.here self.old.words) }
-        ensures err { IfErr result (λ f. f ≡ LexFault.Memory) }
+    /// Reads the first byte of the rest of a piece, or at once all letters at its front, and answers how many bytes it
+    /// read.
+    fn read_some(&mut self, rest: &[u8], lines: &mut Lines) -> Result<usize, LexFault>
+        requires { 0 < length rest.now }
+        ensures some { IfOk result (λ count. (0 < count) × (count ≤ length rest.now)) }
+        ensures ok { IfOk result (λ count. HasRead self.old self.new lines.old lines.new (take count rest.now)) }
+        ensures fault { (bytes : List ℕ) → IsAfter self.old bytes → IfErr result (λ f. (f ≡ LexFault.Memory) ⊎ (first_fault self.old.limit [] (bytes ++ rest.now) ≡ Some f)) }
         ensures unchanged { OnErr result (lines.new ≡ lines.old) }
     {
-        if self.words.as_slice().is_empty() {
-            return Ok(());
+        let count = self.letters_in(rest);
+        if count == 0 {
+            return match self.read(rest[0], lines) {
+                Ok(()) => Ok(1),
+                Err(fault) => Err(fault),
+            };
         }
-        let words = mem::replace(&mut self.words, Items::new(self.alloc));
-        lines.list.push(LexLine {
-            number: self.here,
-            words,
-        })?;
-        Ok(())
+        match self.add_letters(&rest[..count]) {
+            Ok(()) => Ok(count),
+            Err(fault) => Err(fault),
+        }
     }
 
-    /// Reads a line feed.
-    fn end_line(&mut self, lines: &mut Lines) -> Result<(), LexFault>
-        requires { self.old.size < self.old.limit }
-        ensures ok { OnOk result (self.new ≡ record self.old { size = self.old.size + 1; here = self.old.here + 1; words = []; word = [] }) }
-        ensures lines { OnOk result (lines.new ≡ lines.old ++ line_at self.old.here (all_words self.old)) }
-        ensures err { IfErr result (λ f. f ≡ LexFault.Memory) }
-        ensures unchanged { OnErr result (lines.new ≡ lines.old) }
+    /// How many bytes at the front of these are letters of the word that the text ends with, within its limit and the
+    /// limit of the file.
+    fn letters_in(&self, bytes: &[u8]) -> usize
+        ensures within { result ≤ length bytes.now }
+        ensures letters { 0 < result → TakesLetters self.now (take result bytes.now) }
     {
-        self.end_word()?;
-        self.give_line(lines)?;
-        self.size += 1;
-        self.here += 1;
-        Ok(())
+        if self.place != Place::Text {
+            return 0;
+        }
+        let left = self.limit - self.size;
+        if left < bytes.len() as u64 {
+            return 0;
+        }
+        self.text.letters_in(bytes)
     }
 
-    /// Reads a blank.
-    fn pass_blank(&mut self) -> Result<(), LexFault>
-        requires { self.old.size < self.old.limit }
-        ensures ok { OnOk result (self.new ≡ record self.old { size = self.old.size + 1; words = all_words self.old; word = [] }) }
+    /// Adds letters to the word that the text ends with.
+    fn add_letters(&mut self, letters: &[u8]) -> Result<(), LexFault>
+        requires { TakesLetters self.old letters.now }
+        ensures ok { OnOk result (self.new ≡ with_letters self.old letters.now) }
         ensures err { IfErr result (λ f. f ≡ LexFault.Memory) }
     {
-        self.end_word()?;
-        self.size += 1;
-        Ok(())
-    }
-
-    /// Reads a byte of a word.
-    fn add(&mut self, b: u8) -> Result<(), LexFault>
-        requires { self.old.size < self.old.limit }
-        ensures ok { OnOk result (self.new ≡ record self.old { size = self.old.size + 1; word = self.old.word ++ b ∷ [] }) }
-        ensures err { IfErr result (λ f. f ≡ LexFault.Memory) }
-    {
-        self.word.push(b)?;
-        self.size += 1;
+        self.text.add_letters(letters)?;
+        self.size += letters.len() as u64;
         Ok(())
     }
 
     /// Reads a byte.
+    #[tactic(auto, unfolding(crate::specs::Reading::fault_now, crate::specs::Reading::stepped, crate::specs::Reading::ended))]
     fn read(&mut self, b: u8, lines: &mut Lines) -> Result<(), LexFault>
-        ensures ok { OnOk result ((fault_now self.old b ≡ None) × (self.new ≡ stepped self.old b)) }
+        ensures ok { OnOk result (self.new ≡ stepped self.old b) }
+        ensures clean { OnOk result (fault_now self.old b ≡ None) }
         ensures lines { OnOk result (lines.new ≡ lines.old ++ ended self.old b) }
         ensures err { IfErr result (λ f. (f ≡ LexFault.Memory) ⊎ (fault_now self.old b ≡ Some f)) }
         ensures unchanged { OnErr result (lines.new ≡ lines.old) }
@@ -198,39 +186,162 @@ impl Lexer {
         if self.size >= self.limit {
             return Err(LexFault::TooLarge { line: self.here });
         }
-        if is_line_feed(b) {
-            return self.end_line(lines);
+        match self.place {
+            Place::Text if b == b'\n' => self.end_line(lines),
+            Place::Backslash | Place::Return if b == b'\n' => self.join_line(),
+            Place::Comment if b == b'\n' => self.pass_line(lines),
+            Place::Comment => self.pass(),
+            _ => self.read_text(b),
         }
-        if is_blank(b) {
-            return self.pass_blank();
+    }
+
+    /// Reads a byte of a comment.
+    fn pass(&mut self) -> Result<(), LexFault>
+        requires { self.old.size < self.old.limit }
+        ensures ok { OnOk result (self.new ≡ record self.old { size = self.old.size + 1 }) }
+        ensures err { OnErr result ⊥ }
+    {
+        self.size += 1;
+        Ok(())
+    }
+
+    /// Reads the line feed that ends a joined line, in whose text no word may end where it doesn't.
+    fn end_line(&mut self, lines: &mut Lines) -> Result<(), LexFault>
+        requires { self.old.size < self.old.limit }
+        ensures ok { OnOk result (self.new ≡ new_line self.old) }
+        ensures clean { OnOk result (end_fault_of self.old.here self.old.cut ≡ None) }
+        ensures lines { OnOk result (lines.new ≡ lines.old ++ line_at self.old.start (finished self.old.cut)) }
+        ensures err { IfErr result (λ f. (f ≡ LexFault.Memory) ⊎ (end_fault_of self.old.here self.old.cut ≡ Some f)) }
+        ensures unchanged { OnErr result (lines.new ≡ lines.old) }
+    {
+        self.text.check_end(self.here)?;
+        self.pass_line(lines)
+    }
+
+    /// Reads the line feed that ends a joined line, whose end was checked.
+    fn pass_line(&mut self, lines: &mut Lines) -> Result<(), LexFault>
+        requires { self.old.size < self.old.limit }
+        ensures ok { OnOk result (self.new ≡ new_line self.old) }
+        ensures lines { OnOk result (lines.new ≡ lines.old ++ line_at self.old.start (finished self.old.cut)) }
+        ensures err { IfErr result (λ f. f ≡ LexFault.Memory) }
+        ensures unchanged { OnErr result (lines.new ≡ lines.old) }
+    {
+        self.give_line(lines)?;
+        self.size += 1;
+        self.here += 1;
+        self.start = self.here;
+        self.place = Place::Text;
+        Ok(())
+    }
+
+    /// Reads a line feed behind a `\`, which joins the next line to this one.
+    fn join_line(&mut self) -> Result<(), LexFault>
+        requires { self.old.size < self.old.limit }
+        ensures ok { OnOk result (self.new ≡ next_line self.old) }
+        ensures clean { OnOk result (long_with self.old.cut 32 ≡ false) }
+        ensures err { IfErr result (λ f. (f ≡ LexFault.Memory) ⊎ ((f ≡ LexFault.LongWord self.old.here) × (long_with self.old.cut 32 ≡ true))) }
+    {
+        self.text.take(b' ', self.here)?;
+        self.size += 1;
+        self.here += 1;
+        self.place = Place::Text;
+        Ok(())
+    }
+
+    /// Ends the text where the bytes end: a `\` at its end counts as a blank.
+    #[tactic(auto, unfolding(crate::specs::Reading::end_now, crate::specs::Reading::end_cut))]
+    fn end_text(&mut self) -> Result<(), LexFault>
+        ensures ok { OnOk result (self.new ≡ record self.old { cut = end_cut self.old }) }
+        ensures fault { MatchResult result (λ _. end_now self.old ≡ None) (λ f. (f ≡ LexFault.Memory) ⊎ (end_now self.old ≡ Some f)) }
+    {
+        match self.place {
+            Place::Comment => return Ok(()),
+            Place::Text => {}
+            Place::Backslash | Place::Return => self.text.take(b' ', self.here)?,
         }
-        if !is_visible(b) {
+        self.text.check_end(self.here)
+    }
+
+    /// Gives the words of the joined line as a line, if there are any.
+    fn give_line(&mut self, lines: &mut Lines) -> Result<(), LexFault>
+        ensures ok { OnOk result (self.new ≡ record self.old { cut = no_words }) }
+        ensures lines { OnOk result (lines.new ≡ lines.old ++ line_at self.old.start (finished self.old.cut)) }
+        ensures err { IfErr result (λ f. f ≡ LexFault.Memory) }
+        ensures unchanged { OnErr result (lines.new ≡ lines.old) }
+    {
+        let words = self.text.give()?;
+        put_line(lines, self.start, words)
+    }
+
+    /// Reads a byte that is no line feed, outside a comment.
+    #[tactic(auto, unfolding(crate::specs::Reading::text_fault, crate::specs::Reading::text_step))]
+    fn read_text(&mut self, b: u8) -> Result<(), LexFault>
+        requires { self.old.size < self.old.limit }
+        ensures ok { OnOk result (self.new ≡ text_step self.old b) }
+        ensures clean { OnOk result (text_fault self.old b ≡ None) }
+        ensures err { IfErr result (λ f. (f ≡ LexFault.Memory) ⊎ (text_fault self.old b ≡ Some f)) }
+    {
+        if !is_acceptable(b) {
             return Err(LexFault::BadByte {
                 line: self.here,
                 byte: b,
             });
         }
-        if self.word.len() as u64 >= MAX_WORD_BYTES {
-            return Err(LexFault::LongWord { line: self.here });
+        if b == b'\r' && self.place == Place::Backslash {
+            self.place = Place::Return;
+            self.size += 1;
+            return Ok(());
         }
-        self.add(b)
+        self.settle()?;
+        match b {
+            b'#' => {
+                self.text.check_end(self.here)?;
+                self.place = Place::Comment;
+            }
+            b'\\' => self.place = Place::Backslash,
+            _ => {
+                self.text.take(b, self.here)?;
+                self.place = Place::Text;
+            }
+        }
+        self.size += 1;
+        Ok(())
+    }
+
+    /// Takes the bytes that were held back into the text: they are ordinary ones.
+    #[tactic(auto, unfolding(crate::specs::Reading::settled))]
+    fn settle(&mut self) -> Result<(), LexFault>
+        ensures ok { OnOk result (self.new ≡ record self.old { cut = settled self.old }) }
+        ensures clean { OnOk result (long_with_bytes self.old.cut (held self.old.place) ≡ false) }
+        ensures err { IfErr result (λ f. (f ≡ LexFault.Memory) ⊎ ((f ≡ LexFault.LongWord self.old.here) × (long_with_bytes self.old.cut (held self.old.place) ≡ true))) }
+    {
+        match self.place {
+            Place::Text | Place::Comment => Ok(()),
+            Place::Backslash => self.text.take(b'\\', self.here),
+            Place::Return => {
+                self.text.take(b'\\', self.here)?;
+                self.text.take(b'\r', self.here)
+            }
+        }
     }
 }
 
-fn is_line_feed(b: u8) -> bool
-    ensures { result ≡ line_feed b }
+/// Adds a line with this number and these words, if there are any.
+fn put_line(lines: &mut Lines, number: u32, words: Items<Name>) -> Result<(), LexFault>
+    ensures lines { OnOk result (lines.new ≡ lines.old ++ line_at number words) }
+    ensures err { IfErr result (λ f. f ≡ LexFault.Memory) }
+    ensures unchanged { OnErr result (lines.new ≡ lines.old) }
 {
-    b == b'\n'
+    if words.as_slice().is_empty() {
+        return Ok(());
+    }
+    lines.list.push(LexLine { number, words })?;
+    Ok(())
 }
 
-fn is_blank(b: u8) -> bool
-    ensures { result ≡ blank b }
+/// Whether the byte may stand outside a comment.
+fn is_acceptable(b: u8) -> bool
+    ensures { result ≡ acceptable b }
 {
-    b == b' ' || b == b'\t' || b == b'\r'
-}
-
-fn is_visible(b: u8) -> bool
-    ensures { result ≡ visible b }
-{
-    b >= b'!' && b <= b'~'
+    b == b'\n' || is_blank(b) || (b >= b'!' && b <= b'~')
 }

@@ -4,7 +4,7 @@ use Rattle.std.specs.Prelude.{codes, nat_eq, nat_le}
 use Rattle.std.specs.List.{list_all, flat_map}
 use Rattle.std.proofs.lemmas.Bool.{and_parts, and_from, eqb-true, leb-true, le-leb}
 use Rattle.std.proofs.Math.Seq.{take-append_seam}
-use Rattle.mv_base.specs.Names.{names_differ, is_plain_name, is_plain_model}
+use Rattle.mv_base.specs.Names.{names_differ, is_net_name, is_model_name}
 use Rattle.mv_base.proofs.NameLemmas.{same_word_is, same_word_refl}
 use Rattle.mv_parse.specs.declared.design.FileTable.{FileTable}
 use Rattle.mv_parse.specs.declared.design.Design.{Design}
@@ -42,7 +42,7 @@ pub record FitFile (lines : List (List (List ℕ))) : Type 0 where
   pub long : 4 ≤ length lines
   pub model_words : length (line_at lines 0) ≡ 2
   pub model_first : first_is (codes ".model") (line_at lines 0) ≡ true
-  pub name : is_plain_model (get_or (line_at lines 0) 1 []) ≡ true
+  pub name : is_model_name (get_or (line_at lines 0) 1 []) ≡ true
   pub end_words : length (line_at lines (length lines - 1)) ≡ 1
   pub end_first : first_is (codes ".end") (line_at lines (length lines - 1)) ≡ true
   pub inputs_first : first_is (codes ".inputs") (line_at lines 1) ≡ true
@@ -59,7 +59,7 @@ fit_file lines e =
     let ports = and_parts _ (ports_fit lines) tables.0 in
     let frame = and_parts (nat_le 4 (length lines)) (frame_fits lines) ports.0 in
     let ends = and_parts (model_fits (line_at lines 0)) (end_fits (line_at lines (length lines - 1))) frame.1 in
-    let model = and_parts _ (is_plain_model (get_or (line_at lines 0) 1 [])) ends.0 in
+    let model = and_parts _ (is_model_name (get_or (line_at lines 0) 1 [])) ends.0 in
     let model_both = and_parts (nat_eq (length (line_at lines 0)) 2) (first_is (codes ".model") (line_at lines 0)) model.0 in
     let end_both = and_parts (nat_eq (length (line_at lines (length lines - 1))) 1) (first_is (codes ".end") (line_at lines (length lines - 1))) ends.1 in
     let lists = and_parts (named_fits (codes ".inputs") (line_at lines 1)) (named_fits (codes ".outputs") (line_at lines 2)) ports.1 in
@@ -90,8 +90,8 @@ says_design lines e =
     let made : flat_map table_lines (tables_of (behind_head lines)) ≡ behind_head lines = sym (ap (λ r. r ++ flat_map table_lines (tables_of (behind_head lines))) (before_tables (behind_head lines) fit.begins)) ∙ tables.lines_are in
     let front : take (length lines - 1) lines ≡ line_at lines 0 ∷ line_at lines 1 ∷ line_at lines 2 ∷ behind_head lines = take-three lines (length lines - 1) [] (omega (arith, fit.long)) (omega (arith, fit.long)) in
     let whole : (line_at lines 0 ∷ line_at lines 1 ∷ line_at lines 2 ∷ behind_head lines) ++ line_at lines (length lines - 1) ∷ [] ≡ lines = sym (ap (λ l. l ++ line_at lines (length lines - 1) ∷ []) front) ∙ append-last lines [] (omega (arith, fit.long)) in
-    let inputs = and_parts (list_all is_plain_name (drop 1 (line_at lines 1))) (names_differ (drop 1 (line_at lines 1))) fit.inputs in
-    let outputs = and_parts (list_all is_plain_name (drop 1 (line_at lines 2))) (names_differ (drop 1 (line_at lines 2))) fit.outputs in
+    let inputs = and_parts (list_all is_net_name (drop 1 (line_at lines 1))) (names_differ (drop 1 (line_at lines 1))) fit.inputs in
+    let outputs = and_parts (list_all is_net_name (drop 1 (line_at lines 2))) (names_differ (drop 1 (line_at lines 2))) fit.outputs in
     let m = model_line (line_at lines 0) fit.model_words fit.model_first in
     let i = named_line (codes ".inputs") (line_at lines 1) fit.inputs_first in
     let o = named_line (codes ".outputs") (line_at lines 2) fit.outputs_first in

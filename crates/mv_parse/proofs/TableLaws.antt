@@ -5,7 +5,7 @@ use Rattle.std.specs.List.{list_all, flat_map}
 use Rattle.std.proofs.lemmas.Bool.{and_parts, and_from, cases_Bool, leb-true, le-leb}
 use Rattle.std.proofs.lemmas.List.{length-map, length-take, length-drop}
 use Rattle.std.proofs.Math.Seq.{take-append_seam}
-use Rattle.mv_base.specs.Names.{same_word, names_differ, is_plain_name}
+use Rattle.mv_base.specs.Names.{same_word, names_differ, is_net_name}
 use Rattle.mv_base.specs.declared.limits.TheConstants.{MAX_COLUMNS, MAX_TABLE_LINES}
 use Rattle.mv_base.proofs.NameLemmas.{same_word_is, same_word_refl}
 use Rattle.mv_parse.specs.declared.design.Row.{Row}
@@ -42,7 +42,7 @@ pub record IsHeadOf (ws : List (List ℕ)) (lines : List (List (List ℕ))) : Ty
   pub few : length (columns_in ws) + 1 ≤ MAX_COLUMNS
   pub columns : length (columns_in ws) + 1 ≡ length ws - 2
   pub names : names_fit (columns_in ws) ≡ true
-  pub output : is_plain_name (output_in ws) ≡ true
+  pub output : is_net_name (output_in ws) ≡ true
 
 one_less : (n : ℕ) → 3 ≤ n → n - 2 ≡ suc ((n - 2) - 1)
 one_less n h = omega arith
@@ -61,7 +61,7 @@ pub head_line-table_of : (ws : List (List ℕ)) (lines : List (List (List ℕ)))
 unfolding head_fits
 head_line-table_of ws lines e =
     let names = and_parts _ (names_fit (columns_in ws)) e in
-    let output = and_parts _ (is_plain_name (output_in ws)) names.0 in
+    let output = and_parts _ (is_net_name (output_in ws)) names.0 in
     let arrow = and_parts _ (same_word (get_or ws (length ws - 2) []) (codes "->")) output.0 in
     let first = and_parts _ (is_head ws) arrow.0 in
     let size = and_parts (nat_le 3 (length ws)) (nat_le (length ws) (MAX_COLUMNS + 2)) first.0 in
@@ -182,7 +182,7 @@ table-back ws rows e =
     let head = head_line-table_of ws rows p.0 in
     let wide : list_all (row_fits (length (columns_in ws) + 1)) rows ≡ true = ap (λ n. list_all (row_fits n) rows) head.columns ∙ q.1 in
     let made = rows-back (length (columns_in ws)) rows wide in
-    let names = and_parts (list_all is_plain_name (columns_in ws)) (names_differ (columns_in ws)) head.names in
+    let names = and_parts (list_all is_net_name (columns_in ws)) (names_differ (columns_in ws)) head.names in
     record {
       lines_are = ap (λ h. h ∷ map row_line (map row_of rows)) head.line ∙ ap (λ r. ws ∷ r) made.lines_are;
       is = record { inputs = names.0; differ = names.1; output = head.output; rows = made.all };

@@ -1,7 +1,7 @@
 -- Designs, as a network file of the accepted form says them: one model, binary nets, tables with one output.
 use Rattle.std.specs.Prelude.{◌≡◌, ℕ, ◌+◌, ◌<◌, ◌≤◌, Bool, true, ◌&&◌, ◌||◌, ◌==◌, List, [], ◌∷◌, ◌++◌, length, map}
 use Rattle.std.specs.List.{list_all}
-use Rattle.mv_base.specs.Names.{among, names_differ, is_plain_name, is_plain_model}
+use Rattle.mv_base.specs.Names.{among, names_differ, is_net_name, is_model_name}
 use Rattle.mv_base.specs.Set.{one, full}
 use Rattle.mv_base.specs.declared.limits.TheConstants.{MAX_COLUMNS, MAX_TABLE_LINES}
 use Rattle.mv_parse.specs.declared.design.Row.{Row}
@@ -24,9 +24,9 @@ AllRows columns (r ∷ rs) = IsRow columns r × AllRows columns rs
 
 -- a table: lawful names, different inputs, rows as wide as its columns
 pub record IsTable (t : FileTable) : Type 0 where
-  pub inputs : list_all is_plain_name t.inputs ≡ true
+  pub inputs : list_all is_net_name t.inputs ≡ true
   pub differ : names_differ t.inputs ≡ true
-  pub output : is_plain_name t.output ≡ true
+  pub output : is_net_name t.output ≡ true
   pub rows : AllRows (length t.inputs) t.rows
 
 abbrev pub AllTables : List FileTable → Type 0
@@ -35,10 +35,10 @@ AllTables (t ∷ ts) = IsTable t × AllTables ts
 
 -- a design by its names and rows alone
 pub record IsProper (d : Design) : Type 0 where
-  pub name : is_plain_model d.name ≡ true
-  pub inputs : list_all is_plain_name d.inputs ≡ true
+  pub name : is_model_name d.name ≡ true
+  pub inputs : list_all is_net_name d.inputs ≡ true
   pub inputs_differ : names_differ d.inputs ≡ true
-  pub outputs : list_all is_plain_name d.outputs ≡ true
+  pub outputs : list_all is_net_name d.outputs ≡ true
   pub outputs_differ : names_differ d.outputs ≡ true
   pub tables : AllTables d.tables
 

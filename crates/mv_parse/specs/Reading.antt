@@ -2,7 +2,7 @@
 -- proved to compute these, and these to be the grammar.
 use Rattle.std.specs.Prelude.{ℕ, ◌+◌, ◌-◌, Bool, true, false, ◌&&◌, ◌||◌, nat_eq, nat_le, List, [], ◌∷◌, length, map, take, drop, codes, slice_index_or, slice_range, if◌then◌else◌}
 use Rattle.std.specs.List.{list_all}
-use Rattle.mv_base.specs.Names.{same_word, names_differ, is_plain_name, is_plain_model}
+use Rattle.mv_base.specs.Names.{same_word, names_differ, is_net_name, is_model_name}
 use Rattle.mv_base.specs.Set.{one, full}
 use Rattle.mv_base.specs.declared.limits.TheConstants.{MAX_COLUMNS, MAX_TABLE_LINES}
 use Rattle.mv_lex.specs.declared.lines.LexLine.{LexLine}
@@ -33,7 +33,7 @@ rows_fit width lines = nat_le (length lines) MAX_TABLE_LINES && list_all (row_fi
 
 -- names that are lawful and differ
 abbrev pub names_fit : List (List ℕ) → Bool
-names_fit ws = list_all is_plain_name ws && names_differ ws
+names_fit ws = list_all is_net_name ws && names_differ ws
 
 -- the first word is this one
 abbrev pub first_is : List ℕ → List (List ℕ) → Bool
@@ -51,7 +51,7 @@ abbrev pub output_in : List (List ℕ) → List ℕ
 output_in ws = slice_index_or ws (length ws - 1) []
 
 unfoldable pub head_fits : List (List ℕ) → Bool
-head_fits ws = nat_le 3 (length ws) && nat_le (length ws) (MAX_COLUMNS + 2) && is_head ws && same_word (slice_index_or ws (length ws - 2) []) (codes "->") && is_plain_name (output_in ws) && names_fit (columns_in ws)
+head_fits ws = nat_le 3 (length ws) && nat_le (length ws) (MAX_COLUMNS + 2) && is_head ws && same_word (slice_index_or ws (length ws - 2) []) (codes "->") && is_net_name (output_in ws) && names_fit (columns_in ws)
 
 -- the rows before the next table
 abbrev pub rows_before : List (List (List ℕ)) → List (List (List ℕ))
@@ -85,7 +85,7 @@ abbrev pub line_at : List (List (List ℕ)) → ℕ → List (List ℕ)
 line_at lines k = slice_index_or lines k []
 
 abbrev pub model_fits : List (List ℕ) → Bool
-model_fits ws = nat_eq (length ws) 2 && first_is (codes ".model") ws && is_plain_model (slice_index_or ws 1 [])
+model_fits ws = nat_eq (length ws) 2 && first_is (codes ".model") ws && is_model_name (slice_index_or ws 1 [])
 
 abbrev pub named_fits : List ℕ → List (List ℕ) → Bool
 named_fits word ws = first_is word ws && names_fit (drop 1 ws)

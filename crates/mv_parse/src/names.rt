@@ -1,8 +1,8 @@
 ghost use Rattle.std.specs.Prelude.{◌≡◌, ◌<◌, ◌&&◌, ◌==◌, ◌||◌, not, length, nat_le, codes};
 ghost use Rattle.std.specs.List.{list_all, list_any};
-ghost use Rattle.mv_base.specs.Names.{is_word, is_net_name, is_model_name, is_bracketed, is_visible, same_word, ends_with, begins_with, is_plain_name, is_plain_model, is_reserved};
+ghost use Rattle.mv_base.specs.Names.{is_word, is_net_name, is_model_name, is_bracketed, is_visible, same_word, ends_with, begins_with};
 
-use mv_base::{MAX_WORD_BYTES, Name};
+use mv_base::MAX_WORD_BYTES;
 
 /// Whether the word is this text.
 pub fn is_text(word: &[u8], text: &[u8]) -> bool
@@ -52,12 +52,6 @@ fn holds(word: &[u8], byte: u8) -> bool
     word.iter().any(|other| *other == byte)
 }
 
-fn holds_reserved(word: &[u8]) -> bool
-    ensures { result ≡ list_any is_reserved word.now }
-{
-    word.iter().any(|byte| *byte == b'#' || *byte == b'\\' || *byte == b'(' || *byte == b'{')
-}
-
 /// Whether the word is one that a file can hold: not empty, within the limit, of visible bytes, not bracketed.
 #[tactic(auto, unfolding(mv_base::specs::Names::is_word))]
 fn is_word(word: &[u8]) -> bool
@@ -68,7 +62,7 @@ fn is_word(word: &[u8]) -> bool
 
 /// Whether the word is a lawful name of a net.
 #[tactic(auto, unfolding(mv_base::specs::Names::is_net_name))]
-fn is_net_name(word: &[u8]) -> bool
+pub fn is_net_name(word: &[u8]) -> bool
     ensures { result ≡ is_net_name word.now }
 {
     is_word(word)
@@ -78,18 +72,10 @@ fn is_net_name(word: &[u8]) -> bool
         && !ends_with(word, b'\\')
 }
 
-/// Whether the word is a lawful name of a net without a byte that the form doesn't have.
-#[tactic(auto, unfolding(mv_base::specs::Names::is_plain_name))]
-pub fn is_plain_name(name: &Name) -> bool
-    ensures { result ≡ is_plain_name name.now }
+/// Whether the word is a lawful name of a model, which besides has no `=`.
+#[tactic(auto, unfolding(mv_base::specs::Names::is_model_name))]
+pub fn is_model_name(word: &[u8]) -> bool
+    ensures { result ≡ is_model_name word.now }
 {
-    is_net_name(name.bytes()) && !holds_reserved(name.bytes())
-}
-
-/// The same of a model's name, which besides has no `=`.
-#[tactic(auto, unfolding(mv_base::specs::Names::is_model_name, mv_base::specs::Names::is_plain_model))]
-pub fn is_plain_model(name: &Name) -> bool
-    ensures { result ≡ is_plain_model name.now }
-{
-    is_net_name(name.bytes()) && !holds(name.bytes(), b'=') && !holds_reserved(name.bytes())
+    is_net_name(word) && !holds(word, b'=')
 }

@@ -1,13 +1,13 @@
 ghost use Rattle.std.specs.Prelude.{◌≡◌, ◌≤◌, ◌+◌, ◌-◌, ◌<◌, true, false, Err, length, map, IfOk};
 ghost use Rattle.std.specs.List.{list_all};
-ghost use Rattle.mv_base.specs.Names.{names_differ, is_plain_name};
+ghost use Rattle.mv_base.specs.Names.{names_differ, is_net_name};
 ghost use Rattle.mv_parse.specs.Reading.{words_of, names_fit, is_entry_word, row_fits, rows_fit, first_is, head_fits, is_head, rows_before, table_fits, tables_fit, model_fits, named_fits, end_fits, begins_table, tables_part_fits, line_at, behind_head, frame_fits, ports_fit, file_fits, entry_set, row_of, table_of, tables_of, design_of};
 ghost use Rattle.mv_parse.specs.Grammar.{Says, IsRead};
 ghost use Rattle.mv_parse.specs.declared.design.Design.{Design};
 ghost use Rattle.mv_parse.specs.declared.reader.ParseStop.TheVariants.{Memory as short_of_memory};
 
 use crate::design::{Design, FileTable, Row};
-use crate::names::{is_plain_model, is_plain_name, is_text};
+use crate::names::{is_model_name, is_net_name, is_text};
 use mv_base::{Items, MAX_COLUMNS, MAX_TABLE_LINES, Memory, Name, NameSet, Value, ValueSet};
 use mv_lex::LexLine;
 use std::alloc::{AllocError, AllocFailed, Global};
@@ -43,11 +43,11 @@ impl<T: Drop> From<AllocFailed<T>> for ParseStop {
     }
 }
 
-/// Whether each word is a lawful name of the form.
-fn all_plain(words: &[Name]) -> bool
-    ensures { result ≡ list_all is_plain_name words.now }
+/// Whether each word is a lawful name of a net.
+fn all_names(words: &[Name]) -> bool
+    ensures { result ≡ list_all is_net_name words.now }
 {
-    words.iter().all(|word| is_plain_name(word))
+    words.iter().all(|word| is_net_name(word.bytes()))
 }
 
 /// Whether no word stands twice.
@@ -68,7 +68,7 @@ fn differ(alloc: Global, words: &[Name]) -> Result<bool, Memory>
 fn names_fit(alloc: Global, words: &[Name]) -> Result<bool, Memory>
     ensures { IfOk result (λ fit. fit ≡ names_fit words.now) }
 {
-    if !all_plain(words) {
+    if !all_names(words) {
         return Ok(false);
     }
     differ(alloc, words)
@@ -131,7 +131,7 @@ fn head_fits(alloc: Global, words: &[Name]) -> Result<bool, Memory>
     if count < 3 || count as u64 > MAX_COLUMNS + 2 || !first_is(b".table", words) {
         return Ok(false);
     }
-    if !is_text(words[count - 2].bytes(), b"->") || !is_plain_name(&words[count - 1]) {
+    if !is_text(words[count - 2].bytes(), b"->") || !is_net_name(words[count - 1].bytes()) {
         return Ok(false);
     }
     names_fit(alloc, &words[1..count - 2])
@@ -185,7 +185,7 @@ fn tables_fit(alloc: Global, lines: &[LexLine]) -> Result<bool, Memory>
 fn model_fits(words: &[Name]) -> bool
     ensures { result ≡ model_fits words.now }
 {
-    words.len() == 2 && first_is(b".model", words) && is_plain_model(&words[1])
+    words.len() == 2 && first_is(b".model", words) && is_model_name(words[1].bytes())
 }
 
 fn named_fits(alloc: Global, text: &[u8], words: &[Name]) -> Result<bool, Memory>

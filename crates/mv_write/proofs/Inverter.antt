@@ -1,7 +1,7 @@
 -- The network of the tests, an input and its inverse, is well formed and of the form that is written.
 use Rattle.std.proofs.Common.{◌≡◌, ◌∙◌, ℕ, zero, suc, ◌<◌, true, false, ◌||◌, nat_eq, List, [], ◌∷◌, get_or, Option, Some, None, IsTrue, refl, sym, ap, subst, inl, inr, ◌⊎◌, ⊎_elim, eqb-true, eq-eqb, arith}
 use Rattle.std.proofs.lemmas.Bool.{or_cases, false≢true, lt-ltb, ne_eqb}
-use Rattle.mv_base.specs.Names.{is_net_name, is_model_name, is_word, is_plain_name, is_plain_model}
+use Rattle.mv_base.specs.Names.{is_net_name, is_model_name, is_word}
 use Rattle.mv_base.specs.Set.{has, empty, one, full}
 use Rattle.mv_base.proofs.Sets.{has-one, has-full, has-empty}
 use Rattle.mv_base.specs.declared.number.NetId.{NetId}
@@ -253,11 +253,11 @@ inverter_formed = record {
 -- ---- the form
 
 input_is_binary : IsBinaryNet input
-unfolding is_plain_name is_net_name is_word
+unfolding is_net_name is_word
 input_is_binary = record { values = refl; numbered = refl; name = refl; default = λ c e. absurd (no_cover c e) }
 
 inverse_is_binary : IsBinaryNet inverse
-unfolding is_plain_name is_net_name is_word
+unfolding is_net_name is_word
 inverse_is_binary = record {
   values = refl;
   numbered = refl;
@@ -266,7 +266,7 @@ inverse_is_binary = record {
 }
 
 pub inverter_binary : IsBinary inverter
-unfolding is_plain_model is_model_name is_net_name is_word
+unfolding is_model_name is_net_name is_word
 inverter_binary = record {
   root = refl;
   nets = λ n f e.

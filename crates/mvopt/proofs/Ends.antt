@@ -10,18 +10,22 @@ use Rattle.mv_net.specs.Allowed.{of_net}
 use Rattle.mv_parse.specs.Relation.{of_design}
 use Rattle.mv_sweep.specs.Entries.{print}
 use Rattle.mvopt.specs.declared.script.Command.{Command}
+use Rattle.mvopt.specs.declared.stop.NetFault.{NetFault}
+use Rattle.mvopt.specs.declared.stop.NetFault.TheVariants.{Lex, NotBuilt}
 use Rattle.mvopt.specs.declared.stop.Stop.{Stop}
 use Rattle.mvopt.specs.declared.stop.Stop.TheVariants.{Words, Network, Script, Read, Memory}
 use Rattle.mvopt.specs.Exact.{ScriptIsRefused, NetworkIsRefused, ScriptIsTaken, IsExact, IsComplete}
+use Rattle.mvopt.specs.Faults.{Refuses, IsFaulty, TellsFault}
 use Rattle.mvopt.specs.Made.{Prepared}
 use Rattle.mvopt.specs.Outcomes.{HasWorked, HasStoppedAt, IsCut, EndsCut, EndsShort}
 use Rattle.mvopt.specs.Replaced.{Replaced}
-use Rattle.mvopt.specs.Run.{IsAccepted, IsRefused, RefusesNetwork, RefusesScript, LacksFile, Tells, fault_line}
+use Rattle.mvopt.specs.Run.{IsAccepted, IsRefused, RefusesScript, LacksFile, Tells, fault_line}
 use Rattle.mvopt.specs.Runs.{Runs}
 use Rattle.mvopt.specs.Scripts.{is_script}
-use Rattle.mvopt.specs.Stops.{status_of, IsCause}
+use Rattle.mvopt.specs.Stops.{status_of, line_of, IsCause}
 use Rattle.mvopt.specs.Taken.{IsTaken, TakesScript, TakesCommands, TakesNetwork}
 use Rattle.mvopt.specs.Words.{word_at, accepts}
+use Rattle.mvopt.proofs.NetFiles.{reads_as}
 use Rattle.mvopt.proofs.Takes.{prepared_taken}
 use Rattle.mvopt.proofs.ReadBack.{reads_back}
 
@@ -41,7 +45,7 @@ replaced words (Some b) (Some a) commands first out now notes told p t w =
       current = p.current;
       ended = p.ended;
       design = p.net_of.design;
-      read = p.net_of.reads;
+      read = reads_as p.content p.net_of.design p.lexed p.net_of.read p.net_of.flat.sound;
       first = first;
       flat = p.net_of.flat;
       script = t.content;
@@ -80,11 +84,13 @@ short_work words before after commands first notes mid told c d e p t h later te
   tells = Tells-later notes mid told c d e (print h.stopped.entries) (fault_line 6) h.stopped.gained later tells;
 }
 
-pub short_early : (words : List (List ℕ)) (before after : Option Held) (notes told : Option (List ℕ)) (c d status : ℕ) → Tells notes told c d (fault_line status) → status ≡ 6 → EndsShort words before after notes told c d
+pub short_early : (words : List (List ℕ)) (before after : Option Held) (notes told : Option (List ℕ)) (c d : ℕ) (stop : Stop) → Tells notes told c d (line_of stop) → status_of stop ≡ 6 → EndsShort words before after notes told c d
 unfolding print
-short_early words before after notes told c d status tells e =
-    let P : ℕ → Type 0 = λ n. Tells notes told c d (fault_line n) in
-    record { entries = []; ran = inl refl; tells = subst P e tells }
+short_early words before after notes told c d Words tells e = absurd (omega arith)
+short_early words before after notes told c d (Network f) tells e = absurd (omega arith)
+short_early words before after notes told c d Script tells e = absurd (omega arith)
+short_early words before after notes told c d Read tells e = absurd (omega arith)
+short_early words before after notes told c d Memory tells e = record { entries = []; ran = inl refl; tells = tells }
 
 -- ---- the other way round
 
@@ -95,6 +101,15 @@ some_content a b e = cc
 taken_refused : (Accepts : List ℕ → Type 0) (name : List ℕ) (held : Held) → IsTaken Accepts name held → IsRefused Accepts name held → ⊥
 taken_refused Accepts name held t r =
     r.refused (subst Accepts (some_content t.content r.content (sym t.named ∙ r.named)) t.accepted)
+
+-- what is refused for a fault isn't accepted
+refuses_none : (content : List ℕ) (f : NetFault) → Refuses content f → IsAccepted content → ⊥
+refuses_none content (Lex f) r a = let none = a.lexed in cc
+refuses_none content NotBuilt r a = r.other a.form
+
+taken_faulty : (name : List ℕ) (held : Held) (f : NetFault) → IsTaken IsAccepted name held → IsFaulty name held f → ⊥
+taken_faulty name held f t r =
+    refuses_none r.content f r.refused (subst IsAccepted (some_content t.content r.content (sym t.named ∙ r.named)) t.accepted)
 
 script_both : (words : List (List ℕ)) (held : Option Held) → ScriptIsRefused words held → TakesScript words held → ⊥
 script_both words None r t = r
@@ -109,15 +124,15 @@ network_both words None r t = r
 network_both words (Some h) r t = taken_refused IsAccepted (word_at words 1) h t r
 
 -- a stop of the reading
-pub exact_stop : (words : List (List ℕ)) (held : Option Held) (before now : ℕ) (stop : Stop) → ((stop ≡ Words → ⊥) → accepts words ≡ true) → (stop ≡ Network → TakesScript words held) → IsCause words held before now stop → IsExact words held (status_of stop)
+pub exact_stop : (words : List (List ℕ)) (held : Option Held) (before now : ℕ) (stop : Stop) → ((stop ≡ Words → ⊥) → accepts words ≡ true) → ((f : NetFault) → stop ≡ Network f → TakesScript words held) → IsCause words held before now stop → IsExact words held (status_of stop)
 exact_stop words held before now Words accepted first cause = record {
   words_refused = λ e. refl;
   script_refused = λ e r u. absurd (false≢true (sym cause ∙ e));
   network_refused = λ e t r u. absurd (false≢true (sym cause ∙ e));
 }
-exact_stop words held before now Network accepted first cause = record {
+exact_stop words held before now (Network f) accepted first cause = record {
   words_refused = λ e. absurd (false≢true (sym e ∙ accepted (λ n. cc)));
-  script_refused = λ e r u. absurd (script_both words held r (first refl));
+  script_refused = λ e r u. absurd (script_both words held r (first f refl));
   network_refused = λ e t r u. refl;
 }
 exact_stop words held before now Script accepted first cause = record {
@@ -148,7 +163,7 @@ exact_taken words held status accepted script network = record {
 pub complete_stop : (words : List (List ℕ)) (held : Option Held) (a b c d before now : ℕ) (stop : Stop) → IsCause words held before now stop → IsComplete words held a b c d (status_of stop)
 complete_stop words None a b c d before now stop cause = record { succeeds = λ r o n. absurd r }
 complete_stop words (Some h) a b c d before now Words cause = record { succeeds = λ r o n. absurd (false≢true (sym cause ∙ r.words_accepted)) }
-complete_stop words (Some h) a b c d before now Network cause = record { succeeds = λ r o n. absurd (taken_refused IsAccepted (word_at words 1) h r.network cause) }
+complete_stop words (Some h) a b c d before now (Network f) cause = record { succeeds = λ r o n. absurd (taken_faulty (word_at words 1) h f r.network cause) }
 complete_stop words (Some h) a b c d before now Script cause = record { succeeds = λ r o n. absurd (taken_refused (λ text. is_script text ≡ true) (word_at words 2) h r.script cause) }
 complete_stop words (Some h) a b c d before now Read cause = record {
   succeeds = λ r o n.
@@ -174,49 +189,58 @@ complete_cut words held commands first out now notes told a b c d h = record {
 
 pub status_words : (words : List (List ℕ)) (held : Option Held) (before now : ℕ) (stop : Stop) → IsCause words held before now stop → status_of stop ≡ 1 → accepts words ≡ false
 status_words words held before now Words c e = c
-status_words words held before now Network c e = absurd (omega arith)
+status_words words held before now (Network f) c e = absurd (omega arith)
 status_words words held before now Script c e = absurd (omega arith)
 status_words words held before now Read c e = absurd (omega arith)
 status_words words held before now Memory c e = absurd (omega arith)
 
-pub status_network : (words : List (List ℕ)) (held : Option Held) (before now : ℕ) (stop : Stop) → IsCause words held before now stop → status_of stop ≡ 2 → RefusesNetwork words held
-status_network words held before now Words c e = absurd (omega arith)
-status_network words held before now Network c e = c
-status_network words held before now Script c e = absurd (omega arith)
-status_network words held before now Read c e = absurd (omega arith)
-status_network words held before now Memory c e = absurd (omega arith)
+-- status 2: the fault of the network, and its line
+pub tells_fault : (words : List (List ℕ)) (held : Option Held) (before now : ℕ) (stop : Stop) (notes told : Option (List ℕ)) (c d : ℕ) → IsCause words held before now stop → Tells notes told c d (line_of stop) → status_of stop ≡ 2 → TellsFault words held notes told c d
+tells_fault words held before now Words notes told c d cause tells e = absurd (omega arith)
+tells_fault words held before now (Network f) notes told c d cause tells e = record { fault = f; refuses = cause; tells = tells }
+tells_fault words held before now Script notes told c d cause tells e = absurd (omega arith)
+tells_fault words held before now Read notes told c d cause tells e = absurd (omega arith)
+tells_fault words held before now Memory notes told c d cause tells e = absurd (omega arith)
+
+-- every other one: its line
+pub tells_line : (stop : Stop) (notes told : Option (List ℕ)) (c d : ℕ) → Tells notes told c d (line_of stop) → (status_of stop ≡ 1) ⊎ (status_of stop ≡ 3) ⊎ (status_of stop ≡ 4) → Tells notes told c d (fault_line (status_of stop))
+tells_line Words notes told c d tells h = tells
+tells_line (Network f) notes told c d tells h = absurd (omega arith)
+tells_line Script notes told c d tells h = tells
+tells_line Read notes told c d tells h = tells
+tells_line Memory notes told c d tells h = tells
 
 pub status_script : (words : List (List ℕ)) (held : Option Held) (before now : ℕ) (stop : Stop) → IsCause words held before now stop → status_of stop ≡ 3 → RefusesScript words held
 status_script words held before now Words c e = absurd (omega arith)
-status_script words held before now Network c e = absurd (omega arith)
+status_script words held before now (Network f) c e = absurd (omega arith)
 status_script words held before now Script c e = c
 status_script words held before now Read c e = absurd (omega arith)
 status_script words held before now Memory c e = absurd (omega arith)
 
 pub status_read : (words : List (List ℕ)) (held : Option Held) (before now : ℕ) (stop : Stop) → IsCause words held before now stop → status_of stop ≡ 4 → Rose before now × LacksFile words held
 status_read words held before now Words c e = absurd (omega arith)
-status_read words held before now Network c e = absurd (omega arith)
+status_read words held before now (Network f) c e = absurd (omega arith)
 status_read words held before now Script c e = absurd (omega arith)
 status_read words held before now Read c e = c
 status_read words held before now Memory c e = absurd (omega arith)
 
 pub status_not_done : (stop : Stop) → status_of stop ≡ 0 → ⊥
 status_not_done Words e = omega arith
-status_not_done Network e = omega arith
+status_not_done (Network f) e = omega arith
 status_not_done Script e = omega arith
 status_not_done Read e = omega arith
 status_not_done Memory e = omega arith
 
 pub status_not_write : (stop : Stop) → status_of stop ≡ 5 → ⊥
 status_not_write Words e = omega arith
-status_not_write Network e = omega arith
+status_not_write (Network f) e = omega arith
 status_not_write Script e = omega arith
 status_not_write Read e = omega arith
 status_not_write Memory e = omega arith
 
 pub status_known : (stop : Stop) → status_of stop ≤ 6
 status_known Words = omega arith
-status_known Network = omega arith
+status_known (Network f) = omega arith
 status_known Script = omega arith
 status_known Read = omega arith
 status_known Memory = omega arith
@@ -236,16 +260,16 @@ pub status_unwritten : (stop : Stop) → (status_of stop ≡ 0) ⊎ (status_of s
 status_unwritten stop h =
     ⊎_elim (λ (e : status_of stop ≡ 0). status_not_done stop e) (λ (e : status_of stop ≡ 5). status_not_write stop e) h
 
-network_status : (stop : Stop) → status_of stop ≡ 2 → stop ≡ Network
+network_status : (stop : Stop) → status_of stop ≡ 2 → (f : NetFault) × (stop ≡ Network f)
 network_status Words e = absurd (omega arith)
-network_status Network e = refl
+network_status (Network f) e = (f, refl)
 network_status Script e = absurd (omega arith)
 network_status Read e = absurd (omega arith)
 network_status Memory e = absurd (omega arith)
 
 -- what the refusal of a network says before it
-pub status_first : {T F : Type 0} (result : Result T Stop) (stop : Stop) → result ≡ Err stop → (result ≡ Err Network → F) → (status_of stop ≡ 0) ⊎ (status_of stop ≡ 2) ⊎ (status_of stop ≡ 5) → F
+pub status_first : {T F : Type 0} (result : Result T Stop) (stop : Stop) → result ≡ Err stop → ((f : NetFault) → result ≡ Err (Network f) → F) → (status_of stop ≡ 0) ⊎ (status_of stop ≡ 2) ⊎ (status_of stop ≡ 5) → F
 status_first result stop e fact h =
-    ⊎_elim (λ (z : status_of stop ≡ 0). absurd (status_not_done stop z)) (λ (k : (status_of stop ≡ 2) ⊎ (status_of stop ≡ 5)). ⊎_elim (λ (z : status_of stop ≡ 2). fact (e ∙ ap Err (network_status stop z))) (λ (z : status_of stop ≡ 5). absurd (status_not_write stop z)) k) h
+    ⊎_elim (λ (z : status_of stop ≡ 0). absurd (status_not_done stop z)) (λ (k : (status_of stop ≡ 2) ⊎ (status_of stop ≡ 5)). ⊎_elim (λ (z : status_of stop ≡ 2). let n = network_status stop z in fact n.0 (e ∙ ap Err n.1)) (λ (z : status_of stop ≡ 5). absurd (status_not_write stop z)) k) h
 
-pub ruleset runs = (replaced, ends_cut, cut_cause, short_early, short_work, exact_taken, complete_done, complete_memory, complete_cut, status_words, status_network, status_script, status_read, status_not_done, status_not_write, status_known, status_other, status_unwritten, status_first, prepared_taken)
+pub ruleset runs = (replaced, ends_cut, cut_cause, short_early, short_work, exact_taken, complete_done, complete_memory, complete_cut, status_words, tells_fault, tells_line, status_script, status_read, status_not_done, status_not_write, status_known, status_other, status_unwritten, status_first, prepared_taken)

@@ -76,18 +76,18 @@ nothing_taken : (xs room rest : List ℕ) (n : ℕ) → xs ≡ take n room ++ re
 nothing_taken xs room rest n e z none =
     let P : ℕ → Type 0 = λ k. xs ≡ take k room ++ rest in sym (subst P z e) ∙ none
 
-ended_given : (old new : Option Held) (room : List ℕ) (n : ℕ) → Gives old new room (Ok n) → n ≡ 0 → 0 < length room → Ended old new
+pub ended_given : (old new : Option Held) (room : List ℕ) (n : ℕ) → Gives old new room (Ok n) → n ≡ 0 → 0 < length room → Ended old new
 ended_given None new room n s z h = tt
 ended_given (Some o) None room n s z h = absurd s
 ended_given (Some o) (Some new) room n s z h = nothing_taken o.rest room new.rest n s.given z (s.ended z h)
 
-passed_given : (old new : Option Held) (room : List ℕ) (n : ℕ) → Gives old new room (Ok n) → Passed old new (take n room)
+pub passed_given : (old new : Option Held) (room : List ℕ) (n : ℕ) → Gives old new room (Ok n) → Passed old new (take n room)
 passed_given None new room n s = tt
 passed_given (Some o) None room n s = absurd s
 passed_given (Some o) (Some new) room n s =
     record { files = s.files; current = s.current; sound = s.sound; passed = s.given }
 
-is_none : (n : ℕ) → nat_lt 0 n ≡ false → n ≡ 0
+pub is_none : (n : ℕ) → nat_lt 0 n ≡ false → n ≡ 0
 is_none n e = let h : n ≤ 0 = ltb-false 0 n e in omega arith
 
 pub got_piece : (old new : Option Held) (room before after : List ℕ) (most n : ℕ) → Gives old new room (Ok n) → n ≤ length room → length room ≡ most → 0 < most → after ≡ before ++ take n room → GotPiece old new before after most (nat_lt 0 n)

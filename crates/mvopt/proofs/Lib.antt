@@ -1,6 +1,7 @@
 pub mod CommandRuns
 pub mod Ends
 pub mod FileReads
+pub mod LexedReads
 pub mod NetDesign
 pub mod NetFiles
 pub mod NetForm
@@ -8,6 +9,7 @@ pub mod NetMeaning
 pub mod NetNumbers
 pub mod NetProper
 pub mod NetRows
+pub mod NumberLines
 pub mod ReadBack
 pub mod ScriptWords
 pub mod Takes

@@ -1,10 +1,9 @@
--- The bytes of a network file: lexed, parsed and flattened.
-use Rattle.std.proofs.Common.{◌≡◌, ℕ, ◌≤◌, List, [], length, Some, None, refl, sym, subst}
+-- The lines of a network file: parsed and flattened.
+use Rattle.std.proofs.Common.{◌≡◌, ℕ, ◌≤◌, List, [], length, Option, Some, None, refl, sym, subst}
+use Rattle.std.specs.Option.{option_or}
 use Rattle.mv_base.specs.declared.limits.TheConstants.{MAX_NETWORK_BYTES, MAX_NETS}
 use Rattle.mv_lex.specs.declared.lines.LexLine.{LexLine}
-use Rattle.mv_lex.specs.declared.fault.LexFault.{LexFault}
-use Rattle.mv_lex.specs.Lines.{lines_of, first_fault, complete, end_fault}
-use Rattle.mv_lex.specs.Reading.{Reading, IsAfter}
+use Rattle.mv_lex.specs.Lines.{lines_of, first_fault, end_fault, lex_fault}
 use Rattle.mv_lex.proofs.Facts.{is_clean-from_first_fault}
 use Rattle.mv_net.specs.declared.parts.NetParts.{NetParts}
 use Rattle.mv_parse.specs.declared.design.Design.{Design}
@@ -12,63 +11,38 @@ use Rattle.mv_parse.specs.Designs.{IsSound, drivers}
 use Rattle.mv_flat.specs.Flat.{IsFlat}
 use Rattle.mv_parse.specs.Grammar.{Says, IsRead}
 use Rattle.mv_parse.specs.Reading.{words_of}
-use Rattle.mvopt.specs.Run.{IsAccepted}
-use Rattle.mvopt.specs.Made.{IsDesignOf, SaysSome, IsNetOf}
+use Rattle.mvopt.specs.Run.{HasForm, ReadsAs}
+use Rattle.mvopt.specs.Made.{IsNetOf}
 
--- ---- lines
+-- ---- faults
 
--- nothing of no bytes is complete
-pub complete_nothing : complete [] ≡ []
-unfolding complete
-complete_nothing = refl
+neither : {A : Type 0} (a b : Option A) → option_or a b ≡ None → (a ≡ None) × (b ≡ None)
+neither None b e = (refl, e)
+neither (Some x) b e = cc
 
-pub no_end_fault : (bytes : List ℕ) (f : LexFault) → end_fault bytes ≡ Some f → ⊥
-unfolding end_fault
-no_end_fault bytes f e = cc
+-- bytes without a fault have none before their end and none at it
+no_fault : (limit : ℕ) (bytes : List ℕ) → lex_fault limit bytes ≡ None → (first_fault limit [] bytes ≡ None) × (end_fault bytes ≡ None)
+no_fault limit bytes e = neither (first_fault limit [] bytes) (end_fault bytes) e
 
--- the lexer stands behind the bytes without a fault
-pub lexed : (limit : ℕ) (r : Reading) (bytes : List ℕ) → r.limit ≡ limit → IsAfter r bytes → first_fault limit [] bytes ≡ None
-lexed limit r bytes e a = let P : ℕ → Type 0 = λ n. first_fault n [] bytes ≡ None in subst P e a.accepted
-
-pub ruleset lexing = (complete_nothing, no_end_fault, lexed)
-
--- ---- designs
-
-pub design_made : (bytes : List ℕ) (lines : List LexLine) (d : Design) → lines ≡ lines_of bytes → first_fault MAX_NETWORK_BYTES [] bytes ≡ None → IsRead (words_of lines) d → ((other : Design) → Says (words_of lines) other → other ≡ d) → IsDesignOf bytes d
-design_made bytes lines d e clean read only =
-    record {
-      lexed = clean;
-      read = let P : List LexLine → Type 0 = λ l. IsRead (words_of l) d in subst P e read;
-      only = λ other s. only other (let P : List LexLine → Type 0 = λ l. Says (words_of l) other in subst P (sym e) s);
-    }
-
-pub fault_refuses : (bytes : List ℕ) (f : LexFault) → first_fault MAX_NETWORK_BYTES [] bytes ≡ Some f → SaysSome bytes → ⊥
-fault_refuses bytes f e s = let lexed = s.lexed in cc
-
-pub lines_refuse : (bytes : List ℕ) (lines : List LexLine) → lines ≡ lines_of bytes → ((design : Design) → IsRead (words_of lines) design → ⊥) → SaysSome bytes → ⊥
-lines_refuse bytes lines e never s =
-    never s.design (let P : List LexLine → Type 0 = λ l. IsRead (words_of l) s.design in subst P (sym e) s.read)
-
-pub ruleset designs = (design_made, fault_refuses, lines_refuse)
+-- bytes without a fault read as the design that their lines say
+pub reads_as : (bytes : List ℕ) (d : Design) → lex_fault MAX_NETWORK_BYTES bytes ≡ None → IsRead (words_of (lines_of bytes)) d → IsSound d → ReadsAs bytes d
+reads_as bytes d e read sound =
+    let none = no_fault MAX_NETWORK_BYTES bytes e in
+    record { clean = is_clean-from_first_fault MAX_NETWORK_BYTES bytes none.0 none.1; says = read.says; sound = sound }
 
 -- ---- networks
 
-pub unsaid : (bytes : List ℕ) → (SaysSome bytes → ⊥) → IsAccepted bytes → ⊥
-unsaid bytes never a = never (record { design = a.design; lexed = a.lexed; read = a.read })
+pub unread : (lines : List LexLine) → ((design : Design) → IsRead (words_of lines) design → ⊥) → HasForm lines → ⊥
+unread lines never h = never h.design h.read
 
-pub unsound : (bytes : List ℕ) (d : Design) → IsDesignOf bytes d → (IsSound d → length (drivers d) ≤ MAX_NETS → ⊥) → IsAccepted bytes → ⊥
-unsound bytes d h never a =
-    let same : a.design ≡ d = h.only a.design a.read.says in
-    never (subst IsSound same a.sound) (let P : Design → Type 0 = λ x. length (drivers x) ≤ MAX_NETS in subst P same a.nets)
+pub unsound : (lines : List LexLine) (d : Design) → ((other : Design) → Says (words_of lines) other → other ≡ d) → (IsSound d → length (drivers d) ≤ MAX_NETS → ⊥) → HasForm lines → ⊥
+unsound lines d only never h =
+    let same : h.design ≡ d = only h.design h.read.says in
+    never (subst IsSound same h.sound) (let P : Design → Type 0 = λ x. length (drivers x) ≤ MAX_NETS in subst P same h.nets)
 
-pub net_made : (bytes : List ℕ) (d : Design) (parts net : NetParts) → IsDesignOf bytes d → IsFlat parts d → net ≡ parts → IsNetOf bytes net
-net_made bytes d parts net h f e =
-    let P : NetParts → Type 0 = IsNetOf bytes in
-    subst P (sym e) (record {
-      accepted = record { design = d; lexed = h.lexed; read = h.read; sound = f.sound; nets = f.nets };
-      design = d;
-      reads = record { clean = is_clean-from_first_fault MAX_NETWORK_BYTES [] bytes h.lexed; says = h.read.says; sound = f.sound };
-      flat = f;
-    })
+pub net_made : (lines : List LexLine) (d : Design) (parts net : NetParts) → IsRead (words_of lines) d → IsFlat parts d → net ≡ parts → IsNetOf lines net
+net_made lines d parts net read f e =
+    let P : NetParts → Type 0 = λ n. IsFlat n d in
+    record { design = d; read = read; flat = subst P (sym e) f }
 
-pub ruleset networks = (unsaid, unsound, net_made)
+pub ruleset networks = (unread, unsound, net_made)

@@ -4,7 +4,7 @@ use Rattle.std.specs.Prelude.{nat_eq}
 use Rattle.std.specs.List.{list_all}
 use Rattle.std.proofs.lemmas.Bool.{and_from, or_left, or_right, eq-eqb, false≢true, cases_Bool, cond_both, le-ltb, ne_eqb}
 use Rattle.std.proofs.lemmas.List.{length-map}
-use Rattle.mv_base.specs.Names.{names_differ, is_plain_name}
+use Rattle.mv_base.specs.Names.{names_differ, is_net_name}
 use Rattle.mv_base.specs.Set.{has, empty, one, full, Within}
 use Rattle.mv_base.proofs.Sets.{has-empty, has-one, has-full, same_set}
 use Rattle.mv_base.specs.declared.number.NetId.{NetId}
@@ -66,10 +66,10 @@ full_is_entry = or_right _ _ (eq-eqb (full 2) (full 2) refl)
 pub values_two : (net : NetParts) → IsBinary net → (k : ℕ) → IsHeldAt net.nets k → values_in (slot net.nets k) ≡ 2
 values_two net binary k h = ap values_in h.held ∙ (binary.nets k h.net h.held).values
 
-plain_names : (net : NetParts) → IsBinary net → (ks : List ℕ) → AllHeld net.nets ks → list_all is_plain_name (names_at net.nets ks) ≡ true
-plain_names net binary [] h = refl
-plain_names net binary (k ∷ ks) h =
-    and_from _ _ (ap (λ f. is_plain_name (name_in f)) h.0.held ∙ (binary.nets k h.0.net h.0.held).name) (plain_names net binary ks h.1)
+lawful_names : (net : NetParts) → IsBinary net → (ks : List ℕ) → AllHeld net.nets ks → list_all is_net_name (names_at net.nets ks) ≡ true
+lawful_names net binary [] h = refl
+lawful_names net binary (k ∷ ks) h =
+    and_from _ _ (ap (λ f. is_net_name (name_in f)) h.0.held ∙ (binary.nets k h.0.net h.0.held).name) (lawful_names net binary ks h.1)
 
 readable_held : (net : NetParts) (k : ℕ) → IsReadable net.nets k → IsHeldAt net.nets k
 readable_held net k r = record { net = r.net; held = r.held }
@@ -153,7 +153,7 @@ table_proper net formed binary k f c h t =
     let cover = (formed.nets k f h).cover c t in
     let lines : AllLines net.nets 2 c.lines = rw (binary.nets k f h).values at cover.lines in
     record {
-      inputs = plain_names net binary (fanins_of (length net.nets) c) held;
+      inputs = lawful_names net binary (fanins_of (length net.nets) c) held;
       differ = names-differ net.nets (one_name net formed) (fanins_of (length net.nets) c) held (range-differs 0 (length net.nets) (λ m. cover_reads c m));
       output = (binary.nets k f h).name;
       rows = rows_proper net binary (fanins_of (length net.nets) c) c.lines lines;
@@ -178,9 +178,9 @@ proper_design net formed binary =
     let outs = names_at-numbers net.nets net.outputs in
     record {
       name = binary.root;
-      inputs = ap (list_all is_plain_name) ins ∙ plain_names net binary (numbers_of net.inputs) (inputs_held net formed);
+      inputs = ap (list_all is_net_name) ins ∙ lawful_names net binary (numbers_of net.inputs) (inputs_held net formed);
       inputs_differ = ap names_differ ins ∙ names-differ net.nets (one_name net formed) (numbers_of net.inputs) (inputs_held net formed) (numbers_differ-all net.inputs formed.inputs.once);
-      outputs = ap (list_all is_plain_name) outs ∙ plain_names net binary (numbers_of net.outputs) (outputs_held net formed);
+      outputs = ap (list_all is_net_name) outs ∙ lawful_names net binary (numbers_of net.outputs) (outputs_held net formed);
       outputs_differ = ap names_differ outs ∙ names-differ net.nets (one_name net formed) (numbers_of net.outputs) (outputs_held net formed) (numbers_differ-all net.outputs formed.outputs_once);
       tables = AllTables-each (all_tables net.nets net.nets) (each_table IsTable net.nets net.nets (λ k f c h t. table_proper net formed binary k f c h t));
     }

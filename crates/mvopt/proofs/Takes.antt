@@ -4,16 +4,21 @@ use Rattle.std.specs.Prelude.{nat_eq}
 use Rattle.std.proofs.lemmas.List.{length-map}
 use Rattle.std.proofs.lemmas.Bool.{and_parts, leb-true, eqb-true, false≢true}
 use Rattle.mv_base.specs.Outside.{Held, file_named}
-use Rattle.mv_base.specs.declared.limits.TheConstants.{MAX_NETWORK_BYTES, MAX_SCRIPT_BYTES}
+use Rattle.mv_base.specs.declared.limits.TheConstants.{MAX_SCRIPT_BYTES}
 use Rattle.mv_base.proofs.OutsideLemmas.{Rose-earlier}
-use Rattle.mv_lex.proofs.Facts.{length-from_first_fault}
+use Rattle.mv_lex.specs.declared.fault.LexFault.{LexFault}
+use Rattle.mv_lex.specs.declared.lines.LexLine.{LexLine}
 use Rattle.mv_net.specs.declared.parts.NetParts.{NetParts}
 use Rattle.mvopt.specs.declared.script.Command.{Command}
+use Rattle.mvopt.specs.declared.stop.NetFault.{NetFault}
+use Rattle.mvopt.specs.declared.stop.NetFault.TheVariants.{Lex, NotBuilt}
 use Rattle.mvopt.specs.declared.stop.Stop.{Stop}
 use Rattle.mvopt.specs.declared.stop.Stop.TheVariants.{Words, Network, Script, Read as Unread, Memory}
+use Rattle.mvopt.specs.Faults.{RefusesNetwork}
 use Rattle.mvopt.specs.FileReading.{WasRead, Read, StaySame, Stay, Lacks}
+use Rattle.mvopt.specs.LexedFiles.{WasLexed, HasFault}
 use Rattle.mvopt.specs.Made.{IsNetOf, Prepared}
-use Rattle.mvopt.specs.Run.{IsAccepted, IsRefused, RefusesNetwork, RefusesScript, LacksOne, LacksFile}
+use Rattle.mvopt.specs.Run.{HasForm, IsRefused, RefusesScript, LacksOne, LacksFile}
 use Rattle.mvopt.specs.Scripts.{is_script, commands_in}
 use Rattle.mvopt.specs.Stops.{IsCause}
 use Rattle.mvopt.specs.Taken.{TakesScript, TakesCommands, TakesNetwork}
@@ -84,27 +89,38 @@ pub ruleset takes_script = (script_refused, script_taken, commands_taken, lacks_
 
 -- ---- the network
 
-pub network_refused : (words : List (List ℕ)) (old new : Option Held) (bytes : List ℕ) → Read old new (word_at words 1) MAX_NETWORK_BYTES bytes → (IsAccepted bytes → ⊥) → RefusesNetwork words old
-network_refused words None new bytes r never = tt
-network_refused words (Some o) None bytes r never = absurd r
-network_refused words (Some o) (Some n) bytes r never =
-    refused_read IsAccepted o n (word_at words 1) MAX_NETWORK_BYTES bytes (λ content a. length-from_first_fault MAX_NETWORK_BYTES content a.lexed) r never
+-- a file whose bytes have a fault
+pub network_faulty : (words : List (List ℕ)) (old : Option Held) (f : LexFault) → HasFault old (word_at words 1) f → RefusesNetwork words old (Lex f)
+network_faulty words None f h = tt
+network_faulty words (Some o) f h = record { content = h.content; named = h.named; refused = h.fault_is }
 
-pub network_prepared : (words : List (List ℕ)) (old new : Option Held) (bytes : List ℕ) (net : NetParts) → Read old new (word_at words 1) MAX_NETWORK_BYTES bytes → IsNetOf bytes net → Prepared words old new net
-network_prepared words None new bytes net r h = tt
-network_prepared words (Some o) None bytes net r h = absurd r
-network_prepared words (Some o) (Some n) bytes net r h =
-    let short = length-from_first_fault MAX_NETWORK_BYTES bytes h.accepted.lexed in
+-- a file of another form
+pub network_refused : (words : List (List ℕ)) (old new : Option Held) (lines : List LexLine) → WasLexed old new (word_at words 1) lines → (HasForm lines → ⊥) → RefusesNetwork words old NotBuilt
+network_refused words None new lines w never = tt
+network_refused words (Some o) None lines w never = absurd w.read
+network_refused words (Some o) (Some n) lines w never =
     record {
-      content = bytes;
-      held = whole o n (word_at words 1) MAX_NETWORK_BYTES bytes r short;
-      files = r.read.files;
-      current = r.read.current;
-      ended = r.ended short;
-      net_of = h;
+      content = w.content;
+      named = w.read.named;
+      refused = record { lexed = w.lexed; other = λ h. never (subst HasForm (sym w.lines_are) h) };
     }
 
-pub ruleset takes_network = (network_refused, network_prepared, lacks_network)
+pub network_prepared : (words : List (List ℕ)) (old new : Option Held) (lines : List LexLine) (net : NetParts) → WasLexed old new (word_at words 1) lines → IsNetOf lines net → Prepared words old new net
+network_prepared words None new lines net w h = tt
+network_prepared words (Some o) None lines net w h = absurd w.read
+network_prepared words (Some o) (Some n) lines net w h =
+    let P : List LexLine → Type 0 = λ l. IsNetOf l net in
+    record {
+      content = w.content;
+      held = w.read.named;
+      files = w.read.files;
+      current = w.read.current;
+      ended = w.read.ended;
+      lexed = w.lexed;
+      net_of = subst P w.lines_are h;
+    }
+
+pub ruleset takes_network = (network_faulty, network_refused, network_prepared, lacks_network)
 
 -- ---- one after the other
 
@@ -118,10 +134,11 @@ lacks_earlier words a b s l =
       lacks = ⊎_elim (λ (e : file_named (word_at words 1) b.files ≡ None). inl (ap (file_named (word_at words 1)) (sym s.files) ∙ e)) (λ (e : file_named (word_at words 2) b.files ≡ None). inr (ap (file_named (word_at words 2)) (sym s.files) ∙ e)) l.lacks;
     }
 
-network_earlier : (words : List (List ℕ)) (a b : Option Held) → Stay a b → RefusesNetwork words b → RefusesNetwork words a
-network_earlier words None b s r = tt
-network_earlier words (Some a) None s r = absurd s
-network_earlier words (Some a) (Some b) s r = refused_earlier IsAccepted (word_at words 1) a b s r
+network_earlier : (words : List (List ℕ)) (a b : Option Held) (f : NetFault) → Stay a b → RefusesNetwork words b f → RefusesNetwork words a f
+network_earlier words None b f s r = tt
+network_earlier words (Some a) None f s r = absurd s
+network_earlier words (Some a) (Some b) f s r =
+    record { content = r.content; named = ap (file_named (word_at words 1)) (sym s.files) ∙ r.named; refused = r.refused }
 
 script_earlier : (words : List (List ℕ)) (a b : Option Held) → Stay a b → RefusesScript words b → RefusesScript words a
 script_earlier words None b s r = tt
@@ -137,7 +154,7 @@ file_earlier words (Some a) (Some b) s l = λ t. lacks_earlier words a b s (l (s
 -- a cause that is found after files stayed was there before
 pub cause_earlier : (words : List (List ℕ)) (a b : Option Held) (first before now : ℕ) (stop : Stop) → Stay a b → first ≤ before → IsCause words b before now stop → IsCause words a first now stop
 cause_earlier words a b first before now Words s h c = c
-cause_earlier words a b first before now Network s h c = network_earlier words a b s c
+cause_earlier words a b first before now (Network f) s h c = network_earlier words a b f s c
 cause_earlier words a b first before now Script s h c = script_earlier words a b s c
 cause_earlier words a b first before now Unread s h c =
     (Rose-earlier first before now h c.0, file_earlier words a b s c.1)
@@ -154,6 +171,7 @@ prepared_earlier words (Some a) (Some b) (Some c) net s p =
       files = p.files ∙ s.files;
       current = p.current;
       ended = p.ended;
+      lexed = p.lexed;
       net_of = p.net_of;
     }
 
@@ -171,7 +189,12 @@ pub prepared_taken : (words : List (List ℕ)) (old new : Option Held) (net : Ne
 prepared_taken words None new net p = tt
 prepared_taken words (Some o) None net p = absurd p
 prepared_taken words (Some o) (Some n) net p =
-    record { content = p.content; named = p.held; accepted = p.net_of.accepted }
+    let n = p.net_of in
+    record {
+      content = p.content;
+      named = p.held;
+      accepted = record { lexed = p.lexed; form = record { design = n.design; read = n.read; sound = n.flat.sound; nets = n.flat.nets } };
+    }
 
 -- accepted words are three
 pub accepted_size : {A : Type 0} (bytes : A → List ℕ) (words : List A) → accepts (map bytes words) ≡ true → length words ≡ 3

@@ -4,7 +4,7 @@ use Rattle.std.specs.Prelude.{codes, nat_lt, nat_le, ◌==◌}
 use Rattle.std.specs.List.{list_all, list_any, flat_map}
 use Rattle.std.proofs.lemmas.Bool.{and_parts, and_from, or_cases, eqb-true, ltb-true, ne_eqb, not_from_false}
 use Rattle.std.proofs.lemmas.List.Folds.{list_all-append}
-use Rattle.mv_base.specs.Names.{is_visible, is_bracketed, is_word, is_net_name, is_model_name, is_plain_name, is_plain_model, is_reserved, same_word, begins_with, ends_with}
+use Rattle.mv_base.specs.Names.{is_visible, is_bracketed, is_word, is_net_name, is_model_name, same_word, begins_with, ends_with}
 use Rattle.mv_base.specs.Set.{one, full}
 use Rattle.mv_base.specs.declared.limits.TheConstants.{MAX_WORD_BYTES}
 use Rattle.mv_lex.specs.Text.{is_plain_word, is_word_line}
@@ -16,43 +16,32 @@ use Rattle.mv_parse.specs.Grammar.{entry_word, row_line, head_line, table_lines,
 
 -- ---- words
 
-visible_bytes : (w : List ℕ) → list_all (λ b. is_visible b && not (b == 35)) w ≡ true → list_all is_visible w ≡ true
-visible_bytes [] e = refl
-visible_bytes (b ∷ bs) e =
-    let p = and_parts (is_visible b && not (b == 35)) (list_all (λ c. is_visible c && not (c == 35)) bs) e in
-    and_from _ _ (and_parts (is_visible b) (not (b == 35)) p.0).0 (visible_bytes bs p.1)
-
-word_is_plain : (w : List ℕ) → is_word w ≡ true → is_plain_word w ≡ true
+-- a word that doesn't join lines is plain
+word_is_plain : (w : List ℕ) → is_word w ≡ true → not (ends_with 92 w) ≡ true → is_plain_word w ≡ true
 unfolding is_word
-word_is_plain w e =
+word_is_plain w e joins =
     let p = and_parts _ (not (is_bracketed w)) e in
     let q = and_parts _ (list_all (λ b. is_visible b && not (b == 35)) w) p.0 in
     let r = and_parts (nat_lt 0 (length w)) (nat_le (length w) MAX_WORD_BYTES) q.0 in
     let some : 0 < length w = ltb-true 0 (length w) r.0 in
-    and_from _ _ (not_from_false _ (ne_eqb (length w) 0 (λ z. omega arith))) (visible_bytes w q.1)
+    and_from _ _ (and_from _ _ (and_from _ _ (not_from_false _ (ne_eqb (length w) 0 (λ z. omega arith))) q.1) p.1) joins
 
-net_name_is_word : (w : List ℕ) → is_net_name w ≡ true → is_word w ≡ true
+name_is_plain : (w : List ℕ) → is_net_name w ≡ true → is_plain_word w ≡ true
 unfolding is_net_name
-net_name_is_word w e =
+name_is_plain w e =
     let p = and_parts _ (not (ends_with 92 w)) e in
     let q = and_parts _ (not (list_any (λ b. b == 44) w)) p.0 in
     let r = and_parts _ (not (begins_with 46 w)) q.0 in
-    (and_parts (is_word w) (not (same_word w (codes "->"))) r.0).0
+    word_is_plain w (and_parts (is_word w) (not (same_word w (codes "->"))) r.0).0 p.1
 
-name_is_plain : (w : List ℕ) → is_plain_name w ≡ true → is_plain_word w ≡ true
-unfolding is_plain_name
-name_is_plain w e = word_is_plain w (net_name_is_word w (and_parts (is_net_name w) (not (list_any is_reserved w)) e).0)
+model_is_plain : (w : List ℕ) → is_model_name w ≡ true → is_plain_word w ≡ true
+unfolding is_model_name
+model_is_plain w e = name_is_plain w (and_parts (is_net_name w) (not (list_any (λ b. b == 61) w)) e).0
 
-model_is_plain : (w : List ℕ) → is_plain_model w ≡ true → is_plain_word w ≡ true
-unfolding is_plain_model is_model_name
-model_is_plain w e =
-    let m = (and_parts (is_model_name w) (not (list_any is_reserved w)) e).0 in
-    word_is_plain w (net_name_is_word w (and_parts (is_net_name w) (not (list_any (λ b. b == 61) w)) m).0)
-
-names_are_plain : (ws : List (List ℕ)) → list_all is_plain_name ws ≡ true → list_all is_plain_word ws ≡ true
+names_are_plain : (ws : List (List ℕ)) → list_all is_net_name ws ≡ true → list_all is_plain_word ws ≡ true
 names_are_plain [] e = refl
 names_are_plain (w ∷ ws) e =
-    let p = and_parts (is_plain_name w) (list_all is_plain_name ws) e in
+    let p = and_parts (is_net_name w) (list_all is_net_name ws) e in
     and_from _ _ (name_is_plain w p.0) (names_are_plain ws p.1)
 
 entry_is_plain : (s : ℕ) → is_entry s ≡ true → is_plain_word (entry_word s) ≡ true
@@ -95,7 +84,7 @@ tables_are_lines [] h = refl
 tables_are_lines (t ∷ ts) h =
     list_all-append is_word_line (table_lines t) (flat_map table_lines ts) ∙ and_from _ _ (and_from _ _ (head_is_line t h.0) (rows_are_lines (length t.inputs) t.rows h.0.rows)) (tables_are_lines ts h.1)
 
-named_is_line : (word : List ℕ) (ws : List (List ℕ)) → is_plain_word word ≡ true → list_all is_plain_name ws ≡ true → is_word_line (word ∷ ws) ≡ true
+named_is_line : (word : List ℕ) (ws : List (List ℕ)) → is_plain_word word ≡ true → list_all is_net_name ws ≡ true → is_word_line (word ∷ ws) ≡ true
 named_is_line word ws w e = and_from _ _ (first_some word ws) (and_from _ _ w (names_are_plain ws e))
 
 -- each line of a proper design has a word, and its words are plain

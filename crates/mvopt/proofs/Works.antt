@@ -1,6 +1,5 @@
 -- The work on a network: its commands, then the done line, then the text, each as far as it came.
-use Rattle.std.proofs.Common.{◌≡◌, ◌∙◌, ℕ, ◌≤◌, List, [], ◌∷◌, ◌++◌, Option, Result, Ok, Err, OnOk, OnErr, inl, inr, refl, sym, ap, subst, ⊎_elim, append_assoc}
-use Rattle.std.specs.Prelude.{codes, decimal}
+use Rattle.std.proofs.Common.{◌≡◌, ℕ, ◌≤◌, List, Option, Result, Ok, Err, OnOk, OnErr, inl, inr, refl, ap, subst, ⊎_elim}
 use Rattle.mv_base.specs.declared.outside.Failed.{Failed}
 use Rattle.mv_base.specs.Meaning.{SameMeaning}
 use Rattle.mv_base.specs.Outside.{Gained, GainedPart, HasCause, Rose}
@@ -17,15 +16,6 @@ use Rattle.mvopt.specs.Outcomes.{HasRun, IsNoteCut, IsEndCut, HasWorked, IsCut}
 use Rattle.mvopt.specs.Run.{done_line}
 use Rattle.mvopt.specs.Runs.{entries_of}
 use Rattle.mvopt.proofs.CommandRuns.{Goes-binary}
-
--- ---- the done line in its pieces
-
-pub done_first : (before after : ℕ) (digits : List ℕ) → digits ≡ decimal before → done_line before after ≡ (codes "# done " ++ digits) ++ (32 ∷ decimal after ++ 10 ∷ [])
-done_first before after digits e =
-    append_assoc (codes "# done " ++ decimal before) (32 ∷ decimal after) (10 ∷ []) ∙ ap (λ d. (codes "# done " ++ d) ++ (32 ∷ decimal after ++ 10 ∷ [])) (sym e)
-
-pub done_second : (after : ℕ) (digits : List ℕ) → digits ≡ decimal after → 32 ∷ decimal after ++ 10 ∷ [] ≡ (32 ∷ [] ++ digits) ++ 10 ∷ []
-done_second after digits e = ap (λ d. 32 ∷ d ++ 10 ∷ []) (sym e)
 
 -- ---- the end of the work
 

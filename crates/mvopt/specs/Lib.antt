@@ -1,5 +1,7 @@
 pub mod Exact
+pub mod Faults
 pub mod FileReading
+pub mod LexedFiles
 pub mod Made
 pub mod Outcomes
 pub mod Pieces

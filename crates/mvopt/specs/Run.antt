@@ -2,7 +2,8 @@
 use Rattle.std.specs.Prelude.{◌≡◌, ℕ, ◌≤◌, true, Option, Some, None, List, [], ◌∷◌, ◌++◌, length, codes, decimal, ◌⊎◌, ◌==◌, if◌then◌else◌}
 use Rattle.mv_base.specs.Outside.{Held, file_named, Gained, GainedPart, Rose}
 use Rattle.mv_base.specs.declared.limits.TheConstants.{MAX_NETWORK_BYTES, MAX_NETS}
-use Rattle.mv_lex.specs.Lines.{lines_of, is_clean, first_fault}
+use Rattle.mv_lex.specs.declared.lines.LexLine.{LexLine}
+use Rattle.mv_lex.specs.Lines.{lines_of, is_clean, lex_fault}
 use Rattle.mv_parse.specs.declared.design.Design.{Design}
 use Rattle.mv_parse.specs.Designs.{IsSound, drivers}
 use Rattle.mv_parse.specs.Grammar.{Says, IsRead}
@@ -16,27 +17,35 @@ pub record ReadsAs (bytes : List ℕ) (d : Design) : Type 0 where
   pub says : Says (words_of (lines_of bytes)) d
   pub sound : IsSound d
 
--- a network file of the accepted form, within every limit
-pub record IsAccepted (bytes : List ℕ) : Type 0 where
+-- lines of the accepted form, within its limits
+pub record HasForm (lines : List LexLine) : Type 0 where
   pub design : Design
-  pub lexed : first_fault MAX_NETWORK_BYTES [] bytes ≡ None
-  pub read : IsRead (words_of (lines_of bytes)) design
+  pub read : IsRead (words_of lines) design
   pub sound : IsSound design
   pub nets : length (drivers design) ≤ MAX_NETS
 
+-- a network file that is accepted: its bytes have no fault, and its lines are of the form
+pub record IsAccepted (bytes : List ℕ) : Type 0 where
+  pub lexed : lex_fault MAX_NETWORK_BYTES bytes ≡ None
+  pub form : HasForm (lines_of bytes)
+
+-- a line of these words and a number
+abbrev pub number_line : List ℕ → ℕ → List ℕ
+number_line words number = words ++ decimal number ++ 10 ∷ []
+
+-- a line of these words and two numbers
+abbrev pub numbers_line : List ℕ → ℕ → ℕ → List ℕ
+numbers_line words first second = words ++ decimal first ++ 32 ∷ decimal second ++ 10 ∷ []
+
 -- the last line of the notes: the literals of the network as read and as written
 abbrev pub done_line : ℕ → ℕ → List ℕ
-done_line before after = codes "# done " ++ decimal before ++ 32 ∷ decimal after ++ 10 ∷ []
+done_line before after = numbers_line (codes "# done ") before after
 
 -- the named file's content is refused
 pub record IsRefused (Accepts : List ℕ → Type 0) (name : List ℕ) (held : Held) : Type 0 where
   pub content : List ℕ
   pub named : file_named name held.files ≡ Some content
   pub refused : Accepts content → ⊥
-
-abbrev pub RefusesNetwork : List (List ℕ) → Option Held → Type 0
-RefusesNetwork words None = Unit {0}
-RefusesNetwork words (Some held) = IsRefused IsAccepted (word_at words 1) held
 
 abbrev pub RefusesScript : List (List ℕ) → Option Held → Type 0
 RefusesScript words None = Unit {0}
@@ -50,9 +59,9 @@ abbrev pub LacksFile : List (List ℕ) → Option Held → Type 0
 LacksFile words None = Unit {0}
 LacksFile words (Some held) = held.sound ≡ true → LacksOne words held
 
--- the line for each status that refuses
+-- the line for each status that refuses, but for 2, whose line names the fault of the network
 abbrev pub fault_line : ℕ → List ℕ
-fault_line status = if status == 1 then codes "# fault words\n" else (if status == 2 then codes "# fault network 39 NotBuilt\n" else (if status == 3 then codes "# fault script 8 NotBuilt\n" else (if status == 4 then codes "# fault read\n" else codes "# fault memory\n")))
+fault_line status = if status == 1 then codes "# fault words\n" else (if status == 3 then codes "# fault script 8 NotBuilt\n" else (if status == 4 then codes "# fault read\n" else codes "# fault memory\n"))
 
 -- the notes gained the line, or some first part of it where their count of faults rose
 abbrev pub Tells : Option (List ℕ) → Option (List ℕ) → ℕ → ℕ → List ℕ → Type 0

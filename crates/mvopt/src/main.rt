@@ -2,7 +2,9 @@
 #![tactic(auto)]
 
 mod commands;
+mod lines;
 mod net_file;
+mod numbers;
 mod read;
 mod run;
 mod script;

@@ -8,7 +8,7 @@ use mv_base::{Failed, Files};
 use std::alloc::{AllocError, Global};
 
 /// How many bytes are asked for at once.
-const PIECE: usize = 4_096;
+pub const PIECE: usize = 4_096;
 
 /// Why a file couldn't be read.
 #[derive(Clone, Copy, Debug, PartialEq, Eq)]

@@ -3,12 +3,13 @@ ghost use Rattle.mv_base.specs.Outside.{Rose};
 ghost use Rattle.mvopt.specs.Exact.{IsComplete, IsExact};
 ghost use Rattle.mvopt.specs.Outcomes.{EndsCut, EndsShort};
 ghost use Rattle.mvopt.specs.Replaced.{Replaced};
-ghost use Rattle.mvopt.specs.Run.{RefusesNetwork, RefusesScript, LacksFile, Tells, fault_line};
-ghost use Rattle.mvopt.specs.Stops.{status_of};
+ghost use Rattle.mvopt.specs.Faults.{TellsFault};
+ghost use Rattle.mvopt.specs.Run.{RefusesScript, LacksFile, Tells, fault_line};
+ghost use Rattle.mvopt.specs.Stops.{line_of};
 ghost use Rattle.mvopt.specs.Taken.{TakesScript, TakesNetwork};
 ghost use Rattle.mvopt.specs.Words.{accepts};
 
-use crate::stop::{Stop, line, status};
+use crate::stop::{Stop, put_line, status};
 use crate::take::prepare;
 use crate::work::{WorkStop, carry_out};
 use mv_base::{Files, Sink};
@@ -16,9 +17,9 @@ use std::alloc::Global;
 
 /// Puts the line of a refusal to the notes, as far as they take it.
 fn refuse<E: Sink>(stop: Stop, notes: &mut E)
-    ensures { Tells (E.told notes.old) (E.told notes.new) (E.faults notes.old) (E.faults notes.new) (fault_line (status_of stop)) }
+    ensures { Tells (E.told notes.old) (E.told notes.new) (E.faults notes.old) (E.faults notes.new) (line_of stop) }
 {
-    match notes.put(line(stop)) {
+    match put_line(stop, notes) {
         Ok(()) => {}
         Err(_failed) => {}
     }
@@ -43,14 +44,14 @@ pub fn run<F: Files, O: Sink, E: Sink>(
     ensures script_taken { (result ≡ 0) ⊎ (result ≡ 2) ⊎ (result ≡ 5) → TakesScript (map string_bytes words.now) (F.held files.old) }
     ensures network_taken { (result ≡ 0) ⊎ (result ≡ 5) → TakesNetwork (map string_bytes words.now) (F.held files.old) }
     ensures words { result ≡ 1 → accepts (map string_bytes words.now) ≡ false }
-    ensures network { result ≡ 2 → RefusesNetwork (map string_bytes words.now) (F.held files.old) }
+    ensures network { result ≡ 2 → TellsFault (map string_bytes words.now) (F.held files.old) (E.told notes.old) (E.told notes.new) (E.faults notes.old) (E.faults notes.new) }
     ensures script { result ≡ 3 → RefusesScript (map string_bytes words.now) (F.held files.old) }
     ensures read { result ≡ 4 → Rose (F.faults files.old) (F.faults files.new) }
     ensures lacks { result ≡ 4 → LacksFile (map string_bytes words.now) (F.held files.old) }
     ensures cut { result ≡ 5 → EndsCut (map string_bytes words.now) (F.held files.old) (F.held files.new) (O.told out.old) (O.told out.new) (E.told notes.old) (E.told notes.new) (O.faults out.old) (O.faults out.new) (E.faults notes.old) (E.faults notes.new) }
     ensures short { result ≡ 6 → EndsShort (map string_bytes words.now) (F.held files.old) (F.held files.new) (E.told notes.old) (E.told notes.new) (E.faults notes.old) (E.faults notes.new) }
     ensures untouched { (result ≡ 0 → ⊥) → (result ≡ 5 → ⊥) → O.told out.new ≡ O.told out.old }
-    ensures noted { (result ≡ 0 → ⊥) → result < 5 → Tells (E.told notes.old) (E.told notes.new) (E.faults notes.old) (E.faults notes.new) (fault_line result) }
+    ensures noted { (result ≡ 1) ⊎ (result ≡ 3) ⊎ (result ≡ 4) → Tells (E.told notes.old) (E.told notes.new) (E.faults notes.old) (E.faults notes.new) (fault_line result) }
     ensures accepted { (result ≡ 1 → ⊥) → accepts (map string_bytes words.now) ≡ true }
     ensures exact { IsExact (map string_bytes words.now) (F.held files.old) result }
     ensures complete { IsComplete (map string_bytes words.now) (F.held files.old) (O.faults out.old) (O.faults out.new) (E.faults notes.old) (E.faults notes.new) result }

@@ -1,12 +1,24 @@
 ghost use Rattle.std.specs.Prelude.{◌≡◌};
-ghost use Rattle.mvopt.specs.Run.{fault_line};
-ghost use Rattle.mvopt.specs.Stops.{status_of};
+ghost use Rattle.mv_base.specs.Appends.{Appends};
+ghost use Rattle.mvopt.specs.Faults.{lex_line, net_line};
+ghost use Rattle.mvopt.specs.Stops.{status_of, line_of};
+
+use crate::numbers::{put_number, put_numbers};
+use mv_base::{Failed, Sink, put_piece};
+use mv_lex::LexFault;
+
+/// Why a network file is refused: a fault of its bytes, or lines of another form than the accepted one.
+#[derive(Clone, Copy, Debug, PartialEq, Eq)]
+pub enum NetFault {
+    Lex(LexFault),
+    NotBuilt,
+}
 
 /// Why a run ends before it has a network to write.
 #[derive(Clone, Copy, Debug, PartialEq, Eq)]
 pub enum Stop {
     Words,
-    Network,
+    Network(NetFault),
     Script,
     Read,
     Memory,
@@ -18,22 +30,56 @@ pub fn status(stop: Stop) -> u8
 {
     match stop {
         Stop::Words => 1,
-        Stop::Network => 2,
+        Stop::Network(_fault) => 2,
         Stop::Script => 3,
         Stop::Read => 4,
         Stop::Memory => 6,
     }
 }
 
-/// The line that says so.
-pub fn line(stop: Stop) -> &'static [u8]
-    ensures { result.now ≡ fault_line (status_of stop) }
+/// Puts the line of a fault of a file's bytes.
+fn put_lex_line<E: Sink>(fault: LexFault, notes: &mut E) -> Result<(), Failed>
+    ensures { Appends (E.told notes.old) (E.told notes.new) (E.faults notes.old) (E.faults notes.new) (lex_line fault) result }
+{
+    match fault {
+        LexFault::BadByte { line, byte } => put_numbers(
+            b"# fault network 1 BadByte line ",
+            line as u128,
+            byte as u128,
+            notes,
+        ),
+        LexFault::LongWord { line } => {
+            put_number(b"# fault network 2 LongWord line ", line, notes)
+        }
+        LexFault::OpenBracket { line } => {
+            put_number(b"# fault network 3 OpenBracket line ", line, notes)
+        }
+        LexFault::TooLarge { line } => {
+            put_number(b"# fault network 4 TooLarge line ", line, notes)
+        }
+        LexFault::Memory => put_piece(b"# fault memory\n", notes),
+    }
+}
+
+/// Puts the line of a fault of a network file.
+fn put_net_line<E: Sink>(fault: NetFault, notes: &mut E) -> Result<(), Failed>
+    ensures { Appends (E.told notes.old) (E.told notes.new) (E.faults notes.old) (E.faults notes.new) (net_line fault) result }
+{
+    match fault {
+        NetFault::Lex(fault) => put_lex_line(fault, notes),
+        NetFault::NotBuilt => put_piece(b"# fault network 39 NotBuilt\n", notes),
+    }
+}
+
+/// Puts the line that says why a run ends. It takes no memory.
+pub fn put_line<E: Sink>(stop: Stop, notes: &mut E) -> Result<(), Failed>
+    ensures { Appends (E.told notes.old) (E.told notes.new) (E.faults notes.old) (E.faults notes.new) (line_of stop) result }
 {
     match stop {
-        Stop::Words => b"# fault words\n",
-        Stop::Network => b"# fault network 39 NotBuilt\n",
-        Stop::Script => b"# fault script 8 NotBuilt\n",
-        Stop::Read => b"# fault read\n",
-        Stop::Memory => b"# fault memory\n",
+        Stop::Words => put_piece(b"# fault words\n", notes),
+        Stop::Network(fault) => put_net_line(fault, notes),
+        Stop::Script => put_piece(b"# fault script 8 NotBuilt\n", notes),
+        Stop::Read => put_piece(b"# fault read\n", notes),
+        Stop::Memory => put_piece(b"# fault memory\n", notes),
     }
 }

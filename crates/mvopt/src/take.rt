@@ -1,17 +1,20 @@
 ghost use Rattle.std.specs.Prelude.{◌≡◌, ◌≤◌, map, length, string_bytes, true, Err, IfOk, IfErr, OnOk};
 ghost use Rattle.mv_net.specs.Binary.{IsBinary};
+ghost use Rattle.mvopt.specs.declared.stop.NetFault.{NetFault};
 ghost use Rattle.mvopt.specs.FileReading.{Stay};
 ghost use Rattle.mvopt.specs.Made.{Prepared};
 ghost use Rattle.mvopt.specs.Stops.{IsCause};
 ghost use Rattle.mvopt.specs.Taken.{TakesScript, TakesCommands};
 ghost use Rattle.mvopt.specs.Words.{accepts};
 
+use crate::lines::{LinesStop, read_lines};
 use crate::net_file::network_of;
 use crate::read::{ReadStop, read_file};
 use crate::script::{Command, ScriptStop, read_script};
-use crate::stop::Stop;
+use crate::stop::{NetFault, Stop};
 use crate::words::{is_accepted, word_at};
-use mv_base::{Files, Items, MAX_NETWORK_BYTES, MAX_SCRIPT_BYTES};
+use mv_base::{Files, Items, MAX_SCRIPT_BYTES};
+use mv_lex::LexFault;
 use mv_net::Network;
 use mv_parse::ParseStop;
 use std::alloc::Global;
@@ -28,7 +31,7 @@ fn take_script<F: Files>(
     ensures commands { IfOk result (λ commands. TakesCommands (map string_bytes words.now) (F.held files.old) commands) }
     ensures stay { Stay (F.held files.old) (F.held files.new) }
     ensures later { F.faults files.old ≤ F.faults files.new }
-    ensures only { result ≡ Err Stop.Network → ⊥ }
+    ensures only { (fault : NetFault) → result ≡ Err (Stop.Network fault) → ⊥ }
     ensures stopped { IfErr result (IsCause (map string_bytes words.now) (F.held files.old) (F.faults files.old) (F.faults files.new)) }
 {
     let text = match read_file(alloc, files, word_at(words, 2), MAX_SCRIPT_BYTES) {
@@ -51,14 +54,15 @@ fn take_network<F: Files>(alloc: Global, words: &[String], files: &mut F) -> Res
     ensures binary { IfOk result IsBinary }
     ensures stopped { IfErr result (IsCause (map string_bytes words.now) (F.held files.old) (F.faults files.old) (F.faults files.new)) }
 {
-    let bytes = match read_file(alloc, files, word_at(words, 1), MAX_NETWORK_BYTES) {
-        Ok(bytes) => bytes,
-        Err(ReadStop::Failed) => return Err(Stop::Read),
-        Err(ReadStop::Memory) => return Err(Stop::Memory),
+    let lines = match read_lines(alloc, files, word_at(words, 1)) {
+        Ok(lines) => lines,
+        Err(LinesStop::Failed) => return Err(Stop::Read),
+        Err(LinesStop::Lex(LexFault::Memory)) => return Err(Stop::Memory),
+        Err(LinesStop::Lex(fault)) => return Err(Stop::Network(NetFault::Lex(fault))),
     };
-    match network_of(alloc, bytes.as_slice()) {
+    match network_of(alloc, lines.as_slice()) {
         Ok(net) => Ok(net),
-        Err(ParseStop::NotBuilt) => Err(Stop::Network),
+        Err(ParseStop::NotBuilt) => Err(Stop::Network(NetFault::NotBuilt)),
         Err(ParseStop::Memory) => Err(Stop::Memory),
     }
 }
@@ -74,7 +78,7 @@ pub struct Work {
 #[tactic(auto, using(crate::proofs::Takes::prepares))]
 pub fn prepare<F: Files>(alloc: Global, words: &[String], files: &mut F) -> Result<Work, Stop>
     ensures taken { OnOk result (TakesScript (map string_bytes words.now) (F.held files.old)) }
-    ensures first { result ≡ Err Stop.Network → TakesScript (map string_bytes words.now) (F.held files.old) }
+    ensures first { (fault : NetFault) → result ≡ Err (Stop.Network fault) → TakesScript (map string_bytes words.now) (F.held files.old) }
     ensures commands { IfOk result (λ work. TakesCommands (map string_bytes words.now) (F.held files.old) work.commands) }
     ensures made { IfOk result (λ work. Prepared (map string_bytes words.now) (F.held files.old) (F.held files.new) work.net) }
     ensures binary { IfOk result (λ work. IsBinary work.net) }

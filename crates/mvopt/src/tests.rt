@@ -509,16 +509,16 @@ const REFUSED: [&str; 37] = [
     ".model m\n.inputs a\n.outputs z\n.table z -> z\n0 1\n.end\n",
     ".model m\n.inputs a\n.outputs z\n.table y -> z\n0 1\n.table z -> y\n0 1\n.end\n",
     ".model m\n.inputs a#\n.outputs z\n.table a# -> z\n0 1\n.end\n",
-    ".model m\n.inputs a\\b\n.outputs z\n.table a\\b -> z\n0 1\n.end\n",
-    ".model m\n.inputs a(\n.outputs z\n.table a( -> z\n0 1\n.end\n",
-    ".model m\n.inputs a{\n.outputs z\n.table a{ -> z\n0 1\n.end\n",
+    ".model m\n.inputs a\\ b\n.outputs z\n.table a\\ b -> z\n0 0 1\n.end\n",
+    ".model m\n.inputs (a)\n.outputs z\n.table (a) -> z\n0 1\n.end\n",
+    ".model m\n.inputs !{a}\n.outputs z\n.table !{a} -> z\n0 1\n.end\n",
+    ".model m\n.inputs a\n.outputs z\n.table a -> z\n(0,1) 1\n.end\n",
     ".model m\n.inputs a\n.outputs z\n.latch a z 0\n.end\n",
     ".model m\n.inputs a\n.outputs z\n.table a -> z\n.default 0\n.end\n",
     ".model m\n.inputs a\n.outputs z\n.names a z\n0 1\n.end\n",
     ".model m\n.inputs a\n.outputs z\n.mv a 2\n.table a -> z\n0 1\n.end\n",
     ".model m\n.inputs .a\n.outputs z\n.table .a -> z\n0 1\n.end\n",
     ".model m\n.inputs a,b\n.outputs z\n.table a,b -> z\n0 1\n.end\n",
-    ".model m\n.inputs \u{80}\n.outputs z\n.table \u{80} -> z\n0 1\n.end\n",
 ];
 
 #[test]
@@ -532,6 +532,197 @@ fn networks_of_another_form_are_refused(rt: HostRuntime) -> Result<(), Fail> {
             b"# fault network 39 NotBuilt\n".as_slice(),
             "{net}"
         );
+    }
+    Ok(())
+}
+
+#[test]
+fn names_may_have_brackets_and_backslashes_inside(rt: HostRuntime) -> Result<(), Fail> {
+    let net =
+        ".model m{1}\n.inputs a(b a\\b x{1} )\n.outputs \\z\n.table a(b a\\b x{1} ) -> \\z\n1 0 1 1 0\n.end\n";
+    let end = run_on(rt.alloc(), "opt n s", net.as_bytes(), b"", no_fails())?;
+    assert_eq!(rt; end.status, 0);
+    assert_eq!(rt; end.out.bytes(), net.as_bytes());
+    Ok(())
+}
+
+/// The inverter's file with comments, joined lines, carriage returns and blanks.
+const DRESSED: [&[u8]; 8] = [
+    b"# an inverter\n.model inv\n.inputs a # in\n.outputs z#out\n.table a -> z\n0 1\n1 0\n.end\n#",
+    b".model inv\n.inputs a\n.outputs z\n.table a -> z\n0 1 # \x80 \x00 (\n1 0\n.end # \xff",
+    b".model \\\ninv\n.inputs \\\n\\\na\n.outputs z\n.table a\\\n-> z\n0 1\n1\\\n0\n.end\\",
+    b".model inv\r\n.inputs a\r\n.outputs z\r\n.table a -> z\r\n0 1\r\n1 0\r\n.end\r\n",
+    b".model inv\n.inputs\\\r\na\n.outputs z\n.table a\r-> z\n0 1\n1 0\n.end\\\r",
+    b"\n\n \t\n.model inv\n\n.inputs\ta\n.outputs  z\n.table a -> z\n 0 1 \n1 0\n\n.end\n\n",
+    b".model inv\n.inputs a#\\\n.outputs z\n.table a -> z\n0 1\n1 0\n.end",
+    b"\\\n.model inv\n.inputs a\n# \\\n.outputs z\n.table a -> z\n0 1\n1 0\n.end\n",
+];
+
+#[test]
+fn comments_and_joined_lines_mean_nothing(rt: HostRuntime) -> Result<(), Fail> {
+    for net in DRESSED {
+        let end = run_on(rt.alloc(), "opt n s", net, b"", no_fails())?;
+        assert_eq!(rt; end.status, 0);
+        assert_eq!(rt; end.out.bytes(), INVERTER.as_bytes());
+        assert_eq!(rt; end.notes.bytes(), b"# done 2 2\n".as_slice());
+    }
+    Ok(())
+}
+
+/// Network files whose bytes have a fault, and the end of its line.
+const FAULTY: [(&[u8], &str); 16] = [
+    (
+        b".model m\n.inputs \x80\n.outputs z\n",
+        "1 BadByte line 2 128",
+    ),
+    (b"\x00", "1 BadByte line 1 0"),
+    (b"\n\n\n \x7f", "1 BadByte line 4 127"),
+    // The joined line begins before it.
+    (b".model \\\nm\\\n\xff", "1 BadByte line 3 255"),
+    // The first fault counts, also where the lines before it are of another form.
+    (b"x\n\x0b\n\x80\n", "1 BadByte line 2 11"),
+    (b"(\x80", "1 BadByte line 1 128"),
+    (
+        b".model m\n.inputs (a\n.outputs z\n",
+        "3 OpenBracket line 2",
+    ),
+    (b".model m\n.inputs (a # )\n\x80", "3 OpenBracket line 2"),
+    (b".model m\n.inputs !{ a b", "3 OpenBracket line 2"),
+    (b".model m\n.inputs {a)\\\n b\n", "3 OpenBracket line 3"),
+    (b".model m\n(a\\\n", "3 OpenBracket line 3"),
+    (b".model m\n(a", "3 OpenBracket line 2"),
+    // A bracket inside a word is an ordinary byte, and right behind a bracketed word the next one begins.
+    (b"a(\n!\n!(\n", "3 OpenBracket line 3"),
+    (b")\n}\n(})(\n", "3 OpenBracket line 3"),
+    (b"(#", "3 OpenBracket line 1"),
+    (b".model m\n.inputs a\n{\r", "3 OpenBracket line 3"),
+];
+
+/// Whether the network file is refused with this line, and nothing is written.
+fn is_refused(alloc: Global, net: &[u8], fault: &str) -> Result<bool, Fail> {
+    let end = run_on(alloc, "opt n s", net, b"", no_fails())?;
+    let want = format!(in alloc; "# fault network {fault}\n")?;
+    Ok(end.status == 2 && end.out.bytes().is_empty() && end.notes.bytes() == want.as_bytes())
+}
+
+#[test]
+fn faults_of_the_bytes_have_lines_of_their_own(rt: HostRuntime) -> Result<(), Fail> {
+    for (net, fault) in FAULTY {
+        assert!(rt; is_refused(rt.alloc(), net, fault)?, "{fault}");
+    }
+    Ok(())
+}
+
+/// Network files of a front and a piece so many times, and the end of their line.
+const LONG: [(&[u8], &[u8], usize, &str); 7] = [
+    (b".model m\n", b"a", 1_024, "39 NotBuilt"),
+    (b".model m\n", b"a", 1_025, "2 LongWord line 2"),
+    (b"\n\n(", b" a", 199_999, "3 OpenBracket line 3"),
+    (b"\n\n(", b" a", 200_000, "2 LongWord line 3"),
+    (b"", b"!", 1_024, "39 NotBuilt"),
+    (b"", b"!", 1_025, "2 LongWord line 1"),
+    (b"# ", b"a", 20_000, "39 NotBuilt"),
+];
+
+#[test]
+fn words_have_a_limit(rt: HostRuntime) -> Result<(), Fail> {
+    let alloc = rt.alloc();
+    for (front, piece, times, fault) in LONG {
+        let mut net = Vec::from_slice(alloc, front)?;
+        net.extend_from_slice(repeated(alloc, piece, times)?.as_slice())?;
+        assert!(rt; is_refused(alloc, net.as_slice(), fault)?, "{fault}");
+    }
+    Ok(())
+}
+
+#[test]
+fn a_network_file_has_a_limit(rt: HostRuntime) -> Result<(), Fail> {
+    let alloc = rt.alloc();
+    let page = repeated(alloc, b" ", 4_096)?;
+    let mut net = Vec::from_slice(alloc, b"\n\n#")?;
+    net.extend_from_slice(repeated(alloc, page.as_slice(), 4_095)?.as_slice())?;
+    net.extend_from_slice(repeated(alloc, b" ", 4_093)?.as_slice())?;
+    assert_eq!(rt; net.len(), 16_777_216);
+    assert!(rt; is_refused(alloc, net.as_slice(), "39 NotBuilt")?);
+    net.push(b' ')?;
+    assert!(rt; is_refused(alloc, net.as_slice(), "4 TooLarge line 3")?);
+    Ok(())
+}
+
+/// The inverter's file behind so many blanks, with a long comment inside.
+fn long_inverter(alloc: Global, blanks: usize) -> Result<Vec<u8>, Fail> {
+    let mut net = repeated(alloc, b" ", blanks)?;
+    net.extend_from_slice(b".model inv\n.inputs a\n#")?;
+    net.extend_from_slice(repeated(alloc, b"\x80", 5_000)?.as_slice())?;
+    net.extend_from_slice(b"\n.outputs z\n.table a -> z\n0 1\n1 0\n.end\n")?;
+    Ok(net)
+}
+
+#[test]
+fn a_file_is_read_in_pieces(rt: HostRuntime) -> Result<(), Fail> {
+    for blanks in 4_064..4_100usize {
+        let net = long_inverter(rt.alloc(), blanks)?;
+        let end = run_on(rt.alloc(), "opt n s", net.as_slice(), b"", no_fails())?;
+        assert_eq!(rt; end.status, 0, "behind {blanks}");
+        assert_eq!(rt; end.out.bytes(), INVERTER.as_bytes(), "behind {blanks}");
+    }
+    Ok(())
+}
+
+#[test]
+fn each_call_fails_in_the_middle_of_a_file(rt: HostRuntime) -> Result<(), Fail> {
+    let net = long_inverter(rt.alloc(), 4_090)?;
+    // The script's calls are the first two; the network's are a start, three pieces and the end.
+    for call in 2..7u64 {
+        let fails = Fails {
+            files: &[call],
+            ..no_fails()
+        };
+        let end = run_on(rt.alloc(), "opt n s", net.as_slice(), b"", fails)?;
+        assert_eq!(rt; end.status, 4, "at {call}");
+        assert_eq!(rt; end.out.bytes(), b"".as_slice(), "at {call}");
+        assert_eq!(rt;
+            end.notes.bytes(),
+            b"# fault read\n".as_slice(),
+            "at {call}"
+        );
+    }
+    Ok(())
+}
+
+#[test]
+fn the_reading_stops_at_the_first_fault(rt: HostRuntime) -> Result<(), Fail> {
+    let mut net = Vec::from_slice(rt.alloc(), b"\n\x80")?;
+    net.extend_from_slice(repeated(rt.alloc(), b" ", 5_000)?.as_slice())?;
+    for (call, status, notes) in [
+        (3u64, 4, "# fault read\n"),
+        (4, 2, "# fault network 1 BadByte line 2 128\n"),
+    ] {
+        let fails = Fails {
+            files: &[call],
+            ..no_fails()
+        };
+        let end = run_on(rt.alloc(), "opt n s", net.as_slice(), b"", fails)?;
+        assert_eq!(rt; end.status, status, "at {call}");
+        assert_eq!(rt; end.notes.bytes(), notes.as_bytes(), "at {call}");
+    }
+    Ok(())
+}
+
+#[test]
+fn the_line_of_a_fault_is_cut_where_the_notes_fail(rt: HostRuntime) -> Result<(), Fail> {
+    let line = "# fault network 1 BadByte line 2 128\n";
+    for call in 0..5u64 {
+        for taken in 0..3usize {
+            let fails = Fails {
+                notes: &[(call, taken)],
+                ..no_fails()
+            };
+            let end = run_on(rt.alloc(), "opt n s", b"\n\x80", b"", fails)?;
+            assert_eq!(rt; end.status, 2, "at {call}");
+            assert!(rt; line.as_bytes().starts_with(end.notes.bytes()), "at {call}");
+            assert_eq!(rt; end.out.bytes(), b"".as_slice(), "at {call}");
+        }
     }
     Ok(())
 }

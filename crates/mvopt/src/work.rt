@@ -1,5 +1,4 @@
 ghost use Rattle.std.specs.Prelude.{◌≡◌, ◌≤◌, Err, OnOk, OnErr};
-ghost use Rattle.mv_base.specs.Appends.{Appends};
 ghost use Rattle.mv_base.specs.Outside.{Gained};
 ghost use Rattle.mv_net.specs.Nets.{literals_in};
 ghost use Rattle.mv_net.specs.Binary.{IsBinary};
@@ -8,9 +7,9 @@ ghost use Rattle.mvopt.specs.Outcomes.{HasStoppedAt, HasWorked, IsCut, IsEndCut}
 ghost use Rattle.mvopt.specs.Run.{done_line};
 
 use crate::commands::run_commands;
+use crate::numbers::put_numbers;
 use crate::take::Work;
-use itoa::Buffer;
-use mv_base::{Failed, Sink, put_both, put_piece};
+use mv_base::{Failed, Sink};
 use mv_net::Network;
 use mv_sweep::Stop;
 use mv_write::write;
@@ -21,16 +20,6 @@ use std::alloc::Global;
 pub enum WorkStop {
     Write,
     Memory,
-}
-
-/// Puts the line that says how many literals were read and are written. It takes no memory.
-fn put_done<E: Sink>(before: u128, after: u128, notes: &mut E) -> Result<(), Failed>
-    ensures { Appends (E.told notes.old) (E.told notes.new) (E.faults notes.old) (E.faults notes.new) (done_line before after) result }
-{
-    let mut buffer = Buffer::new();
-    put_both(b"# done ", buffer.format(before).as_bytes(), notes)?;
-    put_both(b" ", buffer.format(after).as_bytes(), notes)?;
-    put_piece(b"\n", notes)
 }
 
 /// Puts the done line to the notes, and then the network's text to the output. It takes no memory.
@@ -45,7 +34,7 @@ fn finish<O: Sink, E: Sink>(
     ensures noted { OnOk result (Gained (E.told notes.old) (E.told notes.new) (done_line before (literals_in net.now.nets))) }
     ensures cut { OnErr result (IsEndCut (O.told out.old) (O.told out.new) (E.told notes.old) (E.told notes.new) (O.faults out.old) (O.faults out.new) (E.faults notes.old) (E.faults notes.new) (done_line before (literals_in net.now.nets)) (text_of net.now)) }
 {
-    match put_done(before, net.literals(), notes) {
+    match put_numbers(b"# done ", before, net.literals(), notes) {
         Ok(()) => {}
         Err(failed) => return Err(failed),
     }

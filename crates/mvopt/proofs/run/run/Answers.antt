@@ -1,8 +1,12 @@
--- Memory ran out within the commands, and the notes tell so behind their entries.
-use Rattle.std.proofs.Common.{ap}
+-- Memory ran out before the commands, or within them, and the notes tell so behind their entries.
+use Rattle.std.proofs.Common.{ap, sym, ◌∙◌}
 use Rattle.std.specs.Prelude.{Err}
-use Rattle.mvopt.proofs.Ends.{short_work}
+use Rattle.mvopt.proofs.Ends.{short_early, short_work}
 use Rattle.mvopt.proofs.run.run.Goals as goal
+
+pub returns-in-Err-clause-short : goal.returns-in-Err-clause-short
+returns-in-Err-clause-short g c =
+    λ e. short_early _ _ _ _ _ _ _ _ c.refuse.ensures (sym c.status.ensures ∙ e)
 
 pub returns-in-Err-Memory-clause-short : goal.returns-in-Err-Memory-clause-short
 returns-in-Err-Memory-clause-short g c =

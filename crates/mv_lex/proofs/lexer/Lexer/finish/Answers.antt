@@ -3,6 +3,6 @@ use Rattle.std.proofs.lemmas.Result.{on_ok_weaker}
 use Rattle.mv_lex.proofs.After.{finished_lines}
 use Rattle.mv_lex.proofs.lexer.Lexer.finish.Goals as goal
 
-pub returns-clause-lines : goal.returns-clause-lines
-returns-clause-lines c =
-    λ bytes earlier h e. on_ok_weaker c.give_line.result (λ l. finished_lines c.args.self bytes earlier _ _ h e (rw c.in_ok-end_word.ensures.ok at l)) c.give_line.ensures.lines
+pub returns-in-Ok-clause-lines : goal.returns-in-Ok-clause-lines
+returns-in-Ok-clause-lines c =
+    λ bytes earlier h e. on_ok_weaker c.give_line.result (λ l. finished_lines c.args.self bytes earlier _ _ h e (rw c.in-Ok.ensures.ok at l)) c.give_line.ensures.lines

@@ -1,15 +1,16 @@
--- One more byte read is one more of `HasRead`; a byte's fault is the first fault of all bytes.
-use Rattle.std.proofs.lemmas.List.{take_more}
-use Rattle.std.proofs.lemmas.Result.{err_from_is_err_and}
-use Rattle.mv_lex.proofs.After.{HasRead-more, first_fault-met}
+-- The bytes of each turn are read behind those of the turns before it.
+use Rattle.std.proofs.Common.{◌≡◌, ◌-◌, length, take, drop, arith, length-drop}
+use Rattle.std.proofs.lemmas.List.{take_all}
+use Rattle.mv_lex.proofs.Letters.{piece_more}
 use Rattle.mv_lex.proofs.lexer.Lexer.read_all.Goals as goal
 
-pub returns-in_err-read-clause-fault : goal.returns-in_err-read-clause-fault
-returns-in_err-read-clause-fault c =
-    λ bytes h.
-    let p = err_from_is_err_and c.from_residual.result c.from_residual.ensures.1 in
-    rw (p.1, p.2) (first_fault-met _ _ _ _ c.args.piece.now bytes c.loop-b.b-index _ c.loop-b.invariant c.loop-b-test.true h c.in_err-read.ensures.err)
-
-pub loop-b-preserved : goal.loop-b-preserved
-loop-b-preserved c =
-    HasRead-more _ _ _ _ _ _ _ _ _ c.loop-b.invariant (take_more c.args.piece.now c.loop-b.b-index 0 c.loop-b-test.true) c.in_ok-read.ensures.ok.0 c.in_ok-read.ensures.ok.1 c.in_ok-read.ensures.lines
+pub loop-at-preserved : goal.loop-at-preserved
+loop-at-preserved c =
+    let piece = c.args.piece.now in
+    let at = c.loop-at.at in
+    let size = length-drop at piece in
+    let rest : take (length piece - at) (drop at piece) ≡ drop at piece = take_all (length piece - at) (drop at piece) (omega arith) in
+    record {
+      within = omega (arith, c.in_ok-at.ensures.some.1, rw rest at c.in_ok-at.ensures.some.1, size);
+      read = piece_more _ _ _ _ _ _ piece at _ c.loop-at.invariant.read (rw rest at c.in_ok-at.ensures.ok);
+    }

@@ -1,0 +1,236 @@
+ghost use Rattle.std.specs.Prelude.{◌≡◌, ◌⊎◌, ◌∷◌, ◌++◌, [], nat_le, length, true, false, IfOk, IfErr, OnOk, OnErr, MatchResult, ◌≤◌, ◌<◌, ◌+◌, take, None, Some};
+ghost use Rattle.mv_lex.specs.declared.fault.LexFault.{LexFault};
+ghost use Rattle.std.specs.List.{list_all};
+ghost use Rattle.mv_lex.specs.Reading.{is_letter as letter};
+ghost use Rattle.mv_lex.specs.Words.{is_blank as blank, opens as opens_word, closer as closer_of, finished, no_words};
+
+use crate::LexFault;
+use crate::parts::Kind;
+use mv_base::{Items, MAX_BRACKETED_BYTES, MAX_WORD_BYTES, Name};
+use std::alloc::Global;
+use std::marker::Model;
+use std::mem;
+
+/// Cuts a text, which comes byte by byte, into words.
+#[derive(Drop)]
+pub struct Cutter {
+    alloc: Global,
+    /// The words that have ended.
+    words: Items<Name>,
+    /// The bytes of the last word, which may go on.
+    word: Vec<u8>,
+    /// What that word is.
+    kind: Kind,
+}
+
+impl Model for Cutter {
+    ghost use Rattle.mv_lex.specs.Words.{Cut};
+
+    ghost Value = { Cut };
+
+    ghost view = { λ s. record { words = s.words; word = s.word.items; kind = s.kind } };
+}
+
+impl Cutter {
+    ghost use Rattle.mv_lex.specs.Reading.{ended_word, start_byte, plain_byte, bracketed_byte, with_byte, kind_long, long_with, end_fault_of};
+
+    /// Nothing cut yet. It takes no memory.
+    pub fn new(alloc: Global) -> Self
+        ensures { result ≡ no_words }
+    {
+        Cutter {
+            alloc,
+            words: Items::new(alloc),
+            word: Vec::new(alloc),
+            kind: Kind::Start,
+        }
+    }
+
+    /// Takes the next byte of the text, which stands on this line.
+    #[tactic(auto, unfolding(crate::specs::Reading::with_byte, crate::specs::Reading::long_with))]
+    pub fn take(&mut self, b: u8, line: u32) -> Result<(), LexFault>
+        ensures ok { OnOk result (self.new ≡ with_byte self.old b) }
+        ensures short { OnOk result (long_with self.old b ≡ false) }
+        ensures err { IfErr result (λ f. (f ≡ LexFault.Memory) ⊎ ((f ≡ LexFault.LongWord line) × (long_with self.old b ≡ true))) }
+    {
+        match self.kind {
+            Kind::Start => self.take_first(b, line),
+            Kind::Plain => self.take_plain(b, line),
+            Kind::Bracketed(end) => self.take_bracketed(b, end, line),
+        }
+    }
+
+    /// Takes a byte behind no word, or behind one of nothing but `!`.
+    fn take_first(&mut self, b: u8, line: u32) -> Result<(), LexFault>
+        requires { self.old.kind ≡ Kind.Start }
+        ensures ok { OnOk result (self.new ≡ start_byte self.old.words self.old.word b) }
+        ensures short { OnOk result (kind_long (length self.old.word) Kind.Start b ≡ false) }
+        ensures err { IfErr result (λ f. (f ≡ LexFault.Memory) ⊎ ((f ≡ LexFault.LongWord line) × (kind_long (length self.old.word) Kind.Start b ≡ true))) }
+    {
+        if is_blank(b) {
+            if self.word.len() as u64 > MAX_WORD_BYTES {
+                return Err(LexFault::LongWord { line });
+            }
+            return self.end_word();
+        }
+        if is_opening(b) {
+            return self.add(b, Kind::Bracketed(closer(b)), MAX_BRACKETED_BYTES, line);
+        }
+        if b == b'!' {
+            return self.add(b, Kind::Start, MAX_BRACKETED_BYTES, line);
+        }
+        self.add(b, Kind::Plain, MAX_WORD_BYTES, line)
+    }
+
+    /// Takes a byte behind a part of a word that isn't bracketed.
+    fn take_plain(&mut self, b: u8, line: u32) -> Result<(), LexFault>
+        requires { self.old.kind ≡ Kind.Plain }
+        ensures ok { OnOk result (self.new ≡ plain_byte self.old.words self.old.word b) }
+        ensures short { OnOk result (kind_long (length self.old.word) Kind.Plain b ≡ false) }
+        ensures err { IfErr result (λ f. (f ≡ LexFault.Memory) ⊎ ((f ≡ LexFault.LongWord line) × (kind_long (length self.old.word) Kind.Plain b ≡ true))) }
+    {
+        if is_blank(b) {
+            return self.end_word();
+        }
+        self.add(b, Kind::Plain, MAX_WORD_BYTES, line)
+    }
+
+    /// Takes a byte behind a part of a bracketed word that ends with `end`.
+    fn take_bracketed(&mut self, b: u8, end: u8, line: u32) -> Result<(), LexFault>
+        requires { self.old.kind ≡ Kind.Bracketed end }
+        ensures ok { OnOk result (self.new ≡ bracketed_byte self.old.words self.old.word end b) }
+        ensures short { OnOk result (kind_long (length self.old.word) (Kind.Bracketed end) b ≡ false) }
+        ensures err { IfErr result (λ f. (f ≡ LexFault.Memory) ⊎ ((f ≡ LexFault.LongWord line) × (kind_long (length self.old.word) (Kind.Bracketed end) b ≡ true))) }
+    {
+        if is_blank(b) {
+            return Ok(());
+        }
+        self.add(b, Kind::Bracketed(end), MAX_BRACKETED_BYTES, line)?;
+        if b == end {
+            return self.end_word();
+        }
+        Ok(())
+    }
+
+    /// Adds a byte to the last word, which is of this kind with it and has at most so many bytes.
+    fn add(&mut self, b: u8, kind: Kind, most: u64, line: u32) -> Result<(), LexFault>
+        ensures ok { OnOk result (self.new ≡ record self.old { word = self.old.word ++ b ∷ []; kind = kind }) }
+        ensures short { OnOk result (nat_le most (length self.old.word) ≡ false) }
+        ensures err { IfErr result (λ f. (f ≡ LexFault.Memory) ⊎ ((f ≡ LexFault.LongWord line) × (nat_le most (length self.old.word) ≡ true))) }
+    {
+        if self.word.len() as u64 >= most {
+            return Err(LexFault::LongWord { line });
+        }
+        self.word.push(b)?;
+        self.kind = kind;
+        Ok(())
+    }
+
+    /// Puts the last word, if it has a byte, to those that have ended.
+    fn end_word(&mut self) -> Result<(), LexFault>
+        ensures ok { OnOk result (self.new ≡ ended_word self.old.words self.old.word) }
+        ensures err { IfErr result (λ f. f ≡ LexFault.Memory) }
+    {
+        self.kind = Kind::Start;
+        if self.word.is_empty() {
+            return Ok(());
+        }
+        let word = Name::new(self.alloc, self.word.as_slice())?;
+        self.words.push(word)?;
+        self.word.clear();
+        Ok(())
+    }
+
+    /// How many bytes at the front of these are letters of the last word, within its limit: none where it isn't plain.
+    pub fn letters_in(&self, bytes: &[u8]) -> usize
+        ensures within { result ≤ length bytes.now }
+        ensures letters { list_all letter (take result bytes.now) ≡ true }
+        ensures plain { 0 < result → self.now.kind ≡ Kind.Plain }
+        ensures short { 0 < result → length self.now.word + result ≤ MAX_WORD_BYTES }
+    {
+        if self.kind != Kind::Plain {
+            return 0;
+        }
+        if self.word.len() >= MAX_WORD_BYTES as usize {
+            return 0;
+        }
+        let left = MAX_WORD_BYTES as usize - self.word.len();
+        letters_at_front(&bytes[..left.min(bytes.len())])
+    }
+
+    /// Adds these bytes to the last word.
+    pub fn add_letters(&mut self, letters: &[u8]) -> Result<(), LexFault>
+        ensures ok { OnOk result (self.new ≡ record self.old { word = self.old.word ++ letters.now }) }
+        ensures err { IfErr result (λ f. f ≡ LexFault.Memory) }
+    {
+        self.word.extend_from_slice(letters)?;
+        Ok(())
+    }
+
+    /// Whether the text may end here, on this line: no run of `!` is too long for a word, and no bracket is open.
+    #[tactic(auto, unfolding(crate::specs::Reading::end_fault_of))]
+    pub fn check_end(&self, line: u32) -> Result<(), LexFault>
+        ensures { MatchResult result (λ _. end_fault_of line self.now ≡ None) (λ f. end_fault_of line self.now ≡ Some f) }
+    {
+        match self.kind {
+            Kind::Start if self.word.len() as u64 > MAX_WORD_BYTES => Err(LexFault::LongWord {
+                line,
+            }),
+            Kind::Start => Ok(()),
+            Kind::Plain => Ok(()),
+            Kind::Bracketed(_end) => Err(LexFault::OpenBracket { line }),
+        }
+    }
+
+    /// Gives all words of the text, and begins anew.
+    pub fn give(&mut self) -> Result<Items<Name>, LexFault>
+        ensures ok { IfOk result (λ words. words ≡ finished self.old) }
+        ensures anew { OnOk result (self.new ≡ no_words) }
+        ensures err { IfErr result (λ f. f ≡ LexFault.Memory) }
+    {
+        self.end_word()?;
+        let words = mem::replace(&mut self.words, Items::new(self.alloc));
+        Ok(words)
+    }
+}
+
+/// Whether the byte parts words.
+pub fn is_blank(b: u8) -> bool
+    ensures { result ≡ blank b }
+{
+    b == b' ' || b == b'\t' || b == b'\r'
+}
+
+/// Whether the byte begins a bracketed word.
+fn is_opening(b: u8) -> bool
+    ensures { result ≡ opens_word b }
+{
+    b == b'(' || b == b'{'
+}
+
+/// The bracket that ends a word that begins with this one.
+fn closer(b: u8) -> u8
+    ensures { result ≡ closer_of b }
+{
+    if b == b'(' { b')' } else { b'}' }
+}
+
+/// Whether the byte is an ordinary one of a word, wherever it stands in it but at its front.
+fn is_letter(b: u8) -> bool
+    ensures { result ≡ letter b }
+{
+    b >= b'!' && b <= b'~' && b != b'#' && b != b'\\'
+}
+
+/// How many of the bytes up to the first other one are letters.
+fn letters_at_front(bytes: &[u8]) -> usize
+    ensures within { result ≤ length bytes.now }
+    ensures letters { list_all letter (take result bytes.now) ≡ true }
+{
+    for (at, b) in bytes.iter().enumerate() {
+        if !is_letter(*b) {
+            return at;
+        }
+    }
+    bytes.len()
+}

@@ -1,0 +1,203 @@
+-- Network files that are lexed while they are read.
+use Rattle.std.proofs.Common.{◌≡◌, ℕ, ◌+◌, ◌<◌, ◌≤◌, true, false, List, [], ◌++◌, length, take, Option, Some, None, Ok, Err, ◌⊎◌, inl, inr, refl, sym, ◌∙◌, ap, subst, arith, ⊎_elim, length-append}
+use Rattle.std.specs.Prelude.{nat_lt}
+use Rattle.std.specs.Option.{option_or}
+use Rattle.std.proofs.lemmas.Bool.{ltb-true}
+use Rattle.std.proofs.lemmas.List.{length-take-le, append-nil}
+use Rattle.mv_base.specs.declared.outside.Failed.{Failed}
+use Rattle.mv_base.specs.Outside.{Held, Rose, Starts, Gives}
+use Rattle.mv_base.specs.declared.limits.TheConstants.{MAX_NETWORK_BYTES}
+use Rattle.mv_base.proofs.OutsideLemmas.{Rose-earlier}
+use Rattle.mv_lex.specs.declared.fault.LexFault.{LexFault}
+use Rattle.mv_lex.specs.declared.fault.LexFault.TheVariants.{BadByte, LongWord, OpenBracket, TooLarge, Memory}
+use Rattle.mv_lex.specs.declared.lines.LexLine.{LexLine}
+use Rattle.mv_lex.specs.Lines.{complete, lines_of, first_fault, end_fault, lex_fault}
+use Rattle.mv_lex.specs.Reading.{Reading, IsAfter}
+use Rattle.mv_lex.proofs.After.{first_fault-append}
+use Rattle.mv_lex.proofs.Facts.{length-from_first_fault}
+use Rattle.mvopt.specs.declared.lines.LinesStop.{LinesStop}
+use Rattle.mvopt.specs.declared.lines.LinesStop.TheVariants.{Failed as Unread, Lex}
+use Rattle.mvopt.specs.FileReading.{Stay}
+use Rattle.mvopt.specs.Pieces.{Passed, Ended}
+use Rattle.mvopt.specs.LexedFiles.{FedPiece, FaultyPiece, PieceCause, FedAll, FaultyBytes, FeedCause, ReadAll, WasLexed, Names, HasFault, LinesCause}
+use Rattle.mvopt.proofs.FileReads.{passed_nothing, passed_more, ended_earlier, unsound_earlier, lacks_started, lacks_unsound, stay_started, passed_given, ended_given, is_none}
+
+-- ---- the lexer's state
+
+-- nothing of no bytes is complete
+pub complete_nothing : complete [] ≡ []
+unfolding complete
+complete_nothing = refl
+
+-- the lexer stands behind the bytes without a fault
+lexed : (r : Reading) (bytes : List ℕ) → r.limit ≡ MAX_NETWORK_BYTES → IsAfter r bytes → first_fault MAX_NETWORK_BYTES [] bytes ≡ None
+lexed r bytes e a = let P : ℕ → Type 0 = λ n. first_fault n [] bytes ≡ None in subst P e a.accepted
+
+memory_or_not : (f : LexFault) → (f ≡ Memory) ⊎ (f ≡ Memory → ⊥)
+memory_or_not (BadByte line byte) = inr (λ e. cc)
+memory_or_not (LongWord line) = inr (λ e. cc)
+memory_or_not (OpenBracket line) = inr (λ e. cc)
+memory_or_not (TooLarge line) = inr (λ e. cc)
+memory_or_not Memory = inl refl
+
+other_fault : (f : LexFault) (P : Type 0) → (f ≡ Memory → ⊥) → (f ≡ Memory) ⊎ P → P
+other_fault f P never h = ⊎_elim (λ (e : f ≡ Memory). absurd (never e)) (λ (p : P). p) h
+
+-- ---- a piece
+
+pub fed_piece : (old new : Option Held) (room piece : List ℕ) (n : ℕ) (r s : Reading) (earlier later : List LexLine) → Gives old new room (Ok n) → n ≤ length room → 0 < length room → ((bytes : List ℕ) → IsAfter r bytes → IsAfter s (bytes ++ piece)) → ((bytes : List ℕ) → IsAfter r bytes → earlier ≡ complete bytes → later ≡ complete (bytes ++ piece)) → s.limit ≡ r.limit → piece ≡ take n room → FedPiece old new r s earlier later (nat_lt 0 n)
+fed_piece old new room piece n r s earlier later given fits some stands lines limit e =
+    let size : length piece ≡ n = ap length e ∙ length-take-le n room fits in
+    let P : List ℕ → Type 0 = λ p. Passed old new p in
+    record {
+      piece = piece;
+      some = λ m. let h : 0 < n = ltb-true 0 n m in omega arith;
+      ended = λ m. ended_given old new room n given (is_none n m) some;
+      passed = subst P (sym e) (passed_given old new room n given);
+      stands = stands;
+      lines = lines;
+      limit = limit;
+    }
+
+pub faulty_piece : (old new : Option Held) (room piece : List ℕ) (n : ℕ) (r : Reading) (f : LexFault) → Gives old new room (Ok n) → ((bytes : List ℕ) → IsAfter r bytes → (f ≡ Memory) ⊎ (first_fault r.limit [] (bytes ++ piece) ≡ Some f)) → piece ≡ take n room → (f ≡ Memory) ⊎ FaultyPiece old new r f
+faulty_piece old new room piece n r f given told e =
+    let P : List ℕ → Type 0 = λ p. Passed old new p in
+    ⊎_elim
+    (λ (m : f ≡ Memory). inl m)
+    (λ (never : f ≡ Memory → ⊥). inr (record {
+      piece = piece;
+      passed = subst P (sym e) (passed_given old new room n given);
+      told = λ bytes a. other_fault f (first_fault r.limit [] (bytes ++ piece) ≡ Some f) never (told bytes a);
+    }))
+    (memory_or_not f)
+
+-- ---- the loop
+
+-- its state: at least so many bytes were read as turns were made, and the lexer stands behind them
+pub record HasCome (before now : Option Held) (turn : ℕ) (r : Reading) (lines : List LexLine) : Type 0 where
+  pub bytes : List ℕ
+  pub passed : Passed before now bytes
+  pub far : turn ≤ length bytes
+  pub stands : IsAfter r bytes
+  pub lines_are : lines ≡ complete bytes
+  pub limit : r.limit ≡ MAX_NETWORK_BYTES
+
+pub come_first : (h : Option Held) (r : Reading) (lines : List LexLine) → IsAfter r [] → r.limit ≡ MAX_NETWORK_BYTES → lines ≡ [] → HasCome h h 0 r lines
+come_first h r lines a limit e =
+    record { bytes = []; passed = passed_nothing h; far = omega arith; stands = a; lines_are = e ∙ sym complete_nothing; limit = limit }
+
+pub come_more : (a b c : Option Held) (turn : ℕ) (r s : Reading) (earlier later : List LexLine) → HasCome a b turn r earlier → FedPiece b c r s earlier later true → HasCome a c (turn + 1) s later
+come_more a b c turn r s earlier later h g =
+    let size = length-append h.bytes g.piece in
+    let some : 0 < length g.piece = g.some refl in
+    record {
+      bytes = h.bytes ++ g.piece;
+      passed = passed_more a b c h.bytes g.piece h.passed g.passed;
+      far = omega (arith, h.far);
+      stands = g.stands h.bytes h.stands;
+      lines_are = g.lines h.bytes h.stands h.lines_are;
+      limit = g.limit ∙ h.limit;
+    }
+
+-- the file ended
+pub fed_all : (a b c : Option Held) (turn : ℕ) (r s : Reading) (earlier later : List LexLine) → HasCome a b turn r earlier → FedPiece b c r s earlier later false → FedAll a c s later
+fed_all a b c turn r s earlier later h g =
+    record {
+      bytes = h.bytes ++ g.piece;
+      passed = passed_more a b c h.bytes g.piece h.passed g.passed;
+      ended = ended_earlier a b c h.bytes h.passed (g.ended refl);
+      stands = g.stands h.bytes h.stands;
+      lines_are = g.lines h.bytes h.stands h.lines_are;
+      limit = g.limit ∙ h.limit;
+    }
+
+-- a fault of a piece is the first of all bytes read
+faulty_bytes : (a b c : Option Held) (turn : ℕ) (r : Reading) (lines : List LexLine) (f : LexFault) → HasCome a b turn r lines → FaultyPiece b c r f → FaultyBytes a c f
+faulty_bytes a b c turn r lines f h p =
+    let P : ℕ → Type 0 = λ n. first_fault n [] (h.bytes ++ p.piece) ≡ Some f in
+    record {
+      bytes = h.bytes ++ p.piece;
+      passed = passed_more a b c h.bytes p.piece h.passed p.passed;
+      told = subst P h.limit (p.told h.bytes h.stands);
+    }
+
+pub feed_cause : (a b c : Option Held) (turn w x y : ℕ) (r : Reading) (lines : List LexLine) (stop : LinesStop) → HasCome a b turn r lines → Stay a b → w ≤ x → PieceCause b c x y r stop → FeedCause a c w y stop
+feed_cause a b c turn w x y r lines Unread h s later cause =
+    (Rose-earlier w x y later cause.0, unsound_earlier a b s cause.1)
+feed_cause a b c turn w x y r lines (Lex f) h s later cause =
+    ⊎_elim (λ (e : f ≡ Memory). inl e) (λ (p : FaultyPiece b c r f). inr (faulty_bytes a b c turn r lines f h p)) cause
+
+-- the loop ends: each turn but the last brings a byte, and no more than the limit are accepted
+pub come_never : (a b : Option Held) (turn : ℕ) (r : Reading) (lines : List LexLine) → HasCome a b turn r lines → MAX_NETWORK_BYTES < turn → ⊥
+come_never a b turn r lines h past =
+    let within : length h.bytes ≤ MAX_NETWORK_BYTES = length-from_first_fault MAX_NETWORK_BYTES h.bytes (lexed r h.bytes h.limit h.stands) in
+    omega (arith, h.far, within)
+
+-- ---- the whole file
+
+all_of : (xs ys rest : List ℕ) → xs ≡ ys ++ rest → rest ≡ [] → xs ≡ ys
+all_of xs ys rest e none = e ∙ (ap (λ r. ys ++ r) none ∙ append-nil ys)
+
+read_all : (old begun last : Option Held) (name bytes : List ℕ) → Starts old begun name (Ok tt) → Passed begun last bytes → Ended begun last → ReadAll old last name bytes
+read_all None begun last name bytes s p e = tt
+read_all (Some o) None last name bytes s p e = absurd s
+read_all (Some o) (Some b) None name bytes s p e = absurd p
+read_all (Some o) (Some b) (Some l) name bytes s p e =
+    record {
+      named = s.begun.1 ∙ ap Some (all_of b.rest bytes l.rest p.passed e);
+      files = p.files ∙ s.files;
+      current = p.current ∙ s.begun.0;
+      ended = e;
+    }
+
+names_all : (old last : Option Held) (name bytes : List ℕ) → ReadAll old last name bytes → Names old name bytes
+names_all None last name bytes r = tt
+names_all (Some o) None name bytes r = absurd r
+names_all (Some o) (Some l) name bytes r = r.named
+
+pub was_lexed : (old begun last : Option Held) (name : List ℕ) (r : Reading) (before lines : List LexLine) → Starts old begun name (Ok tt) → (all : FedAll begun last r before) → lines ≡ lines_of all.bytes → end_fault all.bytes ≡ None → WasLexed old last name lines
+was_lexed old begun last name r before lines s all e none =
+    record {
+      content = all.bytes;
+      read = read_all old begun last name all.bytes s all.passed all.ended;
+      lexed = ap (λ o. option_or o (end_fault all.bytes)) (lexed r all.bytes all.limit all.stands) ∙ none;
+      lines_are = e;
+    }
+
+-- a fault of the first bytes is one of the whole
+fault_of_front : (bytes rest : List ℕ) (f : LexFault) → first_fault MAX_NETWORK_BYTES [] bytes ≡ Some f → lex_fault MAX_NETWORK_BYTES (bytes ++ rest) ≡ Some f
+fault_of_front bytes rest f told =
+    ap (λ o. option_or o (end_fault (bytes ++ rest))) (first_fault-append MAX_NETWORK_BYTES [] bytes rest ∙ ap (λ o. option_or o (first_fault MAX_NETWORK_BYTES bytes rest)) told)
+
+front_has_fault : (old begun last : Option Held) (name : List ℕ) (f : LexFault) → Starts old begun name (Ok tt) → FaultyBytes begun last f → HasFault old name f
+front_has_fault None begun last name f s h =
+    record { content = h.bytes ++ []; named = tt; fault_is = fault_of_front h.bytes [] f h.told }
+front_has_fault (Some o) None last name f s h = absurd s
+front_has_fault (Some o) (Some b) None name f s h = absurd h.passed
+front_has_fault (Some o) (Some b) (Some l) name f s h =
+    record {
+      content = h.bytes ++ l.rest;
+      named = s.begun.1 ∙ ap Some h.passed.passed;
+      fault_is = fault_of_front h.bytes l.rest f h.told;
+    }
+
+pub start_cause : (old begun : Option Held) (name : List ℕ) (e : Failed) (a b : ℕ) → Starts old begun name (Err e) → Rose a b → LinesCause old name a b Unread
+start_cause old begun name e a b s rose = (rose, lacks_started old begun name e s)
+
+pub lines_cause : (old begun last : Option Held) (name : List ℕ) (w x y : ℕ) (stop : LinesStop) → Starts old begun name (Ok tt) → w ≤ x → FeedCause begun last x y stop → LinesCause old name w y stop
+lines_cause old begun last name w x y Unread s later cause =
+    (Rose-earlier w x y later cause.0, lacks_unsound old name (unsound_earlier old begun (stay_started old begun name (Ok tt) s) cause.1))
+lines_cause old begun last name w x y (Lex f) s later cause =
+    ⊎_elim (λ (e : f ≡ Memory). inl e) (λ (h : FaultyBytes begun last f). inr (front_has_fault old begun last name f s h)) cause
+
+-- a fault told at the end
+pub end_cause : (old begun last : Option Held) (name : List ℕ) (r : Reading) (before : List LexLine) (f : LexFault) → Starts old begun name (Ok tt) → (all : FedAll begun last r before) → (f ≡ Memory) ⊎ (end_fault all.bytes ≡ Some f) → (f ≡ Memory) ⊎ HasFault old name f
+end_cause old begun last name r before f s all told =
+    ⊎_elim
+    (λ (e : f ≡ Memory). inl e)
+    (λ (e : end_fault all.bytes ≡ Some f). inr (record {
+      content = all.bytes;
+      named = names_all old last name all.bytes (read_all old begun last name all.bytes s all.passed all.ended);
+      fault_is = ap (λ o. option_or o (end_fault all.bytes)) (lexed r all.bytes all.limit all.stands) ∙ e;
+    }))
+    told

@@ -1,0 +1,50 @@
+-- Why a network file is refused, and the line that says so.
+use Rattle.std.specs.Prelude.{◌≡◌, ℕ, Option, Some, None, List, codes}
+use Rattle.mv_base.specs.Outside.{Held, file_named}
+use Rattle.mv_base.specs.declared.limits.TheConstants.{MAX_NETWORK_BYTES}
+use Rattle.mv_lex.specs.declared.fault.LexFault.{LexFault}
+use Rattle.mv_lex.specs.declared.fault.LexFault.TheVariants.{BadByte, LongWord, OpenBracket, TooLarge, Memory}
+use Rattle.mv_lex.specs.Lines.{lines_of, lex_fault}
+use Rattle.mvopt.specs.declared.stop.NetFault.{NetFault}
+use Rattle.mvopt.specs.declared.stop.NetFault.TheVariants.{Lex, NotBuilt}
+use Rattle.mvopt.specs.Run.{HasForm, Tells, number_line, numbers_line}
+use Rattle.mvopt.specs.Words.{word_at}
+
+-- the bytes have no fault, but their lines are not of the accepted form
+pub record HasOtherForm (content : List ℕ) : Type 0 where
+  pub lexed : lex_fault MAX_NETWORK_BYTES content ≡ None
+  pub other : HasForm (lines_of content) → ⊥
+
+-- the content is refused for this fault: the first one of its bytes, or else their form
+abbrev pub Refuses : List ℕ → NetFault → Type 0
+Refuses content (Lex f) = lex_fault MAX_NETWORK_BYTES content ≡ Some f
+Refuses content NotBuilt = HasOtherForm content
+
+-- the named file's content is refused for this fault
+pub record IsFaulty (name : List ℕ) (held : Held) (fault : NetFault) : Type 0 where
+  pub content : List ℕ
+  pub named : file_named name held.files ≡ Some content
+  pub refused : Refuses content fault
+
+abbrev pub RefusesNetwork : List (List ℕ) → Option Held → NetFault → Type 0
+RefusesNetwork words None fault = Unit {0}
+RefusesNetwork words (Some held) fault = IsFaulty (word_at words 1) held fault
+
+-- the line of a fault of the bytes. (Want of memory is none: no bytes have it.)
+abbrev pub lex_line : LexFault → List ℕ
+lex_line (BadByte line byte) = numbers_line (codes "# fault network 1 BadByte line ") line byte
+lex_line (LongWord line) = number_line (codes "# fault network 2 LongWord line ") line
+lex_line (OpenBracket line) = number_line (codes "# fault network 3 OpenBracket line ") line
+lex_line (TooLarge line) = number_line (codes "# fault network 4 TooLarge line ") line
+lex_line Memory = codes "# fault memory\n"
+
+-- the line of each fault
+abbrev pub net_line : NetFault → List ℕ
+net_line (Lex f) = lex_line f
+net_line NotBuilt = codes "# fault network 39 NotBuilt\n"
+
+-- the named network is refused for some fault, and the notes tell that fault's line
+pub record TellsFault (words : List (List ℕ)) (held : Option Held) (notes told : Option (List ℕ)) (before now : ℕ) : Type 0 where
+  pub fault : NetFault
+  pub refuses : RefusesNetwork words held fault
+  pub tells : Tells notes told before now (net_line fault)
