@@ -1,0 +1,44 @@
+//! mv_bench runs single calls on drawn input, so that their time can be taken alone.
+//!
+//! Its words come by threes, a task, a size and a seed, and each task prints one line: `mv_bench covers 500 1 absorb 4000 1`.
+//! The one word `lex` cuts standard input into lines of words, and prints how many there are.
+#![tactic(auto)]
+
+mod draw;
+mod lexing;
+mod pairs;
+mod stop;
+mod task;
+mod tasks;
+#[cfg(test)]
+mod tests;
+
+use std::env;
+use std::process::ExitCode;
+use stop::Stop;
+use task::Task;
+
+/// Does the tasks that the words name, in order, and prints what each found.
+fn run(rt: &HostRuntime) -> Result<(), Stop> {
+    let words: Vec<String> = env::args(rt)?.skip(1).collect(rt.alloc())?;
+    if matches!(words.as_slice(), [word] if word.as_str() == "lex") {
+        println!(rt; "lex {}", lexing::lexed(rt)?)?;
+        return Ok(());
+    }
+    for three in words.as_slice().chunks(3) {
+        let task = Task::parse(three)?;
+        let found = task.run(rt.alloc())?;
+        println!(rt; "{task} {found}")?;
+    }
+    Ok(())
+}
+
+fn main(rt: HostRuntime) -> ExitCode {
+    match run(&rt) {
+        Ok(()) => ExitCode::SUCCESS,
+        Err(stop) => {
+            let _ = eprintln!(rt; "mv_bench: {stop}");
+            ExitCode::FAILURE
+        }
+    }
+}

@@ -1,0 +1,63 @@
+use mv_base::{Failed, Memory};
+use mv_lex::LexFault;
+use std::alloc::AllocError;
+use std::{fmt, io};
+
+/// Why no more tasks are done.
+#[derive(Debug, Drop)]
+pub enum Stop {
+    /// The words are no task, size and seed.
+    Words,
+    Memory,
+    /// Standard input couldn't be read.
+    Read,
+    /// Standard input isn't made of lines of words.
+    Lex(LexFault),
+    /// The words couldn't be read, or a line couldn't be printed.
+    Host(io::Error),
+}
+
+impl From<Memory> for Stop {
+    fn from(_memory: Memory) -> Stop {
+        Stop::Memory
+    }
+}
+
+impl From<AllocError> for Stop {
+    fn from(_error: AllocError) -> Stop {
+        Stop::Memory
+    }
+}
+
+impl From<Failed> for Stop {
+    fn from(_failed: Failed) -> Stop {
+        Stop::Read
+    }
+}
+
+impl From<LexFault> for Stop {
+    fn from(fault: LexFault) -> Stop {
+        Stop::Lex(fault)
+    }
+}
+
+impl From<io::Error> for Stop {
+    fn from(error: io::Error) -> Stop {
+        Stop::Host(error)
+    }
+}
+
+impl fmt::Display for Stop {
+    fn fmt<W: fmt::Write>(&self, f: &mut fmt::Formatter<W>) -> fmt::Result {
+        match self {
+            Stop::Words => write!(
+                f,
+                "the words are lex, or TASK SIZE SEED once or more; a TASK is covers, absorb or complement"
+            ),
+            Stop::Memory => write!(f, "out of memory"),
+            Stop::Read => write!(f, "standard input can't be read"),
+            Stop::Lex(fault) => write!(f, "{fault}"),
+            Stop::Host(error) => write!(f, "{error}"),
+        }
+    }
+}
