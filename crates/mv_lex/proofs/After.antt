@@ -1,20 +1,20 @@
 -- The lexer's state against the bytes read: one more byte, a piece of bytes, the end.
 use Rattle.std.proofs.Common.{◌≡◌, ℕ, ◌+◌, ◌<◌, ◌⊎◌, Bool, true, false, not, ◌&&◌, ◌||◌, ◌==◌, List, [], ◌∷◌, ◌++◌, length, take, drop, Option, Some, None, if◌then◌else◌, refl, ap, sym, ◌∙◌, subst, arith, append_assoc, length-append, get_or, inl, inr, suc, ⊎_elim}
 use Rattle.std.specs.Prelude.{nat_le}
-use Rattle.std.specs.List.{flat_map}
 use Rattle.std.specs.Option.{option_or}
 use Rattle.std.proofs.lemmas.List.{append-nil, take-append-drop}
 use Rattle.std.proofs.lemmas.List.Concat.{flat_map-append}
-use Rattle.std.proofs.lemmas.Bool.{cases_Bool, cond_both, cond-true, cond-false, and_from, and_left, and_right, and_parts, and_cases, or_left, or_right, or_from, not_from_true, not_from_false, not-true, not-false, eqb-true, false≢true}
+use Rattle.std.proofs.lemmas.Bool.{cases_Bool, cond_both, cond-true, cond-false, and_from, and_left, and_right, and_parts, or_right, or_from, not_from_true, not_from_false, eqb-true, false≢true}
+use Rattle.std.proofs.Math.Bool.{or-false, or_assoc}
 use Rattle.std.proofs.Math.Seq.{drop-cons}
 use Rattle.mv_lex.specs.declared.lines.LexLine.{LexLine}
 use Rattle.mv_lex.specs.declared.fault.LexFault.{LexFault}
 use Rattle.mv_lex.specs.declared.fault.LexFault.TheVariants.{BadByte, LongWord, TooLarge, Memory}
 use Rattle.mv_lex.specs.declared.parts.Place.{Place}
 use Rattle.mv_lex.specs.declared.parts.Place.TheVariants.{Text, Backslash, Return, Comment}
-use Rattle.mv_lex.specs.Words.{Cut, no_words, cut_of, finished, has_long}
-use Rattle.mv_lex.specs.Lines.{is_line_feed, is_hash, has_hash, closed, is_empty, tail_of, certain, joins, text_of, texts, joined, unended, ended_lines, open_line, pieces, words_of, line_at, numbered, all_joined, lines_of, complete, is_acceptable, line_number, in_comment, text_before, text_with, ends_with_byte, words_fault, fault_at, first_fault, end_fault}
-use Rattle.mv_lex.specs.Reading.{Reading, IsAfter, HasRead, with_byte, with_bytes, long_with, long_with_bytes, held, is_backslash, settled, long_fault, end_fault_of, text_fault, place_fault, fault_now, text_step, new_line, next_line, place_step, stepped, ends_line, ended, place_end_fault, end_now, place_end_cut, end_cut, place_of_tail, place_of, text_behind}
+use Rattle.mv_lex.specs.Words.{Cut, cut_of, finished, has_long}
+use Rattle.mv_lex.specs.Lines.{is_line_feed, is_hash, has_hash, is_empty, tail_of, certain, joins, text_of, texts, joined, unended, ended_lines, open_line, pieces, words_of, line_at, numbered, all_joined, lines_of, complete, is_acceptable, line_number, in_comment, text_before, text_with, ends_with_byte, words_fault, fault_at, first_fault, end_fault}
+use Rattle.mv_lex.specs.Reading.{Reading, IsAfter, HasRead, with_byte, with_bytes, long_with, long_with_bytes, held, is_backslash, settled, long_fault, end_fault_of, text_fault, place_fault, fault_now, text_step, new_line, next_line, place_step, stepped, ends_line, ended, place_end_fault, end_now, place_end_cut, end_cut, place_of_tail, text_behind}
 use Rattle.mv_lex.proofs.Cuts.{closed-end, closed-more, open_piece-end, open_piece-more}
 use Rattle.mv_lex.proofs.Cutting.{cut_of-append, with_bytes-append}
 use Rattle.mv_lex.proofs.Tails.{held-tail, place_of-clear, place_of-commented, Stands, whole_certain, stands-commented, stands-hash, stands-return, stands-backslash, stands-other, tail-backslash, backslash-tail}
@@ -57,6 +57,10 @@ joins-commented line e = and_left (not (has_hash line)) (not (is_empty (tail_of 
 
 pub joins-clear : (line : List ℕ) → has_hash line ≡ false → joins line ≡ not (is_empty (tail_of line))
 joins-clear line e = rw e refl
+
+-- a line without a comment joins the next one where it ends in `\`
+joins-tail : (line : List ℕ) {b : ℕ} {tail : List ℕ} → has_hash line ≡ false → tail_of line ≡ b ∷ tail → joins line ≡ true
+joins-tail line e t = joins-clear line e ∙ ap (λ l. not (is_empty l)) t
 
 pub text-ends : (bytes : List ℕ) → joins (open_line bytes) ≡ false → text_before bytes ++ text_of (open_line bytes) ≡ text_behind bytes
 text-ends bytes e = rw (e, append-nil (certain (open_line bytes))) refl
@@ -105,13 +109,13 @@ adds-other bytes b e h n other =
 -- ---- the fault of a byte
 
 ends-other : (bytes : List ℕ) (b : ℕ) → is_line_feed b ≡ false → ends_with_byte bytes b ≡ is_hash b
-ends-other bytes b e = rw e (or_right_false (is_hash b)) where
-  or_right_false : (t : Bool) → (t || false) ≡ t
-  or_right_false true = refl
-  or_right_false false = refl
+ends-other bytes b e = rw e (or-false (is_hash b))
 
 hash-feed : (b : ℕ) → is_line_feed b ≡ true → is_hash b ≡ false
 hash-feed b e = let P : ℕ → Type 0 = λ n. is_hash n ≡ false in subst P (sym (eqb-true b 10 e)) refl
+
+hash-return : (b : ℕ) → (b == 13) ≡ true → is_hash b ≡ false
+hash-return b e = let P : ℕ → Type 0 = λ n. is_hash n ≡ false in subst P (sym (eqb-true b 13 e)) refl
 
 acceptable-feed : (b : ℕ) → is_line_feed b ≡ true → is_acceptable b ≡ true
 acceptable-feed b e = let P : ℕ → Type 0 = λ n. is_acceptable n ≡ true in subst P (sym (eqb-true b 10 e)) refl
@@ -121,21 +125,11 @@ fault-text : (r : Reading) (bytes more : List ℕ) (b : ℕ) (place : Place) →
 fault-text r bytes more b place h n a =
     rw (ends-other bytes b n, cut-gains r bytes (text_with bytes b) more h (text_with-other bytes more b place n a.stands), ← h.here) refl
 
-or_else : (s t : Bool) → s ≡ false → (s || t) ≡ t
-or_else true t e = cc
-or_else false t e = refl
-
 -- the long words of what was held back and of one more byte
 long_with_bytes-push : (cut : Cut) (bs : List ℕ) (b : ℕ) → long_with_bytes cut (bs ++ b ∷ []) ≡ (long_with_bytes cut bs || long_with (with_bytes cut bs) b)
-long_with_bytes-push cut [] b = or_right_false (long_with cut b) where
-  or_right_false : (t : Bool) → (t || false) ≡ t
-  or_right_false true = refl
-  or_right_false false = refl
+long_with_bytes-push cut [] b = or-false (long_with cut b)
 long_with_bytes-push cut (x ∷ bs) b =
-    ap (λ t. long_with cut x || t) (long_with_bytes-push (with_byte cut x) bs b) ∙ or_assoc (long_with cut x) (long_with_bytes (with_byte cut x) bs) (long_with (with_bytes (with_byte cut x) bs) b) where
-      or_assoc : (s t u : Bool) → (s || (t || u)) ≡ ((s || t) || u)
-      or_assoc true t u = refl
-      or_assoc false t u = refl
+    ap (λ t. long_with cut x || t) (long_with_bytes-push (with_byte cut x) bs b) ∙ sym (or_assoc (long_with cut x) (long_with_bytes (with_byte cut x) bs) (long_with (with_bytes (with_byte cut x) bs) b))
 
 long_fault-or : (line : ℕ) (s t : Bool) → long_fault line (s || t) ≡ (if s then Some (LongWord line) else long_fault line t)
 long_fault-or line true t = refl
@@ -186,9 +180,7 @@ text_fault-words r bytes b h e n =
     (cases_Bool (b == 92)))
     (cases_Bool (is_hash b)))
     (cases_Bool ((b == 13) && is_backslash r.place)) ∙ sym (cond-false (not (is_acceptable b)) _ _ good)))
-    (cases_Bool (not (is_acceptable b))) where
-      hash-return : (b : ℕ) → (b == 13) ≡ true → is_hash b ≡ false
-      hash-return b e = let P : ℕ → Type 0 = λ n. is_hash n ≡ false in subst P (sym (eqb-true b 13 e)) refl
+    (cases_Bool (not (is_acceptable b)))
 
 -- the state tells the fault that the bytes tell
 pub fault_at-now : (r : Reading) (bytes : List ℕ) (b : ℕ) → IsAfter r bytes → fault_at r.limit bytes b ≡ fault_now r b
@@ -210,25 +202,19 @@ fault_at-now r bytes b h =
           let ends : ends_with_byte bytes b ≡ false = or_from (is_hash b) (is_line_feed b && not (joins (open_line bytes))) (hash-feed b f) (and_right (is_line_feed b) (not (joins (open_line bytes))) (not_from_true (joins (open_line bytes)) goes)) in
           rw (ends, text_with-feed bytes b f, cut-joins r bytes h goes, ← h.here) (ap (long_fault r.here) (has_long-byte r.cut 32 (known r bytes h) h.short))
 
+      -- the fault at a line feed is this one
+      at_feed : (r : Reading) (bytes : List ℕ) (b : ℕ) (x : Option LexFault) → IsAfter r bytes → in_comment bytes ≡ false → (is_line_feed b ≡ true → words_fault (line_number bytes) (ends_with_byte bytes b) (cut_of (text_with bytes b)) ≡ x) → (if not (is_acceptable b) then Some (BadByte (line_number bytes) b) else words_fault (line_number bytes) (ends_with_byte bytes b) (cut_of (text_with bytes b))) ≡ (if is_line_feed b then x else text_fault r b)
+      at_feed r bytes b x h e told =
+          ⊎_elim
+          (λ (f : is_line_feed b ≡ true). cond-false (not (is_acceptable b)) _ _ (not_from_true (is_acceptable b) (acceptable-feed b f)) ∙ (told f ∙ sym (cond-true (is_line_feed b) _ _ f)))
+          (λ (f : is_line_feed b ≡ false). text_fault-words r bytes b h e f ∙ sym (cond-false (is_line_feed b) _ _ f))
+          (cases_Bool (is_line_feed b))
+
       -- by what stands at the end of the open line
       by_tail : (r : Reading) (bytes : List ℕ) (b : ℕ) (tail : List ℕ) → IsAfter r bytes → in_comment bytes ≡ false → tail_of (open_line bytes) ≡ tail → (if not (is_acceptable b) then Some (BadByte (line_number bytes) b) else words_fault (line_number bytes) (ends_with_byte bytes b) (cut_of (text_with bytes b))) ≡ place_fault r (place_of_tail tail) b
-      by_tail r bytes b [] h e t =
-          ⊎_elim
-          (λ (f : is_line_feed b ≡ true). cond-false (not (is_acceptable b)) _ _ (not_from_true (is_acceptable b) (acceptable-feed b f)) ∙ (feed_ends r bytes b h e f t ∙ sym (cond-true (is_line_feed b) _ _ f)))
-          (λ (f : is_line_feed b ≡ false). text_fault-words r bytes b h e f ∙ sym (cond-false (is_line_feed b) _ _ f))
-          (cases_Bool (is_line_feed b))
-      by_tail r bytes b (x ∷ []) h e t =
-          let goes : joins (open_line bytes) ≡ true = joins-clear (open_line bytes) e ∙ ap (λ l. not (is_empty l)) t in
-          ⊎_elim
-          (λ (f : is_line_feed b ≡ true). cond-false (not (is_acceptable b)) _ _ (not_from_true (is_acceptable b) (acceptable-feed b f)) ∙ (feed_joins r bytes b h e f goes ∙ sym (cond-true (is_line_feed b) _ _ f)))
-          (λ (f : is_line_feed b ≡ false). text_fault-words r bytes b h e f ∙ sym (cond-false (is_line_feed b) _ _ f))
-          (cases_Bool (is_line_feed b))
-      by_tail r bytes b (x ∷ y ∷ tail) h e t =
-          let goes : joins (open_line bytes) ≡ true = joins-clear (open_line bytes) e ∙ ap (λ l. not (is_empty l)) t in
-          ⊎_elim
-          (λ (f : is_line_feed b ≡ true). cond-false (not (is_acceptable b)) _ _ (not_from_true (is_acceptable b) (acceptable-feed b f)) ∙ (feed_joins r bytes b h e f goes ∙ sym (cond-true (is_line_feed b) _ _ f)))
-          (λ (f : is_line_feed b ≡ false). text_fault-words r bytes b h e f ∙ sym (cond-false (is_line_feed b) _ _ f))
-          (cases_Bool (is_line_feed b))
+      by_tail r bytes b [] h e t = at_feed r bytes b (end_fault_of r.here r.cut) h e (λ f. feed_ends r bytes b h e f t)
+      by_tail r bytes b (x ∷ []) h e t = at_feed r bytes b (long_fault r.here (long_with r.cut 32)) h e (λ f. feed_joins r bytes b h e f (joins-tail (open_line bytes) e t))
+      by_tail r bytes b (x ∷ y ∷ tail) h e t = at_feed r bytes b (long_fault r.here (long_with r.cut 32)) h e (λ f. feed_joins r bytes b h e f (joins-tail (open_line bytes) e t))
 
       fault_in_place : (r : Reading) (bytes : List ℕ) (b : ℕ) → IsAfter r bytes → (if in_comment bytes then None else (if not (is_acceptable b) then Some (BadByte (line_number bytes) b) else words_fault (line_number bytes) (ends_with_byte bytes b) (cut_of (text_with bytes b)))) ≡ place_fault r r.place b
       fault_in_place r bytes b h =
@@ -306,9 +292,7 @@ IsAfter-text r bytes b h none n e =
     let R : Cut → Type 0 = λ c. IsAfter (record r { size = r.size + 1; place = Text; cut = c }) (bytes ++ b ∷ []) in
     subst R (with_bytes-append r.cut (held r.place) (b ∷ []))
     (subst (λ (bs : List ℕ). Q Text (bs ++ b ∷ [])) holds (after_text r bytes (tail ++ b ∷ []) b Text h none n e (adds-other bytes b e clear other alone)))
-    )))) where
-      hash-return : (b : ℕ) → (b == 13) ≡ true → is_hash b ≡ false
-      hash-return b e = let P : ℕ → Type 0 = λ n. is_hash n ≡ false in subst P (sym (eqb-true b 13 e)) refl
+    ))))
 
 -- behind a line feed the open line is empty
 nothing_open : (bytes : List ℕ) (b : ℕ) → is_line_feed b ≡ true → text_behind (bytes ++ b ∷ []) ≡ texts (unended (ended_lines bytes ++ open_line bytes ∷ []))
@@ -360,20 +344,20 @@ after_comment r bytes b h none e =
     (λ f. IsAfter-new r bytes b h none f (joins-commented (open_line bytes) e))
     (λ n. subst Q (sym (place-commented r bytes h e)) (after_byte r bytes [] b Comment h none n (adds-comment bytes b e) h.short))
 
+-- behind a `\`, and behind a carriage return after it
+after_joining : (r : Reading) (bytes : List ℕ) (b : ℕ) → IsAfter r bytes → fault_now r b ≡ None → in_comment bytes ≡ false → joins (open_line bytes) ≡ true → IsAfter (if is_line_feed b then next_line r else text_step r b) (bytes ++ b ∷ [])
+after_joining r bytes b h none e goes =
+    let P : Reading → Type 0 = λ s. IsAfter s (bytes ++ b ∷ []) in
+    cond_both (is_line_feed b) _ _ P (λ f. IsAfter-next r bytes b h none f e goes) (λ n. IsAfter-text r bytes b h none n e)
+
 -- by what stands at the end of the open line
 after_tail : (r : Reading) (bytes : List ℕ) (b : ℕ) (tail : List ℕ) → IsAfter r bytes → fault_now r b ≡ None → in_comment bytes ≡ false → tail_of (open_line bytes) ≡ tail → IsAfter (place_step r (place_of_tail tail) b) (bytes ++ b ∷ [])
 after_tail r bytes b [] h none e t =
     let P : Reading → Type 0 = λ s. IsAfter s (bytes ++ b ∷ []) in
     let stops : joins (open_line bytes) ≡ false = joins-clear (open_line bytes) e ∙ ap (λ l. not (is_empty l)) t in
     cond_both (is_line_feed b) _ _ P (λ f. IsAfter-new r bytes b h none f stops) (λ n. IsAfter-text r bytes b h none n e)
-after_tail r bytes b (x ∷ []) h none e t =
-    let P : Reading → Type 0 = λ s. IsAfter s (bytes ++ b ∷ []) in
-    let goes : joins (open_line bytes) ≡ true = joins-clear (open_line bytes) e ∙ ap (λ l. not (is_empty l)) t in
-    cond_both (is_line_feed b) _ _ P (λ f. IsAfter-next r bytes b h none f e goes) (λ n. IsAfter-text r bytes b h none n e)
-after_tail r bytes b (x ∷ y ∷ tail) h none e t =
-    let P : Reading → Type 0 = λ s. IsAfter s (bytes ++ b ∷ []) in
-    let goes : joins (open_line bytes) ≡ true = joins-clear (open_line bytes) e ∙ ap (λ l. not (is_empty l)) t in
-    cond_both (is_line_feed b) _ _ P (λ f. IsAfter-next r bytes b h none f e goes) (λ n. IsAfter-text r bytes b h none n e)
+after_tail r bytes b (x ∷ []) h none e t = after_joining r bytes b h none e (joins-tail (open_line bytes) e t)
+after_tail r bytes b (x ∷ y ∷ tail) h none e t = after_joining r bytes b h none e (joins-tail (open_line bytes) e t)
 
 pub IsAfter-stepped : (r : Reading) (bytes : List ℕ) (b : ℕ) → IsAfter r bytes → fault_now r b ≡ None → IsAfter (stepped r b) (bytes ++ b ∷ [])
 unfolding stepped
@@ -548,8 +532,8 @@ module _ (r : Reading) (bytes : List ℕ) (h : IsAfter r bytes) where
 
   end_tail : (tail : List ℕ) → in_comment bytes ≡ false → tail_of (open_line bytes) ≡ tail → (end_fault bytes ≡ place_end_fault r (place_of_tail tail)) × (lines_of bytes ≡ complete bytes ++ line_at r.start (finished (place_end_cut r (place_of_tail tail))))
   end_tail [] e t = end_stops e (joins-clear (open_line bytes) e ∙ ap (λ l. not (is_empty l)) t)
-  end_tail (x ∷ []) e t = end_goes e (joins-clear (open_line bytes) e ∙ ap (λ l. not (is_empty l)) t)
-  end_tail (x ∷ y ∷ tail) e t = end_goes e (joins-clear (open_line bytes) e ∙ ap (λ l. not (is_empty l)) t)
+  end_tail (x ∷ []) e t = end_goes e (joins-tail (open_line bytes) e t)
+  end_tail (x ∷ y ∷ tail) e t = end_goes e (joins-tail (open_line bytes) e t)
 
   end_both : (end_fault bytes ≡ end_now r) × (lines_of bytes ≡ complete bytes ++ line_at r.start (finished (end_cut r)))
   unfolding end_now end_cut

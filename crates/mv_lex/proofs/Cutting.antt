@@ -1,11 +1,11 @@
 -- A text is cut into the same words byte by byte as word by word.
-use Rattle.std.proofs.Common.{◌≡◌, ◌≢◌, ℕ, ◌+◌, ◌≤◌, ◌<◌, Bool, true, false, not, ◌||◌, ◌==◌, List, [], ◌∷◌, ◌++◌, length, filter, if◌then◌else◌, refl, ap, sym, ◌∙◌, subst, arith, append_assoc, ⊎_elim, suc, zero}
-use Rattle.std.proofs.lemmas.Bool.{cases_Bool, cond-true, cond-false, or_cases, eqb-true, not_from_false, not_from_true, not-true, not-false, ne_eqb, false≢true}
+use Rattle.std.proofs.Common.{◌≡◌, ℕ, ◌≤◌, Bool, true, false, not, ◌==◌, List, [], ◌∷◌, ◌++◌, length, filter, if◌then◌else◌, refl, ap, sym, ◌∙◌, subst, arith, append_assoc, ⊎_elim, suc, zero}
+use Rattle.std.proofs.lemmas.Bool.{cases_Bool, cond-true, cond-false, or_cases, eqb-true, not_from_false, not_from_true, ne_eqb, false≢true}
 use Rattle.std.proofs.lemmas.List.{append-nil}
 use Rattle.mv_lex.specs.declared.parts.Kind.{Kind}
 use Rattle.mv_lex.specs.declared.parts.Kind.TheVariants.{Start, Plain, Bracketed}
-use Rattle.mv_lex.specs.Words.{is_blank, is_solid, is_bang, opens, closer, front, behind, Cut, no_words, with_word, bracketed_behind, bracketed, plain_behind, plain, first_word, cut_words, cut_of, nonempty}
-use Rattle.mv_lex.specs.Reading.{ended_word, start_byte, plain_byte, bracketed_byte, with_byte, with_bytes}
+use Rattle.mv_lex.specs.Words.{is_blank, is_solid, is_bang, opens, closer, front, behind, Cut, no_words, with_word, bracketed_behind, plain_behind, first_word, cut_words, cut_of, nonempty}
+use Rattle.mv_lex.specs.Reading.{ended_word, with_byte, with_bytes}
 
 abbrev pub cut_at : List (List ℕ) → List ℕ → Kind → Cut
 cut_at words word kind = record { words = words; word = word; kind = kind }

@@ -1,19 +1,18 @@
 -- What bytes without a fault are like, and what every line has.
-use Rattle.std.proofs.Common.{◌≡◌, ℕ, ◌+◌, ◌<◌, ◌≤◌, Bool, true, false, not, ◌&&◌, ◌||◌, ◌==◌, List, [], ◌∷◌, ◌++◌, length, Option, Some, None, if◌then◌else◌, refl, ap, sym, ◌∙◌, subst, arith, length-append, append_assoc, ⊎_elim}
+use Rattle.std.proofs.Common.{◌≡◌, ℕ, ◌+◌, ◌<◌, ◌≤◌, Bool, true, false, not, ◌&&◌, ◌==◌, List, [], ◌∷◌, ◌++◌, length, Option, Some, None, refl, ap, sym, ◌∙◌, subst, arith, length-append, append_assoc, ⊎_elim}
 use Rattle.std.specs.Prelude.{nat_le}
 use Rattle.std.specs.List.{All, list_all}
 use Rattle.std.specs.Option.{option_or}
-use Rattle.std.proofs.lemmas.Bool.{cases_Bool, cond_both, cond-true, cond-false, leb-false, not-false, and_from, and_parts, and_right, not-true, or_left, or_right, eqb-false, false≢true, not_from_false}
+use Rattle.std.proofs.lemmas.Bool.{cases_Bool, cond_both, cond-true, cond-false, leb-false, not-false, and_from, not-true, or_left, or_right, eqb-false, false≢true, not_from_false}
 use Rattle.std.proofs.lemmas.List.{append-nil}
 use Rattle.std.proofs.lemmas.List.Folds.{list_all-append}
 use Rattle.std.proofs.lemmas.List.Elements.{All-nil, All-cons, All-append}
 use Rattle.mv_lex.specs.declared.lines.LexLine.{LexLine}
-use Rattle.mv_lex.specs.declared.fault.LexFault.{LexFault}
 use Rattle.mv_lex.specs.declared.fault.LexFault.TheVariants.{BadByte, LongWord, OpenBracket}
 use Rattle.mv_lex.specs.declared.parts.Kind.{Kind}
 use Rattle.mv_lex.specs.declared.parts.Kind.TheVariants.{Start, Plain, Bracketed}
-use Rattle.mv_lex.specs.Words.{is_blank, opens, Cut, no_words, cut_of, finished, nonempty, has_long, waits}
-use Rattle.mv_lex.specs.Lines.{is_acceptable, is_line_feed, is_hash, has_hash, before_hash, certain, joins, text_of, texts, joined, unended, all_joined, ended_lines, open_line, pieces, words_of, line_at, numbered, lines_of, is_readable, is_closed, is_clean, line_number, in_comment, text_before, text_with, ends_with_byte, words_fault, fault_at, first_fault, end_fault}
+use Rattle.mv_lex.specs.Words.{is_blank, opens, Cut, no_words, cut_of, nonempty, has_long, waits}
+use Rattle.mv_lex.specs.Lines.{is_acceptable, is_line_feed, is_hash, has_hash, joins, text_of, texts, joined, unended, all_joined, ended_lines, open_line, pieces, words_of, line_at, numbered, lines_of, is_readable, is_closed, is_clean, line_number, in_comment, text_before, text_with, ends_with_byte, words_fault, fault_at, first_fault, end_fault}
 use Rattle.mv_lex.specs.Reading.{ended_word, kind_byte, with_byte, with_bytes, text_behind}
 use Rattle.mv_lex.proofs.Cuts.{closed-end, closed-more, open_piece-end, open_piece-more}
 use Rattle.mv_lex.proofs.Cutting.{cut_of-bytes}
@@ -22,7 +21,7 @@ use Rattle.mv_lex.proofs.Tails.{has_hash-push, before_hash-behind, before_hash-b
 use Rattle.mv_lex.proofs.After.{none_else, joins-commented, texts-push, text-ends}
 
 -- neither of two faults is there if the first of them isn't
-option_or-none : {A : Type 0} (a b : Option A) → option_or a b ≡ None → (a ≡ None) × (b ≡ None)
+pub option_or-none : {A : Type 0} (a b : Option A) → option_or a b ≡ None → (a ≡ None) × (b ≡ None)
 option_or-none None b e = (refl, e)
 option_or-none (Some x) b e = cc
 

@@ -1,5 +1,5 @@
 -- Joined lines, when one more physical line has ended.
-use Rattle.std.proofs.Common.{◌≡◌, ℕ, ◌+◌, Bool, true, false, List, [], ◌∷◌, ◌++◌, if◌then◌else◌, length, refl, ap, ◌∙◌, arith}
+use Rattle.std.proofs.Common.{◌≡◌, ℕ, ◌+◌, true, false, List, [], ◌∷◌, ◌++◌, if◌then◌else◌, length, refl, ap, ◌∙◌, arith}
 use Rattle.mv_lex.specs.Lines.{joins, onto_group, joined, with_line, unended}
 
 onto_group-append : (line : List ℕ) (front : List (List (List ℕ))) (last : List (List ℕ)) → onto_group line (front ++ last ∷ []) ≡ onto_group line front ++ with_line front line last ∷ []

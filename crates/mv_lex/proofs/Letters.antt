@@ -1,20 +1,16 @@
 -- Many letters of a word read at once are read as one after the other.
-use Rattle.std.proofs.Common.{◌≡◌, ℕ, ◌+◌, ◌<◌, ◌≤◌, ◌⊎◌, Bool, true, false, not, ◌&&◌, ◌||◌, ◌==◌, List, [], ◌∷◌, ◌++◌, length, take, drop, Option, Some, None, if◌then◌else◌, refl, ap, sym, ◌∙◌, subst, arith, append_assoc, length-append, get_or, inl, inr, suc}
+use Rattle.std.proofs.Common.{◌≡◌, ℕ, ◌+◌, ◌<◌, ◌⊎◌, true, false, not, ◌&&◌, ◌||◌, ◌==◌, List, [], ◌∷◌, ◌++◌, length, take, drop, Some, None, if◌then◌else◌, refl, ap, sym, ◌∙◌, subst, arith, append_assoc, length-append, get_or}
 use Rattle.std.specs.Prelude.{nat_le}
 use Rattle.std.specs.List.{list_all}
-use Rattle.std.proofs.lemmas.Bool.{cond-true, cond-false, and_parts, and_from, and_left, or_right, or_from, ne_eqb, leb-true, lt-leb, not-true, not_from_true, not_from_false}
-use Rattle.std.proofs.lemmas.List.{append-nil, take-append-drop}
+use Rattle.std.proofs.lemmas.Bool.{cond-false, and_parts, and_left, or_right, or_from, ne_eqb, leb-true, lt-leb, not-true, not_from_true}
+use Rattle.std.proofs.lemmas.List.{append-nil}
 use Rattle.std.proofs.Math.Seq.{take-add}
 use Rattle.mv_base.specs.declared.limits.TheConstants.{MAX_WORD_BYTES}
 use Rattle.mv_base.specs.Names.{is_visible}
 use Rattle.mv_lex.specs.declared.lines.LexLine.{LexLine}
 use Rattle.mv_lex.specs.declared.fault.LexFault.{LexFault}
 use Rattle.mv_lex.specs.declared.fault.LexFault.TheVariants.{LongWord, Memory}
-use Rattle.mv_lex.specs.declared.parts.Place.{Place}
-use Rattle.mv_lex.specs.declared.parts.Place.TheVariants.{Text}
-use Rattle.mv_lex.specs.declared.parts.Kind.{Kind}
-use Rattle.mv_lex.specs.declared.parts.Kind.TheVariants.{Plain}
-use Rattle.mv_lex.specs.Words.{is_blank, Cut}
+use Rattle.mv_lex.specs.Words.{is_blank}
 use Rattle.mv_lex.specs.Lines.{is_line_feed, is_hash, is_acceptable, complete, first_fault}
 use Rattle.mv_lex.specs.Reading.{Reading, HasRead, is_letter, TakesLetters, with_letters, with_byte, long_with, kind_long, held, is_backslash, settled, IsAfter, with_bytes, long_with_bytes, long_fault, end_fault_of, ends_line, text_fault, place_fault, fault_now, text_step, place_step, stepped, ended}
 use Rattle.mv_lex.proofs.Cutting.{cut_at, plain-solid}

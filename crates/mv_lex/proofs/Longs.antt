@@ -1,20 +1,19 @@
 -- Words that are too long, when one more byte comes.
-use Rattle.std.proofs.Common.{◌≡◌, ◌+◌, ◌<◌, ◌≤◌, ℕ, Bool, true, false, not, ◌&&◌, ◌||◌, ◌==◌, List, [], ◌∷◌, ◌++◌, length, Option, Some, None, if◌then◌else◌, refl, ap, sym, ◌∙◌, subst, arith, ⊎_elim, length-append, inl, inr}
+use Rattle.std.proofs.Common.{◌≡◌, ◌+◌, ◌≤◌, ℕ, Bool, true, false, not, ◌&&◌, ◌||◌, ◌==◌, List, [], ◌∷◌, ◌++◌, length, Some, None, if◌then◌else◌, refl, ap, sym, ◌∙◌, subst, arith, ⊎_elim, length-append}
 use Rattle.std.specs.Prelude.{nat_lt, nat_le}
 use Rattle.std.specs.List.{list_all, list_any}
-use Rattle.std.proofs.lemmas.Bool.{cases_Bool, cond-true, cond-false, and_parts, and_from, or_parts, or_from, or_left, or_right, or_cases, ltb-true, ltb-false, lt-ltb, le-ltb, leb-true, leb-false, le-leb, lt-leb, not_from_true, not_from_false, false≢true}
+use Rattle.std.proofs.lemmas.Bool.{cases_Bool, cond-true, cond-false, and_parts, and_from, or_parts, or_from, or_left, or_right, or_cases, ltb-true, lt-ltb, le-ltb, leb-true, leb-false, le-leb, not_from_false}
 use Rattle.std.proofs.lemmas.List.{append-nil}
 use Rattle.std.proofs.lemmas.List.Folds.{list_all-append, list_any-append}
 use Rattle.mv_base.specs.Names.{is_bracketed}
 use Rattle.mv_base.specs.declared.limits.TheConstants.{MAX_WORD_BYTES, MAX_BRACKETED_BYTES}
 use Rattle.mv_lex.specs.declared.parts.Kind.{Kind}
 use Rattle.mv_lex.specs.declared.parts.Kind.TheVariants.{Start, Plain, Bracketed}
-use Rattle.mv_lex.specs.declared.fault.LexFault.{LexFault}
 use Rattle.mv_lex.specs.declared.fault.LexFault.TheVariants.{LongWord, OpenBracket}
-use Rattle.mv_lex.specs.Words.{is_blank, is_bang, opens, closer, Cut, no_words, cut_of, nonempty, is_long, most_bytes, has_long, waits}
+use Rattle.mv_lex.specs.Words.{is_blank, is_bang, opens, Cut, no_words, cut_of, is_long, most_bytes, has_long, waits}
 use Rattle.mv_lex.specs.Lines.{words_fault}
-use Rattle.mv_lex.specs.Reading.{ended_word, with_byte, with_bytes, long_with, long_with_bytes, kind_long, kind_end_fault, long_fault, end_fault_of}
-use Rattle.mv_lex.proofs.Cutting.{cut_at, opens-bang, solid-opens, solid-bang, start-blank, start-opens, start-bang, start-plain, plain-blank, plain-solid, bracketed-blank, bracketed-end, bracketed-solid, nonempty-some, cut_of-bytes}
+use Rattle.mv_lex.specs.Reading.{ended_word, with_byte, with_bytes, long_with, long_with_bytes, kind_long, kind_end_fault, end_fault_of}
+use Rattle.mv_lex.proofs.Cutting.{cut_at, opens-bang, start-blank, start-opens, start-bang, start-plain, plain-blank, plain-solid, bracketed-blank, bracketed-end, bracketed-solid, nonempty-some, cut_of-bytes}
 
 -- ---- what the word at the end is
 
@@ -267,10 +266,6 @@ has_long-bytes cut (b ∷ bs) k e =
       or_right_only false t e = refl
 
 -- ---- faults of a text
-
--- while the text goes on, a word that is too long is its only fault
-pub words_fault-more : (line : ℕ) (cut : Cut) → words_fault line false cut ≡ long_fault line (has_long false cut)
-words_fault-more line cut = refl
 
 fault_at_end : (line : ℕ) (t : Bool) (size : ℕ) (kind : Kind) → (if t || nat_lt (most_bytes true kind) size then Some (LongWord line) else (if waits kind then Some (OpenBracket line) else None)) ≡ (if t || nat_lt (most_bytes false kind) size then Some (LongWord line) else kind_end_fault line size kind)
 fault_at_end line true size kind = refl

@@ -1,10 +1,9 @@
 -- The `\` at the end of a line, its comment, and what is certain of it, when one more byte comes.
-use Rattle.std.proofs.Common.{◌≡◌, ℕ, Bool, true, false, not, ◌&&◌, ◌||◌, ◌==◌, List, [], ◌∷◌, ◌++◌, if◌then◌else◌, refl, ap, sym, ◌∙◌, subst, arith, ⊎_elim}
-use Rattle.std.proofs.lemmas.Bool.{cases_Bool, cond-true, cond-false, and_parts, and_from, and_right, and_left, or_parts, or_left, or_right, eqb-true, not_from_true, not_from_false, false≢true, true≢false}
-use Rattle.std.proofs.lemmas.List.{append-nil}
+use Rattle.std.proofs.Common.{◌≡◌, ℕ, true, false, not, ◌&&◌, ◌||◌, ◌==◌, List, [], ◌∷◌, ◌++◌, if◌then◌else◌, refl, ap, sym, ◌∙◌, subst, ⊎_elim}
+use Rattle.std.proofs.lemmas.Bool.{cases_Bool, cond-true, cond-false, and_parts, and_right, and_left, or_parts, or_left, or_right, eqb-true, not_from_true, not_from_false}
 use Rattle.mv_lex.specs.declared.parts.Place.{Place}
 use Rattle.mv_lex.specs.declared.parts.Place.TheVariants.{Text, Backslash, Return, Comment}
-use Rattle.mv_lex.specs.Lines.{is_hash, has_hash, before_hash, is_end, is_empty, tail_of, before_tail, certain, joins}
+use Rattle.mv_lex.specs.Lines.{is_hash, has_hash, before_hash, is_end, tail_of, before_tail, certain}
 use Rattle.mv_lex.specs.Reading.{held, is_backslash, place_of_tail, place_of}
 
 -- ---- the tail

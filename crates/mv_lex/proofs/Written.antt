@@ -1,19 +1,18 @@
 -- Lines that were written are read back.
 use Rattle.std.proofs.Common.{◌≡◌, ℕ, ◌+◌, ◌-◌, ◌≤◌, ◌⊎◌, Bool, true, false, not, ◌&&◌, ◌||◌, ◌==◌, List, [], ◌∷◌, ◌++◌, length, map, refl, ap, sym, ◌∙◌, subst, arith, append_assoc, inl, inr, suc, ⊎_elim}
 use Rattle.std.specs.Prelude.{nat_le, nat_lt, slice_index}
-use Rattle.std.specs.List.{list_all, list_any, flat_map}
-use Rattle.std.proofs.lemmas.Bool.{cases_Bool, cond-true, cond-false, and_parts, and_from, and_left, and_right, or_right, or_left, or_parts, leb-true, lt-ltb, eqb-true, ne_eqb, or_from, not_from_false, not-true, false≢true}
+use Rattle.std.specs.List.{list_all, flat_map}
+use Rattle.std.proofs.lemmas.Bool.{cases_Bool, cond-false, and_parts, and_from, and_left, or_right, or_parts, leb-true, lt-ltb, ne_eqb, or_from, not_from_false, not-true, false≢true}
 use Rattle.std.proofs.lemmas.List.Folds.{list_all-append}
 use Rattle.std.proofs.lemmas.List.{append-nil}
 use Rattle.mv_base.specs.Names.{is_visible, is_bracketed, ends_with}
 use Rattle.mv_lex.specs.declared.lines.LexLine.{LexLine}
-use Rattle.mv_lex.specs.declared.parts.Kind.{Kind}
-use Rattle.mv_lex.specs.declared.parts.Kind.TheVariants.{Start, Plain, Bracketed}
-use Rattle.mv_lex.specs.Words.{is_blank, is_solid, is_bang, opens, Cut, no_words, cut_of, finished, waits}
-use Rattle.mv_lex.specs.Lines.{is_acceptable, is_line_feed, is_hash, has_hash, before_hash, is_end, is_empty, tail_of, before_tail, certain, joins, text_of, texts, joined, unended, all_joined, pieces, words_of, numbered, is_readable, is_closed, lines_of, is_clean}
+use Rattle.mv_lex.specs.declared.parts.Kind.TheVariants.{Start, Plain}
+use Rattle.mv_lex.specs.Words.{is_blank, is_bang, opens, Cut, cut_of, finished, waits}
+use Rattle.mv_lex.specs.Lines.{is_acceptable, is_line_feed, is_hash, has_hash, is_end, is_empty, tail_of, before_tail, certain, joins, text_of, texts, all_joined, pieces, words_of, numbered, is_readable, is_closed, lines_of, is_clean}
 use Rattle.mv_lex.specs.Reading.{ended_word, with_byte, with_bytes}
 use Rattle.mv_lex.specs.Text.{spaced, line_text, is_plain_word, is_word_line, lines_from}
-use Rattle.mv_lex.proofs.Cuts.{pieces-first, pieces-none}
+use Rattle.mv_lex.proofs.Cuts.{pieces-first}
 use Rattle.mv_lex.proofs.Cutting.{cut_at, cut_of-bytes, with_bytes-append, nonempty-some, start-bang, start-plain, start-blank, plain-blank, plain-solid}
 use Rattle.mv_lex.proofs.Tails.{before_tail-tail, tail_of-skip, before_hash-clear, certain-clear}
 use Rattle.mv_lex.proofs.After.{joins-clear}
@@ -31,9 +30,6 @@ letter_blank : (b : ℕ) → is_letter b ≡ true → is_blank b ≡ false
 letter_blank b h =
     let low = letter-low b h in
     or_from ((b == 32) || (b == 9)) (b == 13) (or_from (b == 32) (b == 9) (ne_eqb b 32 (λ e. omega arith)) (ne_eqb b 9 (λ e. omega arith))) (ne_eqb b 13 (λ e. omega arith))
-
-letter_solid : (b : ℕ) → is_letter b ≡ true → is_solid b ≡ true
-letter_solid b h = not_from_false (is_blank b) (letter_blank b h)
 
 letter_feed : (b : ℕ) → is_letter b ≡ true → not (is_line_feed b) ≡ true
 letter_feed b h =

@@ -10,7 +10,7 @@ use Rattle.mv_lex.specs.declared.parts.Kind.TheVariants.{Start, Plain, Bracketed
 use Rattle.mv_lex.specs.declared.lines.LexLine.{LexLine}
 use Rattle.mv_lex.specs.declared.fault.LexFault.{LexFault}
 use Rattle.mv_lex.specs.declared.fault.LexFault.TheVariants.{BadByte, LongWord, OpenBracket, TooLarge}
-use Rattle.mv_lex.specs.Words.{is_blank, is_bang, opens, closer, Cut, no_words, cut_of, nonempty, finished, has_long, waits}
+use Rattle.mv_lex.specs.Words.{is_blank, is_bang, opens, closer, Cut, no_words, cut_of, nonempty, finished, has_long}
 use Rattle.mv_lex.specs.Lines.{is_line_feed, is_hash, has_hash, tail_of, certain, is_acceptable, unended, ended_lines, open_line, line_at, line_number, text_before, first_fault, complete}
 
 -- the limit, how many bytes were read, the number of the open physical line and of the first one of its joined line,

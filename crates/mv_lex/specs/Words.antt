@@ -1,5 +1,5 @@
 -- The words of a text, which is a joined line without its comments, its line feeds and its `\` at the ends of lines.
-use Rattle.std.specs.Prelude.{ℕ, ◌+◌, Bool, true, false, not, ◌&&◌, ◌||◌, ◌==◌, nat_lt, nat_eq, List, [], ◌∷◌, ◌++◌, length, filter, suc, zero, if◌then◌else◌}
+use Rattle.std.specs.Prelude.{ℕ, Bool, true, false, not, ◌||◌, ◌==◌, nat_lt, List, [], ◌∷◌, ◌++◌, length, filter, suc, zero, if◌then◌else◌}
 use Rattle.std.specs.List.{list_any}
 use Rattle.mv_base.specs.Names.{is_bracketed}
 use Rattle.mv_base.specs.declared.limits.TheConstants.{MAX_WORD_BYTES, MAX_BRACKETED_BYTES}

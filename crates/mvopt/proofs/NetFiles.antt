@@ -1,10 +1,9 @@
 -- The lines of a network file: parsed and flattened.
-use Rattle.std.proofs.Common.{◌≡◌, ℕ, ◌≤◌, List, [], length, Option, Some, None, refl, sym, subst}
-use Rattle.std.specs.Option.{option_or}
+use Rattle.std.proofs.Common.{◌≡◌, ℕ, ◌≤◌, List, [], length, None, sym, subst}
 use Rattle.mv_base.specs.declared.limits.TheConstants.{MAX_NETWORK_BYTES, MAX_NETS}
 use Rattle.mv_lex.specs.declared.lines.LexLine.{LexLine}
 use Rattle.mv_lex.specs.Lines.{lines_of, first_fault, end_fault, lex_fault}
-use Rattle.mv_lex.proofs.Facts.{is_clean-from_first_fault}
+use Rattle.mv_lex.proofs.Facts.{option_or-none, is_clean-from_first_fault}
 use Rattle.mv_net.specs.declared.parts.NetParts.{NetParts}
 use Rattle.mv_parse.specs.declared.design.Design.{Design}
 use Rattle.mv_parse.specs.Designs.{IsSound, drivers}
@@ -16,13 +15,9 @@ use Rattle.mvopt.specs.Made.{IsNetOf}
 
 -- ---- faults
 
-neither : {A : Type 0} (a b : Option A) → option_or a b ≡ None → (a ≡ None) × (b ≡ None)
-neither None b e = (refl, e)
-neither (Some x) b e = cc
-
 -- bytes without a fault have none before their end and none at it
 no_fault : (limit : ℕ) (bytes : List ℕ) → lex_fault limit bytes ≡ None → (first_fault limit [] bytes ≡ None) × (end_fault bytes ≡ None)
-no_fault limit bytes e = neither (first_fault limit [] bytes) (end_fault bytes) e
+no_fault limit bytes e = option_or-none (first_fault limit [] bytes) (end_fault bytes) e
 
 -- bytes without a fault read as the design that their lines say
 pub reads_as : (bytes : List ℕ) (d : Design) → lex_fault MAX_NETWORK_BYTES bytes ≡ None → IsRead (words_of (lines_of bytes)) d → IsSound d → ReadsAs bytes d

@@ -635,20 +635,6 @@ fn words_have_a_limit(rt: HostRuntime) -> Result<(), Fail> {
     Ok(())
 }
 
-#[test]
-fn a_network_file_has_a_limit(rt: HostRuntime) -> Result<(), Fail> {
-    let alloc = rt.alloc();
-    let page = repeated(alloc, b" ", 4_096)?;
-    let mut net = Vec::from_slice(alloc, b"\n\n#")?;
-    net.extend_from_slice(repeated(alloc, page.as_slice(), 4_095)?.as_slice())?;
-    net.extend_from_slice(repeated(alloc, b" ", 4_093)?.as_slice())?;
-    assert_eq!(rt; net.len(), 16_777_216);
-    assert!(rt; is_refused(alloc, net.as_slice(), "39 NotBuilt")?);
-    net.push(b' ')?;
-    assert!(rt; is_refused(alloc, net.as_slice(), "4 TooLarge line 3")?);
-    Ok(())
-}
-
 /// The inverter's file behind so many blanks, with a long comment inside.
 fn long_inverter(alloc: Global, blanks: usize) -> Result<Vec<u8>, Fail> {
     let mut net = repeated(alloc, b" ", blanks)?;

@@ -1,5 +1,5 @@
 -- The first byte is read, or all letters at the front; a byte's fault is the first fault of all bytes.
-use Rattle.std.proofs.Common.{subst, sym, arith}
+use Rattle.std.proofs.Common.{arith}
 use Rattle.mv_lex.proofs.Letters.{letters_read, first_read, first_told}
 use Rattle.mv_lex.proofs.lexer.Lexer.read_some.Goals as goal
 
