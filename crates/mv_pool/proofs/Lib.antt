@@ -1,0 +1,4 @@
+pub mod Positions
+pub mod Placing
+pub mod Finding
+pub mod Keeping
