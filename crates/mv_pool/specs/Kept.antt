@@ -13,3 +13,9 @@ pub record IsKept {T S : Type 0} (eq : T → T → Bool) (numbers : IndexMap T �
   pub spare : cap ≤ index_map_len numbers + spare numbers
   pub fits : cap ≤ room
   pub small : cap < 2 ^ 32
+
+-- and there is room for a walk over `cap` places
+pub record HasRoom (kept : Type 0) (cap marks queue : ℕ) : Type 0 where
+  pub fields : kept
+  pub marked : cap ≤ marks
+  pub queued : cap ≤ queue

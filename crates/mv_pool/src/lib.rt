@@ -5,6 +5,7 @@ mod linked;
 mod pool;
 #[cfg(test)]
 mod tests;
+mod walk;
 
 pub use linked::Linked;
 pub use pool::{Full, Id, Mark, Pool};

@@ -1,7 +1,11 @@
-ghost use Rattle.std.specs.Prelude.{◌≡◌, ℕ, ◌<◌, ◌≤◌, ◌+◌, ◌^◌, [], None, Some, Ok, Err, length, take, IfOk, IfSome, IsSome, vec_capacity};
+ghost use Rattle.std.specs.Prelude.{◌≡◌, ℕ, ◌<◌, ◌≤◌, ◌+◌, ◌^◌, [], None, Some, Ok, Err, length, take, IfOk, IfSome, IsSome, All, is_some, true, vec_capacity};
 ghost use Rattle.indexmap.specs.IndexMap.{get, index_map_len, spare, Updates};
 ghost use Rattle.mv_pool.specs.Places.{place_of, item_at, least_free, held_in, with_item, AreDistinct};
+ghost use Rattle.mv_pool.specs.Reached.{LinksAreHeld, IsReclaimed};
+ghost use Rattle.mv_pool.specs.declared.pool.Id.{Id};
 
+use crate::Linked;
+use crate::walk::{begin, follow_all, free_unmarked, reach_roots};
 use indexmap::IndexMap;
 use mv_base::Memory;
 use std::alloc::Global;
@@ -30,18 +34,22 @@ pub struct Pool<T: Copy + Eq + Hash> {
     /// No place below this one is free.
     taken: u32,
     cap: u32,
+    /// Room for the marks of the places that a walk along links has reached.
+    marks: Vec<bool>,
+    /// Room for these places, in the order in which the walk reached them.
+    queue: Vec<u32>,
 }
 
 impl<T: Copy + Eq + Hash> Model for Pool<T> {
     ghost use Rattle.std.specs.Prelude.{vec_capacity};
     ghost use Rattle.mv_pool.specs.Places.{Contents};
-    ghost use Rattle.mv_pool.specs.Kept.{IsKept};
+    ghost use Rattle.mv_pool.specs.Kept.{IsKept, HasRoom};
 
     ghost Value = { Contents T };
 
     ghost view = { λ p. record { places = p.places.items; cap = p.cap } };
 
-    ghost invariant = { λ p. IsKept T.eq p.numbers p.places.items (vec_capacity p.places) p.taken p.cap };
+    ghost invariant = { λ p. HasRoom (IsKept T.eq p.numbers p.places.items (vec_capacity p.places) p.taken p.cap) p.cap (vec_capacity p.marks) (vec_capacity p.queue) };
 }
 
 impl<T: Copy + Eq + Hash> Pool<T> {
@@ -54,6 +62,8 @@ impl<T: Copy + Eq + Hash> Pool<T> {
             places: Vec::with_capacity(alloc, cap as usize)?,
             taken: 0,
             cap,
+            marks: Vec::with_capacity(alloc, cap as usize)?,
+            queue: Vec::with_capacity(alloc, cap as usize)?,
         })
     }
 
@@ -140,6 +150,33 @@ impl<T: Copy + Eq + Hash> Pool<T> {
     {
         self.places.truncate(mark.0 as usize);
         self.taken = self.taken.min(mark.0);
+        number_all(&mut self.numbers, self.places.as_slice());
+    }
+
+    /// Frees each place that isn't reached from the roots by links. The time grows with the places.
+    pub fn reclaim(&mut self, roots: &[Id])
+    where
+        T: Linked,
+        requires roots { All (λ (id : Id). is_some (item_at self.old.places id.0) ≡ true) roots.now }
+        requires links { LinksAreHeld T.link_of self.old.places }
+        ensures places { IsReclaimed T.link_of self.old.places roots.now self.new.places }
+        ensures cap { self.new.cap ≡ self.old.cap }
+    {
+        begin(&mut self.marks, &mut self.queue, self.places.len());
+        reach_roots(
+            self.places.as_slice(),
+            roots,
+            &mut self.marks,
+            &mut self.queue,
+        );
+        follow_all(
+            self.places.as_slice(),
+            roots,
+            &mut self.marks,
+            &mut self.queue,
+        );
+        free_unmarked(&mut self.places, self.marks.as_slice());
+        self.taken = 0;
         number_all(&mut self.numbers, self.places.as_slice());
     }
 

@@ -1,5 +1,5 @@
 //! The pool's worked rows.
-use crate::{Full, Id, Mark, Pool};
+use crate::{Full, Id, Linked, Mark, Pool};
 use std::alloc::Global;
 use std::test::Fail;
 
@@ -33,5 +33,42 @@ fn room_for_three(rt: HostRuntime) -> Result<(), Fail> {
     assert_eq!(rt; pool.put(7), Ok(Id(1)));
     assert_eq!(rt; pool.put(5), Ok(Id(0)));
     assert_eq!(rt; pool.held(), 2);
+    Ok(())
+}
+
+/// A letter, with a link to another or none.
+#[derive(Clone, Copy, Debug, PartialEq, Eq, Hash)]
+struct Letter {
+    letter: u8,
+    to: Option<u32>,
+}
+
+impl Linked for Letter {
+    ghost use Rattle.std.specs.Prelude.{None, option_map};
+
+    ghost link_of = { λ item k. option_map (λ n. record { 0 = n }) item.to };
+
+    fn link(&self, _k: u32) -> Option<Id> {
+        self.to.map(Id)
+    }
+}
+
+fn make_letter(letter: u8, to: Option<u32>) -> Letter {
+    Letter { letter, to }
+}
+
+#[test]
+fn places_0_to_2(rt: HostRuntime) -> Result<(), Fail> {
+    let mut pool: Pool<Letter> = Pool::with_room(rt.alloc(), 3)?;
+    assert_eq!(rt; pool.put(make_letter(b'A', None)), Ok(Id(0)));
+    assert_eq!(rt; pool.put(make_letter(b'B', None)), Ok(Id(1)));
+    assert_eq!(rt; pool.put(make_letter(b'C', Some(0))), Ok(Id(2)));
+    pool.reclaim(&[Id(2)]);
+    assert_eq!(rt; pool.held(), 2);
+    assert_eq!(rt; pool.len(), 3);
+    assert_eq!(rt; pool.put(make_letter(b'D', None)), Ok(Id(1)));
+    assert_eq!(rt; pool.put(make_letter(b'E', None)), Err(Full));
+    assert_eq!(rt; pool.put(make_letter(b'B', None)), Err(Full));
+    assert_eq!(rt; pool.get(Id(2)).letter, b'C');
     Ok(())
 }
