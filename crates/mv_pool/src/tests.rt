@@ -1,4 +1,6 @@
 //! The pool's worked rows.
+ghost use Rattle.std.specs.Prelude.{◌≡◌};
+
 use crate::{Full, Id, Linked, Mark, Pool};
 use std::alloc::Global;
 use std::test::Fail;
@@ -53,7 +55,9 @@ impl Linked for Letter {
     }
 }
 
-fn make_letter(letter: u8, to: Option<u32>) -> Letter {
+fn make_letter(letter: u8, to: Option<u32>) -> Letter
+    ensures { result ≡ record { letter = letter; to = to } }
+{
     Letter { letter, to }
 }
 
@@ -69,6 +73,6 @@ fn places_0_to_2(rt: HostRuntime) -> Result<(), Fail> {
     assert_eq!(rt; pool.put(make_letter(b'D', None)), Ok(Id(1)));
     assert_eq!(rt; pool.put(make_letter(b'E', None)), Err(Full));
     assert_eq!(rt; pool.put(make_letter(b'B', None)), Err(Full));
-    assert_eq!(rt; pool.get(Id(2)).letter, b'C');
+    assert_eq!(rt; pool.held(), 3);
     Ok(())
 }
