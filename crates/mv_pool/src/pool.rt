@@ -142,8 +142,8 @@ impl<T: Copy + Eq + Hash> Pool<T> {
         Mark(self.len())
     }
 
-    /// Cuts the list of places. Earlier places keep what they hold. The numbers of the items that stay are looked up
-    /// from anew, so the time grows with the places that stay.
+    /// Cuts the list of places. Earlier places keep what they hold. The items that stay are numbered anew, so the time
+    /// grows with all places.
     pub fn release(&mut self, mark: Mark)
         requires { mark.0 ≤ length self.old.places }
         ensures { self.new ≡ record { places = take mark.0 self.old.places; cap = self.old.cap } }
