@@ -1,4 +1,4 @@
-use Rattle.std.proofs.Common.{◌≡◌, ◌∙◌, ◌<◌, ℕ, zero, suc, true, List, [], ◌∷◌, Option, None, Some, is_some, sym, ap, refl, arith, rules}
+use Rattle.std.proofs.Common.{◌≡◌, ◌∙◌, ℕ, zero, suc, true, [], ◌∷◌, Option, None, Some, is_some, sym, ap, refl, rules}
 use Rattle.std.proofs.lemmas.Option.{same_Some, none-some}
 use Rattle.mv_pool.specs.declared.pool.Id.{Id}
 use Rattle.mv_pool.specs.Places.{item_at}
