@@ -198,22 +198,6 @@ module _ {T : Type 0} (link : T → ℕ → Option Id) (ps : List (Option T)) (r
             let alike : other ≡ item = same_Some other item (sym found ∙ there) in
             next k id low (ap (λ x. link x k) (sym alike) ∙ is)
 
-  -- a place without an item has no links
-  pub walking_none : (m : List Bool) (q : List ℕ) (at : ℕ) → IsWalking link ps roots m q at → item_at ps (get_or q at 0) ≡ None → IsWalking link ps roots m q (at + 1)
-  walking_none m q at w none = record {
-    walk = w.walk;
-    size = w.size;
-    held = w.held;
-    sound = w.sound;
-    followed = λ j k item id less here low is. elim (cases_lt j at) [
-      | inl before ↦ w.followed j k item id before here low is
-      | inr last ↦ absurd (by j item (omega arith) here)
-    ];
-  }
-    where
-      by : (j : ℕ) (item : T) → j ≡ at → item_at ps (get_or q j 0) ≡ Some item → ⊥
-      by j item same here = let found : item_at ps (get_or q at 0) ≡ Some item = rw same at here in none-some item (sym none ∙ found)
-
   -- the marks are closed, once all links are followed
   closed_marks : (m : List Bool) (q : List ℕ) → IsWalking link ps roots m q (length q) → IsClosed link ps (mark m)
   closed_marks m q w = record { each = λ n k item id marked there low is. by n k item id (w.walk.queued n marked) there low is }
