@@ -1,4 +1,4 @@
-//! The pool's worked rows.
+//! Puts, releases and reclaims in turn, and what each answers.
 ghost use Rattle.std.specs.Prelude.{◌≡◌};
 
 use crate::{Full, Id, Linked, Mark, Pool};
