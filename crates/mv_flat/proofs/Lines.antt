@@ -21,9 +21,9 @@ use Rattle.mv_net.specs.declared.parts.Kind.TheVariants.{Reset}
 use Rattle.mv_net.specs.declared.parts.FlatNet.{FlatNet}
 use Rattle.mv_net.specs.Nets.{slot, values_in}
 use Rattle.mv_net.specs.Formed.{IsReadable, IsOutput, IsLiteral, AllLiterals, AllLines, AllCubes, IsLineAmong, LinesDiffer, IsCover}
-use Rattle.mv_parse.specs.declared.design.Row.{Row}
+use Rattle.mv_plain.specs.declared.design.Row.{Row}
 use Rattle.mv_flat.specs.declared.flat.table.Column.{Column}
-use Rattle.mv_parse.specs.Designs.{is_entry, AllRows}
+use Rattle.mv_plain.specs.Designs.{is_entry, AllRows}
 use Rattle.mv_flat.specs.Tables.{placed, IsOrder, set_at, cube_of, line_of, lines_of, IsTableCover}
 use Rattle.mv_flat.proofs.Orders.{places_fit, cube_fits, entry_at, entry_some}
 

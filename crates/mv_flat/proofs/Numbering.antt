@@ -9,9 +9,9 @@ use Rattle.mv_base.specs.Names.{same_word, among, place_of, names_differ, AreApa
 use Rattle.mv_base.specs.declared.limits.TheConstants.{MAX_NETS}
 use Rattle.mv_base.proofs.NameLemmas.{same_word_refl, is_some-place_of, IsPlace-from_among, among-append, place_of-at, same_word_sym}
 use Rattle.mv_net.specs.Formed.{stands_in, all_differ}
-use Rattle.mv_parse.specs.declared.design.FileTable.{FileTable}
-use Rattle.mv_parse.specs.declared.design.Design.{Design}
-use Rattle.mv_parse.specs.Designs.{drivers, output_of, all_driven}
+use Rattle.mv_plain.specs.declared.design.FileTable.{FileTable}
+use Rattle.mv_plain.specs.declared.design.Design.{Design}
+use Rattle.mv_plain.specs.Designs.{drivers, output_of, all_driven}
 use Rattle.mv_flat.specs.Numbers.{number_of, net_of, nets_of, all_new}
 
 -- the answer of a look-up is the number, where there is one

@@ -14,9 +14,9 @@ use Rattle.mv_base.specs.declared.number.NetId.{NetId}
 use Rattle.mv_cover.specs.Cubes.{nets_ascend, IsCube}
 use Rattle.mv_cover.specs.declared.cube.Lit.{Lit}
 use Rattle.mv_net.specs.Formed.{stands_in, all_differ}
-use Rattle.mv_parse.specs.Designs.{is_entry, IsRow, AllRows}
+use Rattle.mv_plain.specs.Designs.{is_entry, IsRow, AllRows}
 use Rattle.mv_flat.specs.Tables.{placed, columns_ascend, IsOrder, set_at, cube_of}
-use Rattle.mv_parse.specs.declared.design.Row.{Row}
+use Rattle.mv_plain.specs.declared.design.Row.{Row}
 use Rattle.mv_flat.specs.declared.flat.table.Column.{Column}
 
 -- ---- columns with their places

@@ -9,9 +9,9 @@ use Rattle.mv_base.specs.Names.{among}
 use Rattle.mv_base.specs.declared.number.NetId.{NetId}
 use Rattle.mv_net.specs.declared.parts.FlatNet.{FlatNet}
 use Rattle.mv_net.specs.Formed.{all_differ}
-use Rattle.mv_parse.specs.declared.design.FileTable.{FileTable}
-use Rattle.mv_parse.specs.declared.design.Design.{Design}
-use Rattle.mv_parse.specs.Designs.{drivers, output_of, all_driven, tables_driven, AllRows, IsTable, AllTables, IsProper}
+use Rattle.mv_plain.specs.declared.design.FileTable.{FileTable}
+use Rattle.mv_plain.specs.declared.design.Design.{Design}
+use Rattle.mv_plain.specs.Designs.{drivers, output_of, all_driven, tables_driven, AllRows, IsTable, AllTables, IsProper}
 use Rattle.mv_net.specs.Ranks.{AllBelow}
 use Rattle.mv_flat.specs.Numbers.{net_of, nets_of, no_columns, columns_in, columns_by_net}
 use Rattle.mv_flat.specs.Tables.{IsTableNet, AreTables, AreNets, input_net}

@@ -16,10 +16,10 @@ use Rattle.mv_cover.specs.declared.cube.Lit.{Lit}
 use Rattle.mv_cover.specs.declared.line.Line.{Line}
 use Rattle.mv_cover.specs.declared.cover.Cover.{Cover}
 use Rattle.mv_cover.proofs.Equal.{line_eq-same}
-use Rattle.mv_parse.specs.declared.design.Row.{Row}
+use Rattle.mv_plain.specs.declared.design.Row.{Row}
 use Rattle.mv_flat.specs.declared.flat.table.Column.{Column}
-use Rattle.mv_parse.specs.Designs.{IsRow, AllRows}
-use Rattle.mv_parse.specs.Relation.{row_matches, rows_allow}
+use Rattle.mv_plain.specs.Designs.{IsRow, AllRows}
+use Rattle.mv_plain.specs.Relation.{row_matches, rows_allow}
 use Rattle.mv_flat.specs.Tables.{placed, IsOrder, set_at, cube_of, line_of, IsTableCover}
 
 -- ---- every test of a list is the same of a permutation

@@ -14,10 +14,10 @@ use Rattle.mv_net.specs.declared.parts.NetParts.{NetParts}
 use Rattle.mv_net.specs.Nets.{slot, name_in, spelled_values, spelled_in, port_of, latch_port_of, interface_of}
 use Rattle.mv_net.specs.Allowed.{net_allows, Agrees, resets_give, Allows, of_net}
 use Rattle.mv_cover.specs.Covers.{allowed}
-use Rattle.mv_parse.specs.declared.design.FileTable.{FileTable}
-use Rattle.mv_parse.specs.declared.design.Design.{Design}
-use Rattle.mv_parse.specs.Designs.{drivers, all_driven, tables_driven, IsProper}
-use Rattle.mv_parse.specs.Relation.{rows_allow, tables_allow, AllowsDesign, binary_port, of_design}
+use Rattle.mv_plain.specs.declared.design.FileTable.{FileTable}
+use Rattle.mv_plain.specs.declared.design.Design.{Design}
+use Rattle.mv_plain.specs.Designs.{drivers, all_driven, tables_driven, IsProper}
+use Rattle.mv_plain.specs.Relation.{rows_allow, tables_allow, AllowsDesign, binary_port, of_design}
 use Rattle.mv_flat.specs.Numbers.{number_of, net_of, nets_of}
 use Rattle.mv_flat.specs.Tables.{AreNets, IsBuilt}
 use Rattle.mv_flat.proofs.Numbering.{number_at, name_at, IsNumber_driven, IsDistinct_from_differ}

@@ -17,9 +17,9 @@ use Rattle.mv_net.specs.declared.parts.NetParts.{NetParts}
 use Rattle.mv_net.specs.Nets.{slot, net_reads}
 use Rattle.mv_net.specs.Formed.{stands_in, all_differ, IsKind, IsReadable, IsCover, IsNamed, IsNet, AllLatches, latch_outputs, latch_resets, Acyclic, AreKind, WellFormed}
 use Rattle.mv_net.specs.Binary.{IsBinaryNet, IsBinary}
-use Rattle.mv_parse.specs.declared.design.FileTable.{FileTable}
-use Rattle.mv_parse.specs.declared.design.Design.{Design}
-use Rattle.mv_parse.specs.Designs.{drivers, output_of, all_driven, Falls, AllFall, IsSound}
+use Rattle.mv_plain.specs.declared.design.FileTable.{FileTable}
+use Rattle.mv_plain.specs.declared.design.Design.{Design}
+use Rattle.mv_plain.specs.Designs.{drivers, output_of, all_driven, Falls, AllFall, IsSound}
 use Rattle.mv_flat.specs.Flat.{IsFlat}
 use Rattle.mv_net.specs.Index.{row}
 use Rattle.mv_net.specs.Ranks.{IsRanked}

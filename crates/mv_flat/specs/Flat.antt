@@ -6,9 +6,9 @@ use Rattle.mv_net.specs.declared.parts.NetParts.{NetParts}
 use Rattle.mv_net.specs.Allowed.{of_net}
 use Rattle.mv_net.specs.Formed.{WellFormed}
 use Rattle.mv_net.specs.Binary.{IsBinary}
-use Rattle.mv_parse.specs.declared.design.Design.{Design}
-use Rattle.mv_parse.specs.Designs.{IsSound, drivers}
-use Rattle.mv_parse.specs.Relation.{of_design}
+use Rattle.mv_plain.specs.declared.design.Design.{Design}
+use Rattle.mv_plain.specs.Designs.{IsSound, drivers}
+use Rattle.mv_plain.specs.Relation.{of_design}
 use Rattle.mv_flat.specs.Tables.{IsBuilt}
 
 -- a sound design with few enough nets, and its network: a net for each input and each table of the design, well formed,

@@ -2,8 +2,8 @@
 use Rattle.std.specs.Prelude.{◌≡◌, ◌⊎◌, ℕ, Bool, true, false, not, ◌&&◌, unwrap_or, Result, MatchResult, List, [], ◌∷◌, ◌++◌, map}
 use Rattle.mv_base.specs.Names.{among, place_of}
 use Rattle.mv_base.specs.declared.number.NetId.{NetId}
-use Rattle.mv_parse.specs.declared.design.FileTable.{FileTable}
-use Rattle.mv_parse.specs.declared.design.Design.{Design}
+use Rattle.mv_plain.specs.declared.design.FileTable.{FileTable}
+use Rattle.mv_plain.specs.declared.design.Design.{Design}
 use Rattle.mv_flat.specs.declared.flat.stop.FlatStop.{FlatStop}
 use Rattle.mv_flat.specs.declared.flat.stop.FlatStop.TheVariants.{Memory}
 

@@ -12,11 +12,11 @@ use Rattle.mv_cover.specs.declared.cover.Cover.{Cover}
 use Rattle.mv_net.specs.declared.parts.Kind.TheVariants.{Input, Table}
 use Rattle.mv_net.specs.declared.parts.FlatNet.{FlatNet}
 use Rattle.mv_net.specs.declared.parts.NetParts.{NetParts}
-use Rattle.mv_parse.specs.declared.design.Row.{Row}
-use Rattle.mv_parse.specs.declared.design.FileTable.{FileTable}
-use Rattle.mv_parse.specs.declared.design.Design.{Design}
+use Rattle.mv_plain.specs.declared.design.Row.{Row}
+use Rattle.mv_plain.specs.declared.design.FileTable.{FileTable}
+use Rattle.mv_plain.specs.declared.design.Design.{Design}
 use Rattle.mv_flat.specs.declared.flat.table.Column.{Column}
-use Rattle.mv_parse.specs.Designs.{drivers}
+use Rattle.mv_plain.specs.Designs.{drivers}
 use Rattle.mv_flat.specs.Numbers.{nets_of}
 
 -- columns with their places in the rows, from place k on

@@ -1,6 +1,6 @@
 ghost use Rattle.std.specs.Prelude.{◌≡◌, ◌≤◌, length, IfOk, Err};
 ghost use Rattle.mv_base.specs.declared.limits.TheConstants.{MAX_NETS};
-ghost use Rattle.mv_parse.specs.Designs.{IsProper, IsSound, drivers};
+ghost use Rattle.mv_plain.specs.Designs.{IsProper, IsSound, drivers};
 ghost use Rattle.mv_flat.specs.Flat.{IsFlat};
 
 mod nets;
@@ -9,7 +9,7 @@ mod stop;
 mod table;
 
 use mv_net::{NetParts, sorted};
-use mv_parse::Design;
+use mv_plain::Design;
 use std::alloc::Global;
 pub use stop::FlatStop;
 

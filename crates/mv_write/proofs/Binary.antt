@@ -11,7 +11,7 @@ use Rattle.mv_net.specs.declared.parts.FlatNet.{FlatNet}
 use Rattle.mv_net.specs.declared.parts.NetParts.{NetParts}
 use Rattle.mv_net.specs.Nets.{slot, values_in, table_in}
 use Rattle.mv_net.specs.Formed.{IsOutput, AllLiterals, AllLines, WellFormed}
-use Rattle.mv_parse.specs.Grammar.{entry_word}
+use Rattle.mv_plain.specs.Grammar.{entry_word}
 use Rattle.mv_net.specs.Binary.{IsBinary}
 use Rattle.mv_write.specs.Walk.{first_set, behind, AllSets, IsBinaryLine, AllBinaryLines}
 

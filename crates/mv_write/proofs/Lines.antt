@@ -16,7 +16,7 @@ use Rattle.mv_net.specs.declared.parts.NetParts.{NetParts}
 use Rattle.mv_net.specs.Nets.{slot, name_in, table_in}
 use Rattle.mv_net.specs.Index.{is_held}
 use Rattle.mv_write.specs.Text.{fanins_of, set_in, line_words, cover_words, table_words, net_words, names_of, text_of}
-use Rattle.mv_parse.specs.Grammar.{entry_word}
+use Rattle.mv_plain.specs.Grammar.{entry_word}
 use Rattle.mv_write.specs.Walk.{first_set, behind, walked, entries_text, numbers, AreFaninsOf}
 use Rattle.mv_write.proofs.Walks.{walked-is}
 

@@ -9,7 +9,7 @@ use Rattle.mv_cover.specs.Covers.{cube_reads}
 use Rattle.mv_net.specs.declared.parts.FlatNet.{FlatNet}
 use Rattle.mv_net.specs.Formed.{IsOutput}
 use Rattle.mv_net.specs.Index.{has_id, ids_ascend, is_held}
-use Rattle.mv_parse.specs.Grammar.{entry_word}
+use Rattle.mv_plain.specs.Grammar.{entry_word}
 
 -- the set of a net that is no higher than the literals' nets: that of the first literal, if it is on this net
 abbrev pub first_set : List Lit → ℕ → ℕ

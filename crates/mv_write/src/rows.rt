@@ -5,7 +5,7 @@ ghost use Rattle.mv_cover.specs.Covers.{lines_read};
 ghost use Rattle.mv_net.specs.Formed.{IsOutput};
 ghost use Rattle.mv_net.specs.Index.{IsAscending};
 ghost use Rattle.mv_write.specs.Text.{line_words};
-ghost use Rattle.mv_parse.specs.Grammar.{entry_word};
+ghost use Rattle.mv_plain.specs.Grammar.{entry_word};
 ghost use Rattle.mv_base.specs.Appends.{Appends};
 ghost use Rattle.mv_write.specs.Walk.{first_set, behind, walked, entries_text, numbers, AreFaninsOf, AllSets, IsBinaryLine, AllBinaryLines};
 

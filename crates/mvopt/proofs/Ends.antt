@@ -7,7 +7,7 @@ use Rattle.mv_base.proofs.Meanings.{SameMeaning-then, Refines-from_same}
 use Rattle.mv_base.proofs.OutsideLemmas.{Rose-earlier}
 use Rattle.mv_net.specs.declared.parts.NetParts.{NetParts}
 use Rattle.mv_net.specs.Allowed.{of_net}
-use Rattle.mv_parse.specs.Relation.{of_design}
+use Rattle.mv_plain.specs.Relation.{of_design}
 use Rattle.mv_sweep.specs.Entries.{print}
 use Rattle.mvopt.specs.declared.script.Command.{Command}
 use Rattle.mvopt.specs.declared.stop.NetFault.{NetFault}

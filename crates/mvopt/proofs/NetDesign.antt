@@ -9,10 +9,10 @@ use Rattle.mv_net.specs.declared.parts.FlatNet.{FlatNet}
 use Rattle.mv_net.specs.declared.parts.NetParts.{NetParts}
 use Rattle.mv_net.specs.Nets.{slot, name_in}
 use Rattle.mv_write.specs.Text.{fanins_of, set_in, line_words, table_words, net_words, names_of, net_lines}
-use Rattle.mv_parse.specs.declared.design.Row.{Row}
-use Rattle.mv_parse.specs.declared.design.FileTable.{FileTable}
-use Rattle.mv_parse.specs.declared.design.Design.{Design}
-use Rattle.mv_parse.specs.Grammar.{entry_word, row_line, table_lines, design_lines}
+use Rattle.mv_plain.specs.declared.design.Row.{Row}
+use Rattle.mv_plain.specs.declared.design.FileTable.{FileTable}
+use Rattle.mv_plain.specs.declared.design.Design.{Design}
+use Rattle.mv_plain.specs.Grammar.{entry_word, row_line, table_lines, design_lines}
 
 -- a line over the fanins, as a row
 abbrev pub row_for : List ℕ → Line → Row

@@ -5,11 +5,11 @@ use Rattle.mv_lex.specs.declared.lines.LexLine.{LexLine}
 use Rattle.mv_lex.specs.Lines.{lines_of, first_fault, end_fault, lex_fault}
 use Rattle.mv_lex.proofs.Facts.{option_or-none, is_clean-from_first_fault}
 use Rattle.mv_net.specs.declared.parts.NetParts.{NetParts}
-use Rattle.mv_parse.specs.declared.design.Design.{Design}
-use Rattle.mv_parse.specs.Designs.{IsSound, drivers}
+use Rattle.mv_plain.specs.declared.design.Design.{Design}
+use Rattle.mv_plain.specs.Designs.{IsSound, drivers}
 use Rattle.mv_flat.specs.Flat.{IsFlat}
-use Rattle.mv_parse.specs.Grammar.{Says, IsRead}
-use Rattle.mv_parse.specs.Reading.{words_of}
+use Rattle.mv_plain.specs.Grammar.{Says, IsRead}
+use Rattle.mv_plain.specs.Reading.{words_of}
 use Rattle.mvopt.specs.Run.{HasForm, ReadsAs}
 use Rattle.mvopt.specs.Made.{IsNetOf}
 

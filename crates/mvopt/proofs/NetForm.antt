@@ -15,7 +15,7 @@ use Rattle.mv_net.specs.Nets.{slot, name_in, table_in}
 use Rattle.mv_net.specs.Formed.{WellFormed, IsKind, IsReadable, stands_in, has_table, latch_outputs}
 use Rattle.mv_net.specs.Binary.{IsBinary}
 use Rattle.mv_net.proofs.Named.{held_below}
-use Rattle.mv_parse.specs.Designs.{drivers, output_of}
+use Rattle.mv_plain.specs.Designs.{drivers, output_of}
 use Rattle.mvopt.proofs.NetDesign.{net_design, net_tables, tables_for, all_tables}
 use Rattle.mvopt.proofs.NetNumbers.{number_in, numbers_differ, numbers_of, number_in-stands, numbers_differ-all, names_at, names_at-numbers, IsHeldAt, AllHeld, OneName, among-number, names-differ, range-differs, range-passes, in-range, passes-at, number_in-append, differ-append, names_at-append, AllHeld-append, held_from}
 

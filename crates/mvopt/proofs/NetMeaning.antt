@@ -19,9 +19,9 @@ use Rattle.mv_net.specs.Formed.{WellFormed, IsReadable, stands_in, latch_resets}
 use Rattle.mv_net.specs.Allowed.{table_allows, net_allows, Agrees, resets_give, Allows, of_net}
 use Rattle.mv_net.specs.Binary.{IsBinary}
 use Rattle.mv_net.proofs.Known.{readable_below, reads_readable}
-use Rattle.mv_parse.specs.declared.design.FileTable.{FileTable}
-use Rattle.mv_parse.specs.Designs.{drivers}
-use Rattle.mv_parse.specs.Relation.{rows_allow, tables_allow, AllowsDesign, binary_port, of_design}
+use Rattle.mv_plain.specs.declared.design.FileTable.{FileTable}
+use Rattle.mv_plain.specs.Designs.{drivers}
+use Rattle.mv_plain.specs.Relation.{rows_allow, tables_allow, AllowsDesign, binary_port, of_design}
 use Rattle.mv_write.specs.Text.{fanins_of, names_of}
 use Rattle.mvopt.proofs.NetDesign.{net_design, net_tables, tables_for, row_for, all_tables}
 use Rattle.mvopt.proofs.NetNumbers.{number_in, numbers_of, names_at, IsHeldAt, AllHeld, number_of, number_of-held, in-range}

@@ -18,8 +18,8 @@ use Rattle.mv_net.specs.Nets.{slot, name_in, values_in, net_reads}
 use Rattle.mv_net.specs.Formed.{WellFormed, IsReadable, IsOutput, AllLiterals, AllLines}
 use Rattle.mv_net.specs.Binary.{IsBinary}
 use Rattle.mv_net.proofs.Known.{reads_readable}
-use Rattle.mv_parse.specs.declared.design.FileTable.{FileTable}
-use Rattle.mv_parse.specs.Designs.{is_entry, AllRows, IsTable, AllTables, IsProper, IsSound, drivers, all_driven, tables_driven, Falls, AllFall}
+use Rattle.mv_plain.specs.declared.design.FileTable.{FileTable}
+use Rattle.mv_plain.specs.Designs.{is_entry, AllRows, IsTable, AllTables, IsProper, IsSound, drivers, all_driven, tables_driven, Falls, AllFall}
 use Rattle.mv_write.specs.Text.{fanins_of, set_in}
 use Rattle.mvopt.proofs.NetDesign.{net_design, net_tables, tables_for, table_for, row_for, all_tables}
 use Rattle.mvopt.proofs.NetNumbers.{number_in, numbers_of, number_in-stands, numbers_differ-all, names_at, names_at-numbers, IsHeldAt, AllHeld, names-differ, range-differs, range-passes, passes-at, held_from, number_of, number_of-held}

@@ -11,7 +11,7 @@ use Rattle.mv_cover.specs.declared.cover.Cover.{Cover}
 use Rattle.mv_cover.specs.Cubes.{holds, matches, nets_ascend}
 use Rattle.mv_cover.specs.Covers.{some_matches, some_gives, default_gives, allowed, cube_reads, lines_read}
 use Rattle.mv_net.specs.Formed.{AllCubes}
-use Rattle.mv_parse.specs.Relation.{row_matches, rows_allow}
+use Rattle.mv_plain.specs.Relation.{row_matches, rows_allow}
 use Rattle.mv_write.specs.Text.{set_in}
 use Rattle.mvopt.proofs.NetDesign.{row_for}
 use Rattle.mvopt.proofs.NetNumbers.{number_in, passes-at}

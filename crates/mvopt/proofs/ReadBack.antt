@@ -8,8 +8,8 @@ use Rattle.mv_net.specs.declared.parts.NetParts.{NetParts}
 use Rattle.mv_net.specs.Allowed.{of_net}
 use Rattle.mv_net.specs.Formed.{WellFormed}
 use Rattle.mv_net.specs.Binary.{IsBinary}
-use Rattle.mv_parse.specs.declared.design.Design.{Design}
-use Rattle.mv_parse.specs.Relation.{of_design}
+use Rattle.mv_plain.specs.declared.design.Design.{Design}
+use Rattle.mv_plain.specs.Relation.{of_design}
 use Rattle.mv_write.specs.Text.{net_lines, text_of}
 use Rattle.mvopt.specs.Run.{ReadsAs}
 use Rattle.mvopt.proofs.NetDesign.{net_design, net_lines-design}

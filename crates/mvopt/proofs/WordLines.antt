@@ -8,11 +8,11 @@ use Rattle.mv_base.specs.Names.{is_visible, is_bracketed, is_word, is_net_name, 
 use Rattle.mv_base.specs.Set.{one, full}
 use Rattle.mv_base.specs.declared.limits.TheConstants.{MAX_WORD_BYTES}
 use Rattle.mv_lex.specs.Text.{is_plain_word, is_word_line}
-use Rattle.mv_parse.specs.declared.design.Row.{Row}
-use Rattle.mv_parse.specs.declared.design.FileTable.{FileTable}
-use Rattle.mv_parse.specs.declared.design.Design.{Design}
-use Rattle.mv_parse.specs.Designs.{is_entry, IsRow, AllRows, IsTable, AllTables, IsProper}
-use Rattle.mv_parse.specs.Grammar.{entry_word, row_line, head_line, table_lines, design_lines}
+use Rattle.mv_plain.specs.declared.design.Row.{Row}
+use Rattle.mv_plain.specs.declared.design.FileTable.{FileTable}
+use Rattle.mv_plain.specs.declared.design.Design.{Design}
+use Rattle.mv_plain.specs.Designs.{is_entry, IsRow, AllRows, IsTable, AllTables, IsProper}
+use Rattle.mv_plain.specs.Grammar.{entry_word, row_line, head_line, table_lines, design_lines}
 
 -- ---- words
 

@@ -6,9 +6,9 @@ use Rattle.mv_flat.specs.Flat.{IsFlat}
 use Rattle.mv_lex.specs.declared.lines.LexLine.{LexLine}
 use Rattle.mv_lex.specs.Lines.{lines_of, lex_fault}
 use Rattle.mv_net.specs.declared.parts.NetParts.{NetParts}
-use Rattle.mv_parse.specs.declared.design.Design.{Design}
-use Rattle.mv_parse.specs.Grammar.{IsRead}
-use Rattle.mv_parse.specs.Reading.{words_of}
+use Rattle.mv_plain.specs.declared.design.Design.{Design}
+use Rattle.mv_plain.specs.Grammar.{IsRead}
+use Rattle.mv_plain.specs.Reading.{words_of}
 use Rattle.mvopt.specs.Words.{word_at}
 
 -- the network of the design that the lines say

@@ -3,8 +3,8 @@ use Rattle.std.specs.Prelude.{◌≡◌, ℕ, true, Option, Some, None, List, []
 use Rattle.mv_base.specs.Meaning.{Refines}
 use Rattle.mv_base.specs.Outside.{Held, file_named, Gained}
 use Rattle.mv_net.specs.declared.parts.NetParts.{NetParts}
-use Rattle.mv_parse.specs.declared.design.Design.{Design}
-use Rattle.mv_parse.specs.Relation.{of_design}
+use Rattle.mv_plain.specs.declared.design.Design.{Design}
+use Rattle.mv_plain.specs.Relation.{of_design}
 use Rattle.mv_flat.specs.Flat.{IsFlat}
 use Rattle.mv_write.specs.Text.{text_of}
 use Rattle.mvopt.specs.Run.{ReadsAs}

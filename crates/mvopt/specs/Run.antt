@@ -4,10 +4,10 @@ use Rattle.mv_base.specs.Outside.{Held, file_named, Gained, GainedPart, Rose}
 use Rattle.mv_base.specs.declared.limits.TheConstants.{MAX_NETWORK_BYTES, MAX_NETS}
 use Rattle.mv_lex.specs.declared.lines.LexLine.{LexLine}
 use Rattle.mv_lex.specs.Lines.{lines_of, is_clean, lex_fault}
-use Rattle.mv_parse.specs.declared.design.Design.{Design}
-use Rattle.mv_parse.specs.Designs.{IsSound, drivers}
-use Rattle.mv_parse.specs.Grammar.{Says, IsRead}
-use Rattle.mv_parse.specs.Reading.{words_of}
+use Rattle.mv_plain.specs.declared.design.Design.{Design}
+use Rattle.mv_plain.specs.Designs.{IsSound, drivers}
+use Rattle.mv_plain.specs.Grammar.{Says, IsRead}
+use Rattle.mv_plain.specs.Reading.{words_of}
 use Rattle.mvopt.specs.Scripts.{is_script}
 use Rattle.mvopt.specs.Words.{word_at}
 

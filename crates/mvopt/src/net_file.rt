@@ -5,7 +5,7 @@ ghost use Rattle.mvopt.specs.Made.{IsNetOf};
 use mv_flat::{FlatStop, flatten};
 use mv_lex::LexLine;
 use mv_net::Network;
-use mv_parse::{ParseStop, parse};
+use mv_plain::{ParseStop, parse};
 use std::alloc::Global;
 
 /// The network that the lines say. Lines that say none are refused as NotBuilt.

@@ -16,7 +16,7 @@ use crate::words::{is_accepted, word_at};
 use mv_base::{Files, Items, MAX_SCRIPT_BYTES};
 use mv_lex::LexFault;
 use mv_net::Network;
-use mv_parse::ParseStop;
+use mv_plain::ParseStop;
 use std::alloc::Global;
 
 /// Reads the script file, and gives its commands.

@@ -1,14 +1,14 @@
 ghost use Rattle.std.specs.Prelude.{◌≡◌, ◌+◌, ◌<◌, ◌≤◌, ◌∷◌, ◌++◌, [], true, length, map, slice_index_or, IfOk, OnOk, Some};
 ghost use Rattle.mv_base.specs.declared.limits.TheConstants.{MAX_NETS};
 ghost use Rattle.mv_net.specs.Formed.{all_differ};
-ghost use Rattle.mv_parse.specs.Designs.{AllRows, IsProper, drivers, tables_driven};
+ghost use Rattle.mv_plain.specs.Designs.{AllRows, IsProper, drivers, tables_driven};
 ghost use Rattle.mv_flat.specs.Numbers.{nets_of, columns_by_net};
 ghost use Rattle.mv_flat.specs.Tables.{IsTableNet, AreNets, IsBuilt, input_net, numbers_from};
 
 use crate::flat::table::cover;
 use mv_base::{Items, Memory, Name, NetId};
 use mv_net::{FlatNet, Kind, NetParts};
-use mv_parse::{Design, FileTable};
+use mv_plain::{Design, FileTable};
 use std::alloc::Global;
 
 /// The parts of a design's network: its nets by number, each a net of two values.

@@ -1,11 +1,11 @@
 ghost use Rattle.std.specs.Prelude.{◌≡◌, ◌+◌, ◌≤◌, ◌∷◌, ◌++◌, [], true, false, ◌&&◌, nat_le, length, map, IfOk, OnOk, IfSome, IfNone};
 ghost use Rattle.mv_base.specs.Names.{among, names_differ};
-ghost use Rattle.mv_parse.specs.Designs.{drivers, output_of, all_driven, tables_driven};
+ghost use Rattle.mv_plain.specs.Designs.{drivers, output_of, all_driven, tables_driven};
 ghost use Rattle.mv_flat.specs.Numbers.{net_of, nets_of, all_new, columns_in, columns_by_net, no_columns, Tells};
 
 use crate::flat::FlatStop;
 use mv_base::{Items, MAX_NETS, Memory, Name, NameSet, NetId};
-use mv_parse::{Design, FileTable};
+use mv_plain::{Design, FileTable};
 use std::alloc::Global;
 
 /// The driven nets in order, inputs first: the net at place k has the number k. Not sound where a net is driven

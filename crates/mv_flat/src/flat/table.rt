@@ -1,13 +1,13 @@
 ghost use Rattle.std.specs.Prelude.{◌≡◌, ◌<◌, true, length, IfOk, All};
 ghost use Rattle.mv_cover.specs.Cubes.{IsCube};
 ghost use Rattle.mv_net.specs.Formed.{all_differ};
-ghost use Rattle.mv_parse.specs.Designs.{AllRows};
+ghost use Rattle.mv_plain.specs.Designs.{AllRows};
 ghost use Rattle.mv_flat.specs.Tables.{placed, cube_of, line_of, IsOrder, IsTableCover};
 
 use indexmap::IndexSet;
 use mv_base::{Items, Memory, NetId, ValueSet};
 use mv_cover::{Cover, Cube, Line, Lit};
-use mv_parse::Row;
+use mv_plain::Row;
 use std::alloc::Global;
 
 /// A column of a table: its net, and the place of its sets in the rows.

@@ -6,8 +6,8 @@ use Rattle.mv_base.specs.Names.{names_differ}
 use Rattle.mv_base.specs.declared.limits.TheConstants.{MAX_NETS}
 use Rattle.mv_base.specs.declared.number.NetId.{NetId}
 use Rattle.mv_net.specs.Ranks.{IsRanked}
-use Rattle.mv_parse.specs.declared.design.Design.{Design}
-use Rattle.mv_parse.specs.Designs.{drivers, all_driven, tables_driven}
+use Rattle.mv_plain.specs.declared.design.Design.{Design}
+use Rattle.mv_plain.specs.Designs.{drivers, all_driven, tables_driven}
 use Rattle.mv_flat.specs.Numbers.{columns_by_net}
 use Rattle.mv_flat.proofs.Placement.{columns_below, length_columns}
 use Rattle.mv_flat.proofs.Same.{IsPlaced}

@@ -1,5 +1,5 @@
 use Rattle.std.proofs.Common.{◌+◌, drop, refl}
-use Rattle.mv_parse.specs.Grammar.{entry_word}
+use Rattle.mv_plain.specs.Grammar.{entry_word}
 use Rattle.mv_write.specs.Walk.{walked, entries_text}
 use Rattle.mv_write.proofs.Binary.{first-output, behind-sets}
 use Rattle.mv_base.proofs.Gains.{next, stop, finish}

@@ -1,6 +1,6 @@
 use Rattle.std.proofs.Common.{◌≡◌, ◌∙◌, ◌++◌, false, nat_eq, IsTrue, decimal, sym, ap}
 use Rattle.mv_base.specs.Set.{has, full}
-use Rattle.mv_parse.specs.Grammar.{entry_word}
+use Rattle.mv_plain.specs.Grammar.{entry_word}
 use Rattle.mv_write.proofs.Binary.{entry-digit}
 use Rattle.mv_base.proofs.Gains.{Appends-same}
 use Rattle.mv_write.proofs.rows.put_entry.Goals as goal

@@ -1,5 +1,5 @@
 use Rattle.std.proofs.Common.{[], ◌∷◌, ◌++◌, refl}
-use Rattle.mv_parse.specs.Grammar.{entry_word}
+use Rattle.mv_plain.specs.Grammar.{entry_word}
 use Rattle.mv_base.proofs.Gains.{start, next, stop, last}
 use Rattle.mv_write.proofs.Lines.{row-text}
 use Rattle.mv_write.proofs.rows.put_row.Goals as goal

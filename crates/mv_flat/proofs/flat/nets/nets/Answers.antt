@@ -1,6 +1,6 @@
 use Rattle.std.proofs.Common.{subst, List, Some}
 use Rattle.mv_base.specs.declared.number.NetId.{NetId}
-use Rattle.mv_parse.specs.Designs.{drivers}
+use Rattle.mv_plain.specs.Designs.{drivers}
 use Rattle.mv_flat.specs.Tables.{IsTableNet}
 use Rattle.mv_flat.proofs.Placement.{table_at, columns_at, all_differ_at, rows_at, nets_more}
 use Rattle.mv_flat.proofs.flat.nets.nets.Goals as goal

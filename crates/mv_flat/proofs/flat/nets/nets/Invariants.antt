@@ -1,5 +1,5 @@
 use Rattle.std.proofs.Common.{take}
-use Rattle.mv_parse.specs.Designs.{drivers}
+use Rattle.mv_plain.specs.Designs.{drivers}
 use Rattle.mv_flat.specs.Tables.{AreNets}
 use Rattle.mv_flat.proofs.flat.nets.nets.Given as goal
 

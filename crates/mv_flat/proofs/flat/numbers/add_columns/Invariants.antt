@@ -1,5 +1,5 @@
 use Rattle.std.proofs.Common.{◌≡◌, ◌++◌, take, drop, map}
-use Rattle.mv_parse.specs.Designs.{tables_driven}
+use Rattle.mv_plain.specs.Designs.{tables_driven}
 use Rattle.mv_flat.specs.Numbers.{columns_in}
 use Rattle.mv_flat.proofs.flat.numbers.add_columns.Given as goal
 

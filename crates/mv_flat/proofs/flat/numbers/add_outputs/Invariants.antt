@@ -1,5 +1,5 @@
 use Rattle.std.proofs.Common.{◌≡◌, ◌++◌, take, drop, map}
-use Rattle.mv_parse.specs.Designs.{output_of}
+use Rattle.mv_plain.specs.Designs.{output_of}
 use Rattle.mv_flat.specs.Numbers.{all_new}
 use Rattle.mv_flat.proofs.flat.numbers.add_outputs.Given as goal
 

@@ -1,5 +1,5 @@
 use Rattle.std.proofs.Common.{◌≡◌, take, drop}
-use Rattle.mv_parse.specs.Designs.{all_driven}
+use Rattle.mv_plain.specs.Designs.{all_driven}
 use Rattle.mv_flat.specs.Numbers.{nets_of}
 use Rattle.mv_flat.proofs.flat.numbers.numbers.Given as goal
 
