@@ -2,7 +2,6 @@
 #![tactic(auto)]
 
 mod design;
-mod names;
 mod reader;
 #[cfg(test)]
 mod tests;

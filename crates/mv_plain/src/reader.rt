@@ -7,9 +7,9 @@ ghost use Rattle.mv_plain.specs.declared.design.Design.{Design};
 ghost use Rattle.mv_plain.specs.declared.reader.ParseStop.TheVariants.{Memory as short_of_memory};
 
 use crate::design::{Design, FileTable, Row};
-use crate::names::{is_model_name, is_net_name, is_text};
 use mv_base::{Items, MAX_COLUMNS, MAX_TABLE_LINES, Memory, Name, NameSet, Value, ValueSet};
 use mv_lex::LexLine;
+use mv_word::{is_model_name, is_net_name, is_text};
 use std::alloc::{AllocError, AllocFailed, Global};
 
 /// Why lines give no design: they don't say one of the accepted form, or memory is short.

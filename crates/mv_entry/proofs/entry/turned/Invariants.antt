@@ -1,6 +1,0 @@
-use Rattle.std.proofs.Common.{◌≡◌, Ok}
-use Rattle.mv_entry.specs.Entries.{opposites}
-use Rattle.mv_entry.proofs.entry.turned.Given as goal
-
-abbrev pub invariant-loop-turn : goal.invariant-loop-turn
-invariant-loop-turn l = opposites l.count l._turn (Ok l.fn.set) ≡ Ok l.left

@@ -1,0 +1,14 @@
+//! What a word of a network file says: whether it is a lawful name of a net, of a model or of a value, and, as an entry of
+//! a row or a default, which values of its net it means.
+#![tactic(auto)]
+
+mod entry;
+mod fault;
+mod list;
+mod names;
+#[cfg(test)]
+mod tests;
+
+pub use entry::word_set;
+pub use fault::EntryFault;
+pub use names::{begins_with, is_model_name, is_net_name, is_text, is_value_name};

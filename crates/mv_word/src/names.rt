@@ -1,0 +1,101 @@
+ghost use Rattle.std.specs.Prelude.{◌≡◌, ◌<◌, ◌&&◌, ◌==◌, ◌||◌, not, length, nat_le, codes};
+ghost use Rattle.std.specs.List.{list_all, list_any};
+ghost use Rattle.mv_base.specs.Names.{is_word, is_net_name, is_model_name, is_value_name, is_bracketed, is_visible, same_word, ends_with, begins_with};
+
+use mv_base::MAX_WORD_BYTES;
+
+/// Whether the word is this text.
+pub fn is_text(word: &[u8], text: &[u8]) -> bool
+    ensures { result ≡ same_word word.now text.now }
+{
+    word == text
+}
+
+/// Whether the word begins with a bracket behind any number of `!`.
+fn is_bracketed(word: &[u8]) -> bool
+    ensures { result ≡ is_bracketed word.now }
+{
+    for byte in word {
+        if *byte == b'(' || *byte == b'{' {
+            return true;
+        }
+        if *byte != b'!' {
+            return false;
+        }
+    }
+    false
+}
+
+fn ends_with(word: &[u8], byte: u8) -> bool
+    ensures { result ≡ ends_with byte word.now }
+{
+    0 < word.len() && word[word.len() - 1] == byte
+}
+
+/// Whether the word begins with the byte.
+pub fn begins_with(word: &[u8], byte: u8) -> bool
+    ensures { result ≡ begins_with byte word.now }
+{
+    0 < word.len() && word[0] == byte
+}
+
+/// Whether every byte can be seen and none begins a comment.
+fn is_visible(word: &[u8]) -> bool
+    ensures { result ≡ list_all (λ b. is_visible b && not (b == 35)) word.now }
+{
+    word.iter()
+        .all(|byte| 33 <= *byte && *byte <= 126 && *byte != b'#')
+}
+
+fn holds(word: &[u8], byte: u8) -> bool
+    ensures { result ≡ list_any (λ b. b == byte) word.now }
+{
+    word.iter().any(|other| *other == byte)
+}
+
+/// Whether the word is one that a file can hold: not empty, within the limit, of visible bytes, not bracketed.
+#[tactic(auto, unfolding(mv_base::specs::Names::is_word))]
+fn is_word(word: &[u8]) -> bool
+    ensures { result ≡ is_word word.now }
+{
+    0 < word.len() && word.len() as u64 <= MAX_WORD_BYTES && is_visible(word) && !is_bracketed(word)
+}
+
+/// Whether the word is a lawful name of a net.
+#[tactic(auto, unfolding(mv_base::specs::Names::is_net_name))]
+pub fn is_net_name(word: &[u8]) -> bool
+    ensures { result ≡ is_net_name word.now }
+{
+    is_word(word)
+        && !is_text(word, b"->")
+        && !begins_with(word, b'.')
+        && !holds(word, b',')
+        && !ends_with(word, b'\\')
+}
+
+/// Whether the word is a lawful name of a model, which besides has no `=`.
+#[tactic(auto, unfolding(mv_base::specs::Names::is_model_name))]
+pub fn is_model_name(word: &[u8]) -> bool
+    ensures { result ≡ is_model_name word.now }
+{
+    is_net_name(word) && !holds(word, b'=')
+}
+
+fn has_bracket(word: &[u8]) -> bool
+    ensures { result ≡ list_any (λ b. (b == 40) || (b == 41) || (b == 123) || (b == 125)) word.now }
+{
+    word.iter().any(|byte| *byte == b'(' || *byte == b')' || *byte == b'{' || *byte == b'}')
+}
+
+/// Whether the word is a lawful name of a value, which besides a net's name isn't `-`, doesn't begin with `!` or `=`, and
+/// has no bracket.
+#[tactic(auto, unfolding(mv_base::specs::Names::is_value_name))]
+pub fn is_value_name(word: &[u8]) -> bool
+    ensures { result ≡ is_value_name word.now }
+{
+    is_net_name(word)
+        && !is_text(word, b"-")
+        && !begins_with(word, b'!')
+        && !begins_with(word, b'=')
+        && !has_bracket(word)
+}
