@@ -1,0 +1,83 @@
+//! Equal lists of the parts of a design.
+ghost use Rattle.std.specs.Prelude.{◌≡◌, IfOk};
+
+use crate::design::{Bind, Decl, FileLatch, FileModel, Part};
+use crate::table::{FileTable, Row};
+use mv_base::{Items, Memory};
+
+/// An equal list of rows.
+pub fn copy_rows(rows: &Items<Row>) -> Result<Items<Row>, Memory>
+    ensures { IfOk result (λ c. c ≡ rows.now) }
+{
+    let mut copied = Items::new(rows.allocator());
+    for row in rows.as_slice() {
+        copied.push(row.copy()?)?;
+    }
+    Ok(copied)
+}
+
+/// An equal list of tables.
+pub fn copy_tables(tables: &Items<FileTable>) -> Result<Items<FileTable>, Memory>
+    ensures { IfOk result (λ c. c ≡ tables.now) }
+{
+    let mut copied = Items::new(tables.allocator());
+    for table in tables.as_slice() {
+        copied.push(table.copy()?)?;
+    }
+    Ok(copied)
+}
+
+/// An equal list of declarations.
+pub fn copy_decls(decls: &Items<Decl>) -> Result<Items<Decl>, Memory>
+    ensures { IfOk result (λ c. c ≡ decls.now) }
+{
+    let mut copied = Items::new(decls.allocator());
+    for decl in decls.as_slice() {
+        copied.push(decl.copy()?)?;
+    }
+    Ok(copied)
+}
+
+/// An equal list of latches.
+pub fn copy_latches(latches: &Items<FileLatch>) -> Result<Items<FileLatch>, Memory>
+    ensures { IfOk result (λ c. c ≡ latches.now) }
+{
+    let mut copied = Items::new(latches.allocator());
+    for latch in latches.as_slice() {
+        copied.push(latch.copy()?)?;
+    }
+    Ok(copied)
+}
+
+/// An equal list of bindings.
+pub fn copy_binds(binds: &Items<Bind>) -> Result<Items<Bind>, Memory>
+    ensures { IfOk result (λ c. c ≡ binds.now) }
+{
+    let mut copied = Items::new(binds.allocator());
+    for bind in binds.as_slice() {
+        copied.push(bind.copy()?)?;
+    }
+    Ok(copied)
+}
+
+/// An equal list of instances.
+pub fn copy_parts(parts: &Items<Part>) -> Result<Items<Part>, Memory>
+    ensures { IfOk result (λ c. c ≡ parts.now) }
+{
+    let mut copied = Items::new(parts.allocator());
+    for part in parts.as_slice() {
+        copied.push(part.copy()?)?;
+    }
+    Ok(copied)
+}
+
+/// An equal list of models.
+pub fn copy_models(models: &Items<FileModel>) -> Result<Items<FileModel>, Memory>
+    ensures { IfOk result (λ c. c ≡ models.now) }
+{
+    let mut copied = Items::new(models.allocator());
+    for model in models.as_slice() {
+        copied.push(model.copy()?)?;
+    }
+    Ok(copied)
+}

@@ -1,0 +1,11 @@
+//! Designs: what a network file says, model by model, as the description of BLIF-MV by Kukimoto has it.
+#![tactic(auto)]
+
+mod copies;
+mod design;
+mod table;
+#[cfg(test)]
+mod tests;
+
+pub use design::{Bind, Decl, Design, FileLatch, FileModel, Part};
+pub use table::{Entry, FileTable, Row};

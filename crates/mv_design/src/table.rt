@@ -1,0 +1,62 @@
+ghost use Rattle.std.specs.Prelude.{◌≡◌, IfOk};
+
+use crate::copies::copy_rows;
+use mv_base::{Items, Memory, Name, ValueSet};
+
+/// What a row or a default says of an output column.
+#[derive(Clone, Copy, Debug, PartialEq, Eq)]
+pub enum Entry {
+    /// One of these values.
+    Set(ValueSet),
+    /// The value at the position of the value of the input column at this place.
+    Same(u32),
+}
+
+/// A row of a table: the values of each input column, and an entry for each output column.
+#[derive(Drop)]
+pub struct Row {
+    pub ins: Items<ValueSet>,
+    pub outs: Items<Entry>,
+}
+
+/// A table as a file has it: the number of its first line, its input columns and its output columns in order, its rows,
+/// and what its default says of each output.
+#[derive(Drop)]
+pub struct FileTable {
+    pub line: u32,
+    pub inputs: Items<Name>,
+    pub outputs: Items<Name>,
+    pub rows: Items<Row>,
+    pub default: Option<Items<Entry>>,
+}
+
+impl Row {
+    /// An equal row.
+    pub fn copy(&self) -> Result<Row, Memory>
+        ensures { IfOk result (λ c. c ≡ self.now) }
+    {
+        Ok(Row {
+            ins: self.ins.copy()?,
+            outs: self.outs.copy()?,
+        })
+    }
+}
+
+impl FileTable {
+    /// An equal table.
+    pub fn copy(&self) -> Result<FileTable, Memory>
+        ensures { IfOk result (λ c. c ≡ self.now) }
+    {
+        let default = match &self.default {
+            Some(entries) => Some(entries.copy()?),
+            None => None,
+        };
+        Ok(FileTable {
+            line: self.line,
+            inputs: self.inputs.copy_names()?,
+            outputs: self.outputs.copy_names()?,
+            rows: copy_rows(&self.rows)?,
+            default,
+        })
+    }
+}

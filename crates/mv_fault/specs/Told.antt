@@ -1,0 +1,57 @@
+-- The line that tells a fault.
+use Rattle.std.specs.Prelude.{ℕ, List, [], ◌∷◌, ◌++◌, codes, decimal}
+use Rattle.mv_fault.specs.declared.fault.Which.{Which}
+use Rattle.mv_fault.specs.declared.fault.Which.TheVariants.{Values, Columns as TooManyColumns, TableLines, Models, Depth, Instances, Nets, NetName, FlatLines, FlatEntries}
+use Rattle.mv_fault.specs.declared.fault.ParseFault.{ParseFault}
+use Rattle.mv_fault.specs.declared.fault.ParseFault.TheVariants.{UnknownCommand, OutsideModel, NoEnd, Missing, Extra, BadCount, ValueNames, Redeclared, Columns, UnknownValue, BadEqual, DefaultTwice, ModelTwice, RootFault, Repeated, NoModel, Limit, BadName, NoTable, LatchValues, NotBuilt, Memory}
+
+-- the name of a limit
+abbrev pub which_name : Which → List ℕ
+which_name Values = codes "Values"
+which_name TooManyColumns = codes "Columns"
+which_name TableLines = codes "TableLines"
+which_name Models = codes "Models"
+which_name Depth = codes "Depth"
+which_name Instances = codes "Instances"
+which_name Nets = codes "Nets"
+which_name NetName = codes "NetName"
+which_name FlatLines = codes "FlatLines"
+which_name FlatEntries = codes "FlatEntries"
+
+-- what each line begins with: the number and the name of the fault, and the number of its line
+unfoldable pub head : List ℕ → ℕ → List ℕ
+head name line = (codes "# fault network " ++ name) ++ (codes " line " ++ decimal line)
+
+-- words up to the end of a line, each behind a blank
+abbrev pub tail : List (List ℕ) → List ℕ
+tail [] = 10 ∷ []
+tail (w ∷ ws) = (32 ∷ w) ++ tail ws
+
+-- a fault of this number and name, at this line, with these words
+unfoldable pub told : List ℕ → ℕ → List (List ℕ) → List ℕ
+told name line words = head name line ++ tail words
+
+-- the line of each fault. (Want of memory is none: no lines have it.)
+abbrev pub parse_line : ParseFault → List ℕ
+parse_line (UnknownCommand line word) = told (codes "5 UnknownCommand") line (word ∷ [])
+parse_line (OutsideModel line) = told (codes "6 OutsideModel") line []
+parse_line (NoEnd line) = told (codes "7 NoEnd") line []
+parse_line (Missing line word) = told (codes "8 Missing") line (word ∷ [])
+parse_line (Extra line word) = told (codes "9 Extra") line (word ∷ [])
+parse_line (BadCount line word) = told (codes "10 BadCount") line (word ∷ [])
+parse_line (ValueNames line wanted got) = told (codes "11 ValueNames") line (decimal wanted ∷ decimal got ∷ [])
+parse_line (Redeclared line name) = told (codes "12 Redeclared") line (name ∷ [])
+parse_line (Columns line wanted got) = told (codes "13 Columns") line (decimal wanted ∷ decimal got ∷ [])
+parse_line (UnknownValue line word) = told (codes "14 UnknownValue") line (word ∷ [])
+parse_line (BadEqual line name) = told (codes "15 BadEqual") line (name ∷ [])
+parse_line (DefaultTwice line) = told (codes "16 DefaultTwice") line []
+parse_line (ModelTwice line name) = told (codes "17 ModelTwice") line (name ∷ [])
+parse_line (RootFault line name) = told (codes "18 RootFault") line (name ∷ [])
+parse_line (Repeated line name) = told (codes "19 Repeated") line (name ∷ [])
+parse_line (NoModel line) = told (codes "20 NoModel") line []
+parse_line (Limit line which number) = told (codes "21 Limit") line (which_name which ∷ decimal number ∷ [])
+parse_line (BadName line name) = told (codes "36 BadName") line (name ∷ [])
+parse_line (NoTable line) = told (codes "37 NoTable") line []
+parse_line (LatchValues line input output) = told (codes "38 LatchValues") line (input ∷ output ∷ [])
+parse_line (NotBuilt line) = told (codes "39 NotBuilt") line []
+parse_line Memory = codes "# fault memory\n"
