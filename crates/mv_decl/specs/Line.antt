@@ -1,0 +1,152 @@
+-- The line that declares nets, `.mv NAMES COUNT VALUES`, after the description of BLIF-MV by Kukimoto: its faults in the
+-- order in which they are told, and what it declares.
+use Rattle.std.specs.Prelude.{ℕ, ◌+◌, ◌*◌, ◌-◌, ◌^◌, Bool, true, false, not, ◌&&◌, ◌==◌, nat_lt, nat_le, nat_eq, min, List, [], ◌∷◌, ◌++◌, length, map, drop, filter, codes, decimal, if◌then◌else◌}
+use Rattle.std.specs.List.{list_all, flat_map, slice_split, range_with_len}
+use Rattle.std.specs.Cmp.Lexicographic.{pointwise}
+use Rattle.mv_base.specs.Names.{same_word, among, is_net_name, is_value_name}
+use Rattle.mv_base.specs.declared.limits.TheConstants.{MAX_VALUES}
+use Rattle.mv_design.specs.declared.design.Decl.{Decl}
+use Rattle.mv_fault.specs.declared.fault.Which.TheVariants.{Values}
+use Rattle.mv_fault.specs.declared.fault.ParseFault.{ParseFault}
+use Rattle.mv_fault.specs.declared.fault.ParseFault.TheVariants.{Missing, BadCount, ValueNames, Redeclared, Repeated, Limit, BadName}
+use Rattle.mv_fault.specs.Tells.{when}
+use Rattle.mv_decl.specs.Nets.{nets_of, values_of}
+
+-- ---- commas: each is a word of its own
+
+abbrev pub is_comma : List ℕ → Bool
+is_comma w = same_word w (codes ",")
+
+-- what stands between two commas is a word, unless it is empty
+abbrev pub word_or_none : List ℕ → List (List ℕ)
+word_or_none [] = []
+word_or_none (b ∷ bs) = (b ∷ bs) ∷ []
+
+abbrev pub comma_and : List ℕ → List (List ℕ)
+comma_and w = codes "," ∷ word_or_none w
+
+-- a word cut at its commas: the words between them, with a comma before each but the first
+unfoldable pub pieces_of : List ℕ → List (List ℕ)
+pieces_of w = drop 1 (flat_map comma_and (slice_split (λ b. b == 44) w))
+
+-- all words of a line cut so
+unfoldable pub commas_apart : List (List ℕ) → List (List ℕ)
+commas_apart words = flat_map pieces_of words
+
+-- ---- the nets, up to the count. In front, and behind a comma, a name has to stand (`must`), whatever the word is; else a
+-- word of digits is the count
+
+abbrev pub is_digits : List ℕ → Bool
+is_digits w = list_all (λ b. nat_le 48 b && nat_le b 57) w
+
+abbrev pub is_count : Bool → List ℕ → Bool
+is_count must w = not must && is_digits w
+
+-- a name of a net has to be lawful
+unfoldable pub net_faults : ℕ → List ℕ → List ParseFault
+net_faults n w = when (not (is_net_name w)) (BadName n w)
+
+abbrev pub head_faults : ℕ → List ℕ → Bool → List (List ℕ) → List ParseFault
+head_faults n word must [] = Missing n word ∷ []
+head_faults n word must (w ∷ ws) =
+    if is_comma w then (if must then Missing n word ∷ [] else head_faults n word true ws)
+    else if is_count must w then []
+    else net_faults n w ++ head_faults n word false ws
+
+abbrev pub head_nets : Bool → List (List ℕ) → List (List ℕ)
+head_nets must [] = []
+head_nets must (w ∷ ws) =
+    if is_comma w then (if must then [] else head_nets true ws)
+    else if is_count must w then []
+    else w ∷ head_nets false ws
+
+-- the words from the count on; none where there is no count
+abbrev pub from_count : Bool → List (List ℕ) → List (List ℕ)
+from_count must [] = []
+from_count must (w ∷ ws) =
+    if is_comma w then (if must then [] else from_count true ws)
+    else if is_count must w then w ∷ ws
+    else from_count false ws
+
+-- ---- the count and the names of values behind it
+
+-- the number that digits say: each counts as often as its place says
+abbrev pub number_of : List ℕ → ℕ
+number_of [] = 0
+number_of (b ∷ bs) = (b - 48) * 10 ^ length bs + number_of bs
+
+-- the numbers below a count, spelled
+abbrev pub numbers_below : ℕ → List (List ℕ)
+numbers_below count = map decimal (range_with_len 0 count)
+
+-- commas behind the count are passed over
+abbrev pub value_names : List (List ℕ) → List (List ℕ)
+value_names ws = filter (λ w. not (is_comma w)) ws
+
+-- without names the values are the numbers from 0
+abbrev pub named_values : ℕ → List (List ℕ) → List (List ℕ)
+named_values count [] = numbers_below count
+named_values count (w ∷ ws) = w ∷ ws
+
+-- the greatest number that a fault tells
+abbrev pub told_number : ℕ → ℕ
+told_number n = min n (2 ^ 64 - 1)
+
+unfoldable pub count_faults : ℕ → List ℕ → List ParseFault
+count_faults n w = when (number_of w == 0) (BadCount n w) ++ when (nat_lt MAX_VALUES (number_of w)) (Limit n Values (told_number (number_of w)))
+
+-- a name of a value, behind these others
+unfoldable pub value_faults : ℕ → List (List ℕ) → List ℕ → List ParseFault
+value_faults n earlier w = when (not (is_value_name w)) (BadName n w) ++ when (among w earlier) (Repeated n w)
+
+abbrev pub name_faults : ℕ → List (List ℕ) → List (List ℕ) → List ParseFault
+name_faults n earlier [] = []
+name_faults n earlier (w ∷ ws) = value_faults n earlier w ++ name_faults n (earlier ++ w ∷ []) ws
+
+-- as many names as the count, or none
+abbrev pub length_faults : ℕ → ℕ → List (List ℕ) → List ParseFault
+length_faults n count [] = []
+length_faults n count (w ∷ ws) = when (not (length (w ∷ ws) == count)) (ValueNames n count (length (w ∷ ws)))
+
+-- a net that was declared before with other values
+abbrev pub same_values : List (List ℕ) → List (List ℕ) → Bool
+same_values a b = pointwise (pointwise nat_eq) a b
+
+unfoldable pub is_redeclared : List Decl → List (List ℕ) → List ℕ → Bool
+is_redeclared ds values net = among net (nets_of ds) && not (same_values (values_of ds net) values)
+
+abbrev pub redeclared_faults : ℕ → List Decl → List (List ℕ) → List (List ℕ) → List ParseFault
+redeclared_faults n ds values [] = []
+redeclared_faults n ds values (net ∷ nets) = when (is_redeclared ds values net) (Redeclared n net) ++ redeclared_faults n ds values nets
+
+-- ---- the whole line
+
+-- the values that the words from the count on say
+abbrev pub values_from : List (List ℕ) → List (List ℕ)
+values_from [] = []
+values_from (w ∷ ws) = named_values (number_of w) (value_names ws)
+
+-- the nets of a line, and the values that it gives them
+unfoldable pub nets_said : List (List ℕ) → List (List ℕ)
+nets_said words = head_nets true (commas_apart words)
+
+unfoldable pub values_said : List (List ℕ) → List (List ℕ)
+values_said words = values_from (from_count true (commas_apart words))
+
+abbrev pub decls_for : List (List ℕ) → List (List ℕ) → List Decl
+decls_for values nets = map (λ net. record { net = net; values = values }) nets
+
+unfoldable pub decls_said : List (List ℕ) → List Decl
+decls_said words = decls_for (values_said words) (nets_said words)
+
+-- from the count on, for these nets
+abbrev pub count_line_faults : ℕ → List Decl → List (List ℕ) → List (List ℕ) → List ParseFault
+count_line_faults n ds nets [] = []
+count_line_faults n ds nets (w ∷ ws) =
+    count_faults n w ++ name_faults n [] (value_names ws) ++ length_faults n (number_of w) (value_names ws)
+    ++ redeclared_faults n ds (named_values (number_of w) (value_names ws)) nets
+
+-- all faults of the words behind `.mv`, which is `word`, on the line n, behind these declarations
+unfoldable pub decl_faults : ℕ → List ℕ → List Decl → List (List ℕ) → List ParseFault
+decl_faults n word ds words =
+    head_faults n word true (commas_apart words) ++ count_line_faults n ds (nets_said words) (from_count true (commas_apart words))

@@ -1,0 +1,38 @@
+-- Declared nets and the names of their values.
+use Rattle.std.specs.Prelude.{◌≡◌, ℕ, ◌<◌, ◌≤◌, List, [], ◌∷◌, ◌++◌, length, map, codes, if◌then◌else◌}
+use Rattle.std.specs.List.{AllByRecursion}
+use Rattle.mv_base.specs.Names.{same_word, among}
+use Rattle.mv_base.specs.declared.limits.TheConstants.{MAX_VALUES}
+use Rattle.mv_design.specs.declared.design.Decl.{Decl}
+
+-- the values of a net without a declaration
+abbrev pub two_values : List (List ℕ)
+two_values = codes "0" ∷ codes "1" ∷ []
+
+-- the names of a net's values, in declared order
+abbrev pub values_of : List Decl → List ℕ → List (List ℕ)
+values_of [] net = two_values
+values_of (d ∷ ds) net = if same_word net d.net then d.values else values_of ds net
+
+-- the nets that are declared
+abbrev pub nets_of : List Decl → List (List ℕ)
+nets_of ds = map (λ d. d.net) ds
+
+-- the declarations with one more, unless its net is declared already
+unfoldable pub with_decl : List Decl → Decl → List Decl
+with_decl ds d = if among d.net (nets_of ds) then ds else ds ++ d ∷ []
+
+-- the same with more of them: each net keeps its first declaration
+abbrev pub with_decls : List Decl → List Decl → List Decl
+with_decls ds [] = ds
+with_decls ds (d ∷ more) = with_decls (with_decl ds d) more
+
+-- a declaration has values, and no more than a net may have
+abbrev pub HasValues : Decl → Type 0
+HasValues d = (0 < length d.values) × (length d.values ≤ MAX_VALUES)
+
+-- the names of the declared nets, in the order of their declarations, and the values of a net without one
+pub record IsKept (nets : List (List ℕ)) (list : List Decl) (two : List (List ℕ)) : Type 0 where
+  pub named : nets ≡ nets_of list
+  pub plain : two ≡ two_values
+  pub counts : AllByRecursion HasValues list

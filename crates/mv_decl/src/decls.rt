@@ -1,0 +1,138 @@
+ghost use Rattle.std.specs.Prelude.{◌≡◌, ◌<◌, ◌≤◌, [], length, slice_get, IfOk, IfSome, OnOk, OnErr};
+ghost use Rattle.mv_base.specs.declared.limits.TheConstants.{MAX_VALUES as most_values};
+ghost use Rattle.mv_decl.specs.Nets.{values_of, with_decl, nets_of, two_values, IsKept};
+ghost use Rattle.mv_decl.specs.Line.{same_values, is_redeclared};
+ghost use Rattle.mv_design.specs.declared.design.Decl.{Decl};
+
+use mv_base::{Items, Memory, Name, NameSet};
+use mv_design::Decl;
+use std::alloc::Global;
+use std::marker::Model;
+
+/// Declared nets in the order of their declarations, each once, with the names of its values. A net is found by its name
+/// without a walk along the others.
+#[derive(Drop)]
+pub struct Decls {
+    /// The names of the nets, in the order of the list.
+    nets: NameSet,
+    list: Items<Decl>,
+    /// The values of a net without a declaration.
+    two: Items<Name>,
+}
+
+impl Model for Decls {
+    ghost use Rattle.std.specs.Prelude.{List};
+    ghost use Rattle.mv_decl.specs.Nets.{IsKept};
+    ghost use Rattle.mv_design.specs.declared.design.Decl.{Decl};
+
+    ghost Value = { List Decl };
+
+    ghost view = { λ d. d.list };
+
+    ghost invariant = { λ d. IsKept d.nets d.list d.two };
+}
+
+impl Decls {
+    /// No declared net.
+    pub fn new(alloc: Global) -> Result<Decls, Memory>
+        ensures { IfOk result (λ decls. decls ≡ []) }
+    {
+        Ok(Decls {
+            nets: NameSet::new(alloc),
+            list: Items::new(alloc),
+            two: zero_and_one(alloc)?,
+        })
+    }
+
+    /// The names of the net's values in declared order: `0` and `1`, if it isn't declared.
+    pub fn values_of(&self, net: &Name) -> &[Name]
+        ensures value { result.now ≡ values_of self.now net.now }
+        ensures some { 0 < length result.now }
+        ensures within { length result.now ≤ most_values }
+    {
+        match self.nets.place(net) {
+            Some(at) => declared_at(&self.list, at),
+            None => self.two.as_slice(),
+        }
+    }
+
+    /// Whether the net is declared, with a number or names of values other than these.
+    #[tactic(auto, unfolding(crate::specs::Line::is_redeclared))]
+    pub fn is_redeclared(&self, net: &Name, values: &[Name]) -> bool
+        ensures { result ≡ is_redeclared self.now values.now net.now }
+    {
+        self.nets.contains(net) && !same_values(self.values_of(net), values)
+    }
+
+    /// Declares the net with these values, unless it is declared already. On an error nothing has changed.
+    pub(crate) fn add(&mut self, net: &Name, values: &Items<Name>) -> Result<(), Memory>
+        requires some { 0 < length values.now }
+        requires within { length values.now ≤ most_values }
+        ensures ok { OnOk result (self.new ≡ with_decl self.old (record { net = net.now; values = values.now })) }
+        ensures err { OnErr result (self.new ≡ self.old) }
+    {
+        add_to(&mut self.nets, &mut self.list, net, values)
+    }
+
+    /// The declarations in order.
+    pub fn finish(self) -> Items<Decl>
+        ensures { result ≡ self }
+    {
+        self.list
+    }
+}
+
+/// The two values of a net without a declaration.
+fn zero_and_one(alloc: Global) -> Result<Items<Name>, Memory>
+    ensures { IfOk result (λ two. two ≡ two_values) }
+{
+    let mut two = Items::new(alloc);
+    two.push(Name::new(alloc, b"0")?)?;
+    two.push(Name::new(alloc, b"1")?)?;
+    Ok(two)
+}
+
+/// The values of the declaration at the place.
+fn declared_at(list: &Items<Decl>, at: usize) -> &[Name]
+    requires { at < length list.now }
+    ensures { IfSome (slice_get list.now at) (λ d. result.now ≡ d.values) }
+{
+    list.as_slice()[at].values.as_slice()
+}
+
+/// Whether these are the same names in the same order.
+fn same_values(a: &[Name], b: &[Name]) -> bool
+    ensures { result ≡ same_values a.now b.now }
+{
+    a == b
+}
+
+/// Adds a declaration to both lists of the declared nets, unless the net is among them. On an error both are as before.
+#[tactic(auto, unfolding(crate::specs::Nets::with_decl))]
+fn add_to(
+    nets: &mut NameSet,
+    list: &mut Items<Decl>,
+    net: &Name,
+    values: &Items<Name>,
+) -> Result<(), Memory>
+    requires { nets.old ≡ nets_of list.old }
+    ensures list { OnOk result (list.new ≡ with_decl list.old (record { net = net.now; values = values.now })) }
+    ensures nets { nets.new ≡ nets_of list.new }
+    ensures err { OnErr result (list.new ≡ list.old) }
+{
+    if nets.contains(net) {
+        return Ok(());
+    }
+    let name = net.copy()?;
+    list.push(Decl {
+        net: net.copy()?,
+        values: values.copy_names()?,
+    })?;
+    match nets.add(name) {
+        Ok(_new) => Ok(()),
+        Err(memory) => {
+            list.pop();
+            Err(memory)
+        }
+    }
+}
