@@ -1,0 +1,6 @@
+pub mod Parts
+pub mod Opens
+pub mod Narrows
+pub mod Knowns
+pub mod Walks
+pub mod Values

@@ -1,0 +1,148 @@
+-- The reader's way along the lines: where it stands, and what it has read.
+use Rattle.std.proofs.Common.{◌≡◌, ℕ, ◌+◌, ◌≤◌, ◌<◌, true, false, List, [], ◌∷◌, ◌++◌, length, take, drop, get_or, if◌then◌else◌, refl, sym, ap, ◌∙◌, ⊎_elim, arith}
+use Rattle.std.specs.Prelude.{Option, Some, None, All}
+use Rattle.std.proofs.lemmas.Bool.{cases_Bool}
+use Rattle.std.proofs.lemmas.List.{take_all, drop_all, drop-append-le, length-append, length-take-le}
+use Rattle.std.proofs.lemmas.List.Elements.{All-nil, All-push}
+use Rattle.mv_base.specs.declared.limits.TheConstants.{MAX_COLUMNS}
+use Rattle.mv_lex.specs.declared.lines.LexLine.{LexLine}
+use Rattle.mv_fault.specs.Tells.{first}
+use Rattle.mv_parse.specs.declared.command.Command.{Command}
+use Rattle.mv_parse.specs.declared.command.Command.TheVariants.{Model, End}
+use Rattle.mv_parse.specs.declared.known.OpenTable.{OpenTable}
+use Rattle.mv_parse.specs.declared.known.OpenModel.{OpenModel}
+use Rattle.mv_parse.specs.declared.known.Known.{Known}
+use Rattle.mv_parse.specs.Commands.{command_at, is_end, is_bound}
+use Rattle.mv_parse.specs.Known.{open_part, inside_of, open_model, known}
+use Rattle.mv_parse.specs.Grammar.{unread_faults, placed_faults, line_faults, behind_model, faults_at, faults_behind, faults_of, design_of}
+use Rattle.mv_parse.specs.Steps.{stepped, Narrow, IsSmall}
+use Rattle.mv_parse.proofs.Parts.{open_part-end, open_part-more}
+use Rattle.mv_parse.proofs.Narrows.{none-right, line-narrow, open-small}
+use Rattle.mv_parse.proofs.Knowns.{known-push}
+use Rattle.mv_table.proofs.Places.{take_more, drop_one}
+
+-- the reader stands before line `at`, knows what the lines before say, and has `first` as the place of the open model's
+-- first line behind its own
+pub record IsAt (lines : List LexLine) (first at : ℕ) (k : Known) : Type 0 where
+  pub within : first ≤ at
+  pub known : k ≡ known (take at lines)
+  pub open_lines : drop first (take at lines) ≡ behind_model (open_part (take at lines))
+  pub narrow : All (λ (l : LexLine). Narrow l) (behind_model (open_part (take at lines)))
+  pub fault : faults_behind (take at lines) (drop at lines) ≡ faults_of lines
+
+pub begins : (lines : List LexLine) → IsAt lines 0 0 (record { models = []; inside = None })
+unfolding known faults_of
+begins lines = record {
+  within = omega arith;
+  known = refl;
+  open_lines = refl;
+  narrow = All-nil (λ (l : LexLine). Narrow l);
+  fault = refl;
+}
+
+part-small : (part : List LexLine) (m : OpenModel) (t : OpenTable) → All (λ (l : LexLine). Narrow l) (behind_model part) → inside_of part ≡ Some m → m.table ≡ Some t → t.ins + t.outs ≤ MAX_COLUMNS
+part-small [] m t narrow e f = cc
+part-small (x ∷ ls) m t narrow e f = open-small ls t narrow (let same : open_model x ls ≡ m = cc in ap (λ (o : OpenModel). o.table) same ∙ f)
+
+pub small : (lines : List LexLine) (first at : ℕ) (k : Known) → IsAt lines first at k → IsSmall k
+unfolding known
+small lines first at k here = record {
+  columns = λ m t e f. part-small (open_part (take at lines)) m t here.narrow (sym (ap (λ (x : Known). x.inside) here.known) ∙ e) f;
+}
+
+-- the faults of the line are those of the grammar
+here_faults : (lines : List LexLine) (first at : ℕ) (k : Known) (l : LexLine) → IsAt lines first at k → line_faults (command_at l) k (drop first (take at lines)) l ≡ faults_at (take at lines) l
+here_faults lines first at k l here = rw (here.known, here.open_lines) refl
+
+-- at the end
+pub whole_design : (lines : List LexLine) (first at : ℕ) (k : Known) → IsAt lines first at k → length lines ≤ at → design_of lines ≡ record { root = 0; models = k.models }
+unfolding design_of
+whole_design lines first at k here h = rw (here.known, take_all at lines h) refl
+
+-- ---- one line on
+
+-- behind a line that ends a model, or begins one, no line of an open model has been read behind its first
+bound-begins : (c : Command) (o : Option OpenModel) (ls : List LexLine) (l : LexLine) → is_bound c ≡ true → is_end c ≡ false → placed_faults c o ls l ≡ [] → o ≡ None
+bound-begins c None ls l b n none = refl
+bound-begins Model (Some m) ls l b n none = cc
+bound-begins _ (Some m) ls l b n none = cc
+
+inside-none : (part : List LexLine) → inside_of part ≡ None → part ≡ []
+inside-none [] e = refl
+inside-none (x ∷ ls) e = cc
+
+-- another line of a model that is open stands behind those before
+other-inside : (c : Command) (part : List LexLine) (ls : List LexLine) (l : LexLine) → is_bound c ≡ false → placed_faults c (inside_of part) ls l ≡ [] → behind_model (part ++ l ∷ []) ≡ behind_model part ++ l ∷ []
+other-inside Model [] ls l b none = cc
+other-inside _ [] ls l b none = cc
+other-inside c (x ∷ part) ls l b none = refl
+
+-- the open model's lines behind its first, behind one more line
+pub open-bound : (before : List LexLine) (ls : List LexLine) (l : LexLine) → is_bound (command_at l) ≡ true → placed_faults (command_at l) (inside_of (open_part before)) ls l ≡ [] → behind_model (open_part (before ++ l ∷ [])) ≡ []
+open-bound before ls l b none =
+    ⊎_elim
+    (λ (y : is_end (command_at l) ≡ true). ap behind_model (open_part-end before l y))
+    (λ (n : is_end (command_at l) ≡ false).
+    ap behind_model (open_part-more before l n ∙ ap (λ part. part ++ l ∷ []) (inside-none (open_part before) (bound-begins (command_at l) (inside_of (open_part before)) ls l b n none))))
+    (cases_Bool (is_end (command_at l)))
+
+not-end : (c : Command) → is_bound c ≡ false → is_end c ≡ false
+not-end Model e = refl
+not-end End e = cc
+not-end _ e = refl
+
+pub open-more : (before : List LexLine) (ls : List LexLine) (l : LexLine) → is_bound (command_at l) ≡ false → placed_faults (command_at l) (inside_of (open_part before)) ls l ≡ [] → behind_model (open_part (before ++ l ∷ [])) ≡ behind_model (open_part before) ++ l ∷ []
+open-more before ls l b none =
+    ap behind_model (open_part-more before l (not-end (command_at l) b)) ∙ other-inside (command_at l) (open_part before) ls l b none
+
+placed_none : (ls : List LexLine) (l : LexLine) → faults_at ls l ≡ [] → placed_faults (command_at l) (inside_of (open_part ls)) (behind_model (open_part ls)) l ≡ []
+unfolding line_faults known
+placed_none ls l none = none-right (unread_faults (command_at l) (known ls) l) (placed_faults (command_at l) (inside_of (open_part ls)) (behind_model (open_part ls)) l) none
+
+drop-push : (ls : List LexLine) (l : LexLine) (n : ℕ) → n ≤ length ls → drop n (ls ++ l ∷ []) ≡ drop n ls ++ l ∷ []
+drop-push ls l n h = drop-append-le n ls (l ∷ []) h
+
+-- the reader stands behind the line, whichever it was
+pub record IsBehind (before : List LexLine) (l : LexLine) (first : ℕ) : Type 0 where
+  pub open_lines : drop first (before ++ l ∷ []) ≡ behind_model (open_part (before ++ l ∷ []))
+  pub narrow : All (λ (x : LexLine). Narrow x) (behind_model (open_part (before ++ l ∷ [])))
+  pub within : first ≤ length before + 1
+
+behind-bound : (before : List LexLine) (l : LexLine) → faults_at before l ≡ [] → is_bound (command_at l) ≡ true → IsBehind before l (length before + 1)
+behind-bound before l none b =
+    let no : behind_model (open_part (before ++ l ∷ [])) ≡ [] = open-bound before (behind_model (open_part before)) l b (placed_none before l none) in
+    record {
+      open_lines = drop_all (length before + 1) (before ++ l ∷ []) (rw (length-append before (l ∷ [])) (omega arith)) ∙ sym no;
+      narrow = rw no (All-nil (λ (x : LexLine). Narrow x));
+      within = omega arith;
+    }
+
+behind-more : (before : List LexLine) (l : LexLine) (first : ℕ) → faults_at before l ≡ [] → first ≤ length before → drop first before ≡ behind_model (open_part before) → All (λ (x : LexLine). Narrow x) (behind_model (open_part before)) → is_bound (command_at l) ≡ false → IsBehind before l first
+behind-more before l first none within was narrow b =
+    let more : behind_model (open_part (before ++ l ∷ [])) ≡ behind_model (open_part before) ++ l ∷ [] = open-more before (behind_model (open_part before)) l b (placed_none before l none) in
+    record {
+      open_lines = drop-push before l first within ∙ (ap (λ ls. ls ++ l ∷ []) was ∙ sym more);
+      narrow = rw more (All-push (λ (x : LexLine). Narrow x) (behind_model (open_part before)) l narrow (line-narrow (known before) (behind_model (open_part before)) l none));
+      within = omega arith;
+    }
+
+behind-any : (before : List LexLine) (l : LexLine) (first : ℕ) → faults_at before l ≡ [] → first ≤ length before → drop first before ≡ behind_model (open_part before) → All (λ (x : LexLine). Narrow x) (behind_model (open_part before)) → IsBehind before l (if is_bound (command_at l) then length before + 1 else first)
+behind-any before l first none within was narrow =
+    ⊎_elim
+    (λ (y : is_bound (command_at l) ≡ true). rw y (behind-bound before l none y))
+    (λ (n : is_bound (command_at l) ≡ false). rw n (behind-more before l first none within was narrow n))
+    (cases_Bool (is_bound (command_at l)))
+
+pub next : (lines : List LexLine) (first at new_first : ℕ) (k new : Known) (l : LexLine) → IsAt lines first at k → at < length lines → l ≡ get_or lines at l → line_faults (command_at l) k (drop first (take at lines)) l ≡ [] → new ≡ stepped (command_at l) k (drop first (take at lines)) l → new_first ≡ (if is_bound (command_at l) then at + 1 else first) → IsAt lines new_first (at + 1) new
+next lines first at new_first k new l here h e none becomes moves =
+    let clean : faults_at (take at lines) l ≡ [] = sym (here_faults lines first at k l here) ∙ none in
+    let more : take (at + 1) lines ≡ take at lines ++ l ∷ [] = take_more lines at l h e in
+    let long : length (take at lines) ≡ at = length-take-le at lines (omega arith) in
+    let behind : IsBehind (take at lines) l new_first = rw (moves) (rw long at (behind-any (take at lines) l first clean (rw long here.within) here.open_lines here.narrow)) in
+    record {
+      within = rw long at behind.within;
+      known = becomes ∙ (rw (here.known, here.open_lines) (sym (known-push (take at lines) l clean)) ∙ ap known (sym more));
+      open_lines = rw more behind.open_lines;
+      narrow = rw more behind.narrow;
+      fault = rw more (ap (λ fs. fs ++ faults_behind (take at lines ++ l ∷ []) (drop (at + 1) lines)) (sym clean) ∙ (ap (faults_behind (take at lines)) (sym (drop_one lines at l h e)) ∙ here.fault));
+    }

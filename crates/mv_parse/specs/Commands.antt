@@ -1,0 +1,69 @@
+-- What a line of a network file is, by its first word.
+use Rattle.std.specs.Prelude.{ℕ, Bool, true, false, not, ◌||◌, List, [], ◌∷◌, codes, if◌then◌else◌}
+use Rattle.mv_base.specs.Names.{same_word, begins_with}
+use Rattle.mv_lex.specs.declared.lines.LexLine.{LexLine}
+use Rattle.mv_parse.specs.declared.command.Command.{Command}
+use Rattle.mv_parse.specs.declared.command.Command.TheVariants.{Model, Inputs, Outputs, Mv, Table, Default, Row, End, Unbuilt, Unknown}
+
+-- the first word of a line
+abbrev pub first_of : List (List ℕ) → List ℕ
+first_of [] = []
+first_of (w ∷ words) = w
+
+abbrev pub first_word : LexLine → List ℕ
+first_word l = first_of l.words
+
+-- the commands that this version doesn't read: latches, resets, instances, and the root's name
+abbrev pub is_unbuilt : List ℕ → Bool
+is_unbuilt w = same_word w (codes ".latch") || same_word w (codes ".reset") || same_word w (codes ".r") || same_word w (codes ".subckt") || same_word w (codes ".root")
+
+abbrev pub is_table_word : List ℕ → Bool
+is_table_word w = same_word w (codes ".table") || same_word w (codes ".names")
+
+abbrev pub is_default_word : List ℕ → Bool
+is_default_word w = same_word w (codes ".default") || same_word w (codes ".def")
+
+-- a word that doesn't begin with a full stop begins a row
+unfoldable pub command_of : List ℕ → Command
+command_of w =
+    if not (begins_with 46 w) then Row
+    else if same_word w (codes ".model") then Model
+    else if same_word w (codes ".inputs") then Inputs
+    else if same_word w (codes ".outputs") then Outputs
+    else if same_word w (codes ".mv") then Mv
+    else if is_table_word w then Table
+    else if is_default_word w then Default
+    else if same_word w (codes ".end") then End
+    else if is_unbuilt w then Unbuilt
+    else Unknown
+
+abbrev pub command_at : LexLine → Command
+command_at l = command_of (first_word l)
+
+-- rows and defaults leave a table open
+abbrev pub keeps_table : Command → Bool
+keeps_table Default = true
+keeps_table Row = true
+keeps_table _ = false
+
+abbrev pub is_row : Command → Bool
+is_row Row = true
+is_row _ = false
+
+abbrev pub is_default : Command → Bool
+is_default Default = true
+is_default _ = false
+
+abbrev pub is_table : Command → Bool
+is_table Table = true
+is_table _ = false
+
+-- the first line of a model, and the last
+abbrev pub is_bound : Command → Bool
+is_bound Model = true
+is_bound End = true
+is_bound _ = false
+
+abbrev pub is_end : Command → Bool
+is_end End = true
+is_end _ = false

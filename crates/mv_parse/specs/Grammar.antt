@@ -1,0 +1,143 @@
+-- The grammar of a network file, after the description of BLIF-MV by Kukimoto: the faults of its lines, in the order in
+-- which they are told. A line's faults are those that the lines before leave it; a file that has none is a design.
+use Rattle.std.specs.Prelude.{◌≡◌, ℕ, ◌+◌, Bool, true, false, not, ◌==◌, nat_lt, nat_le, List, [], ◌∷◌, ◌++◌, length, drop, filter, Option, Some, None, if◌then◌else◌}
+use Rattle.mv_base.specs.Names.{among, is_net_name, is_model_name}
+use Rattle.mv_base.specs.declared.limits.TheConstants.{MAX_TABLE_LINES}
+use Rattle.mv_lex.specs.declared.lines.LexLine.{LexLine}
+use Rattle.mv_design.specs.declared.design.Decl.{Decl}
+use Rattle.mv_design.specs.declared.design.Design.{Design}
+use Rattle.mv_fault.specs.declared.fault.Which.TheVariants.{TableLines}
+use Rattle.mv_fault.specs.declared.fault.ParseFault.{ParseFault}
+use Rattle.mv_fault.specs.declared.fault.ParseFault.TheVariants.{UnknownCommand, OutsideModel, NoEnd, Missing, Extra, Columns, DefaultTwice, Repeated, NoModel, Limit, BadName, NoTable, NotBuilt}
+use Rattle.mv_fault.specs.Tells.{when, first}
+use Rattle.mv_decl.specs.Line.{decl_faults}
+use Rattle.mv_table.specs.Columns.{outs_of, columns_faults}
+use Rattle.mv_table.specs.Tables.{behind_first, table_faults}
+use Rattle.mv_parse.specs.declared.command.Command.{Command}
+use Rattle.mv_parse.specs.declared.command.Command.TheVariants.{Model, Inputs, Outputs, Mv, Table, Default, Row, End, Unbuilt, Unknown}
+use Rattle.mv_parse.specs.declared.known.OpenTable.{OpenTable}
+use Rattle.mv_parse.specs.declared.known.OpenModel.{OpenModel}
+use Rattle.mv_parse.specs.declared.known.Known.{Known}
+use Rattle.mv_parse.specs.Commands.{first_word, command_at, is_end}
+use Rattle.mv_parse.specs.Known.{front_rows, open_part, known}
+
+-- `.model NAME`: exactly one word
+unfoldable pub model_faults : ℕ → List ℕ → List (List ℕ) → List ParseFault
+model_faults n word [] = Missing n word ∷ []
+model_faults n word (w ∷ words) = when (not (is_model_name w)) (BadName n w) ++ when (nat_lt 0 (length words)) (Extra n word)
+
+-- `.inputs NAMES` and `.outputs NAMES`, behind those that stand there already
+abbrev pub port_faults : ℕ → List (List ℕ) → List (List ℕ) → List ParseFault
+port_faults n earlier [] = []
+port_faults n earlier (w ∷ words) =
+    when (not (is_net_name w)) (BadName n w) ++ when (among w earlier) (Repeated n w) ++ port_faults n (earlier ++ w ∷ []) words
+
+-- a row of the open table: one entry a column
+unfoldable pub row_faults : ℕ → OpenTable → List (List ℕ) → List ParseFault
+row_faults n t words =
+    when (nat_le MAX_TABLE_LINES t.rows) (Limit n TableLines (MAX_TABLE_LINES + 1))
+    ++ when (not (length words == t.ins + t.outs)) (Columns n (t.ins + t.outs) (length words))
+
+-- its default: once, and one entry an output
+unfoldable pub default_faults : ℕ → List ℕ → OpenTable → List (List ℕ) → List ParseFault
+default_faults n word t words =
+    when t.has_default (DefaultTwice n) ++ when (nat_lt (length words) t.outs) (Missing n word) ++ when (nat_lt t.outs (length words)) (Extra n word)
+
+-- the values of a model's rows and defaults, table by table
+abbrev pub values_at : Command → List Decl → LexLine → List LexLine → List ParseFault
+values_at Table ds l ls = table_faults ds l (front_rows ls)
+values_at _ ds l ls = []
+
+abbrev pub value_faults : List Decl → List LexLine → List ParseFault
+value_faults ds [] = []
+value_faults ds (l ∷ ls) = values_at (command_at l) ds l ls ++ value_faults ds ls
+
+-- `.end`: no further word; then the values of its model are checked
+unfoldable pub end_faults : ℕ → List ℕ → List (List ℕ) → List Decl → List LexLine → List ParseFault
+end_faults n word words ds ls = when (nat_lt 0 (length words)) (Extra n word) ++ value_faults ds ls
+
+-- what needs a table that is open
+abbrev pub at_table : ℕ → Option OpenTable → (OpenTable → List ParseFault) → List ParseFault
+at_table n None faults = NoTable n ∷ []
+at_table n (Some t) faults = faults t
+
+-- lines that this version doesn't read: a second model, and a table with several outputs
+abbrev pub unread_faults : Command → Known → LexLine → List ParseFault
+unread_faults Model k l = when (nat_lt 0 (length k.models)) (NotBuilt l.number)
+unread_faults Table k l = when (nat_lt 1 (length (outs_of (behind_first l)))) (NotBuilt l.number)
+unread_faults _ k l = []
+
+-- the faults of a line outside a model
+abbrev pub outside_faults : Command → LexLine → List ParseFault
+outside_faults Model l = model_faults l.number (first_word l) (behind_first l)
+outside_faults Unbuilt l = NotBuilt l.number ∷ []
+outside_faults Unknown l = UnknownCommand l.number (first_word l) ∷ []
+outside_faults _ l = OutsideModel l.number ∷ []
+
+-- and within one, which it doesn't end
+abbrev pub inside_faults : Command → OpenModel → LexLine → List ParseFault
+inside_faults Model m l = NoEnd m.line ∷ model_faults l.number (first_word l) (behind_first l)
+inside_faults Inputs m l = port_faults l.number m.inputs (behind_first l)
+inside_faults Outputs m l = port_faults l.number m.outputs (behind_first l)
+inside_faults Mv m l = decl_faults l.number (first_word l) m.decls (behind_first l)
+inside_faults Table m l = columns_faults l.number (first_word l) (behind_first l)
+inside_faults Default m l = at_table l.number m.table (λ t. default_faults l.number (first_word l) t (behind_first l))
+inside_faults Row m l = at_table l.number m.table (λ t. row_faults l.number t l.words)
+inside_faults End m l = []
+inside_faults Unbuilt m l = NotBuilt l.number ∷ []
+inside_faults Unknown m l = UnknownCommand l.number (first_word l) ∷ []
+
+-- at its place, where `ls` are the lines of the open model behind its first
+abbrev pub placed_faults : Command → Option OpenModel → List LexLine → LexLine → List ParseFault
+placed_faults c None ls l = outside_faults c l
+placed_faults c (Some m) ls l =
+    if is_end c then end_faults l.number (first_word l) (behind_first l) m.decls ls else inside_faults c m l
+
+-- all faults of a line, where the lines before say `k`
+unfoldable pub line_faults : Command → Known → List LexLine → LexLine → List ParseFault
+line_faults c k ls l = unread_faults c k l ++ placed_faults c k.inside ls l
+
+-- the lines of the open model behind its first
+abbrev pub behind_model : List LexLine → List LexLine
+behind_model part = drop 1 part
+
+abbrev pub faults_at : List LexLine → LexLine → List ParseFault
+faults_at before l = line_faults (command_at l) (known before) (behind_model (open_part before)) l
+
+-- the end of the file: no model is open, and there is one
+abbrev pub last_faults : Option OpenModel → ℕ → List ParseFault
+last_faults (Some m) models = NoEnd m.line ∷ []
+last_faults None models = when (models == 0) (NoModel 1)
+
+abbrev pub file_faults : Known → List ParseFault
+file_faults k = last_faults k.inside (length k.models)
+
+-- the faults of lines behind others, to the end of the file
+abbrev pub faults_behind : List LexLine → List LexLine → List ParseFault
+faults_behind before [] = file_faults (known before)
+faults_behind before (l ∷ ls) = faults_at before l ++ faults_behind (before ++ l ∷ []) ls
+
+unfoldable pub faults_of : List LexLine → List ParseFault
+faults_of lines = faults_behind [] lines
+
+-- a limit of the program is no fault of the grammar
+abbrev pub is_limit : ParseFault → Bool
+is_limit (Limit n which number) = true
+is_limit _ = false
+
+-- the design that lines say
+unfoldable pub design_of : List LexLine → Design
+design_of lines = record { root = 0; models = (known lines).models }
+
+-- the grammar: lines without a fault, limits aside, and the design that they say
+pub record IsDesign (lines : List LexLine) (d : Design) : Type 0 where
+  pub accepted : filter (λ f. not (is_limit f)) (faults_of lines) ≡ []
+  pub is : d ≡ design_of lines
+
+-- no limit of the program is passed
+pub record IsWithin (lines : List LexLine) : Type 0 where
+  pub within : filter is_limit (faults_of lines) ≡ []
+
+-- the first fault in the order in which faults are told, limits among them
+pub record FirstFault (lines : List LexLine) (f : ParseFault) : Type 0 where
+  pub first : first (faults_of lines) ≡ Some f

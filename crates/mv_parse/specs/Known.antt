@@ -1,0 +1,128 @@
+-- What the lines of a network file say, each part of it said of the whole list of lines.
+use Rattle.std.specs.Prelude.{ℕ, ◌&&◌, List, [], ◌∷◌, ◌++◌, length, drop, count_by, Option, Some, None, if◌then◌else◌}
+use Rattle.std.specs.List.{flat_map, list_all, list_any}
+use Rattle.mv_lex.specs.declared.lines.LexLine.{LexLine}
+use Rattle.mv_design.specs.declared.design.Decl.{Decl}
+use Rattle.mv_design.specs.declared.design.FileModel.{FileModel}
+use Rattle.mv_design.specs.declared.table.FileTable.{FileTable}
+use Rattle.mv_decl.specs.Nets.{with_decls}
+use Rattle.mv_decl.specs.Line.{decls_said}
+use Rattle.mv_table.specs.Columns.{ins_of, outs_of}
+use Rattle.mv_table.specs.Tables.{behind_first, table_of}
+use Rattle.mv_parse.specs.declared.command.Command.{Command}
+use Rattle.mv_parse.specs.declared.command.Command.TheVariants.{Inputs, Outputs, Mv, Table}
+use Rattle.mv_parse.specs.declared.known.OpenTable.{OpenTable}
+use Rattle.mv_parse.specs.declared.known.OpenModel.{OpenModel}
+use Rattle.mv_parse.specs.declared.known.Known.{Known}
+use Rattle.mv_parse.specs.Commands.{first_of, command_at, keeps_table, is_row, is_default, is_table, is_end}
+
+-- ---- the lines of one model, behind its first
+
+-- the names on all lines of inputs, joined in order
+abbrev pub inputs_at : Command → List (List ℕ) → List (List ℕ)
+inputs_at Inputs words = words
+inputs_at _ words = []
+
+abbrev pub inputs_of : List LexLine → List (List ℕ)
+inputs_of ls = flat_map (λ l. inputs_at (command_at l) (behind_first l)) ls
+
+-- and of outputs
+abbrev pub outputs_at : Command → List (List ℕ) → List (List ℕ)
+outputs_at Outputs words = words
+outputs_at _ words = []
+
+abbrev pub outputs_of : List LexLine → List (List ℕ)
+outputs_of ls = flat_map (λ l. outputs_at (command_at l) (behind_first l)) ls
+
+-- the declarations, wherever they stand: each net keeps its first
+abbrev pub decls_at : Command → List (List ℕ) → List Decl
+decls_at Mv words = decls_said words
+decls_at _ words = []
+
+abbrev pub decls_of : List LexLine → List Decl
+decls_of ls = with_decls [] (flat_map (λ l. decls_at (command_at l) (behind_first l)) ls)
+
+-- a table has the rows and the default that come right behind its first line
+abbrev pub front_rows : List LexLine → List LexLine
+front_rows [] = []
+front_rows (l ∷ ls) = if keeps_table (command_at l) then l ∷ front_rows ls else []
+
+abbrev pub table_at : Command → List Decl → LexLine → List LexLine → List FileTable
+table_at Table ds l ls = table_of ds l (front_rows ls) ∷ []
+table_at _ ds l ls = []
+
+abbrev pub tables_of : List Decl → List LexLine → List FileTable
+tables_of ds [] = []
+tables_of ds (l ∷ ls) = table_at (command_at l) ds l ls ++ tables_of ds ls
+
+-- the table that is open behind these lines: the last one, where only rows and defaults stand behind its first line
+abbrev pub table_state : LexLine → List LexLine → OpenTable
+table_state l ls = record {
+  ins = length (ins_of (behind_first l));
+  outs = length (outs_of (behind_first l));
+  rows = count_by (λ r. is_row (command_at r)) ls;
+  has_default = list_any (λ r. is_default (command_at r)) ls;
+}
+
+abbrev pub open_table : List LexLine → Option OpenTable
+open_table [] = None
+open_table (l ∷ ls) =
+    if is_table (command_at l) && list_all (λ r. keeps_table (command_at r)) ls then Some (table_state l ls) else open_table ls
+
+-- ---- models: the lines are cut behind each `.end`
+
+abbrev pub onto_part : LexLine → List (List LexLine) → List (List LexLine)
+onto_part l [] = []
+onto_part l (part ∷ parts) = (l ∷ part) ∷ parts
+
+-- the parts that an `.end` has ended, without it
+abbrev pub ended : List LexLine → List (List LexLine)
+ended [] = []
+ended (l ∷ ls) = if is_end (command_at l) then [] ∷ ended ls else onto_part l (ended ls)
+
+abbrev pub with_front : List (List LexLine) → LexLine → List LexLine → List LexLine
+with_front [] l ls = l ∷ ls
+with_front (_ ∷ _) l ls = ls
+
+-- the part behind the last `.end`
+abbrev pub open_part : List LexLine → List LexLine
+open_part [] = []
+open_part (l ∷ ls) = if is_end (command_at l) then open_part ls else with_front (ended ls) l (open_part ls)
+
+-- a model as its first line and the lines behind it say it
+abbrev pub open_model : LexLine → List LexLine → OpenModel
+open_model l ls = record {
+  line = l.number;
+  name = first_of (behind_first l);
+  inputs = inputs_of ls;
+  outputs = outputs_of ls;
+  decls = decls_of ls;
+  table = open_table ls;
+}
+
+abbrev pub inside_of : List LexLine → Option OpenModel
+inside_of [] = None
+inside_of (l ∷ ls) = Some (open_model l ls)
+
+abbrev pub file_model : OpenModel → List LexLine → FileModel
+file_model m ls = record {
+  name = m.name;
+  inputs = m.inputs;
+  outputs = m.outputs;
+  decls = m.decls;
+  tables = tables_of m.decls ls;
+  latches = [];
+  resets = [];
+  parts = [];
+}
+
+abbrev pub closed : Option OpenModel → List LexLine → List FileModel
+closed None ls = []
+closed (Some m) ls = file_model m ls ∷ []
+
+abbrev pub model_of : List LexLine → List FileModel
+model_of part = closed (inside_of part) (drop 1 part)
+
+-- what the lines say: the models that have ended, and the one that is open
+unfoldable pub known : List LexLine → Known
+known ls = record { models = flat_map model_of (ended ls); inside = inside_of (open_part ls) }

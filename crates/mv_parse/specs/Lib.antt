@@ -1,0 +1,4 @@
+pub mod Commands
+pub mod Known
+pub mod Grammar
+pub mod Steps

@@ -1,0 +1,82 @@
+-- What a line that has no fault adds to what the lines before say. The reader computes this; that it is what the longer
+-- list of lines says is proved of it.
+use Rattle.std.specs.Prelude.{◌≡◌, ℕ, ◌+◌, ◌≤◌, List, [], ◌∷◌, ◌++◌, length, true, false, Option, Some, None, option_map, if◌then◌else◌}
+use Rattle.mv_lex.specs.declared.lines.LexLine.{LexLine}
+use Rattle.mv_design.specs.declared.design.FileModel.{FileModel}
+use Rattle.mv_decl.specs.Nets.{with_decls}
+use Rattle.mv_decl.specs.Line.{decls_said}
+use Rattle.mv_table.specs.Columns.{ins_of, outs_of}
+use Rattle.mv_table.specs.Tables.{behind_first}
+use Rattle.mv_parse.specs.declared.command.Command.{Command}
+use Rattle.mv_parse.specs.declared.command.Command.TheVariants.{Inputs, Outputs, Mv, Table, Default, Row}
+use Rattle.mv_parse.specs.declared.known.OpenTable.{OpenTable}
+use Rattle.mv_parse.specs.declared.known.OpenModel.{OpenModel}
+use Rattle.mv_parse.specs.declared.known.Known.{Known}
+use Rattle.mv_base.specs.declared.limits.TheConstants.{MAX_COLUMNS}
+use Rattle.mv_parse.specs.Commands.{first_of, command_at, is_end}
+use Rattle.mv_parse.specs.Known.{file_model}
+
+-- a model and a table that begin
+abbrev pub new_model : LexLine → OpenModel
+new_model l = record { line = l.number; name = first_of (behind_first l); inputs = []; outputs = []; decls = []; table = None }
+
+abbrev pub new_table : List (List ℕ) → OpenTable
+new_table words = record { ins = length (ins_of words); outs = length (outs_of words); rows = 0; has_default = false }
+
+abbrev pub with_inputs : List (List ℕ) → OpenModel → OpenModel
+with_inputs words m = record m { inputs = m.inputs ++ words; table = None }
+
+abbrev pub with_outputs : List (List ℕ) → OpenModel → OpenModel
+with_outputs words m = record m { outputs = m.outputs ++ words; table = None }
+
+abbrev pub with_declared : List (List ℕ) → OpenModel → OpenModel
+with_declared words m = record m { decls = with_decls m.decls (decls_said words); table = None }
+
+abbrev pub with_table : List (List ℕ) → OpenModel → OpenModel
+with_table words m = record m { table = Some (new_table words) }
+
+abbrev pub default_seen : OpenTable → OpenTable
+default_seen t = record t { has_default = true }
+
+abbrev pub row_seen : OpenTable → OpenTable
+row_seen t = record t { rows = t.rows + 1 }
+
+abbrev pub with_default : OpenModel → OpenModel
+with_default m = record m { table = option_map default_seen m.table }
+
+abbrev pub with_row : OpenModel → OpenModel
+with_row m = record m { table = option_map row_seen m.table }
+
+-- a line within a model
+abbrev pub inside_step : Command → LexLine → OpenModel → OpenModel
+inside_step Inputs l m = with_inputs (behind_first l) m
+inside_step Outputs l m = with_outputs (behind_first l) m
+inside_step Mv l m = with_declared (behind_first l) m
+inside_step Table l m = with_table (behind_first l) m
+inside_step Default l m = with_default m
+inside_step Row l m = with_row m
+inside_step _ l m = m
+
+-- what is known behind a line: outside a model it begins one, and within one it may end it
+abbrev pub outside_stepped : List FileModel → LexLine → Known
+outside_stepped models l = record { models = models; inside = Some (new_model l) }
+
+abbrev pub inside_stepped : Command → List FileModel → OpenModel → List LexLine → LexLine → Known
+inside_stepped c models m ls l =
+    if is_end c then record { models = models ++ file_model m ls ∷ []; inside = None }
+    else record { models = models; inside = Some (inside_step c l m) }
+
+abbrev pub placed_step : Command → List FileModel → Option OpenModel → List LexLine → LexLine → Known
+placed_step c models None ls l = outside_stepped models l
+placed_step c models (Some m) ls l = inside_stepped c models m ls l
+
+unfoldable pub stepped : Command → Known → List LexLine → LexLine → Known
+stepped c k ls l = placed_step c k.models k.inside ls l
+
+-- a first line of a table has no more columns than a table may have
+abbrev pub Narrow : LexLine → Type 0
+Narrow l = command_at l ≡ Table → length (ins_of (behind_first l)) + length (outs_of (behind_first l)) ≤ MAX_COLUMNS
+
+-- nor has the open table
+pub record IsSmall (k : Known) : Type 0 where
+  pub columns : (m : OpenModel) (t : OpenTable) → k.inside ≡ Some m → m.table ≡ Some t → t.ins + t.outs ≤ MAX_COLUMNS

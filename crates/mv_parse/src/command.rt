@@ -1,0 +1,117 @@
+ghost use Rattle.std.specs.Prelude.{◌≡◌};
+ghost use Rattle.mv_parse.specs.Commands.{command_of, command_at, first_of, first_word, is_unbuilt, is_table_word, is_default_word, keeps_table, is_end, is_bound, is_table};
+
+use mv_base::Name;
+use mv_lex::LexLine;
+use mv_word::{begins_with, is_text};
+
+/// What a line is.
+#[derive(Clone, Copy, Debug, PartialEq, Eq)]
+pub enum Command {
+    Model,
+    Inputs,
+    Outputs,
+    Mv,
+    Table,
+    Default,
+    Row,
+    End,
+    /// A command that this version doesn't read.
+    Unbuilt,
+    Unknown,
+}
+
+fn is_unbuilt(word: &[u8]) -> bool
+    ensures { result ≡ is_unbuilt word.now }
+{
+    is_text(word, b".latch")
+        || is_text(word, b".reset")
+        || is_text(word, b".r")
+        || is_text(word, b".subckt")
+        || is_text(word, b".root")
+}
+
+fn is_table_word(word: &[u8]) -> bool
+    ensures { result ≡ is_table_word word.now }
+{
+    is_text(word, b".table") || is_text(word, b".names")
+}
+
+fn is_default_word(word: &[u8]) -> bool
+    ensures { result ≡ is_default_word word.now }
+{
+    is_text(word, b".default") || is_text(word, b".def")
+}
+
+/// What a line with this first word is.
+#[tactic(auto, unfolding(crate::specs::Commands::command_of))]
+fn command_of(word: &[u8]) -> Command
+    ensures { result ≡ command_of word.now }
+{
+    if !begins_with(word, b'.') {
+        Command::Row
+    } else if is_text(word, b".model") {
+        Command::Model
+    } else if is_text(word, b".inputs") {
+        Command::Inputs
+    } else if is_text(word, b".outputs") {
+        Command::Outputs
+    } else if is_text(word, b".mv") {
+        Command::Mv
+    } else if is_table_word(word) {
+        Command::Table
+    } else if is_default_word(word) {
+        Command::Default
+    } else if is_text(word, b".end") {
+        Command::End
+    } else if is_unbuilt(word) {
+        Command::Unbuilt
+    } else {
+        Command::Unknown
+    }
+}
+
+/// The first word of a line.
+pub fn first_word(line: &LexLine) -> &[u8]
+    ensures { result.now ≡ first_word line.now }
+{
+    match line.words.as_slice() {
+        [first, ..] => first.bytes(),
+        [] => b"",
+    }
+}
+
+/// What a line is.
+pub fn command_at(line: &LexLine) -> Command
+    ensures { result ≡ command_at line.now }
+{
+    command_of(first_word(line))
+}
+
+/// Whether the table that is open stays open behind the line.
+pub fn keeps_table(command: Command) -> bool
+    ensures { result ≡ keeps_table command }
+{
+    matches!(command, Command::Row | Command::Default)
+}
+
+/// Whether the line ends its model.
+pub fn is_end(command: Command) -> bool
+    ensures { result ≡ is_end command }
+{
+    matches!(command, Command::End)
+}
+
+/// Whether the line begins a table.
+pub fn is_table(command: Command) -> bool
+    ensures { result ≡ is_table command }
+{
+    matches!(command, Command::Table)
+}
+
+/// Whether the line begins a model or ends one.
+pub fn is_bound(command: Command) -> bool
+    ensures { result ≡ is_bound command }
+{
+    matches!(command, Command::Model | Command::End)
+}

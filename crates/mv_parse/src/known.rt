@@ -1,0 +1,31 @@
+use mv_base::{Items, Name, NameSet};
+use mv_decl::Decls;
+use mv_design::FileModel;
+
+/// What the lines of the open table say so far: how many columns of each kind it has, how many rows, and whether its
+/// default has stood.
+#[derive(Clone, Copy, Debug, PartialEq, Eq)]
+pub struct OpenTable {
+    pub ins: usize,
+    pub outs: usize,
+    pub rows: u64,
+    pub has_default: bool,
+}
+
+/// What the lines of the open model say so far.
+#[derive(Drop)]
+pub struct OpenModel {
+    pub line: u32,
+    pub name: Name,
+    pub inputs: NameSet,
+    pub outputs: NameSet,
+    pub decls: Decls,
+    pub table: Option<OpenTable>,
+}
+
+/// What the lines so far say: the models that have ended, and the one that is open.
+#[derive(Drop)]
+pub struct Known {
+    pub models: Items<FileModel>,
+    pub inside: Option<OpenModel>,
+}

@@ -1,0 +1,171 @@
+ghost use Rattle.std.specs.Prelude.{◌≡◌, ◌≤◌, ◌+◌, ◌++◌, IfOk, OnOk};
+ghost use Rattle.mv_base.specs.declared.limits.TheConstants.{MAX_COLUMNS as most_columns};
+ghost use Rattle.mv_fault.specs.Tells.{Tells};
+ghost use Rattle.mv_decl.specs.Line.{decl_faults};
+ghost use Rattle.mv_table.specs.Columns.{columns_faults};
+ghost use Rattle.mv_parse.specs.Commands.{first_of};
+ghost use Rattle.mv_parse.specs.Grammar.{model_faults, port_faults, row_faults, default_faults};
+ghost use Rattle.mv_parse.specs.Steps.{with_inputs, with_outputs, with_declared, with_table, default_seen, row_seen};
+
+use crate::known::{OpenModel, OpenTable};
+use mv_base::{MAX_TABLE_LINES, Name, NameSet};
+use mv_decl::declare;
+use mv_fault::{ParseFault, Which};
+use mv_table::{check_columns, ins, outs};
+use mv_word::{is_model_name, is_net_name};
+use std::alloc::Global;
+
+/// The name behind `.model`.
+#[tactic(auto, using(mv_fault::proofs::Firsts::firsts), unfolding(crate::specs::Grammar::model_faults))]
+pub fn model_name(number: u32, word: &Name, words: &[Name]) -> Result<Name, ParseFault>
+    ensures fault { Tells result (model_faults number word.now words.now) }
+    ensures ok { IfOk result (λ name. name ≡ first_of words.now) }
+{
+    match words {
+        [] => Err(ParseFault::Missing {
+            line: number,
+            word: word.copy()?,
+        }),
+        [name, ..] if !is_model_name(name.bytes()) => Err(ParseFault::BadName {
+            line: number,
+            name: name.copy()?,
+        }),
+        [name] => Ok(name.copy()?),
+        _ => Err(ParseFault::Extra {
+            line: number,
+            word: word.copy()?,
+        }),
+    }
+}
+
+/// Adds the names of inputs, or of outputs, to those that stand there already.
+#[tactic(auto, using(mv_fault::proofs::Firsts::firsts))]
+fn add_ports(ports: &mut NameSet, number: u32, words: &[Name]) -> Result<(), ParseFault>
+    ensures fault { Tells result (port_faults number ports.old words.now) }
+    ensures ok { OnOk result (ports.new ≡ ports.old ++ words.now) }
+{
+    for word in words {
+        if !is_net_name(word.bytes()) {
+            return Err(ParseFault::BadName {
+                line: number,
+                name: word.copy()?,
+            });
+        }
+        if !ports.add(word.copy()?)? {
+            return Err(ParseFault::Repeated {
+                line: number,
+                name: word.copy()?,
+            });
+        }
+    }
+    Ok(())
+}
+
+/// Reads the names behind `.inputs`.
+pub fn read_inputs(model: &mut OpenModel, number: u32, words: &[Name]) -> Result<(), ParseFault>
+    ensures fault { Tells result (port_faults number model.old.inputs words.now) }
+    ensures ok { OnOk result (model.new ≡ with_inputs words.now model.old) }
+{
+    model.table = None;
+    add_ports(&mut model.inputs, number, words)
+}
+
+/// Reads the names behind `.outputs`.
+pub fn read_outputs(model: &mut OpenModel, number: u32, words: &[Name]) -> Result<(), ParseFault>
+    ensures fault { Tells result (port_faults number model.old.outputs words.now) }
+    ensures ok { OnOk result (model.new ≡ with_outputs words.now model.old) }
+{
+    model.table = None;
+    add_ports(&mut model.outputs, number, words)
+}
+
+/// Reads the words behind `.mv`.
+pub fn read_decls(
+    alloc: Global,
+    model: &mut OpenModel,
+    number: u32,
+    word: &Name,
+    words: &[Name],
+) -> Result<(), ParseFault>
+    ensures fault { Tells result (decl_faults number word.now model.old.decls words.now) }
+    ensures ok { OnOk result (model.new ≡ with_declared words.now model.old) }
+{
+    model.table = None;
+    declare(alloc, &mut model.decls, number, word, words)
+}
+
+/// Reads the words behind `.table`.
+pub fn begin_table(
+    model: &mut OpenModel,
+    number: u32,
+    word: &Name,
+    words: &[Name],
+) -> Result<(), ParseFault>
+    ensures fault { Tells result (columns_faults number word.now words.now) }
+    ensures ok { OnOk result (model.new ≡ with_table words.now model.old) }
+{
+    check_columns(number, word, words)?;
+    model.table = Some(OpenTable {
+        ins: ins(words).len(),
+        outs: outs(words).len(),
+        rows: 0,
+        has_default: false,
+    });
+    Ok(())
+}
+
+/// Counts a row of the open table.
+#[tactic(auto, using(mv_fault::proofs::Firsts::firsts), unfolding(crate::specs::Grammar::row_faults))]
+pub fn count_row(table: &mut OpenTable, number: u32, words: &[Name]) -> Result<(), ParseFault>
+    requires { table.old.ins + table.old.outs ≤ most_columns }
+    ensures fault { Tells result (row_faults number table.old words.now) }
+    ensures ok { OnOk result (table.new ≡ row_seen table.old) }
+{
+    if table.rows >= MAX_TABLE_LINES {
+        return Err(ParseFault::Limit {
+            line: number,
+            which: Which::TableLines,
+            number: MAX_TABLE_LINES + 1,
+        });
+    }
+    let wanted = table.ins + table.outs;
+    if words.len() != wanted {
+        return Err(ParseFault::Columns {
+            line: number,
+            wanted: wanted as u64,
+            got: words.len() as u64,
+        });
+    }
+    table.rows += 1;
+    Ok(())
+}
+
+/// Marks that the default of the open table has stood.
+#[tactic(auto, using(mv_fault::proofs::Firsts::firsts), unfolding(crate::specs::Grammar::default_faults))]
+pub fn count_default(
+    table: &mut OpenTable,
+    number: u32,
+    word: &Name,
+    words: &[Name],
+) -> Result<(), ParseFault>
+    ensures fault { Tells result (default_faults number word.now table.old words.now) }
+    ensures ok { OnOk result (table.new ≡ default_seen table.old) }
+{
+    if table.has_default {
+        return Err(ParseFault::DefaultTwice { line: number });
+    }
+    if words.len() < table.outs {
+        return Err(ParseFault::Missing {
+            line: number,
+            word: word.copy()?,
+        });
+    }
+    if words.len() > table.outs {
+        return Err(ParseFault::Extra {
+            line: number,
+            word: word.copy()?,
+        });
+    }
+    table.has_default = true;
+    Ok(())
+}

@@ -1,0 +1,83 @@
+ghost use Rattle.std.specs.Prelude.{◌≡◌, [], All, IfOk};
+ghost use Rattle.mv_lex.specs.declared.lines.LexLine.{LexLine};
+ghost use Rattle.mv_fault.specs.Tells.{Tells};
+ghost use Rattle.mv_parse.specs.Known.{front_rows, tables_of, file_model};
+ghost use Rattle.mv_parse.specs.Grammar.{value_faults};
+ghost use Rattle.mv_parse.specs.Steps.{Narrow};
+
+use crate::command::{command_at, is_table, keeps_table};
+use crate::known::OpenModel;
+use mv_base::{Items, Name, NameSet};
+use mv_decl::Decls;
+use mv_design::{FileModel, FileTable};
+use mv_fault::ParseFault;
+use mv_lex::LexLine;
+use mv_table::read_table;
+use std::alloc::Global;
+
+/// The rows and the defaults in front of any other line.
+fn front_rows(lines: &[LexLine]) -> &[LexLine]
+    ensures { result.now ≡ front_rows lines.now }
+{
+    for (count, line) in lines.iter().enumerate() {
+        if !keeps_table(command_at(line)) {
+            return &lines[..count];
+        }
+    }
+    lines
+}
+
+/// The tables among the lines of a model behind its first.
+#[tactic(auto, using(mv_fault::proofs::Firsts::firsts))]
+fn tables(alloc: Global, decls: &Decls, lines: &[LexLine]) -> Result<Items<FileTable>, ParseFault>
+    requires { All (λ (l : LexLine). Narrow l) lines.now }
+    ensures fault { Tells result (value_faults decls.now lines.now) }
+    ensures ok { IfOk result (λ tables. tables ≡ tables_of decls.now lines.now) }
+{
+    let mut tables = Items::new(alloc);
+    for (at, line) in lines.iter().enumerate() {
+        if is_table(command_at(line)) {
+            let (_before, behind) = lines.split_at(at + 1);
+            match read_table(alloc, decls, line, front_rows(behind)) {
+                Ok(table) => tables.push(table)?,
+                Err(fault) => return Err(fault),
+            }
+        }
+    }
+    Ok(tables)
+}
+
+/// The names of a set in a list of their own.
+fn copied(alloc: Global, names: &NameSet) -> Result<Items<Name>, ParseFault>
+    ensures fault { Tells result [] }
+    ensures ok { IfOk result (λ copies. copies ≡ names.now) }
+{
+    let mut copies = Items::new(alloc);
+    for name in names.as_slice() {
+        copies.push(name.copy()?)?;
+    }
+    Ok(copies)
+}
+
+/// The model that these lines, behind its first, have been read into.
+pub fn end_model(
+    alloc: Global,
+    model: OpenModel,
+    lines: &[LexLine],
+) -> Result<FileModel, ParseFault>
+    requires { All (λ (l : LexLine). Narrow l) lines.now }
+    ensures fault { Tells result (value_faults model.decls lines.now) }
+    ensures ok { IfOk result (λ ended. ended ≡ file_model model lines.now) }
+{
+    let tables = tables(alloc, &model.decls, lines)?;
+    Ok(FileModel {
+        inputs: copied(alloc, &model.inputs)?,
+        outputs: copied(alloc, &model.outputs)?,
+        name: model.name,
+        decls: model.decls.finish(),
+        tables,
+        latches: Items::new(alloc),
+        resets: Items::new(alloc),
+        parts: Items::new(alloc),
+    })
+}

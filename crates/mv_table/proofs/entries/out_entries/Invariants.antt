@@ -1,0 +1,9 @@
+use Rattle.std.proofs.Common.{◌≡◌, ◌++◌, drop}
+use Rattle.mv_table.specs.Entries.{outs_faults, outs_said}
+use Rattle.mv_table.proofs.entries.out_entries.Given as goal
+
+abbrev pub invariant-loop-at : goal.invariant-loop-at
+invariant-loop-at l = record {
+  said : l.entries ++ outs_said l.decls l.ins (drop l.at l.nets) (drop l.at l.words) ≡ outs_said l.decls l.ins l.nets l.words;
+  fault : outs_faults l.number l.decls l.ins (drop l.at l.nets) (drop l.at l.words) ≡ outs_faults l.number l.decls l.ins l.nets l.words;
+}

@@ -1,0 +1,41 @@
+-- The first line of a table, `.table COLUMNS`: its columns and their faults.
+use Rattle.std.specs.Prelude.{ℕ, ◌+◌, ◌-◌, Bool, not, ◌==◌, nat_lt, nat_le, List, [], ◌∷◌, ◌++◌, length, take, drop, codes, if◌then◌else◌}
+use Rattle.std.specs.List.{position_or_len}
+use Rattle.mv_base.specs.Names.{same_word, is_net_name}
+use Rattle.mv_base.specs.declared.limits.TheConstants.{MAX_COLUMNS}
+use Rattle.mv_fault.specs.declared.fault.Which.TheVariants.{Columns}
+use Rattle.mv_fault.specs.declared.fault.ParseFault.{ParseFault}
+use Rattle.mv_fault.specs.declared.fault.ParseFault.TheVariants.{Missing, Limit, BadName}
+use Rattle.mv_fault.specs.Tells.{when}
+
+abbrev pub is_arrow : List ℕ → Bool
+is_arrow w = same_word w (codes "->")
+
+-- the place of the first `->`, or the length where there is none
+abbrev pub arrow_at : List (List ℕ) → ℕ
+arrow_at words = position_or_len is_arrow words
+
+abbrev pub has_arrow : List (List ℕ) → Bool
+has_arrow words = nat_lt (arrow_at words) (length words)
+
+-- the input columns: the names before the first `->`, or all but the last where there is none
+abbrev pub ins_count : List (List ℕ) → ℕ
+ins_count words = if has_arrow words then arrow_at words else length words - 1
+
+unfoldable pub ins_of : List (List ℕ) → List (List ℕ)
+ins_of words = take (ins_count words) words
+
+-- the output columns: the names behind it, or the last
+unfoldable pub outs_of : List (List ℕ) → List (List ℕ)
+outs_of words = drop (if has_arrow words then arrow_at words + 1 else length words - 1) words
+
+-- the faults of column names behind so many columns
+abbrev pub names_faults : ℕ → ℕ → List (List ℕ) → List ParseFault
+names_faults n at [] = []
+names_faults n at (w ∷ ws) =
+    when (nat_le MAX_COLUMNS at) (Limit n Columns (MAX_COLUMNS + 1)) ++ when (not (is_net_name w)) (BadName n w) ++ names_faults n (at + 1) ws
+
+-- the faults of the words behind the command `word`: those of each column in turn, and an output that is lacking
+unfoldable pub columns_faults : ℕ → List ℕ → List (List ℕ) → List ParseFault
+columns_faults n word words =
+    names_faults n 0 (ins_of words) ++ names_faults n (length (ins_of words)) (outs_of words) ++ when (length (outs_of words) == 0) (Missing n word)

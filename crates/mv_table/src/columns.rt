@@ -1,0 +1,86 @@
+ghost use Rattle.std.specs.Prelude.{◌≡◌, ◌+◌, length};
+ghost use Rattle.std.specs.List.{position_or_len};
+ghost use Rattle.mv_table.specs.Columns.{is_arrow, arrow_at, ins_of, outs_of, names_faults, columns_faults};
+ghost use Rattle.mv_fault.specs.Tells.{Tells};
+
+use mv_base::{MAX_COLUMNS, Name};
+use mv_fault::{ParseFault, Which};
+use mv_word::{is_net_name, is_text};
+
+/// The place of the first `->`, or the length where there is none.
+fn arrow_at(words: &[Name]) -> usize
+    ensures { result ≡ arrow_at words.now }
+{
+    for (at, word) in words.iter().enumerate() {
+        if is_text(word.bytes(), b"->") {
+            return at;
+        }
+    }
+    words.len()
+}
+
+/// The input columns among the words of a table's first line: the names before the first `->`, or all but the last.
+#[tactic(auto, unfolding(crate::specs::Columns::ins_of))]
+pub fn ins(words: &[Name]) -> &[Name]
+    ensures { result.now ≡ ins_of words.now }
+{
+    let arrow = arrow_at(words);
+    if arrow < words.len() {
+        &words[..arrow]
+    } else {
+        &words[..words.len().saturating_sub(1)]
+    }
+}
+
+/// The output columns among the words of a table's first line: the names behind the first `->`, or the last.
+#[tactic(auto, unfolding(crate::specs::Columns::outs_of))]
+pub fn outs(words: &[Name]) -> &[Name]
+    ensures { result.now ≡ outs_of words.now }
+{
+    let arrow = arrow_at(words);
+    if arrow < words.len() {
+        &words[arrow + 1..]
+    } else {
+        &words[words.len().saturating_sub(1)..]
+    }
+}
+
+/// Tells the first fault of column names behind so many columns.
+fn check_names(number: u32, before: usize, names: &[Name]) -> Result<(), ParseFault>
+    ensures { Tells result (names_faults number before names.now) }
+{
+    for (at, name) in names.iter().enumerate() {
+        if before as u128 + at as u128 >= MAX_COLUMNS as u128 {
+            return Err(ParseFault::Limit {
+                line: number,
+                which: Which::Columns,
+                number: MAX_COLUMNS + 1,
+            });
+        }
+        if !is_net_name(name.bytes()) {
+            return Err(ParseFault::BadName {
+                line: number,
+                name: name.copy()?,
+            });
+        }
+    }
+    Ok(())
+}
+
+/// Tells the first fault of the words behind the command `word` of a table's first line.
+#[tactic(auto, using(mv_fault::proofs::Firsts::firsts), unfolding(crate::specs::Columns::columns_faults))]
+pub fn check_columns(number: u32, word: &Name, words: &[Name]) -> Result<(), ParseFault>
+    ensures { Tells result (columns_faults number word.now words.now) }
+{
+    let ins = ins(words);
+    let outs = outs(words);
+    check_names(number, 0, ins)?;
+    check_names(number, ins.len(), outs)?;
+    if outs.is_empty() {
+        return Err(ParseFault::Missing {
+            line: number,
+            word: word.copy()?,
+        });
+    }
+    Ok(())
+}

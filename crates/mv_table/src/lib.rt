@@ -1,0 +1,9 @@
+//! Tables of a network file: the columns of a table's first line, and what its rows and its default say.
+#![tactic(auto)]
+
+mod columns;
+mod entries;
+mod table;
+
+pub use columns::{check_columns, ins, outs};
+pub use table::{behind_first, is_default, read_table};

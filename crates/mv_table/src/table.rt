@@ -1,0 +1,132 @@
+ghost use Rattle.std.specs.Prelude.{◌≡◌, ◌<◌, ◌^◌, ◌++◌, [], length, IfOk, OnOk};
+ghost use Rattle.std.specs.Option.{option_or};
+ghost use Rattle.mv_fault.specs.Tells.{Tells};
+ghost use Rattle.mv_table.specs.Columns.{ins_of};
+ghost use Rattle.mv_table.specs.Tables.{behind_first, is_default, default_words, row_of, row_faults, rows_at, default_at, line_faults, table_of, table_faults};
+
+use crate::columns::{ins, outs};
+use crate::entries::{in_entries, out_entries};
+use mv_base::{Items, Name};
+use mv_decl::Decls;
+use mv_design::{Entry, FileTable, Row};
+use mv_fault::ParseFault;
+use mv_lex::LexLine;
+use mv_word::is_text;
+use std::alloc::Global;
+
+/// The words of a line behind its first.
+pub fn behind_first(line: &LexLine) -> &[Name]
+    ensures { result.now ≡ behind_first line.now }
+{
+    match line.words.as_slice() {
+        [_first, rest @ ..] => rest,
+        [] => line.words.as_slice(),
+    }
+}
+
+/// Whether these are the words of a default.
+fn begins_default(words: &[Name]) -> bool
+    ensures { result ≡ default_words words.now }
+{
+    match words {
+        [first, ..] => is_text(first.bytes(), b".default") || is_text(first.bytes(), b".def"),
+        [] => false,
+    }
+}
+
+/// Whether the line is the default of a table, and not a row.
+#[tactic(auto, unfolding(crate::specs::Tables::is_default))]
+pub fn is_default(line: &LexLine) -> bool
+    ensures { result ≡ is_default line.now }
+{
+    begins_default(line.words.as_slice())
+}
+
+/// The row that these words say.
+#[tactic(auto, using(mv_fault::proofs::Firsts::firsts))]
+fn row(
+    alloc: Global,
+    number: u32,
+    decls: &Decls,
+    ins: &[Name],
+    outs: &[Name],
+    words: &[Name],
+) -> Result<Row, ParseFault>
+    requires { length ins.now < 2 ^ 32 }
+    ensures fault { Tells result (row_faults number decls.now ins.now outs.now words.now) }
+    ensures ok { IfOk result (λ row. row ≡ row_of decls.now ins.now outs.now words.now) }
+{
+    let sets = in_entries(alloc, number, decls, ins, words)?;
+    let (_inputs, behind) = words.split_at(ins.len().min(words.len()));
+    let entries = out_entries(alloc, number, decls, ins, outs, behind)?;
+    Ok(Row {
+        ins: sets,
+        outs: entries,
+    })
+}
+
+/// Reads a row or a default into the rows and the default so far.
+#[tactic(auto, using(mv_fault::proofs::Firsts::firsts))]
+fn read_line(
+    alloc: Global,
+    decls: &Decls,
+    ins: &[Name],
+    outs: &[Name],
+    line: &LexLine,
+    rows: &mut Items<Row>,
+    default: &mut Option<Items<Entry>>,
+) -> Result<(), ParseFault>
+    requires { length ins.now < 2 ^ 32 }
+    ensures fault { Tells result (line_faults decls.now ins.now outs.now line.now) }
+    ensures rows { OnOk result (rows.new ≡ rows.old ++ rows_at decls.now ins.now outs.now line.now) }
+    ensures default { OnOk result (default.new ≡ option_or (default_at decls.now ins.now outs.now line.now) default.old) }
+{
+    if is_default(line) {
+        let entries = out_entries(alloc, line.number, decls, ins, outs, behind_first(line))?;
+        *default = Some(entries);
+    } else {
+        let words = line.words.as_slice();
+        rows.push(row(alloc, line.number, decls, ins, outs, words)?)?;
+    }
+    Ok(())
+}
+
+/// The table of a first line and the lines behind it, all of which are rows or defaults.
+#[tactic(auto, using(mv_fault::proofs::Firsts::firsts), unfolding(crate::specs::Tables::table_of, crate::specs::Tables::table_faults))]
+pub fn read_table(
+    alloc: Global,
+    decls: &Decls,
+    head: &LexLine,
+    lines: &[LexLine],
+) -> Result<FileTable, ParseFault>
+    requires { length (ins_of (behind_first head.now)) < 2 ^ 32 }
+    ensures fault { Tells result (table_faults decls.now head.now lines.now) }
+    ensures ok { IfOk result (λ table. table ≡ table_of decls.now head.now lines.now) }
+{
+    let ins = ins(behind_first(head));
+    let outs = outs(behind_first(head));
+    let mut rows = Items::new(alloc);
+    let mut default = None;
+    for line in lines {
+        read_line(alloc, decls, ins, outs, line, &mut rows, &mut default)?;
+    }
+    Ok(FileTable {
+        line: head.number,
+        inputs: copied(alloc, ins)?,
+        outputs: copied(alloc, outs)?,
+        rows,
+        default,
+    })
+}
+
+/// The same names in a list of their own.
+fn copied(alloc: Global, names: &[Name]) -> Result<Items<Name>, ParseFault>
+    ensures fault { Tells result [] }
+    ensures ok { IfOk result (λ copies. copies ≡ names.now) }
+{
+    let mut copies = Items::new(alloc);
+    for name in names {
+        copies.push(name.copy()?)?;
+    }
+    Ok(copies)
+}
