@@ -34,8 +34,8 @@ fn counted(lines: &Lines) -> Counts {
     }
 }
 
-/// Lexes standard input piece by piece, keeps all lines, and counts them and their words.
-pub fn lexed(rt: &HostRuntime) -> Result<Counts, Stop> {
+/// Lexes standard input piece by piece and keeps all lines.
+pub fn lines_of_input(rt: &HostRuntime) -> Result<Lines, Stop> {
     let mut files = HostFiles::new(rt);
     let mut lines = Lines::new(rt.alloc());
     let mut lexer = Lexer::new(rt.alloc(), MOST);
@@ -49,5 +49,11 @@ pub fn lexed(rt: &HostRuntime) -> Result<Counts, Stop> {
         lexer.feed(&room[..count], &mut lines)?;
     }
     lexer.finish(&mut lines)?;
+    Ok(lines)
+}
+
+/// Lexes standard input, and counts its lines and their words.
+pub fn lexed(rt: &HostRuntime) -> Result<Counts, Stop> {
+    let lines = lines_of_input(rt)?;
     Ok(counted(&lines))
 }

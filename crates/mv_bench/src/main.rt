@@ -1,13 +1,16 @@
 //! mv_bench runs single calls on drawn input, so that their time can be taken alone.
 //!
 //! Its words come by threes, a task, a size and a seed, and each task prints one line: `mv_bench covers 500 1 absorb 4000 1`.
-//! The one word `lex` cuts standard input into lines of words, and prints how many there are.
+//! The one word `lex` cuts standard input into lines of words, and prints how many there are; the one word `parse` reads it as
+//! a network file, and prints how many models, tables and rows its design has.
 #![tactic(auto)]
 
 mod draw;
 mod lexing;
 mod pairs;
+mod parsing;
 mod stop;
+mod symbols;
 mod task;
 mod tasks;
 #[cfg(test)]
@@ -23,6 +26,10 @@ fn run(rt: &HostRuntime) -> Result<(), Stop> {
     let words: Vec<String> = env::args(rt)?.skip(1).collect(rt.alloc())?;
     if matches!(words.as_slice(), [word] if word.as_str() == "lex") {
         println!(rt; "lex {}", lexing::lexed(rt)?)?;
+        return Ok(());
+    }
+    if matches!(words.as_slice(), [word] if word.as_str() == "parse") {
+        println!(rt; "parse {}", parsing::parsed(rt)?)?;
         return Ok(());
     }
     for three in words.as_slice().chunks(3) {

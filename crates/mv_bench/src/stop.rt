@@ -1,4 +1,5 @@
 use mv_base::{Failed, Memory};
+use mv_fault::ParseFault;
 use mv_lex::LexFault;
 use std::alloc::AllocError;
 use std::{fmt, io};
@@ -13,6 +14,8 @@ pub enum Stop {
     Read,
     /// Standard input isn't made of lines of words.
     Lex(LexFault),
+    /// Standard input is no network file of a form that is read.
+    Parse(ParseFault),
     /// The words couldn't be read, or a line couldn't be printed.
     Host(io::Error),
 }
@@ -41,6 +44,12 @@ impl From<LexFault> for Stop {
     }
 }
 
+impl From<ParseFault> for Stop {
+    fn from(fault: ParseFault) -> Stop {
+        Stop::Parse(fault)
+    }
+}
+
 impl From<io::Error> for Stop {
     fn from(error: io::Error) -> Stop {
         Stop::Host(error)
@@ -52,11 +61,12 @@ impl fmt::Display for Stop {
         match self {
             Stop::Words => write!(
                 f,
-                "the words are lex, or TASK SIZE SEED once or more; a TASK is covers, absorb or complement"
+                "the words are lex, parse, or TASK SIZE SEED once or more; a TASK is covers, absorb, complement or kernels"
             ),
             Stop::Memory => write!(f, "out of memory"),
             Stop::Read => write!(f, "standard input can't be read"),
             Stop::Lex(fault) => write!(f, "{fault}"),
+            Stop::Parse(fault) => write!(f, "{fault:?}"),
             Stop::Host(error) => write!(f, "{error}"),
         }
     }

@@ -2,6 +2,7 @@ use crate::stop::Stop;
 use crate::tasks;
 use mv_base::Memory;
 use mv_cover::CoverStop;
+use mv_kernels::KernelStop;
 use std::alloc::Global;
 use std::fmt;
 
@@ -11,6 +12,7 @@ enum Call {
     Covers,
     Absorb,
     Complement,
+    Kernels,
 }
 
 impl Call {
@@ -19,6 +21,7 @@ impl Call {
             "covers" => Some(Call::Covers),
             "absorb" => Some(Call::Absorb),
             "complement" => Some(Call::Complement),
+            "kernels" => Some(Call::Kernels),
             _ => None,
         }
     }
@@ -30,6 +33,7 @@ impl fmt::Display for Call {
             Call::Covers => write!(f, "covers"),
             Call::Absorb => write!(f, "absorb"),
             Call::Complement => write!(f, "complement"),
+            Call::Kernels => write!(f, "kernels"),
         }
     }
 }
@@ -49,6 +53,8 @@ pub enum Found {
     Lines(usize),
     Cubes(usize),
     Wide,
+    Kernels(usize),
+    TooMany,
 }
 
 impl Task {
@@ -76,6 +82,11 @@ impl Task {
                 Err(CoverStop::Wide) => Ok(Found::Wide),
                 Err(CoverStop::Memory) => Err(Memory),
             },
+            Call::Kernels => match tasks::kernels(alloc, self.size, self.seed) {
+                Ok(kernels) => Ok(Found::Kernels(kernels)),
+                Err(KernelStop::TooMany) => Ok(Found::TooMany),
+                Err(KernelStop::Memory) => Err(Memory),
+            },
         }
     }
 }
@@ -93,6 +104,8 @@ impl fmt::Display for Found {
             Found::Lines(lines) => write!(f, "{lines} lines"),
             Found::Cubes(cubes) => write!(f, "{cubes} cubes"),
             Found::Wide => write!(f, "wide"),
+            Found::Kernels(kernels) => write!(f, "{kernels} kernels"),
+            Found::TooMany => write!(f, "too many"),
         }
     }
 }

@@ -1,7 +1,9 @@
 use crate::draw::{Shape, VALUES, drawn_lines};
 use crate::pairs::{NETS, pair_lines};
+use crate::symbols::drawn_cubes;
 use mv_base::Memory;
 use mv_cover::{Cover, CoverStop};
+use mv_kernels::KernelStop;
 use rand_pcg::Pcg32;
 use std::alloc::Global;
 
@@ -51,4 +53,11 @@ pub fn complement(alloc: Global, size: u32, seed: u64) -> Result<usize, CoverSto
         return Ok(0);
     }
     Ok(cover.complement(alloc, &counts)?.len())
+}
+
+/// How many kernels so many drawn cubes over 30 symbols have.
+pub fn kernels(alloc: Global, size: u32, seed: u64) -> Result<usize, KernelStop> {
+    let mut random = Pcg32::new(seed, 0);
+    let cubes = drawn_cubes(alloc, &mut random, size)?;
+    Ok(mv_kernels::kernels(alloc, cubes.as_slice())?.len())
 }

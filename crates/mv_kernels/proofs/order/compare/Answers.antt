@@ -1,0 +1,7 @@
+use Rattle.std.proofs.Common.{◌∙◌, sym, arith}
+use Rattle.mv_kernels.proofs.Orders.{cmp-ended}
+use Rattle.mv_kernels.proofs.order.compare.Goals as goal
+
+pub returns : goal.returns
+returns c =
+    c.cmp.ensures ∙ (sym (cmp-ended c.args.a.now c.args.b.now c.loop-i.i (omega arith) (omega arith) (omega arith)) ∙ c.loop-i.invariant.1)

@@ -1,0 +1,6 @@
+use Rattle.std.proofs.Common.{◌≡◌, take}
+use Rattle.mv_kernels.specs.Symbols as spec
+use Rattle.mv_kernels.proofs.quotient.quotient.Given as goal
+
+abbrev pub invariant-loop-cube : goal.invariant-loop-cube
+invariant-loop-cube l = l.part.items ≡ spec.quotient (take l.cube-index l.cubes) l.symbols

@@ -1,0 +1,39 @@
+ghost use Rattle.std.specs.Prelude.{◌≡◌};
+ghost use Rattle.mv_kernels.specs.Symbols.{SameCubes};
+ghost use Rattle.mv_kernels.specs.Order.{Ascend, lit_cmp, cube_cmp};
+
+use mv_cover::{Cube, Lit};
+use std::cmp::Ordering;
+
+/// The cubes in ascending order, each once.
+pub fn in_order(mut cubes: Vec<Cube>) -> Vec<Cube>
+    ensures ascending { Ascend result.items }
+    ensures same { SameCubes result.items cubes.items }
+{
+    cubes.sort_unstable_by(|a, b| compare(a.lits(), b.lits()));
+    cubes.dedup();
+    cubes
+}
+
+/// The order of cubes, as the lists of their literals.
+fn compare(a: &[Lit], b: &[Lit]) -> Ordering
+    ensures { result ≡ cube_cmp a.now b.now }
+{
+    for (i, l) in a.iter().enumerate() {
+        let Some(m) = b.get(i) else {
+            return Ordering::Greater;
+        };
+        let found = compare_lits(l, m);
+        if found != Ordering::Equal {
+            return found;
+        }
+    }
+    a.len().cmp(&b.len())
+}
+
+/// The order of literals, by net and then by set.
+fn compare_lits(a: &Lit, b: &Lit) -> Ordering
+    ensures { result ≡ lit_cmp a.now b.now }
+{
+    a.net.0.cmp(&b.net.0).then(a.set.cmp(&b.set))
+}
