@@ -1,0 +1,117 @@
+-- From the table to what callers see.
+use Rattle.std.specs.Bool.{OnFalse}
+use Rattle.std.proofs.Common.{◌≡◌, ℕ, ◌&&◌, Bool, true, false, not, List, Option, Result, Ok, Err, IfOk, IfErr, All, refl, sym, ap, ◌∙◌, true≢false, arith}
+use Rattle.std.proofs.lemmas.List.Elements.{All-weaker}
+use Rattle.mv_diagram.specs.declared.node.Dd.{Dd}
+use Rattle.mv_diagram.specs.declared.node.Node.{Node}
+use Rattle.mv_diagram.specs.declared.table.Table.{Table}
+use Rattle.mv_diagram.specs.Sets.{Point, holds, is_held}
+use Rattle.mv_diagram.specs.Sound.{IsSound}
+use Rattle.mv_diagram.specs.Works.{Adds, IsLacking}
+use Rattle.mv_diagram.specs.Diagrams.{Contents, IsHeld, Keeps, Lacks, Loses, has}
+use Rattle.mv_diagram.specs.declared.node.Nodes.{Nodes}
+use Rattle.mv_diagram.specs.declared.memo.Operation.{Operation}
+use Rattle.mv_diagram.specs.Results.{IsResult, result_of}
+use Rattle.mv_diagram.specs.Quantified.{Agrees, IsQuantified, Exists, Forall, is_one_of}
+use Rattle.mv_diagram.proofs.Following.{holds_end}
+use Rattle.mv_diagram.proofs.Growing.{no_node, held_stays, Fewer, set_fewer}
+use Rattle.mv_diagram.proofs.Tables.{table_held, table_holds}
+
+-- what callers see of a table
+abbrev pub shown : Table → ℕ → Contents
+shown t n = record { counts = t.counts.items; nodes = t.pool.places; cap = t.pool.cap; reclaims = n }
+
+pub zero_empty : (counts : List ℕ) (ns : List (Option Node)) (p : Point) → holds counts ns 0 p ≡ false
+zero_empty counts ns p = holds_end counts ns 0 p (no_node ns 0 (omega arith))
+
+pub one_full : (counts : List ℕ) (ns : List (Option Node)) (p : Point) → holds counts ns 1 p ≡ true
+one_full counts ns p = holds_end counts ns 1 p (no_node ns 1 (omega arith))
+
+pub Keeps-adds : (old new : Table) (n : ℕ) → IsSound old.counts.items old.pool.places → Adds old new → Keeps (shown old n) (shown new n)
+Keeps-adds old new n s adds = record {
+  counts = ap (λ v. v.items) adds.counts;
+  cap = adds.cap;
+  reclaims = refl;
+  held = λ d h. record { is = table_held old new s adds d.0 h.is };
+  sets = λ d p h. table_holds old new s adds d.0 p h.is;
+}
+
+pub Lacks-lacking : (new : Table) (n : ℕ) (set : Point → Bool) → IsLacking new.counts.items new.pool.places set → Lacks (shown new n) set
+Lacks-lacking new n set lacking = record { none = λ d held same. lacking.none d.0 held.is same }
+
+module _ (operation : Operation) (old new : Table) (n : ℕ) (a b : Dd) (s : IsSound old.counts.items old.pool.places) (adds : Adds old new)
+    (ha : IsHeld (shown old n) a) (hb : IsHeld (shown old n) b) where
+  -- the operands have the sets that they had
+  same_operands : (p : Point) → result_of operation (holds new.counts.items new.pool.places a.0 p) (holds new.counts.items new.pool.places b.0 p)
+      ≡ result_of operation (holds old.counts.items old.pool.places a.0 p) (holds old.counts.items old.pool.places b.0 p)
+  same_operands p =
+      ap (λ x. result_of operation x (holds new.counts.items new.pool.places b.0 p)) (table_holds old new s adds a.0 p ha.is)
+      ∙ ap (result_of operation (holds old.counts.items old.pool.places a.0 p)) (table_holds old new s adds b.0 p hb.is)
+
+  pub result_shown : (r : Result Dd Nodes) → IfOk r (λ d. IsResult new.counts.items new.pool.places operation a.0 b.0 d.0)
+      → IfOk r (λ d. (p : Point) → has (shown new n) d p ≡ result_of operation (has (shown old n) a p) (has (shown old n) b p))
+  result_shown (Ok d) is = λ p. is.set p ∙ same_operands p
+  result_shown (Err e) is = tt
+
+  pub lacks_shown : (r : Result Dd Nodes)
+      → IfErr r (λ e. IsLacking new.counts.items new.pool.places (λ p. result_of operation (holds new.counts.items new.pool.places a.0 p) (holds new.counts.items new.pool.places b.0 p)))
+      → IfErr r (λ e. Lacks (shown new n) (λ p. result_of operation (has (shown old n) a p) (has (shown old n) b p)))
+  lacks_shown (Ok d) is = tt
+  lacks_shown (Err e) is = record { none = λ d held same. is.none d.0 held.is (record { each = λ p range. same.each p range ∙ sym (same_operands p) }) }
+
+twice : (x : Bool) → not (x && x) ≡ not x
+twice true = refl
+twice false = refl
+
+module _ (old new : Contents) (a : Dd) where
+  pub not_shown : (r : Result Dd Nodes) → IfOk r (λ d. (p : Point) → has new d p ≡ not (has old a p && has old a p)) → IfOk r (λ d. (p : Point) → has new d p ≡ not (has old a p))
+  not_shown (Ok d) is = λ p. is p ∙ twice (has old a p)
+  not_shown (Err e) is = tt
+
+  pub not_lacks : (r : Result Dd Nodes) → IfErr r (λ e. Lacks new (λ p. not (has old a p && has old a p))) → IfErr r (λ e. Lacks new (λ p. not (has old a p)))
+  not_lacks (Ok d) is = tt
+  not_lacks (Err e) is = record { none = λ d held same. is.none d held (record { each = λ p range. same.each p range ∙ sym (twice (has old a p)) }) }
+
+-- what isn't picked from is empty
+pub picked_none : (counts : List ℕ) (ns : List (Option Node)) (d : ℕ) (r : Bool) → OnFalse r (d ≡ 0) → OnFalse r ((p : Point) → holds counts ns d p ≡ false)
+picked_none counts ns d true is = tt
+picked_none counts ns d false is = λ p. ap (λ c. holds counts ns c p) is ∙ zero_empty counts ns p
+
+pub Loses-fewer : (old new : Table) (n k : ℕ) → IsSound old.counts.items old.pool.places → Fewer old.pool.places new.pool.places → new.counts ≡ old.counts → new.pool.cap ≡ old.pool.cap → Loses (shown old n) (shown new k)
+Loses-fewer old new n k s f counts cap = record {
+  counts = ap (λ v. v.items) counts;
+  cap = cap;
+  held = λ d h. record { is = held_stays old.counts.items new.pool.places old.pool.places f.grows d.0 h.is };
+  sets = λ d p h. ap (λ v. holds v new.pool.places d.0 p) (ap (λ v. v.items) counts) ∙ set_fewer old.counts.items old.pool.places new.pool.places s f d.0 p h.is;
+}
+
+pub all_held : (c : Contents) (roots : List Dd) → All (IsHeld c) roots → All (λ (root : Dd). is_held c.nodes root.0 ≡ true) roots
+all_held c roots held = All-weaker (IsHeld c) (λ (root : Dd). is_held c.nodes root.0 ≡ true) (λ root h. h.is) roots held
+
+module _ (old new : Table) (n : ℕ) (a : Dd) (vars : List ℕ) (chosen : ℕ → Bool) (same : (v : ℕ) → chosen v ≡ is_one_of vars v) (s : IsSound old.counts.items old.pool.places) (adds : Adds old new) (ha : IsHeld (shown old n) a) where
+  agrees_chosen : (p q : Point) → Agrees (is_one_of vars) p q → Agrees chosen p q
+  agrees_chosen p q agrees = record { each = λ v out. agrees.each v (sym (same v) ∙ out) }
+
+  agrees_vars : (p q : Point) → Agrees chosen p q → Agrees (is_one_of vars) p q
+  agrees_vars p q agrees = record { each = λ v out. agrees.each v (same v ∙ out) }
+
+  was : (q : Point) → holds new.counts.items new.pool.places a.0 q ≡ holds old.counts.items old.pool.places a.0 q
+  was q = table_holds old new s adds a.0 q ha.is
+
+  pub exists_shown : (r : Result Dd Nodes) → IfOk r (λ d. IsQuantified new.counts.items new.pool.places chosen true a.0 d.0) → IfOk r (Exists (shown old n) (shown new n) vars a)
+  exists_shown (Err e) is = tt
+  exists_shown (Ok d) is = record {
+    some = λ p range there. let at = is.some p range there in record { other = at.other; range = at.range; agrees = agrees_vars p at.other at.agrees; is = sym (was at.other) ∙ at.is };
+    all = λ p q range agrees there. is.all p q range (agrees_chosen p q agrees) (was q ∙ there);
+  }
+
+  pub forall_shown : (r : Result Dd Nodes) → IfOk r (λ d. IsQuantified new.counts.items new.pool.places chosen false a.0 d.0) → IfOk r (Forall (shown old n) (shown new n) vars a)
+  forall_shown (Err e) is = tt
+  forall_shown (Ok d) is = record {
+    every = λ p q there range agrees. true_unless _ (λ out. true≢false (sym there ∙ is.all p q range (agrees_chosen p q agrees) (was q ∙ out)));
+    all = λ p range every. true_unless _ (λ out. let at = is.some p range out in true≢false (sym (every at.other at.range (agrees_vars p at.other at.agrees)) ∙ sym (was at.other) ∙ at.is));
+  }
+    where
+      true_unless : (b : Bool) → (b ≡ false → ⊥) → b ≡ true
+      true_unless true never = refl
+      true_unless false never = absurd (never refl)

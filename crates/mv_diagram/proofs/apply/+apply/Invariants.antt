@@ -1,0 +1,7 @@
+use Rattle.std.proofs.Common.{◌-◌, ◌*◌, length, min}
+use Rattle.mv_base.specs.declared.limits.TheConstants.{MAX_VALUES}
+use Rattle.mv_diagram.specs.Sound.{first}
+use Rattle.mv_diagram.proofs.apply.+apply.Given as goal
+
+abbrev pub decreases-apply : goal.decreases-apply
+decreases-apply l = length l.table.now.counts.items * MAX_VALUES - min (first l.table.now.counts.items l.table.now.pool.places l.a.0) (first l.table.now.counts.items l.table.now.pool.places l.b.0)

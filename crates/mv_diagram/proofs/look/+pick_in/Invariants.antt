@@ -1,0 +1,7 @@
+use Rattle.std.proofs.Common.{◌-◌, ◌*◌, length}
+use Rattle.mv_base.specs.declared.limits.TheConstants.{MAX_VALUES}
+use Rattle.mv_diagram.specs.Sound.{first}
+use Rattle.mv_diagram.proofs.look.+pick_in.Given as goal
+
+abbrev pub decreases-pick_in : goal.decreases-pick_in
+decreases-pick_in l = length l.table.now.counts.items * MAX_VALUES - first l.table.now.counts.items l.table.now.pool.places l.d.0

@@ -1,0 +1,10 @@
+pub mod Links
+pub mod Sets
+pub mod Sound
+pub mod Works
+pub mod Results
+pub mod First
+pub mod Diagrams
+pub mod Roots
+pub mod Whole
+pub mod Quantified

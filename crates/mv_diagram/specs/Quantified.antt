@@ -1,0 +1,60 @@
+-- Points that differ in some variables alone, and the sets that have one of them, or all.
+use Rattle.std.specs.Prelude.{◌≡◌, ◌≤◌, ◌==◌, ℕ, Bool, true, false, List, Option, Contains, if◌then◌else◌}
+use Rattle.std.specs.List.{list_any}
+use Rattle.mv_diagram.specs.declared.node.Dd.{Dd}
+use Rattle.mv_diagram.specs.declared.node.Node.{Node}
+use Rattle.mv_diagram.specs.declared.node.Test.{Test}
+use Rattle.mv_diagram.specs.declared.memo.Key.{Key}
+use Rattle.mv_diagram.specs.declared.memo.Operation.{Operation}
+use Rattle.mv_diagram.specs.declared.memo.Operation.TheVariants.{And, Or}
+use Rattle.mv_diagram.specs.Sets.{Point, InRange, holds, is_held}
+use Rattle.mv_diagram.specs.Sound.{order, first}
+use Rattle.mv_diagram.specs.Results.{result_of}
+use Rattle.mv_diagram.specs.Diagrams.{Contents, has}
+
+-- whether a variable is one of these
+abbrev pub is_one_of : List ℕ → ℕ → Bool
+is_one_of vars v = list_any (λ x. x == v) vars
+
+-- the points have the same values outside these variables
+pub record Agrees (vars : ℕ → Bool) (p q : Point) : Type 0 where
+  pub each : (v : ℕ) → vars v ≡ false → p v ≡ q v
+
+-- a point that agrees with this one, and has that answer
+pub record Agreeing (counts : List ℕ) (vars : ℕ → Bool) (set : Point → Bool) (answer : Bool) (p : Point) : Type 0 where
+  pub other : Point
+  pub range : InRange counts other
+  pub agrees : Agrees vars p other
+  pub is : set other ≡ answer
+
+-- a diagram has the answer exactly where its operand has it at some point that agrees
+pub record IsQuantified (counts : List ℕ) (ns : List (Option Node)) (vars : ℕ → Bool) (answer : Bool) (a d : ℕ) : Type 0 where
+  pub operand : is_held ns a ≡ true
+  pub held : is_held ns d ≡ true
+  pub later : first counts ns a ≤ first counts ns d
+  pub some : (p : Point) → InRange counts p → holds counts ns d p ≡ answer → Agreeing counts vars (λ q. holds counts ns a q) answer p
+  pub all : (p q : Point) → InRange counts q → Agrees vars p q → holds counts ns a q ≡ answer → holds counts ns d p ≡ answer
+
+-- what is remembered of this is right
+pub record Quantifies (counts : List ℕ) (ns : List (Option Node)) (vars : ℕ → Bool) (answer : Bool) (entries : List (Key × Dd)) : Type 0 where
+  pub each : (k : Key) (d : Dd) → Contains entries (k, d) → IsQuantified counts ns vars answer k.left.0 d.0
+
+-- the operation whose answer is this one where one of two answers is
+abbrev pub joining : Bool → Operation
+joining answer = if answer then Or else And
+
+-- a diagram is made of those for yes and no: by the operation, or by the test
+pub record IsJoined (counts : List ℕ) (ns : List (Option Node)) (joined answer : Bool) (t : Test) (yes no d : ℕ) : Type 0 where
+  pub held : is_held ns d ≡ true
+  pub later : order t.var t.value ≤ first counts ns d
+  pub set : (p : Point) → holds counts ns d p ≡ (if joined then result_of (joining answer) (holds counts ns yes p) (holds counts ns no p) else (if p t.var == t.value then holds counts ns yes p else holds counts ns no p))
+
+-- it has each point that agrees with one of the set outside these variables, and no other
+pub record Exists (old new : Contents) (vars : List ℕ) (a d : Dd) : Type 0 where
+  pub some : (p : Point) → InRange new.counts p → has new d p ≡ true → Agreeing new.counts (is_one_of vars) (λ q. has old a q) true p
+  pub all : (p q : Point) → InRange new.counts q → Agrees (is_one_of vars) p q → has old a q ≡ true → has new d p ≡ true
+
+-- it has each point with which all that agree outside these variables are in the set, and no other
+pub record Forall (old new : Contents) (vars : List ℕ) (a d : Dd) : Type 0 where
+  pub every : (p q : Point) → has new d p ≡ true → InRange new.counts q → Agrees (is_one_of vars) p q → has old a q ≡ true
+  pub all : (p : Point) → InRange new.counts p → ((q : Point) → InRange new.counts q → Agrees (is_one_of vars) p q → has old a q ≡ true) → has new d p ≡ true
