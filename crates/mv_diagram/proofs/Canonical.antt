@@ -21,7 +21,7 @@ ends ns d held e = elim (or_cases (nat_lt d 2) (is_some (node_at ns d)) held) [
     gone (Some n) e h = cc
 
 -- there is a point
-pub nowhere : Point
+unfoldable pub nowhere : Point
 nowhere v = 0
 
 InRange-nowhere : (counts : List ℕ) → AreCounts counts → InRange counts nowhere

@@ -96,7 +96,7 @@ pub Grows-with : (ns : List (Option Node)) (n : Node) → Grows ns (with_item ns
 Grows-with ns n = record { keeps = λ place m e. item_at-with_other ns n place (λ same. none-some m (sym (free_there ns) ∙ ap (item_at ns) (sym same) ∙ e)) ∙ e }
 
 module _ (counts : List ℕ) (ns : List (Option Node)) (n : Node) (s : IsSound counts ns) (is : IsNode counts ns n) (fresh : IsAbsent ns n) where
-  each_with : (place : ℕ) (m : Node) → item_at (with_item ns n) place ≡ Some m → ((place ≡ least_free ns) × (n ≡ m)) ⊎ (item_at ns place ≡ Some m)
+  pub each_with : (place : ℕ) (m : Node) → item_at (with_item ns n) place ≡ Some m → ((place ≡ least_free ns) × (n ≡ m)) ⊎ (item_at ns place ≡ Some m)
   each_with place m e = elim (cases_eq place (least_free ns)) [
     | inl same ↦ inl (same, same_Some n m (sym (item_at-with ns n) ∙ ap (item_at (with_item ns n)) (sym same) ∙ e))
     | inr other ↦ inr (sym (item_at-with_other ns n place other) ∙ e)

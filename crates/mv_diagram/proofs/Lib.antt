@@ -16,3 +16,5 @@ pub mod Gathering
 pub mod Reclaiming
 pub mod Quantifying
 pub mod Counting
+pub mod Restricting
+pub mod Adding

@@ -90,7 +90,7 @@ module _ (counts : List ℕ) (ns : List (Option Node)) (s : IsSound counts ns) (
     | inr other ↦ ap (λ b. if b then y else n) (ne_eqb _ _ other) ∙ en ∙ ap (has set) (sym (seen_more (slice_index counts var) low (p var) other))
   ]
 
-  literal_reads : (low : ℕ) → low + 1 < slice_index counts var → Reads counts (order var low) (literal_from counts var set low)
+  pub literal_reads : (low : ℕ) → low + 1 < slice_index counts var → Reads counts (order var low) (literal_from counts var set low)
   literal_reads low below = record { each = λ p q agree. ap (has set) (same p q agree) }
     where
       count : ℕ
@@ -124,23 +124,24 @@ module _ (counts : List ℕ) (ns : List (Option Node)) (s : IsSound counts ns) (
         ]
       ]
 
+  -- the literal that the later tests see is what the whole is where the test says no
+  pub literal_past : (low : ℕ) (p : Point) → seen (slice_index counts var) (low + 1) (p var) ≡ seen (slice_index counts var) low (beside counts (record { var = var; value = low }) p var)
+  literal_past low p = elim (cases_eq (p var) low) [
+    | inl same ↦
+        let there = ap (λ (q : Point). q var) (beside_there counts (record { var = var; value = low }) p same) ∙ value_there p var (greatest counts var) var refl in
+        seen_below (slice_index counts var) (low + 1) (p var) (omega arith)
+        ∙ sym (seen_past (slice_index counts var) low (greatest counts var) (omega arith))
+        ∙ ap (seen (slice_index counts var) low) (sym there)
+    | inr other ↦
+        sym (seen_more (slice_index counts var) low (p var) other)
+        ∙ ap (λ (q : Point). seen (slice_index counts var) low (q var)) (sym (beside_elsewhere counts (record { var = var; value = low }) p other))
+  ]
+
   -- where no diagram has the literal that the later tests see, none has the whole
   lacking_more : (low : ℕ) → low + 1 < slice_index counts var → IsLacking counts ns (literal_from counts var set (low + 1)) → IsLacking counts ns (literal_from counts var set low)
   lacking_more low below lacking =
       lacking_no counts ns s (record { var = var; value = low }) (record { variable = variable; value = below }) (literal_from counts var set low) (literal_reads low below)
-      (lacking_same counts ns s _ _ (λ p. ap (has set) (past p)) lacking)
-    where
-      past : (p : Point) → seen (slice_index counts var) (low + 1) (p var) ≡ seen (slice_index counts var) low (beside counts (record { var = var; value = low }) p var)
-      past p = elim (cases_eq (p var) low) [
-        | inl same ↦
-            let there = ap (λ (q : Point). q var) (beside_there counts (record { var = var; value = low }) p same) ∙ value_there p var (greatest counts var) var refl in
-            seen_below (slice_index counts var) (low + 1) (p var) (omega arith)
-            ∙ sym (seen_past (slice_index counts var) low (greatest counts var) (omega arith))
-            ∙ ap (seen (slice_index counts var) low) (sym there)
-        | inr other ↦
-            sym (seen_more (slice_index counts var) low (p var) other)
-            ∙ ap (λ (q : Point). seen (slice_index counts var) low (q var)) (sym (beside_elsewhere counts (record { var = var; value = low }) p other))
-      ]
+      (lacking_same counts ns s _ _ (λ p. ap (has set) (literal_past low p)) lacking)
 
   pub lacking_literal : (low : ℕ) → low < slice_index counts var → IsLacking counts ns (literal_from counts var set low) → IsLacking counts ns (λ p. has set (p var))
   lacking_literal zero below lacking = record { none = λ d held same. lacking.none d held (record { each = λ p range. same.each p range ∙ ap (has set) (sym (seen_all (slice_index counts var) (p var) (range.below var variable))) }) }

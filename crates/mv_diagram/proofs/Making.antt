@@ -38,7 +38,7 @@ module _ (counts : List ℕ) (ns : List (Option Node)) (s : IsSound counts ns) (
   }
 
   -- the set that it would have
-  abbrev set : Point → Bool
+  abbrev pub set : Point → Bool
   set p = if p n.test.var == n.test.value then holds counts ns n.yes.0 p else holds counts ns n.no.0 p
 
   set_yes : (p : Point) → p n.test.var ≡ n.test.value → set p ≡ holds counts ns n.yes.0 p
@@ -47,7 +47,7 @@ module _ (counts : List ℕ) (ns : List (Option Node)) (s : IsSound counts ns) (
   set_no : (p : Point) → (p n.test.var ≡ n.test.value → ⊥) → set p ≡ holds counts ns n.no.0 p
   set_no p ne = ap (λ b. if b then holds counts ns n.yes.0 p else holds counts ns n.no.0 p) (ne_eqb _ _ ne)
 
-  set_reads : Reads counts (order n.test.var n.test.value) set
+  pub set_reads : Reads counts (order n.test.var n.test.value) set
   set_reads = record {
     each = λ p q agree.
         let low = test.value in

@@ -33,7 +33,7 @@ placed_is d id e = by (nat_le 2 d && nat_lt (d - 2) (2 ^ 32)) refl
     by true t = let same = ap (λ (i : Id). i.0) (same_Some (record { 0 = d - 2 }) id (sym (at true t) ∙ e)) in grind (arith, nat_tests, t, same)
 
 module _ (ns : List (Option Node)) where
-  node_there : (d : ℕ) (id : Id) → place_of d ≡ Some id → node_at ns d ≡ item_at ns id.0
+  pub node_there : (d : ℕ) (id : Id) → place_of d ≡ Some id → node_at ns d ≡ item_at ns id.0
   node_there d id e = ap (option_and_then (λ (i : Id). item_at ns i.0)) e
 
   -- the place of a held diagram has a node
@@ -45,7 +45,7 @@ module _ (ns : List (Option Node)) where
       by (Some m) n = ap is_some (sym (node_there d id e) ∙ n)
 
   -- a held diagram is zero or one, or has a place
-  held_by : {P : Type 0} (d : ℕ) → is_held ns d ≡ true → (d < 2 → P) → ((id : Id) → place_of d ≡ Some id → is_some (item_at ns id.0) ≡ true → P) → P
+  pub held_by : {P : Type 0} (d : ℕ) → is_held ns d ≡ true → (d < 2 → P) → ((id : Id) → place_of d ≡ Some id → is_some (item_at ns id.0) ≡ true → P) → P
   held_by {P} d held low there = by (place_of d) refl
     where
       by : (o : Option Id) → place_of d ≡ o → P
@@ -53,7 +53,7 @@ module _ (ns : List (Option Node)) where
       by (Some id) e = there id e (held_place d id held e)
 
   -- a place with a node makes a diagram held
-  held_from : (d : ℕ) (id : Id) → place_of d ≡ Some id → is_some (item_at ns id.0) ≡ true → is_held ns d ≡ true
+  pub held_from : (d : ℕ) (id : Id) → place_of d ≡ Some id → is_some (item_at ns id.0) ≡ true → is_held ns d ≡ true
   held_from d id e some = or_right (nat_lt d 2) (is_some (node_at ns d)) (ap is_some (node_there d id e) ∙ some)
     where
       or_right : (x y : Bool) → y ≡ true → (x || y) ≡ true
@@ -61,7 +61,7 @@ module _ (ns : List (Option Node)) where
       or_right false y h = h
 
 -- the item of a place that has one
-item_some : (ns : List (Option Node)) (place : ℕ) → is_some (item_at ns place) ≡ true → (n : Node) × (item_at ns place ≡ Some n)
+pub item_some : (ns : List (Option Node)) (place : ℕ) → is_some (item_at ns place) ≡ true → (n : Node) × (item_at ns place ≡ Some n)
 item_some ns place h = by (item_at ns place) refl h
   where
     by : (o : Option Node) → item_at ns place ≡ o → is_some (item_at ns place) ≡ true → (n : Node) × (item_at ns place ≡ Some n)

@@ -1,18 +1,20 @@
 -- From the table to what callers see.
 use Rattle.std.specs.Bool.{OnFalse}
-use Rattle.std.proofs.Common.{◌≡◌, ℕ, ◌&&◌, Bool, true, false, not, List, Option, Result, Ok, Err, IfOk, IfErr, All, refl, sym, ap, ◌∙◌, true≢false, arith}
+use Rattle.std.proofs.Common.{◌≡◌, ℕ, ◌&&◌, Bool, true, false, not, List, Option, Result, Ok, Err, IfOk, IfErr, All, refl, sym, ap, ◌∙◌, inl, inr, true≢false, arith}
 use Rattle.std.proofs.lemmas.List.Elements.{All-weaker}
 use Rattle.mv_diagram.specs.declared.node.Dd.{Dd}
 use Rattle.mv_diagram.specs.declared.node.Node.{Node}
 use Rattle.mv_diagram.specs.declared.table.Table.{Table}
 use Rattle.mv_diagram.specs.Sets.{Point, holds, is_held}
-use Rattle.mv_diagram.specs.Sound.{IsSound}
+use Rattle.mv_diagram.specs.Sound.{AreCounts, IsSound}
 use Rattle.mv_diagram.specs.Works.{Adds, IsLacking}
-use Rattle.mv_diagram.specs.Diagrams.{Contents, IsHeld, Keeps, Lacks, Loses, has}
+use Rattle.mv_diagram.specs.Diagrams.{Contents, IsHeld, Keeps, AddsRestrictions, Lacks, Loses, has}
 use Rattle.mv_diagram.specs.declared.node.Nodes.{Nodes}
 use Rattle.mv_diagram.specs.declared.memo.Operation.{Operation}
 use Rattle.mv_diagram.specs.Results.{IsResult, result_of}
 use Rattle.mv_diagram.specs.Quantified.{Agrees, IsQuantified, Exists, Forall, is_one_of}
+use Rattle.mv_diagram.specs.Parts.{AddsParts}
+use Rattle.mv_diagram.proofs.Restricting.{restriction_same}
 use Rattle.mv_diagram.proofs.Following.{holds_end}
 use Rattle.mv_diagram.proofs.Growing.{no_node, held_stays, Fewer, set_fewer}
 use Rattle.mv_diagram.proofs.Tables.{table_held, table_holds}
@@ -59,6 +61,18 @@ module _ (operation : Operation) (old new : Table) (n : ℕ) (a b : Dd) (s : IsS
   lacks_shown (Ok d) is = tt
   lacks_shown (Err e) is = record { none = λ d held same. is.none d.0 held.is (record { each = λ p range. same.each p range ∙ sym (same_operands p) }) }
 
+  pub added_shown : AddsParts new.counts.items old.pool.places new.pool.places (λ p. result_of operation (holds new.counts.items new.pool.places a.0 p) (holds new.counts.items new.pool.places b.0 p))
+      → AddsRestrictions (shown old n) (shown new n) (λ p. result_of operation (has (shown old n) a p) (has (shown old n) b p))
+  added_shown parts = record {
+    each = λ d held. elim (parts.each d.0 held.is) [
+      | inl was ↦ inl (record { is = was })
+      | inr r ↦ inr (restriction_same new.counts.items adds.sound.values _ _ _ _ (λ p range. same_operands p) (λ p. refl) r)
+    ];
+  }
+
+pub added_literal : (old new : Table) (n : ℕ) (set : Point → Bool) → AddsParts new.counts.items old.pool.places new.pool.places set → AddsRestrictions (shown old n) (shown new n) set
+added_literal old new n set parts = record { each = λ d held. elim (parts.each d.0 held.is) [ inl was ↦ inl (record { is = was }) | inr r ↦ inr r ] }
+
 twice : (x : Bool) → not (x && x) ≡ not x
 twice true = refl
 twice false = refl
@@ -67,6 +81,14 @@ module _ (old new : Contents) (a : Dd) where
   pub not_shown : (r : Result Dd Nodes) → IfOk r (λ d. (p : Point) → has new d p ≡ not (has old a p && has old a p)) → IfOk r (λ d. (p : Point) → has new d p ≡ not (has old a p))
   not_shown (Ok d) is = λ p. is p ∙ twice (has old a p)
   not_shown (Err e) is = tt
+
+  pub not_added : AreCounts new.counts → AddsRestrictions old new (λ p. not (has old a p && has old a p)) → AddsRestrictions old new (λ p. not (has old a p))
+  not_added are parts = record {
+    each = λ d held. elim (parts.each d held) [
+      | inl was ↦ inl was
+      | inr r ↦ inr (restriction_same new.counts are _ _ _ _ (λ p range. twice (has old a p)) (λ p. refl) r)
+    ];
+  }
 
   pub not_lacks : (r : Result Dd Nodes) → IfErr r (λ e. Lacks new (λ p. not (has old a p && has old a p))) → IfErr r (λ e. Lacks new (λ p. not (has old a p)))
   not_lacks (Ok d) is = tt

@@ -1,10 +1,11 @@
 -- What callers see of the diagrams.
-use Rattle.std.specs.Prelude.{◌≡◌, ◌≤◌, ℕ, Bool, true, List, length, Option, Some, All, slice_index_or}
+use Rattle.std.specs.Prelude.{◌≡◌, ◌⊎◌, ◌≤◌, ℕ, Bool, true, List, length, Option, Some, All, slice_index_or}
 use Rattle.mv_base.specs.declared.number.Value.{Value}
 use Rattle.mv_pool.specs.Places.{held_in}
 use Rattle.mv_diagram.specs.declared.node.Dd.{Dd}
 use Rattle.mv_diagram.specs.declared.node.Node.{Node}
 use Rattle.mv_diagram.specs.declared.node.Nodes.{Nodes}
+use Rattle.mv_diagram.specs.Parts.{IsRestriction}
 use Rattle.mv_diagram.specs.Sets.{Point, InRange, SameSet, holds, is_held, node_at}
 
 -- the numbers of values of the variables, the nodes at their places, how many there is room for, and how often places
@@ -61,3 +62,7 @@ pub record Loses (old new : Contents) : Type 0 where
   pub cap : new.cap ≡ old.cap
   pub held : (d : Dd) → IsHeld new d → IsHeld old d
   pub sets : (d : Dd) (p : Point) → IsHeld new d → has new d p ≡ has old d p
+
+-- each diagram that is held now and wasn't has a restriction of the set
+pub record AddsRestrictions (old new : Contents) (set : Point → Bool) : Type 0 where
+  pub each : (d : Dd) → IsHeld new d → IsHeld old d ⊎ IsRestriction new.counts set (λ p. has new d p)

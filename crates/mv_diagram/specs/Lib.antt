@@ -8,3 +8,4 @@ pub mod Diagrams
 pub mod Roots
 pub mod Whole
 pub mod Quantified
+pub mod Parts

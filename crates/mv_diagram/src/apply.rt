@@ -4,6 +4,7 @@ ghost use Rattle.mv_diagram.specs.Sets.{Point, holds, is_held, node_at};
 ghost use Rattle.mv_diagram.specs.Sound.{IsSound};
 ghost use Rattle.mv_diagram.specs.Works.{Adds, IsFull, IsLacking};
 ghost use Rattle.mv_diagram.specs.Results.{IsResult, Remembers, result_of};
+ghost use Rattle.mv_diagram.specs.Parts.{AddsParts};
 ghost use Rattle.mv_diagram.specs.First.{IsEarlier, IsFirst};
 
 use crate::memo::{Key, Memo, Operation, keep, recall};
@@ -96,6 +97,8 @@ pub fn apply(
     ensures adds { Adds table.old table.new }
     ensures remembers { Remembers table.new.counts.items table.new.pool.places memo.new.entries }
     ensures ok { IfOk result (λ d. IsResult table.new.counts.items table.new.pool.places operation a.0 b.0 d.0) }
+    ensures added { AddsParts table.new.counts.items table.old.pool.places table.new.pool.places (λ p.
+        result_of operation (holds table.new.counts.items table.new.pool.places a.0 p) (holds table.new.counts.items table.new.pool.places b.0 p)) }
     ensures full { IfErr result (IsFull table.new.pool) }
     ensures lacking { IfErr result (λ e. IsLacking table.new.counts.items table.new.pool.places (λ p.
         result_of operation (holds table.new.counts.items table.new.pool.places a.0 p) (holds table.new.counts.items table.new.pool.places b.0 p))) }

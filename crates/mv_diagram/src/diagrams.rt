@@ -4,7 +4,7 @@ ghost use Rattle.mv_base.specs.Set.{has as has_value};
 ghost use Rattle.mv_diagram.specs.Sets.{Point, InRange, SameSet};
 ghost use Rattle.mv_diagram.specs.Sound.{AreCounts};
 ghost use Rattle.mv_diagram.specs.Quantified.{Exists, Forall};
-ghost use Rattle.mv_diagram.specs.Diagrams.{HasNoRoom, IsHeld, IsPoint, Keeps, Lacks, Loses, Reaches, has, point_of};
+ghost use Rattle.mv_diagram.specs.Diagrams.{AddsRestrictions, HasNoRoom, IsHeld, IsPoint, Keeps, Lacks, Loses, Reaches, has, point_of};
 
 use crate::apply::apply;
 use crate::literal::literal_of;
@@ -97,6 +97,7 @@ impl Diagrams {
         ensures held { IfOk result (IsHeld self.new) }
         ensures set { IfOk result (λ d. (p : Point) → InRange self.new.counts p → has self.new d p ≡ has_value set (p var)) }
         ensures full { IfErr result (HasNoRoom self.new) }
+        ensures added { AddsRestrictions self.old self.new (λ p. has_value set (p var)) }
         ensures lacks { IfErr result (λ e. Lacks self.new (λ p. has_value set (p var))) }
     {
         literal_of(&mut self.table, var, set)
@@ -110,6 +111,7 @@ impl Diagrams {
         ensures held { IfOk result (IsHeld self.new) }
         ensures set { IfOk result (λ d. (p : Point) → has self.new d p ≡ (has self.old a p && has self.old b p)) }
         ensures full { IfErr result (HasNoRoom self.new) }
+        ensures added { AddsRestrictions self.old self.new (λ p. has self.old a p && has self.old b p) }
         ensures lacks { IfErr result (λ e. Lacks self.new (λ p. has self.old a p && has self.old b p)) }
     {
         apply(&mut self.table, &mut self.memo, Operation::And, a, b)
@@ -123,6 +125,7 @@ impl Diagrams {
         ensures held { IfOk result (IsHeld self.new) }
         ensures set { IfOk result (λ d. (p : Point) → has self.new d p ≡ (has self.old a p || has self.old b p)) }
         ensures full { IfErr result (HasNoRoom self.new) }
+        ensures added { AddsRestrictions self.old self.new (λ p. has self.old a p || has self.old b p) }
         ensures lacks { IfErr result (λ e. Lacks self.new (λ p. has self.old a p || has self.old b p)) }
     {
         apply(&mut self.table, &mut self.memo, Operation::Or, a, b)
@@ -135,6 +138,7 @@ impl Diagrams {
         ensures held { IfOk result (IsHeld self.new) }
         ensures set { IfOk result (λ d. (p : Point) → has self.new d p ≡ not (has self.old a p)) }
         ensures full { IfErr result (HasNoRoom self.new) }
+        ensures added { AddsRestrictions self.old self.new (λ p. not (has self.old a p)) }
         ensures lacks { IfErr result (λ e. Lacks self.new (λ p. not (has self.old a p))) }
     {
         apply(&mut self.table, &mut self.memo, Operation::Nand, a, a)

@@ -2,6 +2,7 @@ ghost use Rattle.std.specs.Prelude.{◌≡◌, ◌<◌, ℕ, true, length, IfOk,
 ghost use Rattle.mv_base.specs.Set.{has as has_value};
 ghost use Rattle.mv_diagram.specs.Sets.{Point, InRange, holds, is_held};
 ghost use Rattle.mv_diagram.specs.Sound.{IsSound};
+ghost use Rattle.mv_diagram.specs.Parts.{AddsParts};
 ghost use Rattle.mv_diagram.specs.Works.{Adds, IsFull, IsLacking};
 
 use crate::apply::end;
@@ -16,6 +17,7 @@ pub fn literal_of(table: &mut Table, var: u32, set: ValueSet) -> Result<Dd, Node
     ensures adds { Adds table.old table.new }
     ensures held { IfOk result (λ d. is_held table.new.pool.places d.0 ≡ true) }
     ensures set { IfOk result (λ d. (p : Point) → InRange table.new.counts.items p → holds table.new.counts.items table.new.pool.places d.0 p ≡ has_value set (p var)) }
+    ensures added { AddsParts table.new.counts.items table.old.pool.places table.new.pool.places (λ p. has_value set (p var)) }
     ensures full { IfErr result (IsFull table.new.pool) }
     ensures lacking { IfErr result (λ e. IsLacking table.new.counts.items table.new.pool.places (λ p. has_value set (p var))) }
 {

@@ -4,6 +4,7 @@ ghost use Rattle.mv_diagram.specs.Sound.{IsSound, IsTest, first, order};
 ghost use Rattle.mv_diagram.specs.Works.{Adds, HasPut, IsAbsent, IsFull, IsLacking};
 ghost use Rattle.mv_diagram.specs.First.{IsSplit};
 ghost use Rattle.mv_pool.specs.Places.{held_in};
+ghost use Rattle.mv_diagram.specs.Parts.{AddsParts};
 
 use crate::{Dd, Node, Nodes, Test};
 use mv_pool::{Full, Pool};
@@ -92,6 +93,9 @@ pub fn make(table: &mut Table, test: Test, yes: Dd, no: Dd) -> Result<Dd, Nodes>
     ensures set { IfOk result (λ d. (p : Point) → holds table.new.counts.items table.new.pool.places d.0 p ≡
         (if p test.var == test.value then holds table.old.counts.items table.old.pool.places yes.0 p
         else holds table.old.counts.items table.old.pool.places no.0 p)) }
+    ensures added { AddsParts table.new.counts.items table.old.pool.places table.new.pool.places (λ p.
+        if p test.var == test.value then holds table.old.counts.items table.old.pool.places yes.0 p
+        else holds table.old.counts.items table.old.pool.places no.0 p) }
     ensures full { IfErr result (IsFull table.new.pool) }
     ensures lacking { IfErr result (λ e. IsLacking table.new.counts.items table.new.pool.places (λ p.
         if p test.var == test.value then holds table.old.counts.items table.old.pool.places yes.0 p

@@ -4,7 +4,9 @@ use Rattle.mv_diagram.specs.Sound.{order, first}
 use Rattle.mv_diagram.specs.Results.{result_of}
 use Rattle.mv_diagram.proofs.Following.{if_same, order-lt}
 use Rattle.mv_diagram.proofs.Applying.{result_at_once, result_end, result_split, result_whole, result_lacks_yes, result_lacks_no}
-use Rattle.mv_diagram.proofs.Tables.{Adds-more, table_held, table_first, table_holds, table_split, table_first_of, table_result, table_remembers, remembers_more}
+use Rattle.mv_diagram.proofs.Tables.{Adds-same, Adds-more, table_held, table_first, table_holds, table_split, table_first_of, table_result, table_remembers, remembers_more}
+use Rattle.mv_diagram.proofs.Adding.{from_yes, from_no}
+use Rattle.mv_diagram.proofs.Restricting.{restriction_same}
 use Rattle.mv_diagram.proofs.Lacking.{lacking_same}
 use Rattle.mv_diagram.proofs.apply.+apply.Goals as goal
 
@@ -174,3 +176,108 @@ returns-in-Err-make-clause-lacking t c =
     c.in-Some-first_test.test (table_first_of old new s adds c.args.a.0 c.args.b.0 c.in-Some-first_test.test c.requires.left c.requires.right c.in-Some-first_test.ensures.some)
     c.split.result.0.0 c.split.result.1.0 c.split-2.result.0.0 c.split-2.result.1.0 sa sb c.in-Ok.d.0 c.in-Ok-apply.d.0 yes no p)
     c.in-Err-make.ensures.lacking
+
+-- what is added
+
+pub returns-in-Err-clause-added : goal.returns-in-Err-clause-added
+returns-in-Err-clause-added t c =
+    let old = c.args.table.now in
+    let one = c.apply.new.table in
+    let adds = c.apply.ensures.adds in
+    let s = c.requires.sound in
+    record {
+      each = λ d held. elim (c.apply.ensures.added.each d held) [
+        | inl was ↦ inl was
+        | inr r ↦ inr (from_yes c.args.operation old one s adds c.args.a.0 c.args.b.0 c.requires.left c.requires.right c.in-Some-first_test.test c.in-Some-first_test.ensures.some
+            c.split.result.0.0 c.split.result.1.0 c.split-2.result.0.0 c.split-2.result.1.0 c.split.ensures c.split-2.ensures one adds (Adds-same one adds.sound) d held r)
+      ];
+    }
+
+pub returns-in-Err-apply-clause-added : goal.returns-in-Err-apply-clause-added
+returns-in-Err-apply-clause-added t c =
+    let old = c.args.table.now in
+    let one = c.apply.new.table in
+    let two = c.apply-2.new.table in
+    let both = Adds-more old one two c.apply.ensures.adds c.apply-2.ensures.adds in
+    let s = c.requires.sound in
+    record {
+      each = λ d held. elim (c.apply-2.ensures.added.each d held) [
+        | inr r ↦ inr (from_no c.args.operation old two s both c.args.a.0 c.args.b.0 c.requires.left c.requires.right c.in-Some-first_test.test c.in-Some-first_test.ensures.some
+            c.split.result.0.0 c.split.result.1.0 c.split-2.result.0.0 c.split-2.result.1.0 c.split.ensures c.split-2.ensures two both (Adds-same two c.apply-2.ensures.adds.sound) d held r)
+        | inl first ↦ elim (c.apply.ensures.added.each d first) [
+          | inr r ↦ inr (from_yes c.args.operation old two s both c.args.a.0 c.args.b.0 c.requires.left c.requires.right c.in-Some-first_test.test c.in-Some-first_test.ensures.some
+              c.split.result.0.0 c.split.result.1.0 c.split-2.result.0.0 c.split-2.result.1.0 c.split.ensures c.split-2.ensures one c.apply.ensures.adds c.apply-2.ensures.adds d first r)
+          | inl was ↦ inl was
+        ]
+      ];
+    }
+
+pub returns-in-Ok-make-clause-added : goal.returns-in-Ok-make-clause-added
+returns-in-Ok-make-clause-added t c =
+    let old = c.args.table.now in
+    let one = c.apply.new.table in
+    let two = c.apply-2.new.table in
+    let new = c.make.new.table in
+    let both = Adds-more old one two c.apply.ensures.adds c.apply-2.ensures.adds in
+    let adds = Adds-more old two new both c.make.ensures.adds in
+    let s = c.requires.sound in
+    let sa = table_split old new s adds c.args.a.0 c.in-Some-first_test.test c.split.result.0.0 c.split.result.1.0 c.requires.left c.split.ensures in
+    let sb = table_split old new s adds c.args.b.0 c.in-Some-first_test.test c.split-2.result.0.0 c.split-2.result.1.0 c.requires.right c.split-2.ensures in
+    let yes = table_result one new c.apply.ensures.adds.sound (Adds-more one two new c.apply-2.ensures.adds c.make.ensures.adds) c.args.operation c.split.result.0.0 c.split-2.result.0.0 c.in-Ok.d.0 c.in-Ok.ensures.ok in
+    let no = table_result two new c.apply-2.ensures.adds.sound c.make.ensures.adds c.args.operation c.split.result.1.0 c.split-2.result.1.0 c.in-Ok-apply.d.0 c.in-Ok-apply.ensures.ok in
+    record {
+      each = λ d held. elim (c.make.ensures.added.each d held) [
+        | inr r ↦ inr (restriction_same new.counts.items adds.sound.values _ _ _ _
+            (λ p range. sym (if_same _ _ _ _ _ _ refl
+            (table_holds two new c.apply-2.ensures.adds.sound c.make.ensures.adds c.in-Ok.d.0 p (table_held one two c.apply.ensures.adds.sound c.apply-2.ensures.adds c.in-Ok.d.0 c.in-Ok.ensures.ok.held))
+            (table_holds two new c.apply-2.ensures.adds.sound c.make.ensures.adds c.in-Ok-apply.d.0 p c.in-Ok-apply.ensures.ok.held))
+            ∙ result_whole new.counts.items new.pool.places adds.sound c.args.operation c.args.a.0 c.args.b.0 (table_held old new s adds c.args.a.0 c.requires.left) (table_held old new s adds c.args.b.0 c.requires.right)
+            c.in-Some-first_test.test (table_first_of old new s adds c.args.a.0 c.args.b.0 c.in-Some-first_test.test c.requires.left c.requires.right c.in-Some-first_test.ensures.some)
+            c.split.result.0.0 c.split.result.1.0 c.split-2.result.0.0 c.split-2.result.1.0 sa sb c.in-Ok.d.0 c.in-Ok-apply.d.0 yes no p)
+            (λ p. refl) r)
+        | inl before ↦ elim (c.apply-2.ensures.added.each d before) [
+          | inr r ↦ inr (from_no c.args.operation old new s adds c.args.a.0 c.args.b.0 c.requires.left c.requires.right c.in-Some-first_test.test c.in-Some-first_test.ensures.some
+              c.split.result.0.0 c.split.result.1.0 c.split-2.result.0.0 c.split-2.result.1.0 c.split.ensures c.split-2.ensures two both c.make.ensures.adds d before r)
+          | inl first ↦ elim (c.apply.ensures.added.each d first) [
+            | inr r ↦ inr (from_yes c.args.operation old new s adds c.args.a.0 c.args.b.0 c.requires.left c.requires.right c.in-Some-first_test.test c.in-Some-first_test.ensures.some
+                c.split.result.0.0 c.split.result.1.0 c.split-2.result.0.0 c.split-2.result.1.0 c.split.ensures c.split-2.ensures one c.apply.ensures.adds (Adds-more one two new c.apply-2.ensures.adds c.make.ensures.adds) d first r)
+            | inl was ↦ inl was
+          ]
+        ]
+      ];
+    }
+
+pub returns-in-Err-make-clause-added : goal.returns-in-Err-make-clause-added
+returns-in-Err-make-clause-added t c =
+    let old = c.args.table.now in
+    let one = c.apply.new.table in
+    let two = c.apply-2.new.table in
+    let new = c.make.new.table in
+    let both = Adds-more old one two c.apply.ensures.adds c.apply-2.ensures.adds in
+    let adds = Adds-more old two new both c.make.ensures.adds in
+    let s = c.requires.sound in
+    let sa = table_split old new s adds c.args.a.0 c.in-Some-first_test.test c.split.result.0.0 c.split.result.1.0 c.requires.left c.split.ensures in
+    let sb = table_split old new s adds c.args.b.0 c.in-Some-first_test.test c.split-2.result.0.0 c.split-2.result.1.0 c.requires.right c.split-2.ensures in
+    let yes = table_result one new c.apply.ensures.adds.sound (Adds-more one two new c.apply-2.ensures.adds c.make.ensures.adds) c.args.operation c.split.result.0.0 c.split-2.result.0.0 c.in-Ok.d.0 c.in-Ok.ensures.ok in
+    let no = table_result two new c.apply-2.ensures.adds.sound c.make.ensures.adds c.args.operation c.split.result.1.0 c.split-2.result.1.0 c.in-Ok-apply.d.0 c.in-Ok-apply.ensures.ok in
+    record {
+      each = λ d held. elim (c.make.ensures.added.each d held) [
+        | inr r ↦ inr (restriction_same new.counts.items adds.sound.values _ _ _ _
+            (λ p range. sym (if_same _ _ _ _ _ _ refl
+            (table_holds two new c.apply-2.ensures.adds.sound c.make.ensures.adds c.in-Ok.d.0 p (table_held one two c.apply.ensures.adds.sound c.apply-2.ensures.adds c.in-Ok.d.0 c.in-Ok.ensures.ok.held))
+            (table_holds two new c.apply-2.ensures.adds.sound c.make.ensures.adds c.in-Ok-apply.d.0 p c.in-Ok-apply.ensures.ok.held))
+            ∙ result_whole new.counts.items new.pool.places adds.sound c.args.operation c.args.a.0 c.args.b.0 (table_held old new s adds c.args.a.0 c.requires.left) (table_held old new s adds c.args.b.0 c.requires.right)
+            c.in-Some-first_test.test (table_first_of old new s adds c.args.a.0 c.args.b.0 c.in-Some-first_test.test c.requires.left c.requires.right c.in-Some-first_test.ensures.some)
+            c.split.result.0.0 c.split.result.1.0 c.split-2.result.0.0 c.split-2.result.1.0 sa sb c.in-Ok.d.0 c.in-Ok-apply.d.0 yes no p)
+            (λ p. refl) r)
+        | inl before ↦ elim (c.apply-2.ensures.added.each d before) [
+          | inr r ↦ inr (from_no c.args.operation old new s adds c.args.a.0 c.args.b.0 c.requires.left c.requires.right c.in-Some-first_test.test c.in-Some-first_test.ensures.some
+              c.split.result.0.0 c.split.result.1.0 c.split-2.result.0.0 c.split-2.result.1.0 c.split.ensures c.split-2.ensures two both c.make.ensures.adds d before r)
+          | inl first ↦ elim (c.apply.ensures.added.each d first) [
+            | inr r ↦ inr (from_yes c.args.operation old new s adds c.args.a.0 c.args.b.0 c.requires.left c.requires.right c.in-Some-first_test.test c.in-Some-first_test.ensures.some
+                c.split.result.0.0 c.split.result.1.0 c.split-2.result.0.0 c.split-2.result.1.0 c.split.ensures c.split-2.ensures one c.apply.ensures.adds (Adds-more one two new c.apply-2.ensures.adds c.make.ensures.adds) d first r)
+            | inl was ↦ inl was
+          ]
+        ]
+      ];
+    }

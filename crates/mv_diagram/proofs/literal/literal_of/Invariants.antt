@@ -2,6 +2,7 @@ use Rattle.std.proofs.Common.{◌≡◌, ◌<◌, ◌≤◌, true, slice_index}
 use Rattle.mv_diagram.specs.Sets.{Point, holds, is_held}
 use Rattle.mv_diagram.specs.Sound.{first, order}
 use Rattle.mv_diagram.specs.Works.{Adds}
+use Rattle.mv_diagram.specs.Parts.{AddsParts}
 use Rattle.mv_diagram.proofs.Literals.{literal_from}
 use Rattle.mv_diagram.proofs.literal.literal_of.Given as goal
 
@@ -12,6 +13,7 @@ invariant-loop-value l = record {
   held : is_held l.table.pool.places l.rest.0 ≡ true;
   later : order l.var l.value ≤ first l.table.counts.items l.table.pool.places l.rest.0;
   set : (p : Point) → holds l.table.counts.items l.table.pool.places l.rest.0 p ≡ literal_from l.table.counts.items l.var l.set l.value p;
+  parts : AddsParts l.table.counts.items l.fn.table.pool.places l.table.pool.places (literal_from l.table.counts.items l.var l.set l.value);
 }
 
 abbrev pub decreases-loop-value : goal.decreases-loop-value

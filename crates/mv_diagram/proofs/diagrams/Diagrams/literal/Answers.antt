@@ -1,5 +1,5 @@
 use Rattle.std.proofs.Common.{length, ap}
-use Rattle.mv_diagram.proofs.Showing.{Keeps-adds}
+use Rattle.mv_diagram.proofs.Showing.{Keeps-adds, added_literal}
 use Rattle.mv_diagram.proofs.Tables.{table_remembers}
 use Rattle.mv_diagram.proofs.diagrams.Diagrams.literal.Goals as goal
 
@@ -15,3 +15,6 @@ invariant_of-self c = record {
 
 pub returns-clause-keeps : goal.returns-clause-keeps
 returns-clause-keeps c = rw (← c.self.view_is) (Keeps-adds c.self.inside.table c.literal_of.new.table c.self.inside.reclaims c.self.invariant.sound c.literal_of.ensures.adds)
+
+pub returns-clause-added : goal.returns-clause-added
+returns-clause-added c = rw (← c.self.view_is) (added_literal c.self.inside.table c.literal_of.new.table c.self.inside.reclaims _ c.literal_of.ensures.added)

@@ -1,6 +1,6 @@
 use Rattle.std.proofs.Common.{length, ap}
 use Rattle.mv_diagram.specs.declared.memo.Operation.TheVariants.{Or}
-use Rattle.mv_diagram.proofs.Showing.{Keeps-adds, result_shown, lacks_shown}
+use Rattle.mv_diagram.proofs.Showing.{Keeps-adds, result_shown, lacks_shown, added_shown}
 use Rattle.mv_diagram.proofs.diagrams.Diagrams.or.Goals as goal
 
 pub returns-clause-keeps : goal.returns-clause-keeps
@@ -27,3 +27,9 @@ invariant_of-self c = record {
   gathered = rw c.apply.ensures.adds.cap c.self.invariant.gathered;
   room = rw (ap (λ v. length v.items) c.apply.ensures.adds.counts) c.self.invariant.room;
 }
+
+pub returns-clause-added : goal.returns-clause-added
+returns-clause-added c =
+    rw (← c.self.view_is)
+    (added_shown Or c.self.inside.table c.apply.new.table c.self.inside.reclaims c.args.a c.args.b c.self.invariant.sound c.apply.ensures.adds
+    (rw (← c.self.view_is) at c.requires.left) (rw (← c.self.view_is) at c.requires.right) c.apply.ensures.added)
