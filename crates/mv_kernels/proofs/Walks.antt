@@ -5,9 +5,10 @@ use Rattle.std.proofs.lemmas.List.{take-append-le, take_all}
 use Rattle.std.proofs.lemmas.Option.{get_or_from_slice_get, slice_get_within, slice_get_cases}
 use Rattle.std.proofs.lemmas.List.Elements.{All-push, Contains-push, All-contains, All-weaker, All-get_or, All-more, Contains-append_left}
 use Rattle.std.specs.List.{list_any, IsDistinct}
-use Rattle.std.proofs.lemmas.Map.Keys.{apart_from_distinct}
-use Rattle.std.proofs.lemmas.Map.Made.{is_member-Decides}
+use Rattle.std.proofs.lemmas.Map.Keys.{apart_from_distinct, IsDistinct-from_apart}
+use Rattle.std.proofs.lemmas.Map.Made.{is_member-Decides, length-le_from_is_member}
 use Rattle.indexmap.specs.IndexSet.{insert_all}
+use Rattle.mv_base.specs.declared.limits.TheConstants.{MAX_KERNELS}
 use Rattle.mv_cover.specs.declared.cube.Lit.{Lit}
 use Rattle.mv_cover.specs.Cubes.{IsCube}
 use Rattle.mv_cover.specs.Equal.{lit_eq}
@@ -15,10 +16,10 @@ use Rattle.mv_cover.specs.Keys.{lit_eq-Decides}
 use Rattle.mv_kernels.specs.declared.kernel.Kernel.{Kernel}
 use Rattle.mv_kernels.specs.Symbols.{has_symbol, has_each, without, quotient, SameCubes}
 use Rattle.mv_kernels.specs.Order.{cube_cmp}
-use Rattle.mv_kernels.specs.Kernels.{IsKernelBy, IsKernelOf, AreKernels}
+use Rattle.mv_kernels.specs.Kernels.{IsKernelBy, IsKernelOf, AreKernels, HasFew}
 use Rattle.mv_kernels.specs.Below.{HasOneCube, IsBelow, HasBelow, AreBelowBy, AreBelow, Walked}
 use Rattle.mv_kernels.specs.Equal.{kernel_eq}
-use Rattle.mv_kernels.specs.Keys.{same_kernel, kernel_eq-Decides}
+use Rattle.mv_kernels.specs.Keys.{same_kernel, kernel_eq-Decides, kernel_eq-equiv}
 use Rattle.mv_kernels.proofs.Lists.{insert_all-grows, insert_all-keeps, insert_all-has, insert_all-each}
 use Rattle.mv_kernels.proofs.Orders.{cube_total, same_sorted}
 use Rattle.mv_kernels.proofs.Quotients.{symbol_in, symbol_left, each_at, each_of_left, has_each-append, without-append, without-same, same_row, row_of, row_in, to_back, to_there, same_cubes, SameCubes-trans, SameCubes-sym}
@@ -331,3 +332,14 @@ walked_kernels cover found n distinct w = record {
 -- and no kernel is missed
 pub walked_to_end : (cover : List (List Lit)) (found : List Kernel) (n : ℕ) → All IsCube cover → slice_get found n ≡ None → Walked cover found n → (k : Kernel) → IsKernelOf cover k.cubes → Contains found k
 walked_to_end cover found n formed none w = none_missed cover found (walked_all cover found n formed (past_end found n none) w)
+
+-- as many kernels as were found are all that there are
+pub few_found : (cover : List (List Lit)) (found : List Kernel) → length found ≤ MAX_KERNELS → ((k : Kernel) → IsKernelOf cover k.cubes → Contains found k) → HasFew cover
+few_found cover found few all = record {
+  each = λ kernels are.
+      let apart = IsDistinct-from_apart kernel_eq kernels (λ i j d low high.
+      false_from_ne_true (kernel_eq (get_or kernels i d) (get_or kernels j d)) (λ e. are.once i j d low high ((kernel_eq-Decides (get_or kernels i d) (get_or kernels j d)).0 e))) in
+      let within : length kernels ≤ length found = length-le_from_is_member kernel_eq-equiv kernels found apart (λ k h.
+      (is_member-Decides kernel_eq-Decides found k).1 (all k (All-contains (λ (x : Kernel). IsKernelOf cover x.cubes) kernels k are.each ((is_member-Decides kernel_eq-Decides kernels k).0 h)))) in
+      omega arith;
+}

@@ -24,6 +24,10 @@ pub record AreKernels (cover : List (List Lit)) (kernels : List Kernel) : Type 0
   pub each : All (λ k. IsKernelOf cover k.cubes) kernels
   pub once : AllPairs (λ a b. a ≢ b) kernels
 
+-- the cover has no more different kernels than the limit
+pub record HasFew (cover : List (List Lit)) : Type 0 where
+  pub each : (kernels : List Kernel) → AreKernels cover kernels → length kernels ≤ MAX_KERNELS
+
 -- the cover has more different kernels than the limit
 pub record HasMany (cover : List (List Lit)) : Type 0 where
   pub kernels : List Kernel

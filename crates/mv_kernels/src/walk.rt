@@ -1,8 +1,7 @@
 ghost use Rattle.std.specs.Prelude.{◌≡◌, ◌≤◌, List, All, Contains, length, IfOk, IfErr, OnOk};
-ghost use Rattle.mv_base.specs.declared.limits.TheConstants.{MAX_KERNELS};
 ghost use Rattle.mv_cover.specs.declared.cube.Lit.{Lit};
 ghost use Rattle.mv_cover.specs.Cubes.{IsCube};
-ghost use Rattle.mv_kernels.specs.Kernels.{IsKernelOf, AreKernels, HasMany};
+ghost use Rattle.mv_kernels.specs.Kernels.{IsKernelOf, AreKernels, HasFew, HasMany};
 ghost use Rattle.mv_kernels.specs.Below.{AreBelow, AreBelowBy, Walked};
 ghost use Rattle.mv_kernels.specs.Equal.{kernel_eq};
 ghost use Rattle.indexmap.specs.IndexSet.{insert_all, IsUnique};
@@ -24,7 +23,7 @@ use std::alloc::{AllocError, AllocFailed, Global};
 pub fn kernels(alloc: Global, cubes: &[Cube]) -> Result<Vec<Kernel>, KernelStop>
     ensures are { IfOk result (λ found. AreKernels cubes.now found.items) }
     ensures all { IfOk result (λ found. (k : Kernel) → IsKernelOf cubes.now k.cubes → Contains found.items k) }
-    ensures few { IfOk result (λ found. length found.items ≤ MAX_KERNELS) }
+    ensures few { IfOk result (λ _. HasFew cubes.now) }
     ensures many { IfErr result (λ stop. stop ≡ KernelStop.TooMany → HasMany cubes.now) }
 {
     are_formed(cubes);

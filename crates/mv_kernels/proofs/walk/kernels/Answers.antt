@@ -6,7 +6,7 @@ use Rattle.mv_cover.specs.Cubes.{IsCube}
 use Rattle.mv_kernels.specs.declared.kernel.Kernel.{Kernel}
 use Rattle.mv_kernels.specs.Kernels.{AreKernels}
 use Rattle.mv_kernels.specs.Below.{AreBelow}
-use Rattle.mv_kernels.proofs.Walks.{formed_at_place, walked_more, walked_kernels, walked_to_end}
+use Rattle.mv_kernels.proofs.Walks.{formed_at_place, walked_more, walked_kernels, walked_to_end, few_found}
 use Rattle.mv_kernels.proofs.walk.kernels.Goals as goal
 
 pub below-requires : goal.below-requires
@@ -40,3 +40,9 @@ returns-clause-all c k is =
     let none : slice_get c.loop-kernel.found.keys c.loop-kernel.next ≡ None = sym c.get_index.ensures.key ∙ ap option_copied c.in_default.is in
     subst (λ (x : List Kernel). Contains x k) (sym c.in_ok-listed.ensures.same)
     (walked_to_end c.args.cubes.now c.loop-kernel.found.keys c.loop-kernel.next c.are_formed.ensures none c.loop-kernel.invariant.walked k is)
+
+pub returns-clause-few : goal.returns-clause-few
+returns-clause-few c =
+    let none : slice_get c.loop-kernel.found.keys c.loop-kernel.next ≡ None = sym c.get_index.ensures.key ∙ ap option_copied c.in_default.is in
+    few_found c.args.cubes.now c.loop-kernel.found.keys c.loop-kernel.invariant.few
+    (walked_to_end c.args.cubes.now c.loop-kernel.found.keys c.loop-kernel.next c.are_formed.ensures none c.loop-kernel.invariant.walked)
