@@ -7,6 +7,7 @@
 
 mod draw;
 mod lexing;
+mod meets;
 mod pairs;
 mod parsing;
 mod stop;

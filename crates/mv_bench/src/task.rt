@@ -1,5 +1,5 @@
 use crate::stop::Stop;
-use crate::tasks;
+use crate::{meets, tasks};
 use mv_base::Memory;
 use mv_cover::CoverStop;
 use mv_kernels::KernelStop;
@@ -13,6 +13,7 @@ enum Call {
     Absorb,
     Complement,
     Kernels,
+    Meet,
 }
 
 impl Call {
@@ -22,6 +23,7 @@ impl Call {
             "absorb" => Some(Call::Absorb),
             "complement" => Some(Call::Complement),
             "kernels" => Some(Call::Kernels),
+            "meet" => Some(Call::Meet),
             _ => None,
         }
     }
@@ -34,6 +36,7 @@ impl fmt::Display for Call {
             Call::Absorb => write!(f, "absorb"),
             Call::Complement => write!(f, "complement"),
             Call::Kernels => write!(f, "kernels"),
+            Call::Meet => write!(f, "meet"),
         }
     }
 }
@@ -52,6 +55,7 @@ pub enum Found {
     Truth(bool),
     Lines(usize),
     Cubes(usize),
+    Nodes(u32),
     Wide,
     Kernels(usize),
     TooMany,
@@ -77,6 +81,7 @@ impl Task {
         match self.call {
             Call::Covers => Ok(Found::Truth(tasks::covers(alloc, self.size, self.seed)?)),
             Call::Absorb => Ok(Found::Lines(tasks::absorb(alloc, self.size, self.seed)?)),
+            Call::Meet => Ok(Found::Nodes(meets::meet(alloc, self.size, self.seed)?)),
             Call::Complement => match tasks::complement(alloc, self.size, self.seed) {
                 Ok(cubes) => Ok(Found::Cubes(cubes)),
                 Err(CoverStop::Wide) => Ok(Found::Wide),
@@ -103,6 +108,7 @@ impl fmt::Display for Found {
             Found::Truth(truth) => write!(f, "{truth}"),
             Found::Lines(lines) => write!(f, "{lines} lines"),
             Found::Cubes(cubes) => write!(f, "{cubes} cubes"),
+            Found::Nodes(nodes) => write!(f, "{nodes} nodes"),
             Found::Wide => write!(f, "wide"),
             Found::Kernels(kernels) => write!(f, "{kernels} kernels"),
             Found::TooMany => write!(f, "too many"),
