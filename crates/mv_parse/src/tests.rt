@@ -29,9 +29,27 @@ fn told(alloc: Global, file: &[u8]) -> Result<Vec<u8>, Fail> {
     Ok(Vec::from_slice(alloc, sink.bytes())?)
 }
 
-/// Files, and behind `# fault network` the first fault of each: in a line its checks go from left to right, lines go in
-/// order, and the values of a model are checked at its end.
-const REFUSED: [(&str, &str); 91] = [
+/// A file, and behind `# fault network` its first fault: in a line its checks go from left to right, lines go in order, and
+/// the values of a model are checked at its end.
+type Case = (&'static str, &'static str);
+
+/// The place of the first of these files of which another fault is told.
+fn first_wrong(alloc: Global, cases: &[Case]) -> Result<Option<usize>, Fail> {
+    for (at, case) in cases.iter().enumerate() {
+        let (file, fault) = *case;
+        let mut wanted = Vec::from_slice(alloc, b"# fault network ")?;
+        wanted.extend_from_slice(fault.as_bytes())?;
+        wanted.push(b'\n')?;
+        let told = told(alloc, file.as_bytes())?;
+        if told.as_slice() != wanted.as_slice() {
+            return Ok(Some(at));
+        }
+    }
+    Ok(None)
+}
+
+/// Files with one fault each.
+const SINGLE: [Case; 17] = [
     (".model m\n.gate x\n", "5 UnknownCommand line 2 .gate"),
     (".inputs a\n", "6 OutsideModel line 1"),
     (".model\n", "8 Missing line 1 .model"),
@@ -58,6 +76,16 @@ const REFUSED: [(&str, &str); 91] = [
     (".model m\n.mv x 129\n", "21 Limit line 2 Values 129"),
     (".model a=b\n", "36 BadName line 1 a=b"),
     (".model m\n0 1\n", "37 NoTable line 2"),
+];
+
+#[test]
+fn each_fault_is_told_with_its_line_and_words(rt: HostRuntime) -> Result<(), Fail> {
+    assert_eq!(rt; first_wrong(rt.alloc(), &SINGLE)?, None);
+    Ok(())
+}
+
+/// Lines outside a model, lines that are not read yet, and the first line of a model.
+const PLACES: [Case; 24] = [
     ("0 1\n", "6 OutsideModel line 1"),
     (".default 0\n", "6 OutsideModel line 1"),
     (".table -> z, z\n", "39 NotBuilt line 1"),
@@ -82,6 +110,16 @@ const REFUSED: [(&str, &str); 91] = [
     (".model ->\n", "36 BadName line 1 ->"),
     (".model (a)\n", "36 BadName line 1 (a)"),
     (".model a\\ b\n", "36 BadName line 1 a\\"),
+];
+
+#[test]
+fn a_line_is_judged_by_its_place_first(rt: HostRuntime) -> Result<(), Fail> {
+    assert_eq!(rt; first_wrong(rt.alloc(), &PLACES)?, None);
+    Ok(())
+}
+
+/// Names of inputs and outputs, and declarations.
+const PORTS: [Case; 20] = [
     (".model m\n.inputs a\n.inputs b a\n", "19 Repeated line 3 a"),
     (".model m\n.inputs a a b,\n", "19 Repeated line 2 a"),
     (".model m\n.inputs b, a a\n", "36 BadName line 2 b,"),
@@ -111,6 +149,16 @@ const REFUSED: [(&str, &str); 91] = [
         "12 Redeclared line 3 b",
     ),
     (".model m\n.mv a 2\n.mv a 2 1 0\n", "12 Redeclared line 3 a"),
+];
+
+#[test]
+fn names_and_declarations_are_judged_from_left_to_right(rt: HostRuntime) -> Result<(), Fail> {
+    assert_eq!(rt; first_wrong(rt.alloc(), &PORTS)?, None);
+    Ok(())
+}
+
+/// The first line of a table, and rows and defaults as they stand.
+const ROWS: [Case; 11] = [
     (".model m\n.names\n", "8 Missing line 2 .names"),
     (".model m\n.table a ->\n", "8 Missing line 2 .table"),
     (".model m\n.table a, ->\n", "36 BadName line 2 a,"),
@@ -134,6 +182,16 @@ const REFUSED: [(&str, &str); 91] = [
         "16 DefaultTwice line 4",
     ),
     (".model m\n.table a -> z\n0 1 0\n", "13 Columns line 3 2 3"),
+];
+
+#[test]
+fn rows_are_counted_as_they_stand(rt: HostRuntime) -> Result<(), Fail> {
+    assert_eq!(rt; first_wrong(rt.alloc(), &ROWS)?, None);
+    Ok(())
+}
+
+/// Values, which are judged at the end of their model.
+const VALUES: [Case; 19] = [
     (".model m\n.table a -> z\n2 0\n", "7 NoEnd line 1"),
     (
         ".model m\n.table a -> z\n2 0\n.table b -> y\n0\n",
@@ -210,14 +268,8 @@ const REFUSED: [(&str, &str); 91] = [
 ];
 
 #[test]
-fn the_first_fault_is_told(rt: HostRuntime) -> Result<(), Fail> {
-    for (file, fault) in REFUSED {
-        let mut wanted = Vec::from_slice(rt.alloc(), b"# fault network ")?;
-        wanted.extend_from_slice(fault.as_bytes())?;
-        wanted.push(b'\n')?;
-        let told = told(rt.alloc(), file.as_bytes())?;
-        assert_eq!(rt; told.as_slice(), wanted.as_slice());
-    }
+fn values_are_judged_at_the_end_of_their_model(rt: HostRuntime) -> Result<(), Fail> {
+    assert_eq!(rt; first_wrong(rt.alloc(), &VALUES)?, None);
     Ok(())
 }
 
