@@ -1,0 +1,12 @@
+//! Tables of a file as covers: the sets of a row as the cube of its nets, and its output entry as the outputs of lines.
+#![tactic(auto)]
+
+mod column;
+mod cube;
+mod lines;
+mod table;
+#[cfg(test)]
+mod tests;
+
+pub use column::Column;
+pub use table::{FlatTable, flat_table};

@@ -1,0 +1,263 @@
+ghost use Rattle.std.specs.Prelude.{◌≡◌, List, ◌++◌, ◌∷◌, [], length, nat_eq, map, Some, None, IfOk, OnOk, All};
+ghost use Rattle.std.specs.List.{list_any};
+ghost use Rattle.mv_base.specs.Set.{empty};
+ghost use Rattle.mv_cover.specs.Absorb.{some_bare};
+ghost use Rattle.mv_design.specs.declared.table.Entry.{Entry};
+ghost use Rattle.mv_rows.specs.Cubes.{AreColumns, IsFrame, FitRow};
+ghost use Rattle.mv_rows.specs.Lines.{Adds, EntryLines, FitEntry};
+ghost use Rattle.mv_rows.specs.Flat.{entry_of, IsRow, IsTable, IsDefault, RowsLines, kept, insert_kept, says_nothing, default_left, plain_default, mark_cover, with_mark, marked_sets, unmarked, IsMarked, IsMade};
+ghost use Rattle.mv_rows.specs.Covers.{IsFlatTable};
+
+use crate::column::{Column, Frame};
+use indexmap::IndexSet;
+use mv_base::{Items, Memory, NetId, Value, ValueSet};
+use mv_cover::{Cover, Line};
+use mv_design::{Entry, FileTable, Row};
+use std::alloc::Global;
+
+/// A table of one output: the cover of its output, and the cover of the mark net that it reads, if it reads one.
+#[derive(Drop)]
+pub struct FlatTable {
+    pub cover: Cover,
+    pub mark: Option<Cover>,
+}
+
+/// The covers of a table with one output: a line for each row, with a literal for each net of which the row's columns
+/// leave a value out. Where a row's entry names a column, it gives a line for each value there. Where the default names
+/// one, or where a row says no value, so that it takes the default away and has no line, the default can't stand in the
+/// cover. Then the net `mark` gets a cover, which is 0 where some row matches and 1 elsewhere, and the default becomes
+/// lines that have the mark at 1. Equal lines stand once.
+#[tactic(auto, using(crate::proofs::Flat::IsFlatTable_made))]
+pub fn flat_table(
+    alloc: Global,
+    columns: &[Column],
+    table: &FileTable,
+    mark: NetId,
+) -> Result<FlatTable, Memory>
+    requires columns { AreColumns columns.now }
+    requires with_mark { AreColumns (with_mark columns.now mark) }
+    requires table { IsTable columns.now table.now }
+    ensures lines { IfOk result (λ flat. IsMade columns.now table.now mark flat) }
+    ensures relation { IfOk result (λ flat. IsFlatTable columns.now table.now mark flat) }
+{
+    made(alloc, columns, table, mark)
+}
+
+/// The covers of a table with these columns and one output, line by line. `mark` is the net of the mark, should one be needed.
+fn made(
+    alloc: Global,
+    columns: &[Column],
+    table: &FileTable,
+    mark: NetId,
+) -> Result<FlatTable, Memory>
+    requires columns { AreColumns columns.now }
+    requires with_mark { AreColumns (with_mark columns.now mark) }
+    requires table { IsTable columns.now table.now }
+    ensures { IfOk result (λ flat. IsMade columns.now table.now mark flat) }
+{
+    let frame = Frame::new(alloc, columns)?;
+    let lines = row_lines(alloc, &frame, table.rows.as_slice())?;
+    let Some(entry) = left(&table.default, lines.as_slice()) else {
+        return without_mark(alloc, lines, None);
+    };
+    match plain(&entry, lines.as_slice()) {
+        Some(out) => without_mark(alloc, lines, Some(out)),
+        None => with_mark(alloc, columns, lines, entry, mark),
+    }
+}
+
+/// The lines of the rows, row after row. Their outputs may be empty.
+fn row_lines(alloc: Global, frame: &Frame, rows: &[Row]) -> Result<Vec<Line>, Memory>
+    requires frame { IsFrame frame.now }
+    requires rows { All (IsRow frame.now.columns) rows.now }
+    ensures { IfOk result (λ lines. RowsLines frame.now.columns rows.now lines.items) }
+{
+    let mut lines = Vec::new(alloc);
+    for row in rows {
+        let entry = only(&row.outs);
+        frame.put_row(&mut lines, alloc, row.ins.as_slice(), entry)?;
+    }
+    Ok(lines)
+}
+
+/// The only entry.
+fn only(entries: &Items<Entry>) -> Entry
+    requires { length entries.now ≡ 1 }
+    ensures { result ≡ entry_of entries.now }
+{
+    entries.as_slice()[0]
+}
+
+/// The default, unless no value lies in its entry or some line has no literal.
+fn left(default: &Option<Items<Entry>>, lines: &[Line]) -> Option<Entry>
+    requires { (entries : List Entry) → default.now ≡ Some entries → length entries ≡ 1 }
+    ensures { result ≡ default_left default.now lines.now }
+{
+    let Some(entries) = default else {
+        return None;
+    };
+    let entry = only(entries);
+    if is_empty(&entry) || some_line_is_bare(lines) {
+        return None;
+    }
+    Some(entry)
+}
+
+/// Whether no value lies in the entry.
+fn is_empty(entry: &Entry) -> bool
+    ensures { result ≡ says_nothing entry.now }
+{
+    match entry {
+        Entry::Set(out) => *out == ValueSet::empty(),
+        Entry::Same(_) => false,
+    }
+}
+
+/// Whether some line has no literal.
+fn some_line_is_bare(lines: &[Line]) -> bool
+    ensures { result ≡ some_bare lines.now }
+{
+    lines.iter().any(|line| line.cube.len() == 0)
+}
+
+/// The default that a cover can have beside the lines.
+fn plain(entry: &Entry, lines: &[Line]) -> Option<ValueSet>
+    ensures { result ≡ plain_default entry.now lines.now }
+{
+    let Entry::Set(out) = *entry else {
+        return None;
+    };
+    if some_output_is_empty(lines) {
+        return None;
+    }
+    Some(out)
+}
+
+/// Whether some line has no output.
+fn some_output_is_empty(lines: &[Line]) -> bool
+    ensures { result ≡ list_any (λ l. nat_eq l.out empty) lines.now }
+{
+    lines.iter().any(|line| line.out == ValueSet::empty())
+}
+
+/// The table with these lines and this default.
+fn without_mark(
+    alloc: Global,
+    lines: Vec<Line>,
+    default: Option<ValueSet>,
+) -> Result<FlatTable, Memory>
+    ensures { IfOk result (λ flat. flat ≡ unmarked lines.items default) }
+{
+    Ok(FlatTable {
+        cover: Cover {
+            lines: kept(alloc, lines)?,
+            default,
+        },
+        mark: None,
+    })
+}
+
+/// The table with these lines, and with the default as lines that have the mark at 1.
+fn with_mark(
+    alloc: Global,
+    columns: &[Column],
+    lines: Vec<Line>,
+    entry: Entry,
+    mark: NetId,
+) -> Result<FlatTable, Memory>
+    requires columns { AreColumns (with_mark columns.now mark) }
+    requires entry { FitEntry columns.now entry }
+    ensures { IfOk result (λ flat. IsMarked columns.now mark lines.items entry flat) }
+{
+    let marks = marks(alloc, lines.as_slice())?;
+    let mut lines = lines;
+    put_default(&mut lines, alloc, columns, entry, mark)?;
+    Ok(FlatTable {
+        cover: Cover {
+            lines: kept(alloc, lines)?,
+            default: None,
+        },
+        mark: Some(marks),
+    })
+}
+
+/// The cover of the mark: 0 where a line's cube holds, and 1 elsewhere.
+fn marks(alloc: Global, lines: &[Line]) -> Result<Cover, Memory>
+    ensures { IfOk result (λ cover. cover ≡ mark_cover lines.now) }
+{
+    let mut marked = IndexSet::new(alloc);
+    for line in lines {
+        marked.insert(Line {
+            cube: line.cube.copy()?,
+            out: ValueSet::one(Value(0)),
+        })?;
+    }
+    Ok(Cover {
+        lines: listed(alloc, marked)?,
+        default: Some(ValueSet::one(Value(1))),
+    })
+}
+
+/// Adds the lines of the default where the mark is 1.
+fn put_default(
+    lines: &mut Vec<Line>,
+    alloc: Global,
+    columns: &[Column],
+    entry: Entry,
+    mark: NetId,
+) -> Result<(), Memory>
+    requires columns { AreColumns (with_mark columns.now mark) }
+    requires entry { FitEntry columns.now entry }
+    ensures { OnOk result (Adds (EntryLines (with_mark columns.now mark) (marked_sets columns.now) entry) lines.old.items lines.new.items) }
+{
+    let mut marked = Vec::from_slice(alloc, columns)?;
+    marked.push(Column {
+        net: mark,
+        count: 2,
+    })?;
+    let frame = Frame::new(alloc, marked.as_slice())?;
+    let sets = default_sets(alloc, columns)?;
+    frame.put_row(lines, alloc, sets.as_slice(), entry)
+}
+
+/// The sets of a row of all inputs with the mark at 1.
+fn default_sets(alloc: Global, columns: &[Column]) -> Result<Vec<ValueSet>, Memory>
+    requires { AreColumns columns.now }
+    ensures { IfOk result (λ sets. sets.items ≡ marked_sets columns.now) }
+{
+    let mut sets = Vec::new(alloc);
+    for column in columns {
+        sets.push(ValueSet::full(column.count))?;
+    }
+    sets.push(ValueSet::one(Value(1)))?;
+    Ok(sets)
+}
+
+/// The lines that have an output, without those that are equal to an earlier one.
+fn kept(alloc: Global, lines: Vec<Line>) -> Result<Items<Line>, Memory>
+    ensures { IfOk result (λ list. list ≡ kept lines.items) }
+{
+    let mut distinct = IndexSet::new(alloc);
+    for line in lines {
+        put_kept(&mut distinct, line)?;
+    }
+    listed(alloc, distinct)
+}
+
+/// Adds the line, if it has an output and is new.
+fn put_kept(distinct: &mut IndexSet<Line>, line: Line) -> Result<(), Memory>
+    ensures { OnOk result (distinct.new.keys ≡ insert_kept distinct.old.keys line) }
+{
+    if line.out == ValueSet::empty() {
+        return Ok(());
+    }
+    distinct.insert(line)?;
+    Ok(())
+}
+
+/// The lines of a set, in order.
+fn listed(alloc: Global, lines: IndexSet<Line>) -> Result<Items<Line>, Memory>
+    ensures { IfOk result (λ list. list ≡ lines.keys) }
+{
+    Ok(Items::of(lines.into_iter().collect(alloc)?))
+}
