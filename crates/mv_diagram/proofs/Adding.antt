@@ -3,10 +3,10 @@ use Rattle.std.proofs.Common.{◌≡◌, ℕ, zero, suc, add-one, ◌+◌, ◌<�
 use Rattle.mv_pool.specs.Places.{Contents, with_item}
 use Rattle.mv_diagram.specs.declared.node.Node.{Node}
 use Rattle.mv_diagram.specs.declared.table.Table.{Table}
-use Rattle.mv_diagram.specs.Sets.{Point, node_at, holds, is_held}
+use Rattle.mv_diagram.specs.Sets.{Point, InRange, node_at, holds, is_held}
 use Rattle.mv_diagram.specs.Sound.{AreCounts, IsNode, IsSound}
 use Rattle.mv_diagram.specs.Works.{Adds, HasPut, IsAbsent}
-use Rattle.mv_diagram.specs.Parts.{IsRestriction, AddsParts}
+use Rattle.mv_diagram.specs.Parts.{no_variable, IsRestriction, AddsParts}
 use Rattle.mv_diagram.proofs.Following.{holds_node, if_same}
 use Rattle.mv_diagram.proofs.Growing.{Grows-with, each_with, held_low, holds_stays, IsSound-with}
 use Rattle.mv_diagram.proofs.Lacking.{Reads, Agree-more}
@@ -26,6 +26,15 @@ use Rattle.mv_diagram.proofs.Applying.{both_same, parts_yes, parts_no}
 pub parts_none : (counts : List ℕ) (ns : List (Option Node)) (whole : Point → Bool) → AddsParts counts ns ns whole
 parts_none counts ns whole = record { each = λ d held. inl held }
 
+-- the same whole in other words
+pub parts_same : (counts : List ℕ) (old new : List (Option Node)) (whole whole' : Point → Bool) → AreCounts counts → ((p : Point) → InRange counts p → whole p ≡ whole' p) → AddsParts counts old new whole → AddsParts counts old new whole'
+parts_same counts old new whole whole' are same parts = record {
+  each = λ d held. elim (parts.each d held) [
+    | inl was ↦ inl was
+    | inr r ↦ inr (restriction_same counts are no_variable whole whole' _ _ same (λ p. refl) r)
+  ];
+}
+
 pub Reads-all : (counts : List ℕ) (from : ℕ) (whole : Point → Bool) → Reads counts from whole → Reads counts 0 whole
 Reads-all counts from whole reads = record { each = λ p q agree. reads.each p q (Agree-more counts 0 from p q (omega arith) agree) }
 
@@ -44,7 +53,7 @@ module _ (counts : List ℕ) (ns : List (Option Node)) (n : Node) (from : ℕ) (
     each = λ d held. held_by (with_item ns n) d held (λ low. inl (held_low ns d low)) (λ id at some.
         let have = item_some (with_item ns n) id.0 some in
         elim (each_with counts ns n s is absent id.0 have.0 have.1) [
-          | inl here ↦ inr (restriction_same counts s.values set set set (λ p. holds counts (with_item ns n) d p) (λ p range. refl)
+          | inl here ↦ inr (restriction_same counts s.values no_variable set set set (λ p. holds counts (with_item ns n) d p) (λ p range. refl)
               (new_set d (node_there (with_item ns n) d id at ∙ have.1 ∙ ap (λ x. Some x) (sym here.1)))
               (restriction_whole counts s.values set (Reads-all counts from set reads)))
           | inr old ↦ inl (held_from ns d id at (ap is_some old))
@@ -62,9 +71,9 @@ parts_put counts old new n d from s is put reads = elim put.change [
 
 module _ (old new : Table) (s : IsSound old.counts.items old.pool.places) (adds : Adds old new) where
   -- a restriction stays one
-  pub table_part : (d : ℕ) (whole : Point → Bool) → is_held old.pool.places d ≡ true → IsRestriction old.counts.items whole (λ p. holds old.counts.items old.pool.places d p) → IsRestriction new.counts.items whole (λ p. holds new.counts.items new.pool.places d p)
-  table_part d whole held r = restriction_same new.counts.items adds.sound.values whole whole _ _ (λ p range. refl) (λ p. sym (table_holds old new s adds d p held))
-      (subst (λ v. IsRestriction v whole (λ p. holds old.counts.items old.pool.places d p)) (sym (ap (λ v. v.items) adds.counts)) r)
+  pub table_part : (d : ℕ) (whole : Point → Bool) → is_held old.pool.places d ≡ true → IsRestriction old.counts.items no_variable whole (λ p. holds old.counts.items old.pool.places d p) → IsRestriction new.counts.items no_variable whole (λ p. holds new.counts.items new.pool.places d p)
+  table_part d whole held r = restriction_same new.counts.items adds.sound.values no_variable whole whole _ _ (λ p range. refl) (λ p. sym (table_holds old new s adds d p held))
+      (subst (λ v. IsRestriction v no_variable whole (λ p. holds old.counts.items old.pool.places d p)) (sym (ap (λ v. v.items) adds.counts)) r)
 
 module _ (operation : Operation) (old new : Table) (s : IsSound old.counts.items old.pool.places) (adds : Adds old new) (a b : ℕ) (ha : is_held old.pool.places a ≡ true) (hb : is_held old.pool.places b ≡ true)
     (t : Test) (f : IsFirst old.counts.items old.pool.places a b t) (ay an by bn : ℕ) (sa : IsSplit old.counts.items old.pool.places a t ay an) (sb : IsSplit old.counts.items old.pool.places b t by bn) where
@@ -73,24 +82,24 @@ module _ (operation : Operation) (old new : Table) (s : IsSound old.counts.items
 
   -- a restriction of the result of two diagrams stays one
   operands_part : (mid : Table) → IsSound mid.counts.items mid.pool.places → Adds mid new → (x y d : ℕ) → is_held mid.pool.places x ≡ true → is_held mid.pool.places y ≡ true → is_held mid.pool.places d ≡ true
-      → IsRestriction mid.counts.items (λ p. result_of operation (holds mid.counts.items mid.pool.places x p) (holds mid.counts.items mid.pool.places y p)) (λ p. holds mid.counts.items mid.pool.places d p)
-      → IsRestriction new.counts.items (λ p. result_of operation (holds new.counts.items new.pool.places x p) (holds new.counts.items new.pool.places y p)) (λ p. holds new.counts.items new.pool.places d p)
-  operands_part mid sm more x y d hx hy hd r = restriction_same new.counts.items adds.sound.values _ _ _ _
+      → IsRestriction mid.counts.items no_variable (λ p. result_of operation (holds mid.counts.items mid.pool.places x p) (holds mid.counts.items mid.pool.places y p)) (λ p. holds mid.counts.items mid.pool.places d p)
+      → IsRestriction new.counts.items no_variable (λ p. result_of operation (holds new.counts.items new.pool.places x p) (holds new.counts.items new.pool.places y p)) (λ p. holds new.counts.items new.pool.places d p)
+  operands_part mid sm more x y d hx hy hd r = restriction_same new.counts.items adds.sound.values no_variable _ _ _ _
       (λ p range. both_same operation _ _ _ _ (sym (table_holds mid new sm more x p hx)) (sym (table_holds mid new sm more y p hy))) (λ p. refl)
       (table_part mid new sm more d _ hd r)
 
   -- what the results of the two sides add
   pub from_yes : (mid : Table) → Adds old mid → Adds mid new → (d : ℕ) → is_held mid.pool.places d ≡ true
-      → IsRestriction mid.counts.items (λ p. result_of operation (holds mid.counts.items mid.pool.places ay p) (holds mid.counts.items mid.pool.places by p)) (λ p. holds mid.counts.items mid.pool.places d p)
-      → IsRestriction new.counts.items whole (λ p. holds new.counts.items new.pool.places d p)
+      → IsRestriction mid.counts.items no_variable (λ p. result_of operation (holds mid.counts.items mid.pool.places ay p) (holds mid.counts.items mid.pool.places by p)) (λ p. holds mid.counts.items mid.pool.places d p)
+      → IsRestriction new.counts.items no_variable whole (λ p. holds new.counts.items new.pool.places d p)
   from_yes mid first more d hd r =
       parts_yes new.counts.items new.pool.places adds.sound operation a b (table_held old new s adds a ha) (table_held old new s adds b hb) t (table_first_of old new s adds a b t ha hb f) ay an by bn
       (table_split old new s adds a t ay an ha sa) (table_split old new s adds b t by bn hb sb) _
       (operands_part mid first.sound more ay by d (table_held old mid s first ay sa.yes_held) (table_held old mid s first by sb.yes_held) hd r)
 
   pub from_no : (mid : Table) → Adds old mid → Adds mid new → (d : ℕ) → is_held mid.pool.places d ≡ true
-      → IsRestriction mid.counts.items (λ p. result_of operation (holds mid.counts.items mid.pool.places an p) (holds mid.counts.items mid.pool.places bn p)) (λ p. holds mid.counts.items mid.pool.places d p)
-      → IsRestriction new.counts.items whole (λ p. holds new.counts.items new.pool.places d p)
+      → IsRestriction mid.counts.items no_variable (λ p. result_of operation (holds mid.counts.items mid.pool.places an p) (holds mid.counts.items mid.pool.places bn p)) (λ p. holds mid.counts.items mid.pool.places d p)
+      → IsRestriction new.counts.items no_variable whole (λ p. holds new.counts.items new.pool.places d p)
   from_no mid first more d hd r =
       parts_no new.counts.items new.pool.places adds.sound operation a b (table_held old new s adds a ha) (table_held old new s adds b hb) t (table_first_of old new s adds a b t ha hb f) ay an by bn
       (table_split old new s adds a t ay an ha sa) (table_split old new s adds b t by bn hb sb) _
@@ -108,11 +117,11 @@ literal_parts base old new s adds var set low whole variable below before now is
     let below' : low + 1 < slice_index counts var = rw same below in
     record {
       each = λ d held. elim (now.each d held) [
-        | inr r ↦ inr (restriction_same counts adds.sound.values whole (literal_from counts var set low) _ _ (λ p range. is p) (λ p. refl) r)
+        | inr r ↦ inr (restriction_same counts adds.sound.values no_variable whole (literal_from counts var set low) _ _ (λ p range. is p) (λ p. refl) r)
         | inl there ↦ elim (before.each d there) [
           | inl was ↦ inl was
-          | inr r ↦ inr (restriction_no counts adds.sound.values t (record { variable = variable'; value = below' }) (literal_from counts var set low) (literal_reads counts new.pool.places adds.sound var set variable' low below') _
-              (restriction_same counts adds.sound.values _ (λ p. literal_from counts var set low (beside counts t p)) _ _
+          | inr r ↦ inr (restriction_no counts adds.sound.values no_variable t (record { variable = variable'; value = below' }) (literal_from counts var set low) (literal_reads counts new.pool.places adds.sound var set variable' low below') _
+              (restriction_same counts adds.sound.values no_variable _ (λ p. literal_from counts var set low (beside counts t p)) _ _
               (λ p range. ap (λ v. literal_from v var set (low + 1) p) (sym same) ∙ ap (has set) (literal_past counts new.pool.places adds.sound var set variable' low p))
               (λ p. refl)
               (table_part old new s adds d _ there r)))
@@ -122,12 +131,7 @@ literal_parts base old new s adds var set low whole variable below before now is
 
 -- all tests of a literal see its set
 pub literal_whole : (counts : List ℕ) (base ns : List (Option Node)) → AreCounts counts → (var set : ℕ) → var < length counts → AddsParts counts base ns (literal_from counts var set 0) → AddsParts counts base ns (λ p. has set (p var))
-literal_whole counts base ns are var set within parts = record {
-  each = λ d held. elim (parts.each d held) [
-    | inl was ↦ inl was
-    | inr r ↦ inr (restriction_same counts are _ (λ p. has set (p var)) _ _ (λ p range. ap (has set) (seen_all (slice_index counts var) (p var) (range.below var within))) (λ p. refl) r)
-  ];
-}
+literal_whole counts base ns are var set within parts = parts_same counts base ns _ (λ p. has set (p var)) are (λ p range. ap (has set) (seen_all (slice_index counts var) (p var) (range.below var within))) parts
 
 -- what the later tests see is a restriction of the whole literal
 pub literal_down : (counts : List ℕ) (base ns : List (Option Node)) → IsSound counts ns → (var set low : ℕ) → var < length counts → low < slice_index counts var → AddsParts counts base ns (literal_from counts var set low) → AddsParts counts base ns (λ p. has set (p var))
@@ -135,8 +139,8 @@ literal_down counts base ns s var set zero within below parts = literal_whole co
 literal_down counts base ns s var set (suc low) within below parts = literal_down counts base ns s var set low within (omega arith) (record {
   each = λ d held. elim (parts.each d held) [
     | inl was ↦ inl was
-    | inr r ↦ inr (restriction_no counts s.values (record { var = var; value = low }) (record { variable = within; value = omega arith }) (literal_from counts var set low) (literal_reads counts ns s var set within low (omega arith)) _
-        (restriction_same counts s.values (literal_from counts var set (suc low)) (λ p. literal_from counts var set low (beside counts (record { var = var; value = low }) p)) _ _
+    | inr r ↦ inr (restriction_no counts s.values no_variable (record { var = var; value = low }) (record { variable = within; value = omega arith }) (literal_from counts var set low) (literal_reads counts ns s var set within low (omega arith)) _
+        (restriction_same counts s.values no_variable (literal_from counts var set (suc low)) (λ p. literal_from counts var set low (beside counts (record { var = var; value = low }) p)) _ _
         (λ p range. ap (λ x. literal_from counts var set x p) (sym (add-one low)) ∙ ap (has set) (literal_past counts ns s var set within low p)) (λ p. refl) r))
   ];
 })

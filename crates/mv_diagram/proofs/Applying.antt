@@ -12,7 +12,7 @@ use Rattle.mv_diagram.specs.Results.{IsResult, result_of}
 use Rattle.mv_diagram.proofs.Following.{holds_end, first-le, first-end}
 use Rattle.mv_diagram.proofs.Points.{beside, beside_fails, holds_later, holds_beside, value_there}
 use Rattle.mv_diagram.proofs.Growing.{no_node, held_low}
-use Rattle.mv_diagram.specs.Parts.{IsRestriction}
+use Rattle.mv_diagram.specs.Parts.{no_variable, IsRestriction}
 use Rattle.mv_diagram.proofs.Restricting.{restriction_yes, restriction_no, restriction_same}
 use Rattle.mv_diagram.proofs.Lacking.{Reads, Reads-diagram, lacking_yes, lacking_no, lacking_same}
 
@@ -104,10 +104,10 @@ module _ (counts : List ℕ) (ns : List (Option Node)) (s : IsSound counts ns) (
         lacking_no counts ns s t f.test combined combined_reads (lacking_same counts ns s _ _ (λ p. both_same operation _ _ _ _ (side_no a ay an p sa) (side_no b by bn p sb)) lacking)
 
     -- restrictions of the result of one side, and of the whole
-    pub parts_yes : (part : Point → Bool) → IsRestriction counts (λ p. result_of operation (holds counts ns ay p) (holds counts ns by p)) part → IsRestriction counts combined part
-    parts_yes part r = restriction_yes counts s.values t f.test combined combined_reads part
-        (restriction_same counts s.values _ (λ p. combined (with_value p t.var t.value)) part part (λ p range. both_same operation _ _ _ _ (side_yes a ay an p sa) (side_yes b by bn p sb)) (λ p. refl) r)
+    pub parts_yes : (part : Point → Bool) → IsRestriction counts no_variable (λ p. result_of operation (holds counts ns ay p) (holds counts ns by p)) part → IsRestriction counts no_variable combined part
+    parts_yes part r = restriction_yes counts s.values no_variable t f.test combined combined_reads part
+        (restriction_same counts s.values no_variable _ (λ p. combined (with_value p t.var t.value)) part part (λ p range. both_same operation _ _ _ _ (side_yes a ay an p sa) (side_yes b by bn p sb)) (λ p. refl) r)
 
-    pub parts_no : (part : Point → Bool) → IsRestriction counts (λ p. result_of operation (holds counts ns an p) (holds counts ns bn p)) part → IsRestriction counts combined part
-    parts_no part r = restriction_no counts s.values t f.test combined combined_reads part
-        (restriction_same counts s.values _ (λ p. combined (beside counts t p)) part part (λ p range. both_same operation _ _ _ _ (side_no a ay an p sa) (side_no b by bn p sb)) (λ p. refl) r)
+    pub parts_no : (part : Point → Bool) → IsRestriction counts no_variable (λ p. result_of operation (holds counts ns an p) (holds counts ns bn p)) part → IsRestriction counts no_variable combined part
+    parts_no part r = restriction_no counts s.values no_variable t f.test combined combined_reads part
+        (restriction_same counts s.values no_variable _ (λ p. combined (beside counts t p)) part part (λ p range. both_same operation _ _ _ _ (side_no a ay an p sa) (side_no b by bn p sb)) (λ p. refl) r)

@@ -1,11 +1,14 @@
 -- Numbers of values and points by tests that compute.
-use Rattle.std.proofs.Common.{◌≡◌, ℕ, zero, suc, ◌<◌, ◌≤◌, ◌&&◌, Bool, true, false, List, [], ◌∷◌, length, nat_lt, nat_le, refl, arith}
+use Rattle.std.proofs.Common.{◌≡◌, ℕ, zero, suc, ◌+◌, ◌<◌, ◌≤◌, ◌&&◌, Bool, true, false, List, [], ◌∷◌, length, nat_lt, nat_le, refl, arith}
 use Rattle.std.proofs.lemmas.Bool.{and_parts, ltb-true, leb-true}
 use Rattle.mv_base.specs.declared.limits.TheConstants.{MAX_VALUES}
 use Rattle.mv_base.specs.declared.number.Value.{Value}
 use Rattle.mv_diagram.specs.Sound.{AreCounts}
-use Rattle.mv_diagram.specs.Diagrams.{IsPoint, point_of}
-use Rattle.std.specs.List.{slice_index}
+use Rattle.mv_diagram.specs.Diagrams.{Contents, IsHeld, IsPoint, Keeps, point_of}
+use Rattle.mv_diagram.specs.declared.node.Dd.{Dd}
+use Rattle.std.specs.List.{All, list_all, slice_index}
+use Rattle.std.proofs.lemmas.List.Elements.{All-weaker}
+use Rattle.std.proofs.lemmas.List.Sums.{AllPass-from_list_all}
 
 -- each number is from 1 to the limit
 abbrev pub are_counts : List ℕ → Bool
@@ -46,3 +49,11 @@ point_tested counts values h = record { long = long counts values h; range = rec
     below (c ∷ cs) [] h k within = cc
     below (c ∷ cs) (v ∷ vs) h zero within = ltb-true v.0 c (and_parts (nat_lt v.0 c) (is_point cs vs) h).0
     below (c ∷ cs) (v ∷ vs) h (suc k) within = below cs vs (and_parts (nat_lt v.0 c) (is_point cs vs) h).1 k (omega arith)
+
+-- each is a variable
+pub vars_tested : (counts vars : List ℕ) → list_all (λ v. nat_lt v (length counts)) vars ≡ true → All (λ v. v < length counts) vars
+vars_tested counts vars h = All-weaker _ (λ v. v < length counts) (λ v less. ltb-true v (length counts) less) vars (AllPass-from_list_all (λ v. nat_lt v (length counts)) vars h)
+
+-- what was held at a mark is held after a release
+pub still_held : (old mid new : Contents) (mark : ℕ) (d : Dd) → Keeps old mid → ((d : Dd) → IsHeld old d → d.0 < mark + 2) → ((d : Dd) → IsHeld mid d → d.0 < mark + 2 → IsHeld new d) → IsHeld old d → IsHeld new d
+still_held old mid new mark d keeps earlier kept held = kept d (keeps.held d held) (earlier d held)

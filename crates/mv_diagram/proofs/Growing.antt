@@ -91,6 +91,12 @@ Grows-same ns = record { keeps = λ place n e. e }
 pub Grows-more : (a b c : List (Option Node)) → Grows a b → Grows b c → Grows a c
 Grows-more a b c g h = record { keeps = λ place n e. h.keeps place n (g.keeps place n e) }
 
+-- no place is gone
+pub longer_with : (ns : List (Option Node)) (n : Node) → length ns ≤ length (with_item ns n)
+longer_with [] n = omega arith
+longer_with (None ∷ ns) n = omega arith
+longer_with (Some m ∷ ns) n = let rest = longer_with ns n in omega arith
+
 -- a node at the least free place
 pub Grows-with : (ns : List (Option Node)) (n : Node) → Grows ns (with_item ns n)
 Grows-with ns n = record { keeps = λ place m e. item_at-with_other ns n place (λ same. none-some m (sym (free_there ns) ∙ ap (item_at ns) (sym same) ∙ e)) ∙ e }

@@ -18,3 +18,4 @@ pub mod Quantifying
 pub mod Counting
 pub mod Restricting
 pub mod Adding
+pub mod Combining

@@ -1,5 +1,5 @@
 -- A node for a test and two diagrams: where it stands already, where it is added, and where there is no room for it.
-use Rattle.std.proofs.Common.{◌≡◌, ℕ, ◌+◌, ◌-◌, ◌^◌, ◌<◌, ◌≤◌, ◌==◌, Bool, true, List, Option, Some, None, Result, Ok, Err, IfSome, option_and_then, nat_le, nat_lt, if◌then◌else◌, refl, sym, ap, ◌∙◌, inl, inr, true≢false, arith}
+use Rattle.std.proofs.Common.{◌≡◌, ℕ, ◌+◌, ◌-◌, ◌^◌, ◌<◌, ◌≤◌, ◌==◌, Bool, true, List, length, Option, Some, None, Result, Ok, Err, IfSome, option_and_then, nat_le, nat_lt, if◌then◌else◌, refl, sym, ap, ◌∙◌, inl, inr, true≢false, arith}
 use Rattle.std.proofs.lemmas.Bool.{cases_lt, cases_order, eq-eqb, ne_eqb, and_from, le-leb, lt-ltb}
 use Rattle.std.proofs.lemmas.List.Quantifiers.{position-Some}
 use Rattle.mv_pool.specs.Places.{Contents, item_at, stands, held_in, least_free, with_item}
@@ -18,7 +18,7 @@ use Rattle.mv_diagram.specs.Works.{Grows, IsLacking, IsAbsent, HasPut}
 use Rattle.mv_diagram.proofs.Following.{if_same, holds_node, node_is, node_placed}
 use Rattle.mv_diagram.proofs.Points.{beside, InRange-with, InRange-beside, greatest_lt, holds_both, holds_beside, holds_yes, holds_no_beside, holds_later, value_there, value-lt_greatest, beside_fails}
 use Rattle.mv_diagram.proofs.Canonical.{same_number, node_is_made, test_here}
-use Rattle.mv_diagram.proofs.Growing.{Grows-same, Grows-with, IsSound-with, Ascends-with, holds_stays}
+use Rattle.mv_diagram.proofs.Growing.{Grows-same, Grows-with, longer_with, IsSound-with, Ascends-with, holds_stays}
 use Rattle.mv_diagram.proofs.Lacking.{Reads, Reads-diagram, first_reads}
 
 module _ (counts : List ℕ) (ns : List (Option Node)) (s : IsSound counts ns) (n : Node) (q : Dd) (test : IsTest counts n.test)
@@ -131,6 +131,12 @@ module _ (counts : List ℕ) (old new : Contents Node) (n : Node) (d : ℕ) (s :
   put_ascends up = elim put.change [
     | inl same ↦ rw same up
     | inr added ↦ rw added.0 (Ascends-with counts old.places n is up)
+  ]
+
+  pub put_longer : length old.places ≤ length new.places
+  put_longer = elim put.change [
+    | inl same ↦ rw same (omega arith)
+    | inr added ↦ rw added.0 (longer_with old.places n)
   ]
 
   -- and its diagram has the set that the node says

@@ -12,7 +12,7 @@ use Rattle.mv_diagram.specs.Sets.{Point, InRange, with_value, greatest, node_at,
 use Rattle.mv_diagram.specs.Sound.{order, first, IsTest, IsSound}
 use Rattle.mv_diagram.specs.Works.{Adds}
 use Rattle.mv_diagram.specs.Results.{IsResult, IsKept, result_of}
-use Rattle.mv_diagram.specs.Quantified.{Agrees, Agreeing, IsQuantified, Quantifies, IsJoined, joining}
+use Rattle.mv_diagram.specs.Quantified.{Agrees, Agreeing, IsQuantified, Quantifies, IsJoined, joined_set, joining}
 use Rattle.mv_diagram.proofs.Following.{if_same, node_is, holds_end, first-node}
 use Rattle.mv_diagram.proofs.Points.{beside, beside_there, beside_elsewhere, InRange-with, InRange-beside, value_elsewhere, holds_yes, holds_no_beside}
 use Rattle.mv_diagram.proofs.Looking.{step_yes, step_no}
@@ -47,6 +47,11 @@ agrees_beside counts vars p q t chosen agrees = elim (cases_eq (q t.var) t.value
   | inr other ↦ rw (beside_elsewhere counts t q other) agrees
 ]
 
+-- a set has the answer exactly where another has it at some point that agrees
+pub record Answers (counts : List ℕ) (vars : ℕ → Bool) (answer : Bool) (whole set : Point → Bool) : Type 0 where
+  pub some : (p : Point) → InRange counts p → set p ≡ answer → Agreeing counts vars whole answer p
+  pub all : (p q : Point) → InRange counts q → Agrees vars p q → whole q ≡ answer → set p ≡ answer
+
 module _ (counts : List ℕ) (ns : List (Option Node)) (s : IsSound counts ns) (vars : ℕ → Bool) (answer : Bool) where
   -- a diagram without tests
   pub quantified_end : (d : ℕ) → is_held ns d ≡ true → node_at ns d ≡ None → IsQuantified counts ns vars answer d d
@@ -58,69 +63,75 @@ module _ (counts : List ℕ) (ns : List (Option Node)) (s : IsSound counts ns) (
     all = λ p q range agrees is. holds_end counts ns d p e ∙ sym (holds_end counts ns d q e) ∙ is;
   }
 
-  -- one with a first test
+  -- a set that is joined of what two sets are for the two children of a node
+  module _ (d y m : ℕ) (n : Node) (joined : Bool) (e : node_at ns d ≡ Some n) (chosen : joined ≡ vars n.test.var)
+      (iy : IsQuantified counts ns vars answer n.yes.0 y) (im : IsQuantified counts ns vars answer n.no.0 m) (set : Point → Bool)
+      (is_joined : (p : Point) → set p ≡ joined_set counts ns joined answer n.test y m p) where
+    test : IsTest counts n.test
+    test = (node_is counts ns s d n e).test
+
+    by_joined : (b : Bool) → joined ≡ b → (p : Point) → set p ≡ joined_set counts ns b answer n.test y m p
+    by_joined b j p = is_joined p ∙ ap (λ b. joined_set counts ns b answer n.test y m p) j
+
+    tested_yes : (p : Point) → joined ≡ false → p n.test.var ≡ n.test.value → set p ≡ holds counts ns y p
+    tested_yes p j at = by_joined false j p ∙ ap (λ b. if b then holds counts ns y p else holds counts ns m p) (eq-eqb _ _ at)
+
+    tested_no : (p : Point) → joined ≡ false → (p n.test.var ≡ n.test.value → ⊥) → set p ≡ holds counts ns m p
+    tested_no p j apart = by_joined false j p ∙ ap (λ b. if b then holds counts ns y p else holds counts ns m p) (ne_eqb _ _ apart)
+
+    some : (b : Bool) → joined ≡ b → (p : Point) → InRange counts p → set p ≡ answer → Agreeing counts vars (λ q. holds counts ns d q) answer p
+    some true j p range is = elim (one_answers answer (holds counts ns y p) (holds counts ns m p) (sym (by_joined true j p) ∙ is)) [
+      | inl yes' ↦ let a = iy.some p range yes' in let more = test.value in record {
+        other = with_value a.other n.test.var n.test.value;
+        range = InRange-with counts a.other n.test.var n.test.value a.range (omega arith);
+        agrees = agrees_with vars p a.other n.test.var n.test.value (sym chosen ∙ j) a.agrees;
+        is = sym (holds_yes counts ns s d n a.other e) ∙ a.is;
+      }
+      | inr no' ↦ let a = im.some p range no' in record {
+        other = beside counts n.test a.other;
+        range = InRange-beside counts n.test test a.other a.range;
+        agrees = agrees_beside counts vars p a.other n.test (sym chosen ∙ j) a.agrees;
+        is = sym (holds_no_beside counts ns s d n a.other e) ∙ a.is;
+      }
+    ]
+    some false j p range is = elim (cases_eq (p n.test.var) n.test.value) [
+      | inl at ↦ let a = iy.some p range (sym (tested_yes p j at) ∙ is) in record {
+        other = a.other;
+        range = a.range;
+        agrees = a.agrees;
+        is = step_yes counts ns s d n a.other e (sym (a.agrees.each n.test.var (sym chosen ∙ j)) ∙ at) ∙ a.is;
+      }
+      | inr apart ↦ let a = im.some p range (sym (tested_no p j apart) ∙ is) in record {
+        other = a.other;
+        range = a.range;
+        agrees = a.agrees;
+        is = step_no counts ns s d n a.other e (λ at. apart (a.agrees.each n.test.var (sym chosen ∙ j) ∙ at)) ∙ a.is;
+      }
+    ]
+
+    all : (b : Bool) → joined ≡ b → (p q : Point) → InRange counts q → Agrees vars p q → holds counts ns d q ≡ answer → set p ≡ answer
+    all true j p q range agrees is = by_joined true j p ∙ elim (cases_eq (q n.test.var) n.test.value) [
+      | inl at ↦ left_answers answer _ _ (iy.all p q range agrees (sym (step_yes counts ns s d n q e at) ∙ is))
+      | inr apart ↦ right_answers answer _ _ (im.all p q range agrees (sym (step_no counts ns s d n q e apart) ∙ is))
+    ]
+    all false j p q range agrees is = let same = agrees.each n.test.var (sym chosen ∙ j) in elim (cases_eq (q n.test.var) n.test.value) [
+      | inl at ↦ tested_yes p j (same ∙ at) ∙ iy.all p q range agrees (sym (step_yes counts ns s d n q e at) ∙ is)
+      | inr apart ↦ tested_no p j (λ at. apart (sym same ∙ at)) ∙ im.all p q range agrees (sym (step_no counts ns s d n q e apart) ∙ is)
+    ]
+
+    pub answers_joined : Answers counts vars answer (λ p. holds counts ns d p) set
+    answers_joined = record { some = λ p range is. some joined refl p range is; all = λ p q range agrees is. all joined refl p q range agrees is }
+
+  -- a diagram with a first test
   pub quantified_node : (d r y m : ℕ) (n : Node) (joined : Bool) → node_at ns d ≡ Some n → is_held ns d ≡ true → joined ≡ vars n.test.var
       → IsQuantified counts ns vars answer n.yes.0 y → IsQuantified counts ns vars answer n.no.0 m → IsJoined counts ns joined answer n.test y m r → IsQuantified counts ns vars answer d r
-  quantified_node d r y m n joined e hd chosen iy im ij = record {
+  quantified_node d r y m n joined e hd chosen iy im ij = let is = answers_joined d y m n joined e chosen iy im (λ p. holds counts ns r p) ij.set in record {
     operand = hd;
     held = ij.held;
     later = let there = first-node counts ns d n e in let low = ij.later in omega arith;
-    some = λ p range is. some joined refl p range is;
-    all = λ p q range agrees is. all joined refl p q range agrees is;
+    some = is.some;
+    all = is.all;
   }
-    where
-      test : IsTest counts n.test
-      test = (node_is counts ns s d n e).test
-
-      joined_set : (b : Bool) → joined ≡ b → (p : Point) → holds counts ns r p
-          ≡ (if b then result_of (joining answer) (holds counts ns y p) (holds counts ns m p) else (if p n.test.var == n.test.value then holds counts ns y p else holds counts ns m p))
-      joined_set b j p = ij.set p ∙ ap (λ b. if b then result_of (joining answer) (holds counts ns y p) (holds counts ns m p) else (if p n.test.var == n.test.value then holds counts ns y p else holds counts ns m p)) j
-
-      tested_yes : (p : Point) → joined ≡ false → p n.test.var ≡ n.test.value → holds counts ns r p ≡ holds counts ns y p
-      tested_yes p j at = joined_set false j p ∙ ap (λ b. if b then holds counts ns y p else holds counts ns m p) (eq-eqb _ _ at)
-
-      tested_no : (p : Point) → joined ≡ false → (p n.test.var ≡ n.test.value → ⊥) → holds counts ns r p ≡ holds counts ns m p
-      tested_no p j apart = joined_set false j p ∙ ap (λ b. if b then holds counts ns y p else holds counts ns m p) (ne_eqb _ _ apart)
-
-      some : (b : Bool) → joined ≡ b → (p : Point) → InRange counts p → holds counts ns r p ≡ answer → Agreeing counts vars (λ q. holds counts ns d q) answer p
-      some true j p range is = elim (one_answers answer (holds counts ns y p) (holds counts ns m p) (sym (joined_set true j p) ∙ is)) [
-        | inl yes' ↦ let a = iy.some p range yes' in let more = test.value in record {
-          other = with_value a.other n.test.var n.test.value;
-          range = InRange-with counts a.other n.test.var n.test.value a.range (omega arith);
-          agrees = agrees_with vars p a.other n.test.var n.test.value (sym chosen ∙ j) a.agrees;
-          is = sym (holds_yes counts ns s d n a.other e) ∙ a.is;
-        }
-        | inr no' ↦ let a = im.some p range no' in record {
-          other = beside counts n.test a.other;
-          range = InRange-beside counts n.test test a.other a.range;
-          agrees = agrees_beside counts vars p a.other n.test (sym chosen ∙ j) a.agrees;
-          is = sym (holds_no_beside counts ns s d n a.other e) ∙ a.is;
-        }
-      ]
-      some false j p range is = elim (cases_eq (p n.test.var) n.test.value) [
-        | inl at ↦ let a = iy.some p range (sym (tested_yes p j at) ∙ is) in record {
-          other = a.other;
-          range = a.range;
-          agrees = a.agrees;
-          is = step_yes counts ns s d n a.other e (sym (a.agrees.each n.test.var (sym chosen ∙ j)) ∙ at) ∙ a.is;
-        }
-        | inr apart ↦ let a = im.some p range (sym (tested_no p j apart) ∙ is) in record {
-          other = a.other;
-          range = a.range;
-          agrees = a.agrees;
-          is = step_no counts ns s d n a.other e (λ at. apart (a.agrees.each n.test.var (sym chosen ∙ j) ∙ at)) ∙ a.is;
-        }
-      ]
-
-      all : (b : Bool) → joined ≡ b → (p q : Point) → InRange counts q → Agrees vars p q → holds counts ns d q ≡ answer → holds counts ns r p ≡ answer
-      all true j p q range agrees is = joined_set true j p ∙ elim (cases_eq (q n.test.var) n.test.value) [
-        | inl at ↦ left_answers answer _ _ (iy.all p q range agrees (sym (step_yes counts ns s d n q e at) ∙ is))
-        | inr apart ↦ right_answers answer _ _ (im.all p q range agrees (sym (step_no counts ns s d n q e apart) ∙ is))
-      ]
-      all false j p q range agrees is = let same = agrees.each n.test.var (sym chosen ∙ j) in elim (cases_eq (q n.test.var) n.test.value) [
-        | inl at ↦ tested_yes p j (same ∙ at) ∙ iy.all p q range agrees (sym (step_yes counts ns s d n q e at) ∙ is)
-        | inr apart ↦ tested_no p j (λ at. apart (sym same ∙ at)) ∙ im.all p q range agrees (sym (step_no counts ns s d n q e apart) ∙ is)
-      ]
 
 module _ (old new : Table) (s : IsSound old.counts.items old.pool.places) (adds : Adds old new) (vars : ℕ → Bool) (answer : Bool) where
   same_counts : new.counts.items ≡ old.counts.items
@@ -149,6 +160,18 @@ quantifies_more counts ns vars answer old new key d are kept is = record {
   ];
 }
 
+-- the set that the operation makes
+pub set_operation : (counts : List ℕ) (ns : List (Option Node)) (joined answer : Bool) (operation : Operation) (t : Test) (y n : ℕ) → joined ≡ true → operation ≡ joining answer
+    → (p : Point) → result_of operation (holds counts ns y p) (holds counts ns n p) ≡ joined_set counts ns joined answer t y n p
+set_operation counts ns joined answer operation t y n j o p =
+    ap (λ o. result_of o (holds counts ns y p) (holds counts ns n p)) o ∙ ap (λ b. joined_set counts ns b answer t y n p) (sym j)
+
+-- the set that the test makes
+pub set_test : (old new : Table) → IsSound old.counts.items old.pool.places → Adds old new → (joined answer : Bool) (t : Test) (y n : ℕ) → joined ≡ false → is_held old.pool.places y ≡ true → is_held old.pool.places n ≡ true
+    → (p : Point) → (if p t.var == t.value then holds old.counts.items old.pool.places y p else holds old.counts.items old.pool.places n p) ≡ joined_set new.counts.items new.pool.places joined answer t y n p
+set_test old new s adds joined answer t y n j hy hn p =
+    sym (if_same _ _ _ _ _ _ refl (table_holds old new s adds y p hy) (table_holds old new s adds n p hn)) ∙ ap (λ b. joined_set new.counts.items new.pool.places b answer t y n p) (sym j)
+
 -- what is joined by the operation
 pub joined_result : (counts : List ℕ) (ns : List (Option Node)) (joined answer : Bool) (operation : Operation) (t : Test) (y n : ℕ) (r : Result Dd Nodes) → joined ≡ true → operation ≡ joining answer
     → order t.var t.value ≤ first counts ns y → order t.var t.value ≤ first counts ns n → IfOk r (λ d. IsResult counts ns operation y n d.0) → IfOk r (λ d. IsJoined counts ns joined answer t y n d.0)
@@ -156,8 +179,7 @@ joined_result counts ns joined answer operation t y n (Err e) j o ly ln is = tt
 joined_result counts ns joined answer operation t y n (Ok d) j o ly ln is = record {
   held = is.held;
   later = is.later (order t.var t.value) ly ln;
-  set = λ p. is.set p ∙ ap (λ o. result_of o (holds counts ns y p) (holds counts ns n p)) o
-      ∙ ap (λ b. if b then result_of (joining answer) (holds counts ns y p) (holds counts ns n p) else (if p t.var == t.value then holds counts ns y p else holds counts ns n p)) (sym j);
+  set = λ p. is.set p ∙ set_operation counts ns joined answer operation t y n j o p;
 }
 
 -- what is made by the test
@@ -169,6 +191,5 @@ joined_test old new s adds joined answer t y n (Err e) j hy hn held later set = 
 joined_test old new s adds joined answer t y n (Ok d) j hy hn held later set = record {
   held = held;
   later = later;
-  set = λ p. set p ∙ sym (if_same _ _ _ _ _ _ refl (table_holds old new s adds y p hy) (table_holds old new s adds n p hn))
-      ∙ ap (λ b. if b then result_of (joining answer) (holds new.counts.items new.pool.places y p) (holds new.counts.items new.pool.places n p) else (if p t.var == t.value then holds new.counts.items new.pool.places y p else holds new.counts.items new.pool.places n p)) (sym j);
+  set = λ p. set p ∙ set_test old new s adds joined answer t y n j hy hn p;
 }

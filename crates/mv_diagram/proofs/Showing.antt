@@ -1,6 +1,7 @@
 -- From the table to what callers see.
 use Rattle.std.specs.Bool.{OnFalse}
-use Rattle.std.proofs.Common.{◌≡◌, ℕ, ◌&&◌, Bool, true, false, not, List, Option, Result, Ok, Err, IfOk, IfErr, All, refl, sym, ap, ◌∙◌, inl, inr, true≢false, arith}
+use Rattle.std.proofs.Common.{◌≡◌, ℕ, ◌&&◌, Bool, true, false, not, List, Option, Result, Ok, Err, IfOk, IfErr, All, refl, sym, ap, subst, ◌∙◌, inl, inr, true≢false, arith}
+use Rattle.std.proofs.Math.Path.{fun_ext}
 use Rattle.std.proofs.lemmas.List.Elements.{All-weaker}
 use Rattle.mv_diagram.specs.declared.node.Dd.{Dd}
 use Rattle.mv_diagram.specs.declared.node.Node.{Node}
@@ -12,9 +13,10 @@ use Rattle.mv_diagram.specs.Diagrams.{Contents, IsHeld, Keeps, AddsRestrictions,
 use Rattle.mv_diagram.specs.declared.node.Nodes.{Nodes}
 use Rattle.mv_diagram.specs.declared.memo.Operation.{Operation}
 use Rattle.mv_diagram.specs.Results.{IsResult, result_of}
-use Rattle.mv_diagram.specs.Quantified.{Agrees, IsQuantified, Exists, Forall, is_one_of}
-use Rattle.mv_diagram.specs.Parts.{AddsParts}
+use Rattle.mv_diagram.specs.Quantified.{AddsMeets, AddsUnions, Agrees, IsQuantified, Exists, Forall, is_one_of}
+use Rattle.mv_diagram.specs.Parts.{no_variable, AddsParts, IsCombined, AddsCombined}
 use Rattle.mv_diagram.proofs.Restricting.{restriction_same}
+use Rattle.mv_diagram.proofs.Combining.{combined_same}
 use Rattle.mv_diagram.proofs.Following.{holds_end}
 use Rattle.mv_diagram.proofs.Growing.{no_node, held_stays, Fewer, set_fewer}
 use Rattle.mv_diagram.proofs.Tables.{table_held, table_holds}
@@ -34,6 +36,7 @@ Keeps-adds old new n s adds = record {
   counts = ap (λ v. v.items) adds.counts;
   cap = adds.cap;
   reclaims = refl;
+  places = adds.longer;
   held = λ d h. record { is = table_held old new s adds d.0 h.is };
   sets = λ d p h. table_holds old new s adds d.0 p h.is;
 }
@@ -66,7 +69,7 @@ module _ (operation : Operation) (old new : Table) (n : ℕ) (a b : Dd) (s : IsS
   added_shown parts = record {
     each = λ d held. elim (parts.each d.0 held.is) [
       | inl was ↦ inl (record { is = was })
-      | inr r ↦ inr (restriction_same new.counts.items adds.sound.values _ _ _ _ (λ p range. same_operands p) (λ p. refl) r)
+      | inr r ↦ inr (restriction_same new.counts.items adds.sound.values no_variable _ _ _ _ (λ p range. same_operands p) (λ p. refl) r)
     ];
   }
 
@@ -86,7 +89,7 @@ module _ (old new : Contents) (a : Dd) where
   not_added are parts = record {
     each = λ d held. elim (parts.each d held) [
       | inl was ↦ inl was
-      | inr r ↦ inr (restriction_same new.counts are _ _ _ _ (λ p range. twice (has old a p)) (λ p. refl) r)
+      | inr r ↦ inr (restriction_same new.counts are no_variable _ _ _ _ (λ p range. twice (has old a p)) (λ p. refl) r)
     ];
   }
 
@@ -137,3 +140,13 @@ module _ (old new : Table) (n : ℕ) (a : Dd) (vars : List ℕ) (chosen : ℕ �
       true_unless : (b : Bool) → (b ≡ false → ⊥) → b ≡ true
       true_unless true never = refl
       true_unless false never = absurd (never refl)
+
+  -- with chosen variables in other words
+  combined_chosen : (answer : Bool) (whole whole' part : Point → Bool) → ((p : Point) → whole p ≡ whole' p) → IsCombined new.counts.items chosen answer whole part → IsCombined new.counts.items (is_one_of vars) answer whole' part
+  combined_chosen answer whole whole' part w m = combined_same new.counts.items adds.sound.values (is_one_of vars) answer whole whole' part part (λ p range. w p) (λ p. refl) (subst (λ x. IsCombined new.counts.items x answer whole part) (fun_ext same) m)
+
+  pub unions_shown : AddsCombined new.counts.items chosen true old.pool.places new.pool.places (λ p. holds new.counts.items new.pool.places a.0 p) → AddsUnions (shown old n) (shown new n) vars (λ p. has (shown old n) a p)
+  unions_shown added = record { each = λ d held. elim (added.each d.0 held.is) [ inl before ↦ inl (record { is = before }) | inr m ↦ inr (combined_chosen true _ _ _ was m) ] }
+
+  pub meets_shown : AddsCombined new.counts.items chosen false old.pool.places new.pool.places (λ p. holds new.counts.items new.pool.places a.0 p) → AddsMeets (shown old n) (shown new n) vars (λ p. has (shown old n) a p)
+  meets_shown added = record { each = λ d held. elim (added.each d.0 held.is) [ inl before ↦ inl (record { is = before }) | inr m ↦ inr (combined_chosen false _ _ _ was m) ] }

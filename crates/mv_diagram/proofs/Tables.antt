@@ -1,5 +1,5 @@
 -- What stays as nodes are added to a table.
-use Rattle.std.proofs.Common.{◌≡◌, ℕ, true, List, [], Option, Some, refl, sym, ap, subst, ◌∙◌, inl, inr}
+use Rattle.std.proofs.Common.{◌≡◌, ℕ, true, List, [], Option, Some, refl, sym, ap, subst, ◌∙◌, inl, inr, arith}
 use Rattle.lru.proofs.Splits.{Contains-nil}
 use Rattle.mv_diagram.specs.declared.node.Dd.{Dd}
 use Rattle.mv_diagram.specs.declared.node.Node.{Node}
@@ -16,10 +16,10 @@ use Rattle.mv_diagram.proofs.Following.{if_same}
 use Rattle.mv_diagram.proofs.Growing.{Grows-same, Grows-more, held_node, node_stays, held_stays, first_stays, holds_stays}
 
 pub Adds-same : (t : Table) → IsSound t.counts.items t.pool.places → Adds t t
-Adds-same t s = record { counts = refl; cap = refl; grows = Grows-same t.pool.places; sound = s; ascends = λ a. a }
+Adds-same t s = record { counts = refl; cap = refl; grows = Grows-same t.pool.places; sound = s; ascends = λ a. a; longer = omega arith }
 
 pub Adds-more : (a b c : Table) → Adds a b → Adds b c → Adds a c
-Adds-more a b c g h = record { counts = h.counts ∙ g.counts; cap = h.cap ∙ g.cap; grows = Grows-more a.pool.places b.pool.places c.pool.places g.grows h.grows; sound = h.sound; ascends = λ x. h.ascends (g.ascends x) }
+Adds-more a b c g h = record { counts = h.counts ∙ g.counts; cap = h.cap ∙ g.cap; grows = Grows-more a.pool.places b.pool.places c.pool.places g.grows h.grows; sound = h.sound; ascends = λ x. h.ascends (g.ascends x); longer = let first = g.longer in let second = h.longer in omega arith }
 
 module _ (old new : Table) (s : IsSound old.counts.items old.pool.places) (adds : Adds old new) where
   pub table_held : (d : ℕ) → is_held old.pool.places d ≡ true → is_held new.pool.places d ≡ true

@@ -5,7 +5,7 @@ use Rattle.mv_pool.specs.Places.{held_in}
 use Rattle.mv_diagram.specs.declared.node.Dd.{Dd}
 use Rattle.mv_diagram.specs.declared.node.Node.{Node}
 use Rattle.mv_diagram.specs.declared.node.Nodes.{Nodes}
-use Rattle.mv_diagram.specs.Parts.{IsRestriction}
+use Rattle.mv_diagram.specs.Parts.{no_variable, IsRestriction}
 use Rattle.mv_diagram.specs.Sets.{Point, InRange, SameSet, holds, is_held, node_at}
 
 -- the numbers of values of the variables, the nodes at their places, how many there is room for, and how often places
@@ -33,11 +33,12 @@ pub record IsPoint (counts : List ℕ) (values : List Value) : Type 0 where
   pub long : length values ≡ length counts
   pub range : InRange counts (point_of values)
 
--- the diagrams that were held are held, with their sets
+-- the diagrams that were held are held, with their sets, and no place is gone
 pub record Keeps (old new : Contents) : Type 0 where
   pub counts : new.counts ≡ old.counts
   pub cap : new.cap ≡ old.cap
   pub reclaims : new.reclaims ≡ old.reclaims
+  pub places : length old.nodes ≤ length new.nodes
   pub held : (d : Dd) → IsHeld old d → IsHeld new d
   pub sets : (d : Dd) (p : Point) → IsHeld old d → has new d p ≡ has old d p
 
@@ -65,4 +66,4 @@ pub record Loses (old new : Contents) : Type 0 where
 
 -- each diagram that is held now and wasn't has a restriction of the set
 pub record AddsRestrictions (old new : Contents) (set : Point → Bool) : Type 0 where
-  pub each : (d : Dd) → IsHeld new d → IsHeld old d ⊎ IsRestriction new.counts set (λ p. has new d p)
+  pub each : (d : Dd) → IsHeld new d → IsHeld old d ⊎ IsRestriction new.counts no_variable set (λ p. has new d p)

@@ -1,5 +1,5 @@
 -- Points that differ in some variables alone, and the sets that have one of them, or all.
-use Rattle.std.specs.Prelude.{◌≡◌, ◌≤◌, ◌==◌, ℕ, Bool, true, false, List, Option, Contains, if◌then◌else◌}
+use Rattle.std.specs.Prelude.{◌≡◌, ◌≤◌, ◌==◌, ◌⊎◌, ℕ, Bool, true, false, List, Option, Contains, if◌then◌else◌}
 use Rattle.std.specs.List.{list_any}
 use Rattle.mv_diagram.specs.declared.node.Dd.{Dd}
 use Rattle.mv_diagram.specs.declared.node.Node.{Node}
@@ -10,7 +10,8 @@ use Rattle.mv_diagram.specs.declared.memo.Operation.TheVariants.{And, Or}
 use Rattle.mv_diagram.specs.Sets.{Point, InRange, holds, is_held}
 use Rattle.mv_diagram.specs.Sound.{order, first}
 use Rattle.mv_diagram.specs.Results.{result_of}
-use Rattle.mv_diagram.specs.Diagrams.{Contents, has}
+use Rattle.mv_diagram.specs.Diagrams.{Contents, IsHeld, has}
+use Rattle.mv_diagram.specs.Parts.{IsUnion, IsMeet}
 
 -- whether a variable is one of these
 abbrev pub is_one_of : List ℕ → ℕ → Bool
@@ -43,11 +44,16 @@ pub record Quantifies (counts : List ℕ) (ns : List (Option Node)) (vars : ℕ 
 abbrev pub joining : Bool → Operation
 joining answer = if answer then Or else And
 
--- a diagram is made of those for yes and no: by the operation, or by the test
+-- what is made of the sets for yes and no: by the operation, or by the test
+abbrev pub joined_set : List ℕ → List (Option Node) → Bool → Bool → Test → ℕ → ℕ → Point → Bool
+joined_set counts ns joined answer t y n p =
+    if joined then result_of (joining answer) (holds counts ns y p) (holds counts ns n p) else (if p t.var == t.value then holds counts ns y p else holds counts ns n p)
+
+-- a diagram is made of those for yes and no
 pub record IsJoined (counts : List ℕ) (ns : List (Option Node)) (joined answer : Bool) (t : Test) (yes no d : ℕ) : Type 0 where
   pub held : is_held ns d ≡ true
   pub later : order t.var t.value ≤ first counts ns d
-  pub set : (p : Point) → holds counts ns d p ≡ (if joined then result_of (joining answer) (holds counts ns yes p) (holds counts ns no p) else (if p t.var == t.value then holds counts ns yes p else holds counts ns no p))
+  pub set : (p : Point) → holds counts ns d p ≡ joined_set counts ns joined answer t yes no p
 
 -- it has each point that agrees with one of the set outside these variables, and no other
 pub record Exists (old new : Contents) (vars : List ℕ) (a d : Dd) : Type 0 where
@@ -58,3 +64,11 @@ pub record Exists (old new : Contents) (vars : List ℕ) (a d : Dd) : Type 0 whe
 pub record Forall (old new : Contents) (vars : List ℕ) (a d : Dd) : Type 0 where
   pub every : (p q : Point) → has new d p ≡ true → InRange new.counts q → Agrees (is_one_of vars) p q → has old a q ≡ true
   pub all : (p : Point) → InRange new.counts p → ((q : Point) → InRange new.counts q → Agrees (is_one_of vars) p q → has old a q ≡ true) → has new d p ≡ true
+
+-- each diagram that is held now and wasn't has a union of restrictions of the set, in which these variables have values
+pub record AddsUnions (old new : Contents) (vars : List ℕ) (set : Point → Bool) : Type 0 where
+  pub each : (d : Dd) → IsHeld new d → IsHeld old d ⊎ IsUnion new.counts (is_one_of vars) set (λ p. has new d p)
+
+-- or a meet of such restrictions
+pub record AddsMeets (old new : Contents) (vars : List ℕ) (set : Point → Bool) : Type 0 where
+  pub each : (d : Dd) → IsHeld new d → IsHeld old d ⊎ IsMeet new.counts (is_one_of vars) set (λ p. has new d p)

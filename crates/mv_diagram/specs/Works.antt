@@ -1,5 +1,5 @@
 -- What a call leaves of the nodes.
-use Rattle.std.specs.Prelude.{◌≡◌, ◌≤◌, ◌⊎◌, ℕ, Bool, true, List, Option, Some}
+use Rattle.std.specs.Prelude.{◌≡◌, ◌≤◌, ◌⊎◌, ℕ, Bool, true, List, length, Option, Some}
 use Rattle.mv_pool.specs.Places.{Contents, item_at, held_in, with_item}
 use Rattle.mv_diagram.specs.declared.node.Node.{Node}
 use Rattle.mv_diagram.specs.declared.node.Nodes.{Nodes}
@@ -18,6 +18,7 @@ pub record Adds (old new : Table) : Type 0 where
   pub grows : Grows old.pool.places new.pool.places
   pub sound : IsSound new.counts.items new.pool.places
   pub ascends : Ascends old.pool.places → Ascends new.pool.places
+  pub longer : length old.pool.places ≤ length new.pool.places
 
 -- the node stands nowhere
 pub record IsAbsent (ns : List (Option Node)) (n : Node) : Type 0 where

@@ -3,7 +3,7 @@ ghost use Rattle.std.specs.Bool.{OnTrue, OnFalse};
 ghost use Rattle.mv_base.specs.Set.{has as has_value};
 ghost use Rattle.mv_diagram.specs.Sets.{Point, InRange, SameSet};
 ghost use Rattle.mv_diagram.specs.Sound.{AreCounts};
-ghost use Rattle.mv_diagram.specs.Quantified.{Exists, Forall};
+ghost use Rattle.mv_diagram.specs.Quantified.{AddsMeets, AddsUnions, Exists, Forall};
 ghost use Rattle.mv_diagram.specs.Diagrams.{AddsRestrictions, HasNoRoom, IsHeld, IsPoint, Keeps, Lacks, Loses, Reaches, has, point_of};
 
 use crate::apply::apply;
@@ -152,6 +152,7 @@ impl Diagrams {
         ensures held { IfOk result (IsHeld self.new) }
         ensures set { IfOk result (Exists self.old self.new vars.now a) }
         ensures full { IfErr result (HasNoRoom self.new) }
+        ensures added { AddsUnions self.old self.new vars.now (λ p. has self.old a p) }
     {
         choose(vars, self.table.counts.len(), &mut self.chosen);
         self.done.clear();
@@ -173,6 +174,7 @@ impl Diagrams {
         ensures held { IfOk result (IsHeld self.new) }
         ensures set { IfOk result (Forall self.old self.new vars.now a) }
         ensures full { IfErr result (HasNoRoom self.new) }
+        ensures added { AddsMeets self.old self.new vars.now (λ p. has self.old a p) }
     {
         choose(vars, self.table.counts.len(), &mut self.chosen);
         self.done.clear();

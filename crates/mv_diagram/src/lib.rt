@@ -3,6 +3,8 @@
 
 mod apply;
 mod diagrams;
+#[cfg(test)]
+mod drawn;
 mod literal;
 mod look;
 mod memo;

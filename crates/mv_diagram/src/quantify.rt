@@ -1,10 +1,11 @@
 ghost use Rattle.std.specs.Prelude.{◌≡◌, ◌+◌, ◌<◌, ◌≤◌, ℕ, true, length, IfOk, IfErr, All, vec_capacity, if◌then◌else◌};
 ghost use Rattle.mv_pool.specs.Walks.{mark};
-ghost use Rattle.mv_diagram.specs.Sets.{is_held};
+ghost use Rattle.mv_diagram.specs.Sets.{holds, is_held};
 ghost use Rattle.mv_diagram.specs.Sound.{IsSound, IsTest, first, order};
 ghost use Rattle.mv_diagram.specs.Works.{Adds, IsFull};
 ghost use Rattle.mv_diagram.specs.Results.{Remembers};
-ghost use Rattle.mv_diagram.specs.Quantified.{IsJoined, IsQuantified, Quantifies, is_one_of, joining};
+ghost use Rattle.mv_diagram.specs.Quantified.{IsJoined, IsQuantified, Quantifies, is_one_of, joined_set, joining};
+ghost use Rattle.mv_diagram.specs.Parts.{AddsCombined, AddsParts};
 
 use crate::apply::apply;
 use crate::memo::{Key, Memo, Operation, keep, recall};
@@ -57,6 +58,7 @@ fn join(
     ensures adds { Adds table.old table.new }
     ensures remembers { Remembers table.new.counts.items table.new.pool.places memo.new.entries }
     ensures ok { IfOk result (λ d. IsJoined table.new.counts.items table.new.pool.places joined answer test yes.0 no.0 d.0) }
+    ensures added { AddsParts table.new.counts.items table.old.pool.places table.new.pool.places (λ p. joined_set table.new.counts.items table.new.pool.places joined answer test yes.0 no.0 p) }
     ensures full { IfErr result (IsFull table.new.pool) }
 {
     if joined {
@@ -85,6 +87,7 @@ pub fn quantify(
     ensures remembers { Remembers table.new.counts.items table.new.pool.places memo.new.entries }
     ensures quantifies { Quantifies table.new.counts.items table.new.pool.places (mark chosen.now) answer done.new.entries }
     ensures ok { IfOk result (λ r. IsQuantified table.new.counts.items table.new.pool.places (mark chosen.now) answer d.0 r.0) }
+    ensures added { AddsCombined table.new.counts.items (mark chosen.now) answer table.old.pool.places table.new.pool.places (λ p. holds table.new.counts.items table.new.pool.places d.0 p) }
     ensures full { IfErr result (IsFull table.new.pool) }
 {
     let Some(node) = node(table, d) else {

@@ -70,3 +70,57 @@ fn a_thousand_reclaims(rt: HostRuntime) -> Result<(), Fail> {
     assert_eq!(rt; diagrams.reclaims(), 1000);
     Ok(())
 }
+
+#[test]
+fn no_point_and_all_points(rt: HostRuntime) -> Result<(), Fail> {
+    let diagrams = Diagrams::with_room(rt.alloc(), &[2, 3], 0)?;
+    let zero = diagrams.zero();
+    let one = diagrams.one();
+    let mut point = [Value(1), Value(2)];
+    assert!(rt; !diagrams.test(zero, &point));
+    assert!(rt; diagrams.test(one, &point));
+    assert!(rt; !diagrams.same(zero, one));
+    assert!(rt; !diagrams.pick(zero, &mut point));
+    Ok(())
+}
+
+/// The points with the value 1 of the first variable or the value 2 of the second.
+#[test]
+fn some_value_and_all_values(rt: HostRuntime) -> Result<(), Fail> {
+    let mut diagrams = Diagrams::with_room(rt.alloc(), &[2, 3], 20)?;
+    let left = diagrams.literal(0, ValueSet::one(Value(1)))?;
+    let right = diagrams.literal(1, ValueSet::one(Value(2)))?;
+    let either = diagrams.or(left, right)?;
+    let some = diagrams.exists(either, &[1])?;
+    let all = diagrams.forall(either, &[1])?;
+    assert!(rt; diagrams.same(some, diagrams.one()));
+    assert!(rt; diagrams.same(all, left));
+    Ok(())
+}
+
+#[test]
+fn the_only_point_is_picked(rt: HostRuntime) -> Result<(), Fail> {
+    let mut diagrams = Diagrams::with_room(rt.alloc(), &[2, 3], 20)?;
+    let left = diagrams.literal(0, ValueSet::one(Value(1)))?;
+    let right = diagrams.literal(1, ValueSet::one(Value(2)))?;
+    let both = diagrams.and(left, right)?;
+    let mut point = [Value(0), Value(0)];
+    assert!(rt; diagrams.pick(both, &mut point));
+    assert_eq!(rt; point, [Value(1), Value(2)]);
+    Ok(())
+}
+
+#[test]
+fn a_release_and_a_reclaim(rt: HostRuntime) -> Result<(), Fail> {
+    let mut diagrams = Diagrams::with_room(rt.alloc(), &[2, 3], 20)?;
+    let kept = diagrams.literal(0, ValueSet::one(Value(1)))?;
+    let mark = diagrams.mark();
+    let _ = diagrams.literal(1, ValueSet::one(Value(2)))?;
+    diagrams.release(mark);
+    assert_eq!(rt; diagrams.mark(), mark);
+    let _ = diagrams.literal(1, ValueSet::one(Value(2)))?;
+    diagrams.reclaim(&[kept]);
+    assert_eq!(rt; diagrams.reclaims(), 1);
+    assert!(rt; diagrams.test(kept, &[Value(1), Value(0)]));
+    Ok(())
+}

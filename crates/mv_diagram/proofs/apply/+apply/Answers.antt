@@ -6,6 +6,7 @@ use Rattle.mv_diagram.proofs.Following.{if_same, order-lt}
 use Rattle.mv_diagram.proofs.Applying.{result_at_once, result_end, result_split, result_whole, result_lacks_yes, result_lacks_no}
 use Rattle.mv_diagram.proofs.Tables.{Adds-same, Adds-more, table_held, table_first, table_holds, table_split, table_first_of, table_result, table_remembers, remembers_more}
 use Rattle.mv_diagram.proofs.Adding.{from_yes, from_no}
+use Rattle.mv_diagram.specs.Parts.{no_variable}
 use Rattle.mv_diagram.proofs.Restricting.{restriction_same}
 use Rattle.mv_diagram.proofs.Lacking.{lacking_same}
 use Rattle.mv_diagram.proofs.apply.+apply.Goals as goal
@@ -227,7 +228,7 @@ returns-in-Ok-make-clause-added t c =
     let no = table_result two new c.apply-2.ensures.adds.sound c.make.ensures.adds c.args.operation c.split.result.1.0 c.split-2.result.1.0 c.in-Ok-apply.d.0 c.in-Ok-apply.ensures.ok in
     record {
       each = λ d held. elim (c.make.ensures.added.each d held) [
-        | inr r ↦ inr (restriction_same new.counts.items adds.sound.values _ _ _ _
+        | inr r ↦ inr (restriction_same new.counts.items adds.sound.values no_variable _ _ _ _
             (λ p range. sym (if_same _ _ _ _ _ _ refl
             (table_holds two new c.apply-2.ensures.adds.sound c.make.ensures.adds c.in-Ok.d.0 p (table_held one two c.apply.ensures.adds.sound c.apply-2.ensures.adds c.in-Ok.d.0 c.in-Ok.ensures.ok.held))
             (table_holds two new c.apply-2.ensures.adds.sound c.make.ensures.adds c.in-Ok-apply.d.0 p c.in-Ok-apply.ensures.ok.held))
@@ -262,7 +263,7 @@ returns-in-Err-make-clause-added t c =
     let no = table_result two new c.apply-2.ensures.adds.sound c.make.ensures.adds c.args.operation c.split.result.1.0 c.split-2.result.1.0 c.in-Ok-apply.d.0 c.in-Ok-apply.ensures.ok in
     record {
       each = λ d held. elim (c.make.ensures.added.each d held) [
-        | inr r ↦ inr (restriction_same new.counts.items adds.sound.values _ _ _ _
+        | inr r ↦ inr (restriction_same new.counts.items adds.sound.values no_variable _ _ _ _
             (λ p range. sym (if_same _ _ _ _ _ _ refl
             (table_holds two new c.apply-2.ensures.adds.sound c.make.ensures.adds c.in-Ok.d.0 p (table_held one two c.apply.ensures.adds.sound c.apply-2.ensures.adds c.in-Ok.d.0 c.in-Ok.ensures.ok.held))
             (table_holds two new c.apply-2.ensures.adds.sound c.make.ensures.adds c.in-Ok-apply.d.0 p c.in-Ok-apply.ensures.ok.held))

@@ -3,8 +3,9 @@ use Rattle.mv_base.specs.declared.limits.TheConstants.{MAX_VALUES}
 use Rattle.mv_pool.specs.Walks.{mark}
 use Rattle.mv_diagram.specs.Sound.{first}
 use Rattle.mv_diagram.proofs.Following.{node_is, first-le, yes-later, no-later}
-use Rattle.mv_diagram.proofs.Tables.{Adds-more, table_held, table_first, table_test, table_node}
+use Rattle.mv_diagram.proofs.Tables.{Adds-same, Adds-more, table_held, table_first, table_test, table_node}
 use Rattle.mv_diagram.proofs.Quantifying.{quantified_end, quantified_node, table_quantified, table_quantifies, quantifies_more}
+use Rattle.mv_diagram.proofs.Combining.{or_before, added_yes, added_no, added_all}
 use Rattle.mv_diagram.proofs.quantify.+quantify.Goals as goal
 
 pub returns-in_default-clause-ok : goal.returns-in_default-clause-ok
@@ -126,3 +127,32 @@ returns-in-Ok-join-clause-quantifies t c =
     c.in-Ok-join.ensures.ok in
     quantifies_more new.counts.items new.pool.places (mark c.args.chosen.now) c.args.answer c.quantify-2.new.done.entries c.keep.new.memo.entries (record { operation = c.joining_of.result; left = c.args.d; right = c.args.d }) c.in-Ok-join.r
     (table_quantifies two new c.quantify-2.ensures.adds.sound c.join.ensures.adds (mark c.args.chosen.now) c.args.answer c.quantify-2.new.done.entries c.quantify-2.ensures.quantifies) c.keep.ensures is
+
+-- what is added
+
+pub returns-in-Err-clause-added : goal.returns-in-Err-clause-added
+returns-in-Err-clause-added t c =
+    let one = c.quantify.new.table in
+    let adds = c.quantify.ensures.adds in
+    record { each = added_yes (mark c.args.chosen.now) c.args.answer c.args.table.now one c.requires.sound adds c.args.d.0 c.in-Some.node (sym c.in-Some.ensures) _ one adds (Adds-same one adds.sound) c.quantify.ensures.added }
+
+pub returns-in-Err-quantify-clause-added : goal.returns-in-Err-quantify-clause-added
+returns-in-Err-quantify-clause-added t c =
+    let old = c.args.table.now in
+    let one = c.quantify.new.table in
+    let two = c.quantify-2.new.table in
+    let both = Adds-more old one two c.quantify.ensures.adds c.quantify-2.ensures.adds in
+    let e = sym c.in-Some.ensures in
+    record {
+      each = λ x held. or_before
+          (added_no (mark c.args.chosen.now) c.args.answer old two c.requires.sound both c.args.d.0 c.in-Some.node e _ two both (Adds-same two both.sound) c.quantify-2.ensures.added x held)
+          (added_yes (mark c.args.chosen.now) c.args.answer old two c.requires.sound both c.args.d.0 c.in-Some.node e _ one c.quantify.ensures.adds c.quantify-2.ensures.adds c.quantify.ensures.added x);
+    }
+
+pub returns-in-Ok-join-clause-added : goal.returns-in-Ok-join-clause-added
+returns-in-Ok-join-clause-added t c = added_all (mark c.args.chosen.now) c.args.answer c.args.table.now c.quantify.new.table c.quantify-2.new.table c.join.new.table c.requires.sound c.quantify.ensures.adds c.quantify-2.ensures.adds c.join.ensures.adds
+    c.args.d.0 c.in-Some.node (sym c.in-Some.ensures) _ c.in-Ok.yes.0 c.in-Ok-quantify.no.0 refl c.in-Ok.ensures.ok c.in-Ok-quantify.ensures.ok c.quantify.ensures.added c.quantify-2.ensures.added c.join.ensures.added
+
+pub returns-in-Err-join-clause-added : goal.returns-in-Err-join-clause-added
+returns-in-Err-join-clause-added t c = added_all (mark c.args.chosen.now) c.args.answer c.args.table.now c.quantify.new.table c.quantify-2.new.table c.join.new.table c.requires.sound c.quantify.ensures.adds c.quantify-2.ensures.adds c.join.ensures.adds
+    c.args.d.0 c.in-Some.node (sym c.in-Some.ensures) _ c.in-Ok.yes.0 c.in-Ok-quantify.no.0 refl c.in-Ok.ensures.ok c.in-Ok-quantify.ensures.ok c.quantify.ensures.added c.quantify-2.ensures.added c.join.ensures.added

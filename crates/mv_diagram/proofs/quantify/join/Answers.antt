@@ -1,6 +1,8 @@
 use Rattle.std.proofs.Common.{arith}
 use Rattle.mv_diagram.proofs.Tables.{table_first, table_remembers}
-use Rattle.mv_diagram.proofs.Quantifying.{joined_result, joined_test}
+use Rattle.mv_diagram.specs.Quantified.{joined_set}
+use Rattle.mv_diagram.proofs.Adding.{parts_same}
+use Rattle.mv_diagram.proofs.Quantifying.{joined_result, joined_test, set_operation, set_test}
 use Rattle.mv_diagram.proofs.quantify.join.Goals as goal
 
 pub returns-then-joined-clause-ok : goal.returns-then-joined-clause-ok
@@ -23,3 +25,19 @@ pub returns-else-joined-clause-ok : goal.returns-else-joined-clause-ok
 returns-else-joined-clause-ok c =
     joined_test c.args.table.now c.make.new.table c.requires.sound c.make.ensures.adds c.args.joined c.args.answer c.args.test c.args.yes.0 c.args.no.0 c.make.result c.if-joined.false c.requires.yes_held c.requires.no_held
     c.make.ensures.held c.make.ensures.later c.make.ensures.set
+
+pub returns-then-joined-clause-added : goal.returns-then-joined-clause-added
+returns-then-joined-clause-added c =
+    let old = c.args.table.now in
+    let new = c.apply.new.table in
+    parts_same new.counts.items old.pool.places new.pool.places _ (λ p. joined_set new.counts.items new.pool.places c.args.joined c.args.answer c.args.test c.args.yes.0 c.args.no.0 p) c.apply.ensures.adds.sound.values
+    (λ p range. set_operation new.counts.items new.pool.places c.args.joined c.args.answer c.joining_of.result c.args.test c.args.yes.0 c.args.no.0 c.if-joined.true c.joining_of.ensures p)
+    c.apply.ensures.added
+
+pub returns-else-joined-clause-added : goal.returns-else-joined-clause-added
+returns-else-joined-clause-added c =
+    let old = c.args.table.now in
+    let new = c.make.new.table in
+    parts_same new.counts.items old.pool.places new.pool.places _ (λ p. joined_set new.counts.items new.pool.places c.args.joined c.args.answer c.args.test c.args.yes.0 c.args.no.0 p) c.make.ensures.adds.sound.values
+    (λ p range. set_test old new c.requires.sound c.make.ensures.adds c.args.joined c.args.answer c.args.test c.args.yes.0 c.args.no.0 c.if-joined.false c.requires.yes_held c.requires.no_held p)
+    c.make.ensures.added

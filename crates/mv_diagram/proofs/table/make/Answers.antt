@@ -2,7 +2,7 @@ use Rattle.std.proofs.Common.{◌≡◌, ◌∙◌, refl, sym, ap}
 use Rattle.std.proofs.lemmas.Bool.{eqb-true, eqb-false}
 use Rattle.mv_diagram.specs.Sets.{holds}
 use Rattle.mv_diagram.proofs.Points.{split_before}
-use Rattle.mv_diagram.proofs.Making.{IsNode-made, lacking_made, put_adds, put_ascends, put_set, set_reads}
+use Rattle.mv_diagram.proofs.Making.{IsNode-made, lacking_made, put_adds, put_ascends, put_longer, put_set, set_reads}
 use Rattle.mv_diagram.specs.declared.node.Node.{Node}
 use Rattle.mv_diagram.specs.Sound.{order}
 use Rattle.mv_diagram.proofs.Adding.{parts_none, parts_put}
@@ -21,7 +21,7 @@ returns-in-Ok-clause-adds c =
     let ns = c.args.table.now.pool.places in
     let is = IsNode-made counts ns c.requires.sound (record { test = c.args.test; yes = c.args.yes; no = c.args.no }) c.otherwise.result c.requires.test c.requires.yes_held c.requires.no_held c.requires.yes_later c.requires.no_later c.otherwise.ensures.held c.otherwise.ensures.set (eqb-false _ _ (sym c.if-eq.ensures)) in
     let both = put_adds counts c.args.table.now.pool c.put.new.pool (record { test = c.args.test; yes = c.args.yes; no = c.args.no }) c.in-Ok.d.0 c.requires.sound is c.in-Ok.ensures.ok in
-    record { counts = refl; cap = c.in-Ok.ensures.ok.cap; grows = both.0; sound = both.1; ascends = put_ascends counts c.args.table.now.pool c.put.new.pool (record { test = c.args.test; yes = c.args.yes; no = c.args.no }) c.in-Ok.d.0 c.requires.sound is c.in-Ok.ensures.ok }
+    record { counts = refl; cap = c.in-Ok.ensures.ok.cap; grows = both.0; sound = both.1; ascends = put_ascends counts c.args.table.now.pool c.put.new.pool (record { test = c.args.test; yes = c.args.yes; no = c.args.no }) c.in-Ok.d.0 c.requires.sound is c.in-Ok.ensures.ok; longer = put_longer counts c.args.table.now.pool c.put.new.pool (record { test = c.args.test; yes = c.args.yes; no = c.args.no }) c.in-Ok.d.0 c.requires.sound is c.in-Ok.ensures.ok }
 
 pub returns-in-Ok-clause-set : goal.returns-in-Ok-clause-set
 returns-in-Ok-clause-set c =

@@ -1,6 +1,6 @@
 use Rattle.std.proofs.Common.{◌∙◌, length, ap, arith}
 use Rattle.mv_pool.specs.Walks.{mark}
-use Rattle.mv_diagram.proofs.Showing.{Keeps-adds, forall_shown}
+use Rattle.mv_diagram.proofs.Showing.{Keeps-adds, forall_shown, meets_shown}
 use Rattle.mv_diagram.proofs.diagrams.Diagrams.forall.Goals as goal
 
 pub invariant_of-self : goal.invariant_of-self
@@ -22,3 +22,10 @@ returns-clause-set c =
     (forall_shown c.self.inside.table c.quantify.new.table c.self.inside.reclaims c.args.a c.args.vars.now (mark c.as_slice.result.now)
     (λ v. ap (λ m. mark m v) c.as_slice.ensures.value ∙ c.choose.ensures.marked v)
     c.self.invariant.sound c.quantify.ensures.adds (rw (← c.self.view_is) at c.requires.held) c.quantify.result c.quantify.ensures.ok)
+
+pub returns-clause-added : goal.returns-clause-added
+returns-clause-added c =
+    rw (← c.self.view_is)
+    (meets_shown c.self.inside.table c.quantify.new.table c.self.inside.reclaims c.args.a c.args.vars.now (mark c.as_slice.result.now)
+    (λ v. ap (λ m. mark m v) c.as_slice.ensures.value ∙ c.choose.ensures.marked v)
+    c.self.invariant.sound c.quantify.ensures.adds (rw (← c.self.view_is) at c.requires.held) c.quantify.ensures.added)

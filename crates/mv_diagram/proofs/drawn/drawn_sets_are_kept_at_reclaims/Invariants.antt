@@ -1,0 +1,10 @@
+use Rattle.std.proofs.Common.{◌≡◌, [], ◌∷◌}
+use Rattle.mv_diagram.specs.Diagrams.{IsHeld}
+use Rattle.mv_diagram.proofs.drawn.drawn_sets_are_kept_at_reclaims.Given as goal
+
+abbrev pub invariant-loop : goal.invariant-loop
+invariant-loop g l = record {
+  counts : l.diagrams.counts ≡ 2 ∷ 3 ∷ 4 ∷ 2 ∷ 3 ∷ 4 ∷ [];
+  left : IsHeld l.diagrams l.left.diagram;
+  right : IsHeld l.diagrams l.right.diagram;
+}
