@@ -1,0 +1,155 @@
+-- The nets of a model by number, each with the nets that its table has as columns.
+use Rattle.std.proofs.Common.{◌≡◌, ℕ, Bool, true, false, ◌||◌, ◌&&◌, List, [], ◌∷◌, ◌++◌, length, map, refl, ◌∙◌, ap, arith, All}
+use Rattle.std.specs.Prelude.{if◌then◌else◌}
+use Rattle.std.specs.List.{list_any, flat_map}
+use Rattle.std.proofs.lemmas.List.{map-append}
+use Rattle.std.proofs.lemmas.List.Elements.{All-head, All-tail}
+use Rattle.std.proofs.lemmas.List.Folds.{list_any-append}
+use Rattle.mv_base.specs.Names.{same_word, among}
+use Rattle.mv_base.specs.declared.number.NetId.{NetId}
+use Rattle.mv_design.specs.declared.design.Decl.{Decl}
+use Rattle.mv_design.specs.declared.design.FileModel.{FileModel}
+use Rattle.mv_design.specs.declared.table.FileTable.{FileTable}
+use Rattle.mv_model.specs.Proper.{IsFileTable}
+use Rattle.mv_model.specs.Numbers.{may_mark, mark_name, table_places, places}
+use Rattle.mv_model.specs.Columns.{no_columns, numbers_in, table_columns, columns_by_net}
+use Rattle.mv_model.specs.Sound.{table_reads, reads}
+
+-- a net, and the nets that its table has as columns
+pub record Entry : Type 0 where
+  pub name : List ℕ
+  pub above : List (List ℕ)
+
+abbrev pub name_of : Entry → List ℕ
+name_of e = e.name
+
+abbrev bare : List ℕ → Entry
+bare w = record { name = w; above = [] }
+
+abbrev mark_of : List ℕ → Entry
+mark_of w = record { name = mark_name w; above = [] }
+
+abbrev read_by : List (List ℕ) → List ℕ → Entry
+read_by ins w = record { name = w; above = ins }
+
+abbrev table_entries : FileTable → List Entry
+table_entries t = (if may_mark t then map mark_of t.outputs else []) ++ map (read_by t.inputs) t.outputs
+
+-- the nets of a model by number
+unfoldable pub entries : FileModel → List Entry
+entries m = map bare m.inputs ++ flat_map table_entries m.tables
+
+-- the columns of an entry by number
+abbrev pub columns_in : List (List ℕ) → Entry → List NetId
+columns_in names e = numbers_in names e.above
+
+-- an entry is of the net `net`, and has a column `above`
+abbrev pub entry_reads : List ℕ → List ℕ → Entry → Bool
+entry_reads net above e = same_word net e.name && among above e.above
+
+-- ---- their names are the places of the model
+
+names_bare : (ws : List (List ℕ)) → map name_of (map bare ws) ≡ ws
+names_bare [] = refl
+names_bare (w ∷ ws) = ap (λ us. w ∷ us) (names_bare ws)
+
+names_marks : (ws : List (List ℕ)) → map name_of (map mark_of ws) ≡ map mark_name ws
+names_marks [] = refl
+names_marks (w ∷ ws) = ap (λ us. mark_name w ∷ us) (names_marks ws)
+
+names_read : (ins ws : List (List ℕ)) → map name_of (map (read_by ins) ws) ≡ ws
+names_read ins [] = refl
+names_read ins (w ∷ ws) = ap (λ us. w ∷ us) (names_read ins ws)
+
+names_table : (b : Bool) (ins os : List (List ℕ)) → map name_of ((if b then map mark_of os else []) ++ map (read_by ins) os) ≡ (if b then map mark_name os ++ os else os)
+names_table true ins os =
+    map-append name_of (map mark_of os) (map (read_by ins) os)
+    ∙ (ap (λ us. us ++ map name_of (map (read_by ins) os)) (names_marks os) ∙ ap (λ us. map mark_name os ++ us) (names_read ins os))
+names_table false ins os = names_read ins os
+
+names_tables : (ts : List FileTable) → map name_of (flat_map table_entries ts) ≡ flat_map table_places ts
+names_tables [] = refl
+names_tables (t ∷ ts) =
+    map-append name_of (table_entries t) (flat_map table_entries ts)
+    ∙ (ap (λ us. us ++ map name_of (flat_map table_entries ts)) (names_table (may_mark t) t.inputs t.outputs)
+    ∙ ap (λ us. table_places t ++ us) (names_tables ts))
+
+pub names_are : (m : FileModel) → map name_of (entries m) ≡ places m
+unfolding entries places
+names_are m =
+    map-append name_of (map bare m.inputs) (flat_map table_entries m.tables)
+    ∙ (ap (λ us. us ++ map name_of (flat_map table_entries m.tables)) (names_bare m.inputs)
+    ∙ ap (λ us. m.inputs ++ us) (names_tables m.tables))
+
+-- ---- they read what the tables read
+
+reads_nothing : (b : Bool) → (b && false) ≡ false
+reads_nothing true = refl
+reads_nothing false = refl
+
+reads_bare : (net above : List ℕ) (ws : List (List ℕ)) → list_any (entry_reads net above) (map bare ws) ≡ false
+reads_bare net above [] = refl
+reads_bare net above (w ∷ ws) = rw (reads_nothing (same_word net w)) (reads_bare net above ws)
+
+reads_marks : (net above : List ℕ) (ws : List (List ℕ)) → list_any (entry_reads net above) (map mark_of ws) ≡ false
+reads_marks net above [] = refl
+reads_marks net above (w ∷ ws) = rw (reads_nothing (same_word net (mark_name w))) (reads_marks net above ws)
+
+or_and : (a b c : Bool) → ((a && c) || (b && c)) ≡ ((a || b) && c)
+or_and true true true = refl
+or_and true false true = refl
+or_and true true false = refl
+or_and true false false = refl
+or_and false b c = refl
+
+reads_read : (net above : List ℕ) (ins ws : List (List ℕ)) → list_any (entry_reads net above) (map (read_by ins) ws) ≡ (among net ws && among above ins)
+reads_read net above ins [] = refl
+reads_read net above ins (w ∷ ws) =
+    ap (λ b. (same_word net w && among above ins) || b) (reads_read net above ins ws)
+    ∙ or_and (same_word net w) (among net ws) (among above ins)
+
+reads_table : (net above : List ℕ) (b : Bool) (ins os : List (List ℕ)) → list_any (entry_reads net above) ((if b then map mark_of os else []) ++ map (read_by ins) os) ≡ (among net os && among above ins)
+reads_table net above true ins os =
+    list_any-append (entry_reads net above) (map mark_of os) (map (read_by ins) os)
+    ∙ (ap (λ b. b || list_any (entry_reads net above) (map (read_by ins) os)) (reads_marks net above os) ∙ reads_read net above ins os)
+reads_table net above false ins os = reads_read net above ins os
+
+reads_tables : (net above : List ℕ) (ts : List FileTable) → list_any (entry_reads net above) (flat_map table_entries ts) ≡ list_any (table_reads net above) ts
+reads_tables net above [] = refl
+reads_tables net above (t ∷ ts) =
+    list_any-append (entry_reads net above) (table_entries t) (flat_map table_entries ts)
+    ∙ (ap (λ b. b || list_any (entry_reads net above) (flat_map table_entries ts)) (reads_table net above (may_mark t) t.inputs t.outputs)
+    ∙ ap (λ b. table_reads net above t || b) (reads_tables net above ts))
+
+pub reads_are : (m : FileModel) (net above : List ℕ) → list_any (entry_reads net above) (entries m) ≡ reads m net above
+unfolding entries reads
+reads_are m net above =
+    list_any-append (entry_reads net above) (map bare m.inputs) (flat_map table_entries m.tables)
+    ∙ (ap (λ b. b || list_any (entry_reads net above) (flat_map table_entries m.tables)) (reads_bare net above m.inputs)
+    ∙ reads_tables net above m.tables)
+
+-- ---- their columns are those of the model's nets
+
+columns_bare : (names ws : List (List ℕ)) → map (columns_in names) (map bare ws) ≡ map no_columns ws
+columns_bare names [] = refl
+columns_bare names (w ∷ ws) = ap (λ ns. [] ∷ ns) (columns_bare names ws)
+
+columns_table : (names : List (List ℕ)) (b : Bool) (ins os : List (List ℕ)) → length os ≡ 1 → map (columns_in names) ((if b then map mark_of os else []) ++ map (read_by ins) os) ≡ (if b then [] ∷ [] else []) ++ numbers_in names ins ∷ []
+columns_table names b ins [] h = absurd (omega arith)
+columns_table names b ins (o ∷ p ∷ os) h = absurd (omega arith)
+columns_table names true ins (o ∷ []) h = refl
+columns_table names false ins (o ∷ []) h = refl
+
+columns_tables : (ds : List Decl) (names : List (List ℕ)) (ts : List FileTable) → All (IsFileTable ds) ts → map (columns_in names) (flat_map table_entries ts) ≡ flat_map (table_columns names) ts
+columns_tables ds names [] h = refl
+columns_tables ds names (t ∷ ts) h =
+    map-append (columns_in names) (table_entries t) (flat_map table_entries ts)
+    ∙ (ap (λ ns. ns ++ map (columns_in names) (flat_map table_entries ts)) (columns_table names (may_mark t) t.inputs t.outputs (All-head (IsFileTable ds) t ts h).single)
+    ∙ ap (λ ns. table_columns names t ++ ns) (columns_tables ds names ts (All-tail (IsFileTable ds) t ts h)))
+
+pub columns_are : (names : List (List ℕ)) (m : FileModel) → All (IsFileTable m.decls) m.tables → map (columns_in names) (entries m) ≡ columns_by_net names m
+unfolding entries
+columns_are names m h =
+    map-append (columns_in names) (map bare m.inputs) (flat_map table_entries m.tables)
+    ∙ (ap (λ ns. ns ++ map (columns_in names) (flat_map table_entries m.tables)) (columns_bare names m.inputs)
+    ∙ ap (λ ns. map no_columns m.inputs ++ ns) (columns_tables m.decls names m.tables h))

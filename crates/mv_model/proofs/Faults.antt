@@ -1,0 +1,67 @@
+-- The faults of a model's nets, told one after the other.
+use Rattle.std.proofs.Common.{◌≡◌, ◌⊎◌, ⊎_elim, inl, inr, ℕ, not, List, [], ◌∷◌, ◌++◌, refl, ◌∙◌, ap, arith}
+use Rattle.std.specs.Prelude.{Some, nat_lt, ◌==◌}
+use Rattle.std.specs.List.{flat_map}
+use Rattle.std.proofs.lemmas.Bool.Decides.{nat_tests}
+use Rattle.mv_design.specs.declared.design.FileModel.{FileModel}
+use Rattle.mv_model.specs.declared.drivers.Drivers.{Drivers}
+use Rattle.mv_model.specs.declared.fault.FlatFault.{FlatFault}
+use Rattle.mv_model.specs.declared.fault.FlatFault.TheVariants.{DrivenTwice, Undriven, Memory}
+use Rattle.mv_model.specs.Nets.{drivers, drivers_of, nets_of}
+use Rattle.mv_model.specs.Sound.{when, first, twice_at, undriven_at, many_faults, net_faults}
+use Rattle.mv_model.specs.Driving.{AreDriven, twice_faults, undriven_faults}
+
+-- the first of two lists of faults is that of the first list, if that has one, and else that of the second
+pub first_front : (f : FlatFault) (a b : List FlatFault) → first a ≡ Some f → first (a ++ b) ≡ Some f
+first_front f [] b e = cc
+first_front f (g ∷ a) b e = e
+
+pub first_behind : (f : FlatFault) (a b : List FlatFault) → a ≡ [] → first b ≡ Some f → first (a ++ b) ≡ Some f
+first_behind f [] b e h = h
+first_behind f (g ∷ a) b e h = cc
+
+pub none_behind : (a b : List FlatFault) → a ≡ [] → b ≡ [] → a ++ b ≡ []
+none_behind [] b e h = h
+none_behind (g ∷ a) b e h = cc
+
+twice_same : (m : FileModel) (d : Drivers) → AreDriven (drivers m) d → (nets : List (List ℕ)) → twice_faults d nets ≡ flat_map (twice_at m) nets
+unfolding twice_faults
+twice_same m d h [] = refl
+twice_same m d h (n ∷ ns) = ap (λ b. when b (DrivenTwice n) ++ twice_faults d ns) (h.more n) ∙ ap (λ fs. twice_at m n ++ fs) (twice_same m d h ns)
+
+no_drivers : (n : ℕ) → not (nat_lt 0 n) ≡ (n == 0)
+no_drivers n = grind (arith, nat_tests)
+
+undriven_same : (m : FileModel) (d : Drivers) → AreDriven (drivers m) d → (nets : List (List ℕ)) → undriven_faults d nets ≡ flat_map (undriven_at m) nets
+unfolding undriven_faults
+undriven_same m d h [] = refl
+undriven_same m d h (n ∷ ns) =
+    ap (λ b. when b (Undriven n) ++ undriven_faults d ns) (ap not (h.some n) ∙ no_drivers (drivers_of m n))
+    ∙ ap (λ fs. undriven_at m n ++ fs) (undriven_same m d h ns)
+
+-- the faults of the nets, as the driven nets tell them
+pub net_faults_are : (m : FileModel) (nets : List (List ℕ)) (d : Drivers) → nets ≡ nets_of m → AreDriven (drivers m) d → net_faults m ≡ many_faults m ++ (twice_faults d nets ++ undriven_faults d nets)
+unfolding net_faults
+net_faults_are m nets d e h = rw (e, twice_same m d h (nets_of m), undriven_same m d h (nets_of m)) refl
+
+pub many_told : (m : FileModel) (f : FlatFault) → first (many_faults m) ≡ Some f → first (net_faults m) ≡ Some f
+unfolding net_faults
+many_told m f e = first_front f (many_faults m) _ e
+
+pub twice_told : (m : FileModel) (nets : List (List ℕ)) (d : Drivers) (f : FlatFault) → nets ≡ nets_of m → AreDriven (drivers m) d → many_faults m ≡ [] → first (twice_faults d nets) ≡ Some f → first (net_faults m) ≡ Some f
+twice_told m nets d f e h many twice =
+    ap first (net_faults_are m nets d e h) ∙ first_behind f (many_faults m) _ many (first_front f (twice_faults d nets) _ twice)
+
+pub undriven_told : (m : FileModel) (nets : List (List ℕ)) (d : Drivers) (f : FlatFault) → nets ≡ nets_of m → AreDriven (drivers m) d → many_faults m ≡ [] → twice_faults d nets ≡ [] → first (undriven_faults d nets) ≡ Some f → first (net_faults m) ≡ Some f
+undriven_told m nets d f e h many twice undriven =
+    ap first (net_faults_are m nets d e h) ∙ first_behind f (many_faults m) _ many (first_behind f (twice_faults d nets) _ twice undriven)
+
+pub none_told : (m : FileModel) (nets : List (List ℕ)) (d : Drivers) → nets ≡ nets_of m → AreDriven (drivers m) d → many_faults m ≡ [] → twice_faults d nets ≡ [] → undriven_faults d nets ≡ [] → net_faults m ≡ []
+none_told m nets d e h many twice undriven =
+    net_faults_are m nets d e h ∙ none_behind (many_faults m) _ many (none_behind (twice_faults d nets) _ twice undriven)
+
+pub ruleset told = (many_told, twice_told, undriven_told, none_told)
+
+-- an answer that tells the first of some faults tells the first of others, where that is the same
+pub told_of : (f : FlatFault) (us vs : List FlatFault) → ((g : FlatFault) → first us ≡ Some g → first vs ≡ Some g) → (f ≡ Memory) ⊎ (first us ≡ Some f) → (f ≡ Memory) ⊎ (first vs ≡ Some f)
+told_of f us vs h t = ⊎_elim (λ m. inl m) (λ e. inr (h f e)) t

@@ -1,0 +1,14 @@
+pub mod Names
+pub mod Driven
+pub mod Faults
+pub mod Entries
+pub mod Listed
+pub mod Ranking
+pub mod Soundness
+pub mod Distinct
+pub mod Walks
+pub mod Clear
+pub mod Turns
+pub mod Decimals
+pub mod Placing
+pub mod Plain

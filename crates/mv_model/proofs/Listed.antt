@@ -1,0 +1,94 @@
+-- Elements of lists by place, and the numbers of names.
+use Rattle.std.proofs.Common.{◌≡◌, ℕ, suc, zero, ◌<◌, Bool, true, List, [], ◌∷◌, length, get_or, Some, refl, sym, ◌∙◌, ap, subst, ⊎_elim, All, map}
+use Rattle.std.specs.Prelude.{unwrap_or, nat_eq}
+use Rattle.std.specs.List.{list_any, slice_get}
+use Rattle.std.proofs.lemmas.Bool.{false≢true, or_cases, or_left, or_right, eq-eqb, eqb-true}
+use Rattle.std.proofs.lemmas.List.Elements.{All-nil, All-cons}
+use Rattle.std.proofs.lemmas.Option.{none-some, same_Some, get_or_from_slice_get}
+use Rattle.mv_base.specs.Names.{same_word, among, place_of, IsDistinct}
+use Rattle.mv_base.proofs.NameLemmas.{IsPlace-from_among, place_of-at, same_word_is, same_word_refl}
+use Rattle.mv_net.specs.Index.{has_id}
+use Rattle.mv_model.specs.Numbers.{number_in}
+use Rattle.mv_model.specs.Columns.{numbers_in}
+
+-- an element that passes a test
+pub record Found {X : Type 0} (p : X → Bool) (xs : List X) : Type 0 where
+  pub place : ℕ
+  pub item : X
+  pub at : slice_get xs place ≡ Some item
+  pub passes : p item ≡ true
+
+pub found : {X : Type 0} (p : X → Bool) (xs : List X) → list_any p xs ≡ true → Found p xs
+found p [] h = absurd (false≢true h)
+found p (x ∷ xs) h =
+    ⊎_elim (λ (y : p x ≡ true). record { place = 0; item = x; at = refl; passes = y })
+    (λ (y : list_any p xs ≡ true). let f = found p xs y in record { place = suc f.place; item = f.item; at = f.at; passes = f.passes })
+    (or_cases (p x) (list_any p xs) h)
+
+pub any_at : {X : Type 0} (p : X → Bool) (xs : List X) (k : ℕ) (x : X) → slice_get xs k ≡ Some x → p x ≡ true → list_any p xs ≡ true
+any_at p [] k x e h = absurd (none-some x e)
+any_at p (y ∷ xs) zero x e h = or_left _ _ (ap p (same_Some y x e) ∙ h)
+any_at p (y ∷ xs) (suc k) x e h = or_right (p y) _ (any_at p xs k x e h)
+
+-- an element of the image of a list
+pub record Mapped {X Y : Type 0} (f : X → Y) (xs : List X) (k : ℕ) (y : Y) : Type 0 where
+  pub item : X
+  pub at : slice_get xs k ≡ Some item
+  pub is : f item ≡ y
+
+pub mapped : {X Y : Type 0} (f : X → Y) (xs : List X) (k : ℕ) (y : Y) → slice_get (map f xs) k ≡ Some y → Mapped f xs k y
+mapped f [] k y e = absurd (none-some y e)
+mapped f (x ∷ xs) zero y e = record { item = x; at = refl; is = same_Some (f x) y e }
+mapped f (x ∷ xs) (suc k) y e = let m = mapped f xs k y e in record { item = m.item; at = m.at; is = m.is }
+
+-- what holds at each place holds of all
+pub all_from : {X : Type 0} (P : X → Type 0) (xs : List X) → ((k : ℕ) (x : X) → slice_get xs k ≡ Some x → P x) → All P xs
+all_from P [] h = All-nil P
+all_from P (x ∷ xs) h = All-cons P x xs (h 0 x refl) (all_from P xs (λ k y e. h (suc k) y e))
+
+-- the number of a name among others is its place
+pub record IsNumber (names : List (List ℕ)) (w : List ℕ) : Type 0 where
+  pub within : number_in names w < length names
+  pub listed : slice_get names (number_in names w) ≡ Some w
+
+number_some : (names : List (List ℕ)) (w : List ℕ) (k : ℕ) → place_of w names ≡ Some k → number_in names w ≡ k
+unfolding number_in
+number_some names w k e = ap (λ o. unwrap_or o 0) e
+
+pub IsNumber-among : (names : List (List ℕ)) (w : List ℕ) → among w names ≡ true → IsNumber names w
+IsNumber-among names w h =
+    let p = IsPlace-from_among w names h in
+    let e : number_in names w ≡ p.0 = number_some names w p.0 p.1.place in
+    record {
+      within = let P : ℕ → Type 0 = λ n. n < length names in subst P (sym e) p.1.within;
+      listed = let P : ℕ → Type 0 = λ n. slice_get names n ≡ Some w in subst P (sym e) p.1.found;
+    }
+
+pub number_at : (names : List (List ℕ)) (k : ℕ) (w : List ℕ) → IsDistinct names → slice_get names k ≡ Some w → number_in names w ≡ k
+number_at names k w d e = number_some names w k (place_of-at names k w d e)
+
+pub name_at : (names : List (List ℕ)) (w : List ℕ) → among w names ≡ true → get_or names (number_in names w) [] ≡ w
+name_at names w h = get_or_from_slice_get names (number_in names w) w [] (IsNumber-among names w h).listed
+
+-- a name's number is among the numbers of names, where the name is among them
+pub has_number : (names ws : List (List ℕ)) (w : List ℕ) → among w ws ≡ true → has_id (numbers_in names ws) (number_in names w) ≡ true
+has_number names [] w h = absurd (false≢true h)
+has_number names (u ∷ us) w h =
+    ⊎_elim (λ (s : same_word w u ≡ true). or_left _ _ (eq-eqb _ _ (ap (number_in names) (sym (same_word_is w u s)))))
+    (λ (r : among w us ≡ true). or_right (nat_eq (number_in names u) (number_in names w)) _ (has_number names us w r))
+    (or_cases (same_word w u) (among w us) h)
+
+-- and the other way round
+pub record Numbered (names ws : List (List ℕ)) (n : ℕ) : Type 0 where
+  pub name : List ℕ
+  pub among_them : among name ws ≡ true
+  pub number : number_in names name ≡ n
+
+pub numbered_by : (names ws : List (List ℕ)) (n : ℕ) → has_id (numbers_in names ws) n ≡ true → Numbered names ws n
+numbered_by names [] n h = absurd (false≢true h)
+numbered_by names (u ∷ us) n h =
+    ⊎_elim (λ (e : nat_eq (number_in names u) n ≡ true). record { name = u; among_them = or_left _ _ (same_word_refl u); number = eqb-true _ _ e })
+    (λ (r : has_id (numbers_in names us) n ≡ true).
+    let s = numbered_by names us n r in
+    record { name = s.name; among_them = or_right (same_word s.name u) _ s.among_them; number = s.number })
+    (or_cases (nat_eq (number_in names u) n) (has_id (numbers_in names us) n) h)

@@ -1,0 +1,110 @@
+-- Names, each once, in the order in which they come; and how often a name stands in a list.
+use Rattle.std.proofs.Common.{◌≡◌, ℕ, ◌+◌, Bool, true, false, ◌||◌, cond, List, [], ◌∷◌, ◌++◌, map, refl, sym, ◌∙◌, ap, arith}
+use Rattle.std.specs.Prelude.{nat_lt, count_by, if◌then◌else◌}
+use Rattle.std.specs.List.{flat_map}
+use Rattle.std.proofs.lemmas.Bool.{false≢true}
+use Rattle.std.proofs.lemmas.Bool.Decides.{nat_tests}
+use Rattle.std.proofs.lemmas.List.{append-nil, append_assoc}
+use Rattle.std.proofs.lemmas.List.Sums.{sum_by-cons, sum_by-append}
+use Rattle.mv_base.specs.Names.{same_word, among, names_differ}
+use Rattle.mv_base.proofs.NameLemmas.{same_word_is, among-append, differ-repeated}
+use Rattle.mv_design.specs.declared.table.FileTable.{FileTable}
+use Rattle.mv_model.specs.Nets.{columns_of, with_name, with_names}
+use Rattle.mv_model.specs.Driving.{with_columns}
+use Rattle.mv_model.specs.Numbers.{may_mark, mark_name, table_places}
+use Rattle.mv_model.specs.Columns.{with_marks, with_places}
+
+pub with_names_append : (names us ws : List (List ℕ)) → with_names names (us ++ ws) ≡ with_names (with_names names us) ws
+with_names_append names [] ws = refl
+with_names_append names (u ∷ us) ws = with_names_append (with_name names u) us ws
+
+-- the columns of tables, one table behind the other
+with_columns_are : (names : List (List ℕ)) (ts : List FileTable) → with_columns names ts ≡ with_names names (flat_map columns_of ts)
+with_columns_are names [] = refl
+with_columns_are names (t ∷ ts) =
+    with_columns_are (with_names (with_names names t.inputs) t.outputs) ts
+    ∙ sym (with_names_append names (t.inputs ++ t.outputs) (flat_map columns_of ts)
+    ∙ ap (λ ns. with_names ns (flat_map columns_of ts)) (with_names_append names t.inputs t.outputs))
+
+-- inputs, outputs and columns
+pub with_names_of : (is os : List (List ℕ)) (ts : List FileTable) → with_columns (with_names (with_names [] is) os) ts ≡ with_names [] (is ++ (os ++ flat_map columns_of ts))
+with_names_of is os ts =
+    with_columns_are (with_names (with_names [] is) os) ts
+    ∙ sym (with_names_append [] is (os ++ flat_map columns_of ts) ∙ with_names_append (with_names [] is) os (flat_map columns_of ts))
+
+-- the nets of tables, one table behind the other
+marks_are : (names os : List (List ℕ)) (b : Bool) → with_names (if b then with_names names (map mark_name os) else names) os ≡ with_names names (if b then map mark_name os ++ os else os)
+marks_are names os true = sym (with_names_append names (map mark_name os) os)
+marks_are names os false = refl
+
+with_places_are : (names : List (List ℕ)) (ts : List FileTable) → with_places names ts ≡ with_names names (flat_map table_places ts)
+with_places_are names [] = refl
+with_places_are names (t ∷ ts) =
+    with_places_are (with_names (with_marks names t) t.outputs) ts
+    ∙ (ap (λ ns. with_names ns (flat_map table_places ts)) (marks_are names t.outputs (may_mark t))
+    ∙ sym (with_names_append names (table_places t) (flat_map table_places ts)))
+
+new_head : (names ws : List (List ℕ)) (w : List ℕ) (known : Bool) → among w names ≡ known → names_differ (names ++ w ∷ ws) ≡ true → (if known then names else names ++ w ∷ []) ≡ names ++ w ∷ []
+new_head names ws w false e d = refl
+new_head names ws w true e d = absurd (false≢true (sym (differ-repeated names ws w e) ∙ d))
+
+-- names that differ stand as they come
+with_names_new : (names ws : List (List ℕ)) → names_differ (names ++ ws) ≡ true → with_names names ws ≡ names ++ ws
+with_names_new names [] d = sym (append-nil names)
+with_names_new names (w ∷ ws) d =
+    ap (λ ns. with_names ns ws) (new_head names ws w (among w names) refl d)
+    ∙ (with_names_new (names ++ w ∷ []) ws (ap names_differ (append_assoc names (w ∷ []) ws) ∙ d) ∙ append_assoc names (w ∷ []) ws)
+
+-- the inputs and the nets of tables
+pub with_places_of : (is : List (List ℕ)) (ts : List FileTable) → names_differ (is ++ flat_map table_places ts) ≡ true → with_places (with_names [] is) ts ≡ is ++ flat_map table_places ts
+with_places_of is ts d =
+    with_places_are (with_names [] is) ts
+    ∙ (sym (with_names_append [] is (flat_map table_places ts)) ∙ with_names_new [] (is ++ flat_map table_places ts) d)
+
+or_same : (b c : Bool) → (b ≡ true → c ≡ true) → c ≡ (c || (b || false))
+or_same false false h = refl
+or_same false true h = refl
+or_same true false h = h refl
+or_same true true h = refl
+
+among_if : (w u : List ℕ) (names : List (List ℕ)) (known : Bool) → among u names ≡ known → among w (if known then names else names ++ u ∷ []) ≡ (among w names || (same_word w u || false))
+among_if w u names true e = or_same (same_word w u) (among w names) (λ s. ap (λ x. among x names) (same_word_is w u s) ∙ e)
+among_if w u names false e = among-append w names (u ∷ [])
+
+pub among-with_name : (w : List ℕ) (names : List (List ℕ)) (u : List ℕ) → among w (with_name names u) ≡ (among w names || (same_word w u || false))
+among-with_name w names u = among_if w u names (among u names) refl
+
+or_moved : (a b c : Bool) → ((a || (b || false)) || c) ≡ (a || (b || c))
+or_moved true b c = refl
+or_moved false true c = refl
+or_moved false false c = refl
+
+-- a name is among them where it was there, or was added
+pub among-with_names : (w : List ℕ) (names ws : List (List ℕ)) → among w (with_names names ws) ≡ (among w names || among w ws)
+among-with_names w names [] = or_end (among w names)
+  where
+    or_end : (b : Bool) → b ≡ (b || false)
+    or_end true = refl
+    or_end false = refl
+among-with_names w names (u ∷ us) =
+    among-with_names w (with_name names u) us
+    ∙ (ap (λ b. b || among w us) (among-with_name w names u) ∙ or_moved (among w names) (same_word w u) (among w us))
+
+-- ---- how often a name stands in a list
+
+pub count_of_cons : (w u : List ℕ) (us : List (List ℕ)) → count_by (same_word w) (u ∷ us) ≡ cond (same_word w u) 1 0 + count_by (same_word w) us
+count_of_cons w u us = sum_by-cons (λ x. cond (same_word w x) 1 0) u us
+
+pub count_of_append : (w : List ℕ) (us ws : List (List ℕ)) → count_by (same_word w) (us ++ ws) ≡ count_by (same_word w) us + count_by (same_word w) ws
+count_of_append w us ws = sum_by-append (λ x. cond (same_word w x) 1 0) us ws
+
+some_counted : (b : Bool) (n : ℕ) → (b || nat_lt 0 n) ≡ nat_lt 0 (cond b 1 0 + n)
+some_counted true n = grind (arith, nat_tests)
+some_counted false n = ap (nat_lt 0) (omega arith)
+
+-- a name is among them where it stands there at least once
+pub among_counted : (w : List ℕ) (us : List (List ℕ)) → among w us ≡ nat_lt 0 (count_by (same_word w) us)
+among_counted w [] = refl
+among_counted w (u ∷ us) =
+    ap (λ b. same_word w u || b) (among_counted w us)
+    ∙ (some_counted (same_word w u) (count_by (same_word w) us) ∙ ap (nat_lt 0) (sym (count_of_cons w u us)))

@@ -1,0 +1,246 @@
+-- Models whose nets have no fault: each net is driven once.
+use Rattle.std.proofs.Common.{◌≡◌, ◌⊎◌, ℕ, suc, zero, ◌+◌, ◌<◌, ◌≤◌, Bool, true, false, List, [], ◌∷◌, ◌++◌, length, Some, refl, sym, ◌∙◌, ap, subst, arith, ⊎_elim, inl, inr}
+use Rattle.std.specs.Prelude.{nat_lt, ◌==◌}
+use Rattle.std.specs.List.{list_any, flat_map, slice_get}
+use Rattle.std.proofs.lemmas.Bool.{false≢true, and_parts, or_cases, or_left, or_right}
+use Rattle.std.proofs.lemmas.Bool.Decides.{nat_tests}
+use Rattle.std.proofs.lemmas.Option.{none-some, same_Some}
+use Rattle.mv_base.specs.Names.{same_word, among}
+use Rattle.mv_base.specs.declared.limits.TheConstants.{MAX_FLAT_NETS}
+use Rattle.mv_base.proofs.NameLemmas.{same_word_is, same_word_refl, among-append}
+use Rattle.mv_fault.specs.declared.fault.Which.TheVariants.{Nets}
+use Rattle.mv_design.specs.declared.table.FileTable.{FileTable}
+use Rattle.mv_design.specs.declared.design.FileModel.{FileModel}
+use Rattle.mv_model.specs.declared.fault.FlatFault.{FlatFault}
+use Rattle.mv_model.specs.declared.fault.FlatFault.TheVariants.{DrivenTwice, Undriven, Cycle, Limit, Memory}
+use Rattle.mv_model.specs.Nets.{columns_of, outputs_of, nets_named, nets_of, drivers, drivers_of}
+use Rattle.mv_model.specs.Sound.{when, first, table_reads, reads, twice_at, undriven_at, many_faults, net_faults, IsDrivenOnce, IsRanked, IsSoundModel, ReadsOn, IsOnCycle, IsFault}
+use Rattle.mv_model.specs.Cycles.{TellsCycle}
+use Rattle.mv_model.proofs.Names.{among-with_names}
+
+-- ---- names in parts of lists
+
+pub in_left : (w : List ℕ) (us ws : List (List ℕ)) → among w us ≡ true → among w (us ++ ws) ≡ true
+in_left w us ws e = among-append w us ws ∙ or_left _ _ e
+
+pub in_right : (w : List ℕ) (us ws : List (List ℕ)) → among w ws ≡ true → among w (us ++ ws) ≡ true
+in_right w us ws e = among-append w us ws ∙ or_right (among w us) _ e
+
+pub in_either : (w : List ℕ) (us ws : List (List ℕ)) → among w (us ++ ws) ≡ true → (among w us ≡ true) ⊎ (among w ws ≡ true)
+in_either w us ws e = or_cases _ _ (sym (among-append w us ws) ∙ e)
+
+-- ---- the nets of a model
+
+named_is : (m : FileModel) (w : List ℕ) → among w (nets_named m) ≡ true → among w (nets_of m) ≡ true
+unfolding nets_of
+named_is m w e = among-with_names w [] (nets_named m) ∙ e
+
+pub column_named : (m : FileModel) (w : List ℕ) → among w (flat_map columns_of m.tables) ≡ true → among w (nets_of m) ≡ true
+unfolding nets_named
+column_named m w e = named_is m w (in_right w m.inputs _ (in_right w m.outputs _ e))
+
+pub input_is_net : (m : FileModel) (w : List ℕ) → among w m.inputs ≡ true → among w (nets_of m) ≡ true
+unfolding nets_named
+input_is_net m w e = named_is m w (in_left w m.inputs _ e)
+
+columns_at : (ts : List FileTable) (k : ℕ) (t : FileTable) (w : List ℕ) → slice_get ts k ≡ Some t → among w (columns_of t) ≡ true → among w (flat_map columns_of ts) ≡ true
+columns_at [] k t w at e = absurd (none-some t at)
+columns_at (u ∷ us) zero t w at e = in_left w (columns_of u) _ (ap (λ (x : FileTable). among w (columns_of x)) (same_Some u t at) ∙ e)
+columns_at (u ∷ us) (suc k) t w at e = in_right w (columns_of u) _ (columns_at us k t w at e)
+
+-- the columns of a table are nets
+pub column_is_net : (m : FileModel) (k : ℕ) (t : FileTable) (w : List ℕ) → slice_get m.tables k ≡ Some t → among w (columns_of t) ≡ true → among w (nets_of m) ≡ true
+column_is_net m k t w at e = column_named m w (columns_at m.tables k t w at e)
+
+outputs_are_columns : (w : List ℕ) (ts : List FileTable) → among w (flat_map outputs_of ts) ≡ true → among w (flat_map columns_of ts) ≡ true
+outputs_are_columns w [] e = e
+outputs_are_columns w (t ∷ ts) e =
+    ⊎_elim (λ (h : among w t.outputs ≡ true). in_left w (columns_of t) _ (in_right w t.inputs t.outputs h))
+    (λ (h : among w (flat_map outputs_of ts) ≡ true). in_right w (columns_of t) _ (outputs_are_columns w ts h))
+    (in_either w t.outputs (flat_map outputs_of ts) e)
+
+-- what is driven is a net
+pub driver_is_net : (m : FileModel) (w : List ℕ) → among w (drivers m) ≡ true → among w (nets_of m) ≡ true
+unfolding drivers nets_named
+driver_is_net m w e =
+    ⊎_elim (λ (h : among w m.inputs ≡ true). named_is m w (in_left w m.inputs _ h))
+    (λ (h : among w (flat_map outputs_of m.tables) ≡ true). column_named m w (outputs_are_columns w m.tables h))
+    (in_either w m.inputs (flat_map outputs_of m.tables) e)
+
+pub output_is_net : (m : FileModel) (w : List ℕ) → among w m.outputs ≡ true → among w (nets_of m) ≡ true
+unfolding nets_named
+output_is_net m w e = named_is m w (in_right w m.inputs _ (in_left w m.outputs _ e))
+
+read_columns : (net above : List ℕ) (ts : List FileTable) → list_any (table_reads net above) ts ≡ true → among above (flat_map columns_of ts) ≡ true
+read_columns net above [] e = absurd (false≢true e)
+read_columns net above (t ∷ ts) e =
+    ⊎_elim (λ (h : table_reads net above t ≡ true). in_left above (columns_of t) _ (in_left above t.inputs t.outputs (and_parts _ _ h).1))
+    (λ (h : list_any (table_reads net above) ts ≡ true). in_right above (columns_of t) _ (read_columns net above ts h))
+    (or_cases (table_reads net above t) (list_any (table_reads net above) ts) e)
+
+-- what is read is a net
+pub read_is_net : (m : FileModel) (net above : List ℕ) → reads m net above ≡ true → among above (nets_of m) ≡ true
+unfolding reads
+read_is_net m net above e = column_named m above (read_columns net above m.tables e)
+
+reader_columns : (net above : List ℕ) (ts : List FileTable) → list_any (table_reads net above) ts ≡ true → among net (flat_map columns_of ts) ≡ true
+reader_columns net above [] e = absurd (false≢true e)
+reader_columns net above (t ∷ ts) e =
+    ⊎_elim (λ (h : table_reads net above t ≡ true). in_left net (columns_of t) _ (in_right net t.inputs t.outputs (and_parts _ _ h).0))
+    (λ (h : list_any (table_reads net above) ts ≡ true). in_right net (columns_of t) _ (reader_columns net above ts h))
+    (or_cases (table_reads net above t) (list_any (table_reads net above) ts) e)
+
+-- and so is what reads it
+pub reader_is_net : (m : FileModel) (net above : List ℕ) → reads m net above ≡ true → among net (nets_of m) ≡ true
+unfolding reads
+reader_is_net m net above e = column_named m net (reader_columns net above m.tables e)
+
+-- ---- lists of faults
+
+pub when_none : (b : Bool) (f : FlatFault) → when b f ≡ [] → b ≡ false
+when_none false f e = refl
+when_none true f e = cc
+
+pub none_parts : (a b : List FlatFault) → a ++ b ≡ [] → (a ≡ []) × (b ≡ [])
+none_parts [] b e = (refl, e)
+none_parts (f ∷ a) b e = cc
+
+abbrev faults_of : (List ℕ → Bool) → (List ℕ → FlatFault) → List (List ℕ) → List FlatFault
+faults_of test fault nets = flat_map (λ net. when (test net) (fault net)) nets
+
+none_of : (test : List ℕ → Bool) (fault : List ℕ → FlatFault) (nets : List (List ℕ)) (net : List ℕ) → faults_of test fault nets ≡ [] → among net nets ≡ true → test net ≡ false
+none_of test fault [] net e h = absurd (false≢true h)
+none_of test fault (n ∷ ns) net e h =
+    let p = none_parts (when (test n) (fault n)) (faults_of test fault ns) e in
+    ⊎_elim (λ (s : same_word net n ≡ true). ap test (same_word_is net n s) ∙ when_none (test n) (fault n) p.0)
+    (λ (r : among net ns ≡ true). none_of test fault ns net p.1 r)
+    (or_cases (same_word net n) (among net ns) h)
+
+none_from : (test : List ℕ → Bool) (fault : List ℕ → FlatFault) (nets : List (List ℕ)) → ((net : List ℕ) → among net nets ≡ true → test net ≡ false) → faults_of test fault nets ≡ []
+none_from test fault [] h = refl
+none_from test fault (n ∷ ns) h =
+    ap (λ b. when b (fault n) ++ faults_of test fault ns) (h n (or_left _ _ (same_word_refl n)))
+    ∙ none_from test fault ns (λ net e. h net (or_right (same_word net n) _ e))
+
+one_driver : (n : ℕ) → nat_lt 1 n ≡ false → (n == 0) ≡ false → n ≡ 1
+one_driver n h k = grind (arith, nat_tests)
+
+-- where the nets have no fault, each is driven once, and there are not too many
+pub driven_once : (m : FileModel) → net_faults m ≡ [] → IsDrivenOnce m
+unfolding net_faults
+driven_once m e =
+    let p = none_parts (many_faults m) _ e in
+    let q = none_parts (flat_map (twice_at m) (nets_of m)) (flat_map (undriven_at m) (nets_of m)) p.1 in
+    record { once = λ net h. one_driver (drivers_of m net) (none_of (λ w. nat_lt 1 (drivers_of m w)) DrivenTwice (nets_of m) net q.0 h) (none_of (λ w. drivers_of m w == 0) Undriven (nets_of m) net q.1 h) }
+
+few_from : (n : ℕ) → nat_lt MAX_FLAT_NETS n ≡ false → n ≤ MAX_FLAT_NETS
+few_from n h = grind (arith, nat_tests)
+
+pub few_nets : (m : FileModel) → net_faults m ≡ [] → length (nets_of m) ≤ MAX_FLAT_NETS
+unfolding net_faults many_faults
+few_nets m e = few_from (length (nets_of m)) (when_none _ (Limit Nets (MAX_FLAT_NETS + 1)) (none_parts (many_faults m) _ e).0)
+
+not_many : (n : ℕ) → n ≤ MAX_FLAT_NETS → nat_lt MAX_FLAT_NETS n ≡ false
+not_many n h = grind (arith, nat_tests)
+
+none_many : (m : FileModel) → length (nets_of m) ≤ MAX_FLAT_NETS → many_faults m ≡ []
+unfolding many_faults
+none_many m few = ap (λ b. when b (Limit Nets (MAX_FLAT_NETS + 1))) (not_many (length (nets_of m)) few)
+
+one_isnt_more : (n : ℕ) → n ≡ 1 → nat_lt 1 n ≡ false
+one_isnt_more n e = rw e refl
+
+one_isnt_none : (n : ℕ) → n ≡ 1 → (n == 0) ≡ false
+one_isnt_none n e = rw e refl
+
+-- and the other way round
+pub no_faults : (m : FileModel) → IsDrivenOnce m → length (nets_of m) ≤ MAX_FLAT_NETS → net_faults m ≡ []
+unfolding net_faults
+no_faults m d few =
+    rw (none_many m few, none_from (λ w. nat_lt 1 (drivers_of m w)) DrivenTwice (nets_of m) (λ net h. one_isnt_more (drivers_of m net) (d.once net h)))
+    (none_from (λ w. drivers_of m w == 0) Undriven (nets_of m) (λ net h. one_isnt_none (drivers_of m net) (d.once net h)))
+
+no_first : (fs : List FlatFault) (f : FlatFault) → fs ≡ [] → first fs ≡ Some f → ⊥
+no_first fs f e h = cc
+
+-- ---- the fault that is told
+
+first_either : (a b : List FlatFault) (f : FlatFault) → first (a ++ b) ≡ Some f → (first a ≡ Some f) ⊎ (first b ≡ Some f)
+first_either [] b f e = inr e
+first_either (g ∷ a) b f e = inl e
+
+some_fault : (f g : FlatFault) → Some f ≡ Some g → f ≡ g
+some_fault f g e = cc
+
+told_by : (test : List ℕ → Bool) (fault : List ℕ → FlatFault) (nets : List (List ℕ)) (f : FlatFault) → first (faults_of test fault nets) ≡ Some f → (net : List ℕ) × (fault net ≡ f)
+told_by test fault [] f e = cc
+told_by test fault (n ∷ ns) f e =
+    ⊎_elim (λ (y : first (when (test n) (fault n)) ≡ Some f). (n, here (test n) y)) (λ (r : first (faults_of test fault ns) ≡ Some f). told_by test fault ns f r)
+    (first_either (when (test n) (fault n)) (faults_of test fault ns) f e)
+  where
+    here : (b : Bool) → first (when b (fault n)) ≡ Some f → fault n ≡ f
+    here true h = some_fault (fault n) f h
+    here false h = cc
+
+no_limit_cycle : (b : Bool) (net : List ℕ) → first (when b (Limit Nets (MAX_FLAT_NETS + 1))) ≡ Some (Cycle net) → ⊥
+no_limit_cycle true net e = cc
+no_limit_cycle false net e = cc
+
+twice_isnt_cycle : (n net : List ℕ) → DrivenTwice n ≡ Cycle net → ⊥
+twice_isnt_cycle n net e = cc
+
+undriven_isnt_cycle : (n net : List ℕ) → Undriven n ≡ Cycle net → ⊥
+undriven_isnt_cycle n net e = cc
+
+-- no fault of the drivers is a cycle
+no_cycle : (m : FileModel) (net : List ℕ) → first (net_faults m) ≡ Some (Cycle net) → ⊥
+unfolding net_faults many_faults
+no_cycle m net e =
+    ⊎_elim (λ y. no_limit_cycle (nat_lt MAX_FLAT_NETS (length (nets_of m))) net y)
+    (λ r.
+    ⊎_elim (λ y. let t = told_by (λ w. nat_lt 1 (drivers_of m w)) DrivenTwice (nets_of m) (Cycle net) y in twice_isnt_cycle t.0 net t.1)
+    (λ y. let t = told_by (λ w. drivers_of m w == 0) Undriven (nets_of m) (Cycle net) y in undriven_isnt_cycle t.0 net t.1)
+    (first_either (flat_map (twice_at m) (nets_of m)) (flat_map (undriven_at m) (nets_of m)) (Cycle net) r))
+    (first_either (many_faults m) (flat_map (twice_at m) (nets_of m) ++ flat_map (undriven_at m) (nets_of m)) (Cycle net) e)
+
+first_is_fault : (m : FileModel) (f : FlatFault) → first (net_faults m) ≡ Some f → IsFault m f
+first_is_fault m (DrivenTwice net) e = e
+first_is_fault m (Undriven net) e = e
+first_is_fault m (Limit which number) e = e
+first_is_fault m (Cycle net) e = absurd (no_cycle m net e)
+first_is_fault m Memory e = tt
+
+memory_is_fault : (m : FileModel) (f : FlatFault) → f ≡ Memory → IsFault m f
+memory_is_fault m f e = let P : FlatFault → Type 0 = IsFault m in subst P (sym e) tt
+
+-- want of memory, or the first fault of the nets
+pub told_is_fault : (m : FileModel) (f : FlatFault) → (f ≡ Memory) ⊎ (first (net_faults m) ≡ Some f) → IsFault m f
+told_is_fault m f h = ⊎_elim (λ e. memory_is_fault m f e) (λ e. first_is_fault m f e) h
+
+-- a net on a cycle, where the nets have no other fault
+pub cycle_is_fault : (m : FileModel) (f : FlatFault) → net_faults m ≡ [] → TellsCycle m f → IsFault m f
+cycle_is_fault m (DrivenTwice net) e t = absurd t
+cycle_is_fault m (Undriven net) e t = absurd t
+cycle_is_fault m (Limit which number) e t = absurd t
+cycle_is_fault m (Cycle net) e t = record { none = e; cycle = t }
+cycle_is_fault m Memory e t = tt
+
+-- ---- a model with a fault isn't sound
+
+falls_along : (m : FileModel) (r : IsRanked m) (last net : List ℕ) (path : List (List ℕ)) → ReadsOn m last net path → r.rank last < r.rank net
+falls_along m r last net [] h = r.falls net last h
+falls_along m r last net (above ∷ path) h =
+    let a = r.falls net above h.0 in
+    let b = falls_along m r last above path h.1 in
+    omega arith
+
+cycle_excludes : (m : FileModel) (net : List ℕ) → IsOnCycle m net → IsRanked m → ⊥
+cycle_excludes m net c r = let l = falls_along m r net net c.path c.closed in absurd (omega arith)
+
+-- a model with a fault that isn't want of memory isn't sound, or has too many nets
+pub fault-excludes : (m : FileModel) (f : FlatFault) → IsFault m f → (f ≡ Memory → ⊥) → IsSoundModel m → length (nets_of m) ≤ MAX_FLAT_NETS → ⊥
+fault-excludes m (DrivenTwice net) h n s few = no_first (net_faults m) (DrivenTwice net) (no_faults m s.driven few) h
+fault-excludes m (Undriven net) h n s few = no_first (net_faults m) (Undriven net) (no_faults m s.driven few) h
+fault-excludes m (Limit which number) h n s few = no_first (net_faults m) (Limit which number) (no_faults m s.driven few) h
+fault-excludes m (Cycle net) h n s few = cycle_excludes m net h.cycle s.acyclic
+fault-excludes m Memory h n s few = n refl

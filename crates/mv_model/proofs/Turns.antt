@@ -1,0 +1,119 @@
+-- A net that is above itself by number is on a cycle of the model.
+use Rattle.std.proofs.Common.{◌≡◌, ℕ, ◌<◌, true, List, [], ◌∷◌, length, map, get_or, Some, refl, sym, ◌∙◌, ap, subst, arith, All}
+use Rattle.std.specs.List.{slice_get}
+use Rattle.std.specs.Option.{option_map}
+use Rattle.std.proofs.lemmas.List.{length-map}
+use Rattle.std.proofs.lemmas.Option.{slice_get-map, slice_get_read, slice_get_within, same_Some}
+use Rattle.mv_base.specs.Names.{among}
+use Rattle.mv_base.specs.declared.number.NetId.{NetId}
+use Rattle.mv_base.proofs.NameLemmas.{among-at, IsDistinct-from_differ}
+use Rattle.mv_net.specs.Index.{has_id, row}
+use Rattle.mv_net.specs.Ranks.{IsRanked as AreRanked, AllBelow}
+use Rattle.mv_design.specs.declared.design.FileModel.{FileModel}
+use Rattle.mv_model.specs.Nets.{nets_of}
+use Rattle.mv_model.specs.Proper.{IsProperModel}
+use Rattle.mv_model.specs.Sound.{reads, ReadsOn, IsOnCycle, IsDrivenOnce, IsRanked}
+use Rattle.mv_model.specs.Numbers.{number_in, net_in, places}
+use Rattle.mv_model.specs.Columns.{numbers_in, columns_by_net}
+use Rattle.mv_model.specs.Cycles.{GoesOn, IsTurning, Covers}
+use Rattle.mv_model.proofs.Listed.{IsNumber-among, name_at, has_number, all_from, mapped}
+use Rattle.mv_model.proofs.Entries.{entries, columns_in, columns_are, names_are, reads_are}
+use Rattle.mv_model.proofs.Ranking.{AreNets, reads_name, ranked_by_name, ranked_by_number, columns_below, length_columns}
+use Rattle.mv_model.proofs.Soundness.{read_is_net, reader_is_net}
+use Rattle.mv_model.proofs.Distinct.{places_differ, net_is_place}
+
+-- the nets of a model whose nets are driven once
+pub are_nets : (m : FileModel) → IsProperModel m → IsDrivenOnce m → AreNets (entries m) (places m)
+are_nets m p d = record {
+  named = names_are m;
+  differ = IsDistinct-from_differ (places m) (places_differ m p d);
+  known = λ net above h. net_is_place m above d (read_is_net m net above (sym (reads_are m net above) ∙ h));
+}
+
+-- the columns of a model by number are those of its nets
+columns_same : (m : FileModel) (columns : List (List NetId)) → IsProperModel m → columns ≡ columns_by_net (places m) m → map (columns_in (places m)) (entries m) ≡ columns
+columns_same m columns p e = columns_are (places m) m p.tables ∙ sym e
+
+pub model_below : (m : FileModel) (columns : List (List NetId)) → IsProperModel m → IsDrivenOnce m → columns ≡ columns_by_net (places m) m → AllBelow columns
+model_below m columns p d e =
+    let P : List (List NetId) → Type 0 = AllBelow in
+    subst P (columns_same m columns p e) (columns_below (entries m) (places m) (are_nets m p d))
+
+pub model_length : (m : FileModel) (columns : List (List NetId)) → IsProperModel m → IsDrivenOnce m → columns ≡ columns_by_net (places m) m → length columns ≡ length (places m)
+model_length m columns p d e = ap length (sym (columns_same m columns p e)) ∙ length_columns (entries m) (places m) (are_nets m p d)
+
+pub model_ranked : (m : FileModel) (columns : List (List NetId)) → IsProperModel m → IsDrivenOnce m → columns ≡ columns_by_net (places m) m → AreRanked columns → IsRanked m
+model_ranked m columns p d e r =
+    let P : List (List NetId) → Type 0 = AreRanked in
+    ranked_by_name m (places m) (are_nets m p d) (subst P (sym (columns_same m columns p e)) r)
+
+pub model_ranks : (m : FileModel) (columns : List (List NetId)) → IsProperModel m → IsDrivenOnce m → columns ≡ columns_by_net (places m) m → IsRanked m → AreRanked columns
+model_ranks m columns p d e r =
+    let P : List (List NetId) → Type 0 = AreRanked in
+    subst P (columns_same m columns p e) (ranked_by_number m (places m) (are_nets m p d) r)
+
+-- ---- the nets in their order
+
+pub order_below : (m : FileModel) (nets : List (List ℕ)) (size : ℕ) → IsDrivenOnce m → nets ≡ nets_of m → size ≡ length (places m) → All (λ (n : NetId). n.0 < size) (numbers_in (places m) nets)
+order_below m nets size d e s =
+    all_from (λ (n : NetId). n.0 < size) (numbers_in (places m) nets)
+    (λ k n at. below k n at)
+  where
+    below : (k : ℕ) (n : NetId) → slice_get (numbers_in (places m) nets) k ≡ Some n → n.0 < size
+    below k n at =
+        let w = mapped (net_in (places m)) nets k n at in
+        let i = (IsNumber-among (places m) w.item (net_is_place m w.item d (ap (among w.item) (sym e) ∙ among-at nets k w.item w.at))).within in
+        let f : number_in (places m) w.item ≡ n.0 = ap (λ (c : NetId). c.0) w.is in
+        omega arith
+
+-- every net that has columns is among them
+pub order_covers : (m : FileModel) (columns : List (List NetId)) (nets : List (List ℕ)) → IsProperModel m → IsDrivenOnce m → columns ≡ columns_by_net (places m) m → nets ≡ nets_of m → Covers columns (numbers_in (places m) nets)
+order_covers m columns nets p d e f n k h =
+    let b = reads_name (entries m) (places m) n k (are_nets m p d) (ap (λ cs. has_id (row cs n) k) (columns_same m columns p e) ∙ h) in
+    let r = reader_is_net m b.net b.above (sym (reads_are m b.net b.above) ∙ b.reads) in
+    ap (has_id (numbers_in (places m) nets)) (sym b.net_number) ∙ has_number (places m) nets b.net (ap (among b.net) f ∙ r)
+
+-- ---- cycles
+
+abbrev name : FileModel → ℕ → List ℕ
+name m n = get_or (places m) n []
+
+reads_same : (m : FileModel) (u v w x : List ℕ) → u ≡ v → w ≡ x → reads m u w ≡ true → reads m v x ≡ true
+reads_same m u v w x e f h = rw (← e, ← f) h
+
+step_by_name : (m : FileModel) (columns : List (List NetId)) (n k : ℕ) → IsProperModel m → IsDrivenOnce m → columns ≡ columns_by_net (places m) m → has_id (row columns n) k ≡ true → reads m (name m n) (name m k) ≡ true
+step_by_name m columns n k p d e h =
+    let b = reads_name (entries m) (places m) n k (are_nets m p d) (ap (λ cs. has_id (row cs n) k) (columns_same m columns p e) ∙ h) in
+    reads_same m b.net (name m n) b.above (name m k) (sym b.net_at)
+    (sym (name_at (places m) b.above b.above_known) ∙ ap (name m) b.above_number)
+    (sym (reads_are m b.net b.above) ∙ b.reads)
+
+goes_by_name : (m : FileModel) (columns : List (List NetId)) (last n : ℕ) (path : List ℕ) → IsProperModel m → IsDrivenOnce m → columns ≡ columns_by_net (places m) m → GoesOn columns last n path → ReadsOn m (name m last) (name m n) (map (name m) path)
+goes_by_name m columns last n [] p d e g = step_by_name m columns n last p d e g
+goes_by_name m columns last n (k ∷ path) p d e g = (step_by_name m columns n k p d e g.0, goes_by_name m columns last k path p d e g.1)
+
+-- the net at a place of the order that is above itself by number
+pub on_cycle : (m : FileModel) (columns : List (List NetId)) (nets : List (List ℕ)) (order : List NetId) (place : ℕ) (w : List ℕ) → IsProperModel m → IsDrivenOnce m → columns ≡ columns_by_net (places m) m → nets ≡ nets_of m → order ≡ numbers_in (places m) nets
+    → IsTurning columns order place → place < length nets → w ≡ get_or nets place w → IsOnCycle m w
+on_cycle m columns nets order place w p d e f o t lt is =
+    let there = slice_get_read nets (length nets) place w refl lt is in
+    let n : net_in (places m) w ≡ t.net = same_Some (net_in (places m) w) t.net (sym (ap (λ ns. slice_get ns place) o ∙ (slice_get-map (net_in (places m)) nets place ∙ ap (option_map (net_in (places m))) there)) ∙ t.at) in
+    let known = net_is_place m w d (ap (among w) (sym f) ∙ among-at nets place w there) in
+    let named : name m t.net.0 ≡ w = ap (λ (c : NetId). name m c.0) (sym n) ∙ name_at (places m) w known in
+    let g = goes_by_name m columns t.net.0 t.net.0 t.turns.path p d e t.turns.goes in
+    let P : List ℕ → Type 0 = IsOnCycle m in
+    subst P named (record { path = map (name m) t.turns.path; closed = g })
+
+-- a place of the order is one of the nets
+pub place_below : (names nets : List (List ℕ)) (columns : List (List NetId)) (order : List NetId) (place : ℕ) → order ≡ numbers_in names nets → IsTurning columns order place → place < length nets
+place_below names nets columns order place o t =
+    let l = slice_get_within order place t.net t.at in
+    let s = ap length o ∙ length-map nets (net_in names) in
+    omega arith
+
+-- the numbers as they are listed and read
+pub order_is : (names places nets : List (List ℕ)) (order read : List NetId) → names ≡ places → order ≡ numbers_in names nets → read ≡ order → read ≡ numbers_in places nets
+order_is names places nets order read e f g = g ∙ (f ∙ ap (λ ns. numbers_in ns nets) e)
+
+pub columns_read : (m : FileModel) (names : List (List ℕ)) (columns read : List (List NetId)) → names ≡ places m → columns ≡ columns_by_net names m → read ≡ columns → read ≡ columns_by_net (places m) m
+columns_read m names columns read e f g = g ∙ (f ∙ ap (λ ns. columns_by_net ns m) e)

@@ -1,0 +1,24 @@
+-- The columns that are sorted are those of the model.
+use Rattle.std.proofs.Common.{ap, arith, length}
+use Rattle.std.proofs.lemmas.Option.{MatchOption-at_some}
+use Rattle.mv_net.specs.Ranks.{IsRanked}
+use Rattle.mv_model.proofs.Turns.{columns_read, model_below, model_length, model_ranked}
+use Rattle.mv_model.proofs.check.check_cycles.Goals as goal
+
+pub sorted-requires-clause-below : goal.sorted-requires-clause-below
+sorted-requires-clause-below c =
+    let m = c.args.model.now in
+    model_below m c.as_slice.result.now c.requires.proper c.requires.once (columns_read m c.args.numbers.now _ _ c.requires.numbers c.in_ok-columns.ensures c.as_slice.ensures)
+
+pub sorted-requires-clause-few : goal.sorted-requires-clause-few
+sorted-requires-clause-few c =
+    let m = c.args.model.now in
+    let l = model_length m c.as_slice.result.now c.requires.proper c.requires.once (columns_read m c.args.numbers.now _ _ c.requires.numbers c.in_ok-columns.ensures c.as_slice.ensures) in
+    let e = ap length c.requires.numbers in
+    omega (arith, l, e, c.requires.few)
+
+pub returns-in-Some-clause-ranked : goal.returns-in-Some-clause-ranked
+returns-in-Some-clause-ranked c =
+    let m = c.args.model.now in
+    model_ranked m c.as_slice.result.now c.requires.proper c.requires.once (columns_read m c.args.numbers.now _ _ c.requires.numbers c.in_ok-columns.ensures c.as_slice.ensures)
+    (MatchOption-at_some _ (λ _. IsRanked c.as_slice.result.now) _ c.in-Some.is c.in_ok-sorted.ensures.ranked)

@@ -1,0 +1,50 @@
+-- How the nets of a model are gathered, table by table, and how their faults are told from the nets that are driven and from
+-- those that are driven more than once.
+use Rattle.std.specs.Prelude.{◌≡◌, ◌⊎◌, ℕ, not, nat_lt, count_by, Result, MatchResult, Some, List, [], ◌∷◌, if◌then◌else◌}
+use Rattle.std.specs.List.{flat_map}
+use Rattle.mv_base.specs.Names.{same_word, among}
+use Rattle.mv_model.specs.declared.fault.FlatFault.{FlatFault}
+use Rattle.mv_model.specs.declared.fault.FlatFault.TheVariants.{DrivenTwice, Undriven, Memory}
+use Rattle.mv_model.specs.declared.drivers.Drivers.{Drivers}
+use Rattle.mv_design.specs.declared.table.FileTable.{FileTable}
+use Rattle.mv_model.specs.Nets.{with_name, with_names}
+use Rattle.mv_model.specs.Sound.{when, first}
+
+-- names with the columns of tables
+abbrev pub with_columns : List (List ℕ) → List FileTable → List (List ℕ)
+with_columns names [] = names
+with_columns names (t ∷ ts) = with_columns (with_names (with_names names t.inputs) t.outputs) ts
+
+-- the driven nets with one driver more
+abbrev pub with_driver : Drivers → List ℕ → Drivers
+with_driver d w = record { driven = with_name d.driven w; twice = if among w d.driven then with_name d.twice w else d.twice }
+
+abbrev pub with_drivers : Drivers → List (List ℕ) → Drivers
+with_drivers d [] = d
+with_drivers d (w ∷ ws) = with_drivers (with_driver d w) ws
+
+abbrev pub with_tables : Drivers → List FileTable → Drivers
+with_tables d [] = d
+with_tables d (t ∷ ts) = with_tables (with_drivers d t.outputs) ts
+
+-- nets that are driven by these drivers, and those that are so more than once
+pub record AreDriven (drivers : List (List ℕ)) (d : Drivers) : Type 0 where
+  pub some : (w : List ℕ) → among w d.driven ≡ nat_lt 0 (count_by (same_word w) drivers)
+  pub more : (w : List ℕ) → among w d.twice ≡ nat_lt 1 (count_by (same_word w) drivers)
+
+-- the faults of these nets
+abbrev pub twice_in : Drivers → List ℕ → List FlatFault
+twice_in d net = when (among net d.twice) (DrivenTwice net)
+
+abbrev pub undriven_in : Drivers → List ℕ → List FlatFault
+undriven_in d net = when (not (among net d.driven)) (Undriven net)
+
+unfoldable pub twice_faults : Drivers → List (List ℕ) → List FlatFault
+twice_faults d nets = flat_map (twice_in d) nets
+
+unfoldable pub undriven_faults : Drivers → List (List ℕ) → List FlatFault
+undriven_faults d nets = flat_map (undriven_in d) nets
+
+-- Ok where there is no fault, and otherwise the first one, or want of memory
+abbrev pub Tells : {T : Type 0} → Result T FlatFault → List FlatFault → Type 0
+Tells result faults = MatchResult result (λ _. faults ≡ []) (λ f. (f ≡ Memory) ⊎ (first faults ≡ Some f))

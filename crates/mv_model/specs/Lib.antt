@@ -1,0 +1,9 @@
+pub mod Nets
+pub mod Proper
+pub mod Sound
+pub mod Meaning
+pub mod Numbers
+pub mod Told
+pub mod Driving
+pub mod Columns
+pub mod Cycles

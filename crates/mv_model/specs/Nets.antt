@@ -1,0 +1,52 @@
+-- The nets of a model as it names them, what drives them, and how many values each has.
+use Rattle.std.specs.Prelude.{ℕ, List, [], ◌∷◌, ◌++◌, length, count_by, slice_index_or, if◌then◌else◌}
+use Rattle.std.specs.List.{flat_map}
+use Rattle.mv_base.specs.Names.{same_word, among}
+use Rattle.mv_design.specs.declared.design.Decl.{Decl}
+use Rattle.mv_design.specs.declared.design.FileModel.{FileModel}
+use Rattle.mv_design.specs.declared.design.Design.{Design}
+use Rattle.mv_design.specs.declared.table.FileTable.{FileTable}
+use Rattle.mv_decl.specs.Nets.{values_of}
+
+-- a model without nets
+abbrev pub no_model : FileModel
+no_model = record { name = []; inputs = []; outputs = []; decls = []; tables = []; latches = []; resets = []; parts = [] }
+
+-- the root of a design
+unfoldable pub root_of : Design → FileModel
+root_of d = slice_index_or d.models d.root no_model
+
+-- how many values a net has
+abbrev pub count_of : List Decl → List ℕ → ℕ
+count_of ds net = length (values_of ds net)
+
+-- the columns of a table, inputs first
+abbrev pub columns_of : FileTable → List (List ℕ)
+columns_of t = t.inputs ++ t.outputs
+
+-- the nets of a model, as often as it names them: its inputs, its outputs, and the columns of its tables
+unfoldable pub nets_named : FileModel → List (List ℕ)
+nets_named m = m.inputs ++ (m.outputs ++ flat_map columns_of m.tables)
+
+-- names, each once, where it first stands
+abbrev pub with_name : List (List ℕ) → List ℕ → List (List ℕ)
+with_name names w = if among w names then names else names ++ w ∷ []
+
+abbrev pub with_names : List (List ℕ) → List (List ℕ) → List (List ℕ)
+with_names names [] = names
+with_names names (w ∷ ws) = with_names (with_name names w) ws
+
+-- the nets of a model in order
+unfoldable pub nets_of : FileModel → List (List ℕ)
+nets_of m = with_names [] (nets_named m)
+
+-- the nets that are driven, as often as they are: by an input of the model, or by a table
+abbrev pub outputs_of : FileTable → List (List ℕ)
+outputs_of t = t.outputs
+
+unfoldable pub drivers : FileModel → List (List ℕ)
+drivers m = m.inputs ++ flat_map outputs_of m.tables
+
+-- how many drivers a net has
+abbrev pub drivers_of : FileModel → List ℕ → ℕ
+drivers_of m net = count_by (same_word net) (drivers m)

@@ -1,0 +1,75 @@
+-- What the grammar makes sure of in a design, line by line: lawful names, values that the nets have, entries that fit. In
+-- this version there is one model, without latches and instances, and its tables have one output.
+use Rattle.std.specs.Prelude.{◌≡◌, ℕ, ◌<◌, ◌≤◌, true, Some, List, [], ◌∷◌, length, slice_index_or, All}
+use Rattle.std.specs.List.{list_all}
+use Rattle.mv_base.specs.Names.{is_net_name, is_model_name, is_value_name, names_differ}
+use Rattle.mv_base.specs.Set.{full, Within}
+use Rattle.mv_base.specs.declared.limits.TheConstants.{MAX_VALUES}
+use Rattle.mv_design.specs.declared.table.Entry.{Entry}
+use Rattle.mv_design.specs.declared.table.Entry.TheVariants.{Set, Same}
+use Rattle.mv_design.specs.declared.table.Row.{Row}
+use Rattle.mv_design.specs.declared.table.FileTable.{FileTable}
+use Rattle.mv_design.specs.declared.design.Decl.{Decl}
+use Rattle.mv_design.specs.declared.design.FileModel.{FileModel}
+use Rattle.mv_design.specs.declared.design.Design.{Design}
+use Rattle.mv_model.specs.Nets.{root_of, count_of}
+
+-- a set for each column, of values that its net has
+abbrev pub FitSets : List Decl → List (List ℕ) → List ℕ → Type 0
+FitSets ds [] [] = Unit {0}
+FitSets ds [] (_ ∷ _) = ⊥
+FitSets ds (_ ∷ _) [] = ⊥
+FitSets ds (net ∷ nets) (s ∷ sets) = Within s (full (count_of ds net)) × FitSets ds nets sets
+
+-- an output entry: values that the net has, or the place of an input column of a net with as many values
+pub record IsSame (ds : List Decl) (ins : List (List ℕ)) (net : List ℕ) (k : ℕ) : Type 0 where
+  pub within : k < length ins
+  pub counts : count_of ds (slice_index_or ins k []) ≡ count_of ds net
+
+abbrev pub FitOutput : List Decl → List (List ℕ) → List ℕ → Entry → Type 0
+FitOutput ds ins net (Set s) = Within s (full (count_of ds net))
+FitOutput ds ins net (Same k) = IsSame ds ins net k
+
+-- an entry for each output
+abbrev pub FitOutputs : List Decl → List (List ℕ) → List (List ℕ) → List Entry → Type 0
+FitOutputs ds ins [] [] = Unit {0}
+FitOutputs ds ins [] (_ ∷ _) = ⊥
+FitOutputs ds ins (_ ∷ _) [] = ⊥
+FitOutputs ds ins (net ∷ nets) (e ∷ entries) = FitOutput ds ins net e × FitOutputs ds ins nets entries
+
+pub record IsFileRow (ds : List Decl) (t : FileTable) (r : Row) : Type 0 where
+  pub sets : FitSets ds t.inputs r.ins
+  pub outs : FitOutputs ds t.inputs t.outputs r.outs
+
+pub record IsFileTable (ds : List Decl) (t : FileTable) : Type 0 where
+  pub inputs : list_all is_net_name t.inputs ≡ true
+  pub outputs : list_all is_net_name t.outputs ≡ true
+  pub single : length t.outputs ≡ 1
+  pub rows : All (IsFileRow ds t) t.rows
+  pub default : (entries : List Entry) → t.default ≡ Some entries → FitOutputs ds t.inputs t.outputs entries
+
+-- a declared net: it has some values, and no more than a net may have, with lawful names, all different
+pub record IsFileDecl (d : Decl) : Type 0 where
+  pub net : is_net_name d.net ≡ true
+  pub some : 0 < length d.values
+  pub few : length d.values ≤ MAX_VALUES
+  pub lawful : list_all is_value_name d.values ≡ true
+  pub differ : names_differ d.values ≡ true
+
+pub record IsProperModel (m : FileModel) : Type 0 where
+  pub name : is_model_name m.name ≡ true
+  pub inputs : list_all is_net_name m.inputs ≡ true
+  pub inputs_differ : names_differ m.inputs ≡ true
+  pub outputs : list_all is_net_name m.outputs ≡ true
+  pub outputs_differ : names_differ m.outputs ≡ true
+  pub decls : All IsFileDecl m.decls
+  pub tables : All (IsFileTable m.decls) m.tables
+  pub latches : m.latches ≡ []
+  pub resets : m.resets ≡ []
+  pub parts : m.parts ≡ []
+
+-- a design whose root is its only model
+pub record IsProper (d : Design) : Type 0 where
+  pub single : length d.models ≡ 1
+  pub root_is : d.root ≡ 0
+  pub root : IsProperModel (root_of d)

@@ -1,0 +1,82 @@
+-- When a model is sound: each net that it names is driven exactly once, and none is above itself.
+use Rattle.std.specs.Prelude.{◌≡◌, ℕ, ◌+◌, ◌<◌, Bool, true, ◌&&◌, ◌==◌, nat_lt, Option, Some, List, [], ◌∷◌, ◌++◌, length, if◌then◌else◌}
+use Rattle.std.specs.List.{list_any, flat_map}
+use Rattle.mv_base.specs.Names.{among}
+use Rattle.mv_base.specs.declared.limits.TheConstants.{MAX_FLAT_NETS}
+use Rattle.mv_fault.specs.declared.fault.Which.TheVariants.{Nets}
+use Rattle.mv_design.specs.declared.design.FileModel.{FileModel}
+use Rattle.mv_design.specs.declared.design.Design.{Design}
+use Rattle.mv_design.specs.declared.table.FileTable.{FileTable}
+use Rattle.mv_model.specs.declared.fault.FlatFault.{FlatFault}
+use Rattle.mv_model.specs.declared.fault.FlatFault.TheVariants.{DrivenTwice, Undriven, Cycle, Limit, Memory}
+use Rattle.mv_model.specs.Nets.{root_of, nets_of, drivers_of}
+
+-- a table whose output is `net` has a column `above`
+abbrev pub table_reads : List ℕ → List ℕ → FileTable → Bool
+table_reads net above t = among net t.outputs && among above t.inputs
+
+unfoldable pub reads : FileModel → List ℕ → List ℕ → Bool
+reads m net above = list_any (table_reads net above) m.tables
+
+-- no net is above itself: some rank falls from each net to the columns of its table
+pub record IsRanked (m : FileModel) : Type 0 where
+  pub rank : List ℕ → ℕ
+  pub falls : (net above : List ℕ) → reads m net above ≡ true → rank above < rank net
+
+-- nets of which each reads the next, and the last of which reads the first
+abbrev pub ReadsOn : FileModel → List ℕ → List ℕ → List (List ℕ) → Type 0
+ReadsOn m last net [] = reads m net last ≡ true
+ReadsOn m last net (above ∷ path) = (reads m net above ≡ true) × ReadsOn m last above path
+
+-- a net that is above itself
+pub record IsOnCycle (m : FileModel) (net : List ℕ) : Type 0 where
+  pub path : List (List ℕ)
+  pub closed : ReadsOn m net net path
+
+-- a fault where a test holds
+abbrev pub when : Bool → FlatFault → List FlatFault
+when test f = if test then f ∷ [] else []
+
+abbrev pub twice_at : FileModel → List ℕ → List FlatFault
+twice_at m net = when (nat_lt 1 (drivers_of m net)) (DrivenTwice net)
+
+abbrev pub undriven_at : FileModel → List ℕ → List FlatFault
+undriven_at m net = when (drivers_of m net == 0) (Undriven net)
+
+unfoldable pub many_faults : FileModel → List FlatFault
+many_faults m = when (nat_lt MAX_FLAT_NETS (length (nets_of m))) (Limit Nets (MAX_FLAT_NETS + 1))
+
+-- the faults of a model's nets, cycles aside, in the order in which they are told: there are too many nets; a net is driven
+-- twice; a net isn't driven
+unfoldable pub net_faults : FileModel → List FlatFault
+net_faults m = many_faults m ++ (flat_map (twice_at m) (nets_of m) ++ flat_map (undriven_at m) (nets_of m))
+
+abbrev pub first : List FlatFault → Option FlatFault
+first [] = Option.None
+first (f ∷ fs) = Some f
+
+-- each net has one driver
+pub record IsDrivenOnce (m : FileModel) : Type 0 where
+  pub once : (net : List ℕ) → among net (nets_of m) ≡ true → drivers_of m net ≡ 1
+
+-- a sound model
+pub record IsSoundModel (m : FileModel) : Type 0 where
+  pub driven : IsDrivenOnce m
+  pub acyclic : IsRanked m
+
+-- a sound design: in this version its root is its only model
+pub record IsSound (d : Design) : Type 0 where
+  pub root : IsSoundModel (root_of d)
+
+-- why a model is refused: the first fault of its nets, or, where they have none, a net on a cycle. (A limit on the nets that
+-- the flattening makes is told later.)
+pub record HasCycle (m : FileModel) (net : List ℕ) : Type 0 where
+  pub none : net_faults m ≡ []
+  pub cycle : IsOnCycle m net
+
+abbrev pub IsFault : FileModel → FlatFault → Type 0
+IsFault m (Cycle net) = HasCycle m net
+IsFault m Memory = Unit {0}
+IsFault m (DrivenTwice net) = first (net_faults m) ≡ Some (DrivenTwice net)
+IsFault m (Undriven net) = first (net_faults m) ≡ Some (Undriven net)
+IsFault m (Limit which number) = first (net_faults m) ≡ Some (Limit which number)

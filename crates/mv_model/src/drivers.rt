@@ -1,0 +1,120 @@
+//! The faults of a model's nets: too many of them, and nets that are driven twice or by nothing.
+ghost use Rattle.std.specs.Prelude.{◌≡◌, IfOk, OnOk};
+ghost use Rattle.mv_model.specs.Nets.{nets_of, drivers};
+ghost use Rattle.mv_model.specs.Sound.{net_faults, many_faults};
+ghost use Rattle.mv_model.specs.Driving.{AreDriven, Tells, twice_faults, undriven_faults, with_driver, with_drivers, with_tables};
+
+use crate::FlatFault;
+use crate::nets::add_net;
+use mv_base::{MAX_FLAT_NETS, Memory, Name, NameSet};
+use mv_design::{FileModel, FileTable};
+use mv_fault::Which;
+use std::alloc::Global;
+
+/// The nets that are driven, and those of them that are driven more than once.
+#[derive(Drop)]
+pub struct Drivers {
+    driven: NameSet,
+    twice: NameSet,
+}
+
+/// Tells the first fault of the model's nets, cycles aside.
+#[tactic(auto, using(crate::proofs::Faults::told))]
+pub fn check_nets(alloc: Global, model: &FileModel, nets: &NameSet) -> Result<(), FlatFault>
+    requires { nets.now ≡ nets_of model.now }
+    ensures { Tells result (net_faults model.now) }
+{
+    check_count(nets, model)?;
+    let drivers = Drivers::of(alloc, model)?;
+    drivers.check_twice(nets.as_slice())?;
+    drivers.check_undriven(nets.as_slice())?;
+    Ok(())
+}
+
+/// Tells whether there are more nets than a network may have.
+#[tactic(auto, unfolding(crate::specs::Sound::many_faults))]
+fn check_count(nets: &NameSet, model: &FileModel) -> Result<(), FlatFault>
+    requires { nets.now ≡ nets_of model.now }
+    ensures { Tells result (many_faults model.now) }
+{
+    if nets.len() as u64 > MAX_FLAT_NETS {
+        return Err(FlatFault::Limit {
+            which: Which::Nets,
+            number: MAX_FLAT_NETS + 1,
+        });
+    }
+    Ok(())
+}
+
+impl Drivers {
+    /// The driven nets of the model.
+    #[tactic(auto, using(crate::proofs::Driven::driven_of), unfolding(crate::specs::Nets::drivers))]
+    fn of(alloc: Global, model: &FileModel) -> Result<Self, Memory>
+        ensures { IfOk result (λ d. AreDriven (drivers model.now) d) }
+    {
+        let mut drivers = Drivers {
+            driven: NameSet::new(alloc),
+            twice: NameSet::new(alloc),
+        };
+        drivers.add_all(model.inputs.as_slice())?;
+        drivers.add_tables(model.tables.as_slice())?;
+        Ok(drivers)
+    }
+
+    /// Adds the outputs of the tables.
+    fn add_tables(&mut self, tables: &[FileTable]) -> Result<(), Memory>
+        ensures { OnOk result (self.new ≡ with_tables self.old tables.now) }
+    {
+        for table in tables {
+            self.add_all(table.outputs.as_slice())?;
+        }
+        Ok(())
+    }
+
+    /// Adds a driver of each of these nets.
+    fn add_all(&mut self, nets: &[Name]) -> Result<(), Memory>
+        ensures { OnOk result (self.new ≡ with_drivers self.old nets.now) }
+    {
+        for net in nets {
+            self.add(net)?;
+        }
+        Ok(())
+    }
+
+    /// Adds a driver of the net.
+    fn add(&mut self, net: &Name) -> Result<(), Memory>
+        ensures { OnOk result (self.new ≡ with_driver self.old net.now) }
+    {
+        if self.driven.contains(net) {
+            add_net(&mut self.twice, net)
+        } else {
+            add_net(&mut self.driven, net)
+        }
+    }
+
+    /// Tells the first of these nets that is driven more than once.
+    #[tactic(auto, unfolding(crate::specs::Driving::twice_faults))]
+    fn check_twice(&self, nets: &[Name]) -> Result<(), FlatFault>
+        ensures { Tells result (twice_faults self.now nets.now) }
+    {
+        for net in nets {
+            if self.twice.contains(net) {
+                return Err(FlatFault::DrivenTwice { net: net.copy()? });
+            }
+        }
+        Ok(())
+    }
+
+    /// Tells the first of these nets that nothing drives.
+    #[tactic(auto, unfolding(crate::specs::Driving::undriven_faults))]
+    fn check_undriven(&self, nets: &[Name]) -> Result<(), FlatFault>
+        ensures { Tells result (undriven_faults self.now nets.now) }
+    {
+        for net in nets {
+            if !self.driven.contains(net) {
+                return Err(FlatFault::Undriven { net: net.copy()? });
+            }
+        }
+        Ok(())
+    }
+}

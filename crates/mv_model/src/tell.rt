@@ -1,0 +1,63 @@
+ghost use Rattle.std.specs.Prelude.{◌≡◌, [], ◌∷◌, decimal};
+ghost use Rattle.mv_base.specs.Appends.{Appends};
+ghost use Rattle.mv_fault.specs.Told.{which_name};
+ghost use Rattle.mv_model.specs.Told.{flat_told, flat_line};
+
+use crate::fault::FlatFault;
+use itoa::Buffer;
+use mv_base::{Failed, Sink, put_both, put_piece};
+use mv_fault::Which;
+
+/// The name of a limit.
+fn limit_name(which: Which) -> &'static [u8]
+    ensures { result.now ≡ which_name which }
+{
+    match which {
+        Which::Values => b"Values",
+        Which::Columns => b"Columns",
+        Which::TableLines => b"TableLines",
+        Which::Models => b"Models",
+        Which::Depth => b"Depth",
+        Which::Instances => b"Instances",
+        Which::Nets => b"Nets",
+        Which::NetName => b"NetName",
+        Which::FlatLines => b"FlatLines",
+        Which::FlatEntries => b"FlatEntries",
+    }
+}
+
+/// Puts a line with one word.
+fn put_word<K: Sink>(name: &[u8], word: &[u8], out: &mut K) -> Result<(), Failed>
+    ensures { Appends (K.told out.old) (K.told out.new) (K.faults out.old) (K.faults out.new) (flat_told name.now (word.now ∷ [])) result }
+{
+    put_both(b"# fault network ", name, out)?;
+    put_both(b" ", word, out)?;
+    put_piece(b"\n", out)
+}
+
+/// Puts a line with two words.
+fn put_words<K: Sink>(name: &[u8], first: &[u8], second: &[u8], out: &mut K) -> Result<(), Failed>
+    ensures { Appends (K.told out.old) (K.told out.new) (K.faults out.old) (K.faults out.new) (flat_told name.now (first.now ∷ second.now ∷ [])) result }
+{
+    put_both(b"# fault network ", name, out)?;
+    put_both(b" ", first, out)?;
+    put_both(b" ", second, out)?;
+    put_piece(b"\n", out)
+}
+
+/// Puts the line that tells a fault of a design. It takes no memory.
+pub fn put_flat_fault<K: Sink>(fault: &FlatFault, out: &mut K) -> Result<(), Failed>
+    ensures { Appends (K.told out.old) (K.told out.new) (K.faults out.old) (K.faults out.new) (flat_line fault.now) result }
+{
+    match fault {
+        FlatFault::DrivenTwice { net } => put_word(b"28 DrivenTwice", net.bytes(), out),
+        FlatFault::Undriven { net } => put_word(b"29 Undriven", net.bytes(), out),
+        FlatFault::Cycle { net } => put_word(b"30 Cycle", net.bytes(), out),
+        FlatFault::Limit { which, number } => {
+            let mut buffer = Buffer::new();
+            let digits = buffer.format(*number).as_bytes();
+            put_words(b"35 Limit", limit_name(*which), digits, out)
+        }
+        FlatFault::Memory => put_piece(b"# fault memory\n", out),
+    }
+}
