@@ -1,202 +1,243 @@
--- What drives the net of a number: an input of the model, or a table.
-use Rattle.std.proofs.Common.{◌≡◌, ◌⊎◌, ℕ, suc, zero, ◌+◌, ◌-◌, ◌<◌, ◌≤◌, Bool, true, List, [], ◌∷◌, ◌++◌, length, Option, Some, None, refl, sym, ◌∙◌, ap, subst, arith, ⊎_elim, inl, inr, map}
-use Rattle.std.specs.Prelude.{nat_eq}
-use Rattle.std.specs.List.{list_all, slice_get}
-use Rattle.std.specs.Option.{option_map}
-use Rattle.std.proofs.lemmas.Bool.{false≢true, and_parts, and_from, or_cases, or_left, or_right, cases_lt, eqb-true, eq-eqb}
-use Rattle.std.proofs.lemmas.List.{length-append, length-map, get_or_past}
-use Rattle.std.proofs.lemmas.Option.{get_or_from_slice_get, none-some, same_Some, slice_get-map}
-use Rattle.mv_base.specs.Names.{among, IsDistinct}
-use Rattle.mv_base.proofs.NameLemmas.{among-at}
-use Rattle.mv_base.specs.declared.number.NetId.{NetId}
+-- What stands at each number of a model's network: an input, the output of a table, or the mark that a table may need.
+use Rattle.std.proofs.Common.{◌≡◌, ◌⊎◌, ℕ, zero, suc, ◌+◌, ◌<◌, ◌≤◌, Bool, true, false, List, [], ◌∷◌, ◌++◌, length, map, get_or, Option, Some, None, refl, sym, ◌∙◌, ap, subst, arith, ⊎_elim, inl, inr}
+use Rattle.std.specs.Prelude.{if◌then◌else◌, slice_index_or}
+use Rattle.std.specs.List.{flat_map, slice_get}
+use Rattle.std.proofs.lemmas.Bool.{false≢true, or_cases, or_left}
+use Rattle.std.proofs.lemmas.List.{get_or_past, length-append, length-map}
+use Rattle.std.proofs.lemmas.List.Elements.{All-get_or}
+use Rattle.std.proofs.lemmas.Option.{none-some, same_Some, slice_get_within, slice_get-get_or, get_or_from_slice_get}
+use Rattle.mv_base.specs.Names.{same_word, among, IsDistinct}
+use Rattle.mv_base.proofs.NameLemmas.{same_word_is, among-append, among-at, IsPlace-from_among}
+use Rattle.mv_cover.specs.declared.cover.Cover.{Cover}
+use Rattle.mv_design.specs.declared.design.FileModel.{FileModel}
+use Rattle.mv_design.specs.declared.table.FileTable.{FileTable}
 use Rattle.mv_net.specs.declared.parts.FlatNet.{FlatNet}
+use Rattle.mv_net.specs.declared.parts.NetParts.{NetParts}
+use Rattle.mv_net.specs.declared.parts.Kind.{Kind}
+use Rattle.mv_net.specs.declared.parts.Kind.TheVariants.{Input, Table, Reset}
 use Rattle.mv_net.specs.Nets.{slot}
-use Rattle.mv_net.specs.Formed.{stands_in}
-use Rattle.mv_plain.specs.declared.design.FileTable.{FileTable}
-use Rattle.mv_plain.specs.declared.design.Design.{Design}
-use Rattle.mv_plain.specs.Designs.{drivers, output_of, all_driven}
-use Rattle.mv_net.specs.Index.{row}
-use Rattle.mv_flat.specs.Numbers.{number_of, net_of, nets_of, no_columns, columns_in, columns_by_net}
-use Rattle.mv_flat.specs.Tables.{IsTableNet, AreTables, AreNets, input_net, numbers_from}
-use Rattle.mv_flat.proofs.Numbering.{number_at}
+use Rattle.mv_model.specs.Nets.{drivers, outputs_of, nets_named}
+use Rattle.mv_model.specs.Numbers.{places, table_places, may_mark, mark_name, number_in}
+use Rattle.mv_model.specs.Proper.{IsProperModel, IsFileTable}
+use Rattle.mv_flat.specs.Numbers.{output_of, mark_at}
+use Rattle.mv_flat.specs.Built.{file_net, IsBuilt}
+use Rattle.mv_model.proofs.Listed.{number_at}
+use Rattle.mv_flat.proofs.Numbered.{number_of_name, mark_number}
+use Rattle.mv_flat.proofs.Blocks.{AreSingle, marks_of, places_of, blocks_size, block_at}
+use Rattle.mv_flat.proofs.Slots.{IsTableAt, table_at}
 
--- ---- elements of lists by place
+-- a proper model with its network, whose names by number are distinct, as its drivers are, and each of whose nets is driven
+pub record IsModelNet (m : FileModel) (net : NetParts) : Type 0 where
+  pub proper : IsProperModel m
+  pub distinct : IsDistinct (places m)
+  pub once : IsDistinct (drivers m)
+  pub driven : (w : List ℕ) → among w (nets_named m) ≡ true → among w (drivers m) ≡ true
+  pub built : IsBuilt m net
 
-pub get_left : {X : Type 0} (xs ys : List X) (k : ℕ) (x : X) → slice_get xs k ≡ Some x → slice_get (xs ++ ys) k ≡ Some x
+-- ---- the tables
+
+pub file_table : (m : FileModel) (net : NetParts) → IsModelNet m net → (k : ℕ) (t : FileTable) → slice_get m.tables k ≡ Some t → IsFileTable m.decls t
+file_table m net is k t e =
+    let P : FileTable → Type 0 = IsFileTable m.decls in
+    subst P (get_or_from_slice_get m.tables k t t e) (All-get_or P m.tables k t (slice_get_within m.tables k t e) is.proper.tables)
+
+pub single_tables : (m : FileModel) (net : NetParts) → IsModelNet m net → AreSingle m.tables
+single_tables m net is k t e = (file_table m net is k t e).single
+
+-- what stands at the numbers of each table
+pub table_of : (m : FileModel) (net : NetParts) → IsModelNet m net → (k : ℕ) (t : FileTable) → slice_get m.tables k ≡ Some t → IsTableAt m.decls (places m) net.nets t
+unfolding places
+table_of m net is k t e =
+    table_at m.decls (places m) net.nets t (single_tables m net is k t e) is.distinct
+    (block_at m.decls (places m) net.nets m.inputs (map (file_net m.decls Input None) m.inputs) m.tables (drivers m) is.built.of_tables (single_tables m net is) is.built.are_tables refl is.built.nets_are
+    (length-map m.inputs (file_net m.decls Input None)) k t e)
+
+-- as many nets as names
+pub nets_size : (m : FileModel) (net : NetParts) → IsModelNet m net → length net.nets ≡ length (places m)
+unfolding places
+nets_size m net is =
+    ap length is.built.nets_are
+    ∙ (length-append (map (file_net m.decls Input None) m.inputs) is.built.of_tables
+    ∙ ((λ i. length-map m.inputs (file_net m.decls Input None) i + blocks_size m.decls (places m) (drivers m) m.tables is.built.of_tables (single_tables m net is) is.built.are_tables i)
+    ∙ sym (length-append m.inputs (flat_map table_places m.tables))))
+
+-- ---- the inputs
+
+get_left : {X : Type 0} (xs ys : List X) (k : ℕ) (x : X) → slice_get xs k ≡ Some x → slice_get (xs ++ ys) k ≡ Some x
 get_left [] ys k x h = absurd (none-some x h)
 get_left (y ∷ xs) ys zero x h = h
 get_left (y ∷ xs) ys (suc k) x h = get_left xs ys k x h
 
-pub get_right : {X : Type 0} (xs ys : List X) (k n : ℕ) → n ≡ length xs + k → slice_get (xs ++ ys) n ≡ slice_get ys k
-get_right [] ys k n h = ap (slice_get ys) (let e : n ≡ k = omega arith in e)
-get_right (x ∷ xs) ys k zero h = absurd (omega arith)
-get_right (x ∷ xs) ys k (suc n) h = get_right xs ys k n (omega arith)
+slot_left : (f : List ℕ → Option FlatNet) (ws : List (List ℕ)) (fs : List (Option FlatNet)) (k : ℕ) (w : List ℕ) → slice_get ws k ≡ Some w → slot (map f ws ++ fs) k ≡ f w
+slot_left f [] fs k w e = absurd (none-some w e)
+slot_left f (u ∷ us) fs zero w e = ap f (same_Some u w e)
+slot_left f (u ∷ us) fs (suc k) w e = slot_left f us fs k w e
 
-some_within : {X : Type 0} (xs : List X) (n : ℕ) → n < length xs → (x : X) × (slice_get xs n ≡ Some x)
-some_within [] n h = absurd (omega arith)
-some_within (x ∷ xs) zero h = (x, refl)
-some_within (x ∷ xs) (suc n) h = some_within xs n (omega arith)
+pub input_slot : (m : FileModel) (net : NetParts) → IsModelNet m net → (w : List ℕ) → among w m.inputs ≡ true → slot net.nets (number_in (places m) w) ≡ file_net m.decls Input None w
+unfolding places
+input_slot m net is w h =
+    let p = IsPlace-from_among w m.inputs h in
+    ap (slot net.nets) (number_at (places m) p.0 w is.distinct (get_left m.inputs (flat_map table_places m.tables) p.0 w p.1.found))
+    ∙ (ap (λ ns. slot ns p.0) is.built.nets_are ∙ slot_left (file_net m.decls Input None) m.inputs is.built.of_tables p.0 w p.1.found)
 
-pub all_from : {X : Type 0} (p : X → Bool) (xs : List X) → ((k : ℕ) (x : X) → slice_get xs k ≡ Some x → p x ≡ true) → list_all p xs ≡ true
-all_from p [] h = refl
-all_from p (x ∷ xs) h = and_from _ _ (h 0 x refl) (all_from p xs (λ k y e. h (suc k) y e))
+-- ---- names of tables' nets
 
-pub all_at : {X : Type 0} (p : X → Bool) (xs : List X) (k : ℕ) (x : X) → list_all p xs ≡ true → slice_get xs k ≡ Some x → p x ≡ true
-all_at p [] k x h e = absurd (none-some x e)
-all_at p (y ∷ xs) zero x h e = ap p (sym (same_Some y x e)) ∙ (and_parts (p y) (list_all p xs) h).0
-all_at p (y ∷ xs) (suc k) x h e = all_at p xs k x (and_parts (p y) (list_all p xs) h).1 e
-
--- ---- the place of a net
-
-pub record InputPlace (d : Design) (n : ℕ) : Type 0 where
-  pub name : List ℕ
-  pub listed : slice_get d.inputs n ≡ Some name
-  pub named : slice_get (drivers d) n ≡ Some name
-
-pub record TablePlace (d : Design) (n : ℕ) : Type 0 where
+-- the name is that of a table's output
+pub record IsOutput (ts : List FileTable) (w : List ℕ) : Type 0 where
   pub place : ℕ
   pub table : FileTable
-  pub behind : n ≡ length d.inputs + place
-  pub listed : slice_get d.tables place ≡ Some table
-  pub named : slice_get (drivers d) n ≡ Some table.output
+  pub listed : slice_get ts place ≡ Some table
+  pub is : w ≡ output_of table
 
-abbrev pub input_place : (d : Design) (n : ℕ) (w : List ℕ) → slice_get d.inputs n ≡ Some w → InputPlace d n
-input_place d n w e = record { name = w; listed = e; named = get_left d.inputs (map output_of d.tables) n w e }
+-- or of the mark that the table may need
+pub record IsMarked (ts : List FileTable) (w : List ℕ) : Type 0 where
+  pub place : ℕ
+  pub table : FileTable
+  pub listed : slice_get ts place ≡ Some table
+  pub may : may_mark table ≡ true
+  pub is : w ≡ mark_name (output_of table)
 
-abbrev pub table_place : (d : Design) (k : ℕ) (t : FileTable) → slice_get d.tables k ≡ Some t → TablePlace d (length d.inputs + k)
-table_place d k t e = record {
-  place = k;
-  table = t;
-  behind = refl;
-  listed = e;
-  named =
-      get_right d.inputs (map output_of d.tables) k (length d.inputs + k) refl
-      ∙ (slice_get-map output_of d.tables k ∙ ap (option_map output_of) e);
+output_later : (t : FileTable) (ts : List FileTable) (w : List ℕ) → IsOutput ts w → IsOutput (t ∷ ts) w
+output_later t ts w o = record { place = suc o.place; table = o.table; listed = o.listed; is = o.is }
+
+mark_later : (t : FileTable) (ts : List FileTable) (w : List ℕ) → IsMarked ts w → IsMarked (t ∷ ts) w
+mark_later t ts w o = record { place = suc o.place; table = o.table; listed = o.listed; may = o.may; is = o.is }
+
+only_one : (w u : List ℕ) → among w (u ∷ []) ≡ true → w ≡ u
+only_one w u e = ⊎_elim (λ (y : same_word w u ≡ true). same_word_is w u y) (λ (n : false ≡ true). absurd (false≢true n)) (or_cases (same_word w u) false e)
+
+single_list : (os : List (List ℕ)) → length os ≡ 1 → os ≡ slice_index_or os 0 [] ∷ []
+single_list [] one = absurd (omega arith)
+single_list (w ∷ []) one = refl
+single_list (w ∷ u ∷ ws) one = absurd (omega arith)
+
+-- the outputs of a table with one
+pub outputs_are : (t : FileTable) → length t.outputs ≡ 1 → t.outputs ≡ output_of t ∷ []
+outputs_are t one = single_list t.outputs one
+
+pub outputs_in : (ts : List FileTable) (w : List ℕ) → AreSingle ts → among w (flat_map outputs_of ts) ≡ true → IsOutput ts w
+outputs_in [] w single h = absurd (false≢true h)
+outputs_in (t ∷ ts) w single h =
+    ⊎_elim
+    (λ (y : among w t.outputs ≡ true).
+    let e : among w (output_of t ∷ []) ≡ true = ap (among w) (sym (outputs_are t (single 0 t refl))) ∙ y in
+    let o : IsOutput (t ∷ ts) w = record { place = 0; table = t; listed = refl; is = only_one w (output_of t) e } in
+    o)
+    (λ (y : among w (flat_map outputs_of ts) ≡ true). output_later t ts w (outputs_in ts w (λ k. single (suc k)) y))
+    (or_cases (among w t.outputs) (among w (flat_map outputs_of ts)) (sym (among-append w t.outputs (flat_map outputs_of ts)) ∙ h))
+
+marks_in : (b : Bool) (w u : List ℕ) → among w (if b then u ∷ [] else []) ≡ true → (b ≡ true) × (w ≡ u)
+marks_in true w u h = (refl, only_one w u h)
+marks_in false w u h = absurd (false≢true h)
+
+places_in : (ts : List FileTable) (w : List ℕ) → AreSingle ts → among w (flat_map table_places ts) ≡ true → IsOutput ts w ⊎ IsMarked ts w
+places_in [] w single h = absurd (false≢true h)
+places_in (t ∷ ts) w single h =
+    ⊎_elim
+    (λ (y : among w (table_places t) ≡ true).
+    ⊎_elim
+    (λ (z : among w (marks_of t) ≡ true).
+    let q = marks_in (may_mark t) w (mark_name (output_of t)) z in
+    let o : IsMarked (t ∷ ts) w = record { place = 0; table = t; listed = refl; may = q.0; is = q.1 } in
+    inr o)
+    (λ (z : among w (output_of t ∷ []) ≡ true).
+    let o : IsOutput (t ∷ ts) w = record { place = 0; table = t; listed = refl; is = only_one w (output_of t) z } in
+    inl o)
+    (or_cases (among w (marks_of t)) (among w (output_of t ∷ [])) (sym (among-append w (marks_of t) (output_of t ∷ [])) ∙ (ap (among w) (sym (places_of t (single 0 t refl))) ∙ y))))
+    (λ (y : among w (flat_map table_places ts) ≡ true).
+    ⊎_elim (λ (o : IsOutput ts w). inl (output_later t ts w o)) (λ (o : IsMarked ts w). inr (mark_later t ts w o)) (places_in ts w (λ k. single (suc k)) y))
+    (or_cases (among w (table_places t)) (among w (flat_map table_places ts)) (sym (among-append w (table_places t) (flat_map table_places ts)) ∙ h))
+
+-- ---- what stands at a number
+
+pub record InputPlace (m : FileModel) (n : ℕ) : Type 0 where
+  pub name : List ℕ
+  pub listed : among name m.inputs ≡ true
+  pub number : n ≡ number_in (places m) name
+
+pub record OutputPlace (m : FileModel) (n : ℕ) : Type 0 where
+  pub place : ℕ
+  pub table : FileTable
+  pub listed : slice_get m.tables place ≡ Some table
+  pub number : n ≡ number_in (places m) (output_of table)
+
+pub record MarkPlace (m : FileModel) (n : ℕ) : Type 0 where
+  pub place : ℕ
+  pub table : FileTable
+  pub listed : slice_get m.tables place ≡ Some table
+  pub may : may_mark table ≡ true
+  pub number : n ≡ (mark_at (places m) table).0
+
+output_place : (m : FileModel) (w : List ℕ) → IsOutput m.tables w → OutputPlace m (number_in (places m) w)
+output_place m w o = record { place = o.place; table = o.table; listed = o.listed; number = ap (number_in (places m)) o.is }
+
+mark_place : (m : FileModel) (net : NetParts) → IsModelNet m net → (w : List ℕ) → IsMarked m.tables w → MarkPlace m (number_in (places m) w)
+mark_place m net is w o = record {
+  place = o.place;
+  table = o.table;
+  listed = o.listed;
+  may = o.may;
+  number = ap (number_in (places m)) o.is ∙ sym (mark_number (places m) o.table ((table_of m net is o.place o.table o.listed).marked o.may));
 }
 
-pub length_drivers : (d : Design) → length (drivers d) ≡ length d.inputs + length d.tables
-length_drivers d = length-append d.inputs (map output_of d.tables) ∙ ap (λ n. length d.inputs + n) (length-map d.tables output_of)
-
--- each number below the number of nets is that of an input or a table
-pub place_at : (d : Design) (n : ℕ) → n < length (drivers d) → InputPlace d n ⊎ TablePlace d n
-place_at d n h =
+named_place : (m : FileModel) (net : NetParts) → IsModelNet m net → (w : List ℕ) → among w (places m) ≡ true → InputPlace m (number_in (places m) w) ⊎ (OutputPlace m (number_in (places m) w) ⊎ MarkPlace m (number_in (places m) w))
+unfolding places
+named_place m net is w h =
     ⊎_elim
-    (λ (lt : n < length d.inputs). let p = some_within d.inputs n lt in inl (input_place d n p.0 p.1))
-    (λ (le : length d.inputs ≤ n).
-    let p = some_within d.tables (n - length d.inputs) (omega (arith, length_drivers d)) in
-    let P : ℕ → Type 0 = TablePlace d in
-    inr (subst P (omega arith) (table_place d (n - length d.inputs) p.0 p.1)))
-    (cases_lt n (length d.inputs))
+    (λ (y : among w m.inputs ≡ true).
+    let p : InputPlace m (number_in (places m) w) = record { name = w; listed = y; number = refl } in
+    inl p)
+    (λ (y : among w (flat_map table_places m.tables) ≡ true).
+    ⊎_elim (λ (o : IsOutput m.tables w). inr (inl (output_place m w o))) (λ (o : IsMarked m.tables w). inr (inr (mark_place m net is w o)))
+    (places_in m.tables w (single_tables m net is) y))
+    (or_cases (among w m.inputs) (among w (flat_map table_places m.tables)) (sym (among-append w m.inputs (flat_map table_places m.tables)) ∙ h))
 
-pub driven_at : (d : Design) (n : ℕ) (w : List ℕ) → slice_get (drivers d) n ≡ Some w → among w (drivers d) ≡ true
-driven_at d n w e = among-at (drivers d) n w e
+-- each number within the names is that of an input, an output or a mark
+pub place_at : (m : FileModel) (net : NetParts) → IsModelNet m net → (n : ℕ) → n < length (places m) → InputPlace m n ⊎ (OutputPlace m n ⊎ MarkPlace m n)
+place_at m net is n low =
+    let w : List ℕ = get_or (places m) n [] in
+    let P : ℕ → Type 0 = λ k. InputPlace m k ⊎ (OutputPlace m k ⊎ MarkPlace m k) in
+    subst P (sym (number_of_name (places m) n is.distinct low)) (named_place m net is w (among-at (places m) n w (slice_get-get_or (places m) n [] low)))
 
--- every input is driven
-pub inputs_driven : (d : Design) → all_driven (drivers d) d.inputs ≡ true
-inputs_driven d = all_from (λ w. among w (drivers d)) d.inputs (λ k w e. driven_at d k w (get_left d.inputs (map output_of d.tables) k w e))
+-- and no net stands at another
+pub no_slot : (m : FileModel) (net : NetParts) → IsModelNet m net → (n : ℕ) → length (places m) ≤ n → slot net.nets n ≡ None
+no_slot m net is n high = get_or_past net.nets n None (let size = nets_size m net is in omega arith)
 
--- ---- the net at a place
+-- ---- driven nets
 
-slot_input : (inputs : List (List ℕ)) (fs : List (Option FlatNet)) (n : ℕ) (w : List ℕ) → slice_get inputs n ≡ Some w → slot (map input_net inputs ++ fs) n ≡ input_net w
-slot_input [] fs n w e = absurd (none-some w e)
-slot_input (u ∷ us) fs zero w e = ap input_net (same_Some u w e)
-slot_input (u ∷ us) fs (suc n) w e = slot_input us fs n w e
+-- a driven net is an input or the output of a table
+pub driven_by : (m : FileModel) (net : NetParts) → IsModelNet m net → (w : List ℕ) → among w (drivers m) ≡ true → (among w m.inputs ≡ true) ⊎ IsOutput m.tables w
+unfolding drivers
+driven_by m net is w h =
+    ⊎_elim (λ (y : among w m.inputs ≡ true). inl y) (λ (y : among w (flat_map outputs_of m.tables) ≡ true). inr (outputs_in m.tables w (single_tables m net is) y))
+    (or_cases (among w m.inputs) (among w (flat_map outputs_of m.tables)) (sym (among-append w m.inputs (flat_map outputs_of m.tables)) ∙ h))
 
-slot_table : (inputs : List (List ℕ)) (fs : List (Option FlatNet)) (k n : ℕ) → n ≡ length inputs + k → slot (map input_net inputs ++ fs) n ≡ slot fs k
-slot_table [] fs k n e = ap (slot fs) (let z : n ≡ k = omega arith in z)
-slot_table (u ∷ us) fs k zero e = absurd (omega arith)
-slot_table (u ∷ us) fs k (suc n) e = slot_table us fs k n (omega arith)
+-- a net of the model, which can be read, with a place
+pub record IsFileNet (m : FileModel) (nets : List (Option FlatNet)) (w : List ℕ) : Type 0 where
+  pub kind : Kind
+  pub table : Option Cover
+  pub listed : among w (places m) ≡ true
+  pub held : slot nets (number_in (places m) w) ≡ file_net m.decls kind table w
+  pub plain : kind ≡ Reset → ⊥
 
-table_of : (names : List (List ℕ)) (ts : List FileTable) (fs : List (Option FlatNet)) (k : ℕ) (t : FileTable) → AreTables names ts fs → slice_get ts k ≡ Some t → IsTableNet t (nets_of names t.inputs) (slot fs k)
-table_of names [] fs k t a e = absurd (none-some t e)
-table_of names (u ∷ us) [] k t a e = absurd a
-table_of names (u ∷ us) (f ∷ fs) zero t a e =
-    let P : FileTable → Type 0 = λ x. IsTableNet x (nets_of names x.inputs) f in
-    subst P (same_Some u t e) a.0
-table_of names (u ∷ us) (f ∷ fs) (suc k) t a e = table_of names us fs k t a.1 e
+input_listed : (m : FileModel) (w : List ℕ) → among w m.inputs ≡ true → among w (places m) ≡ true
+unfolding places
+input_listed m w h = among-append w m.inputs (flat_map table_places m.tables) ∙ or_left (among w m.inputs) (among w (flat_map table_places m.tables)) h
 
-pub input_slot : (d : Design) (nets : List (Option FlatNet)) (n : ℕ) → AreNets (drivers d) d.inputs d.tables nets → (p : InputPlace d n) → slot nets n ≡ input_net p.name
-input_slot d nets n a p = ap (λ ns. slot ns n) a.nets_are ∙ slot_input d.inputs a.of_tables n p.name p.listed
+pub input_file : (m : FileModel) (net : NetParts) → IsModelNet m net → (w : List ℕ) → among w m.inputs ≡ true → IsFileNet m net.nets w
+input_file m net is w h = record { kind = Input; table = None; listed = input_listed m w h; held = input_slot m net is w h; plain = λ e. cc }
 
-pub table_slot : (d : Design) (nets : List (Option FlatNet)) (n : ℕ) → AreNets (drivers d) d.inputs d.tables nets → (p : TablePlace d n) → IsTableNet p.table (nets_of (drivers d) p.table.inputs) (slot nets n)
-table_slot d nets n a p =
-    let P : Option FlatNet → Type 0 = λ f. IsTableNet p.table (nets_of (drivers d) p.table.inputs) f in
-    subst P (sym (ap (λ ns. slot ns n) a.nets_are ∙ slot_table d.inputs a.of_tables p.place n p.behind))
-    (table_of (drivers d) d.tables a.of_tables p.place p.table a.are_tables p.listed)
+pub output_file : (m : FileModel) (net : NetParts) → IsModelNet m net → (k : ℕ) (t : FileTable) → slice_get m.tables k ≡ Some t → IsFileNet m net.nets (output_of t)
+output_file m net is k t e =
+    let at = table_of m net is k t e in
+    record { kind = Table; table = Some at.flat.cover; listed = at.listed; held = at.output; plain = λ x. cc }
 
-length_tables : (names : List (List ℕ)) (ts : List FileTable) (fs : List (Option FlatNet)) → AreTables names ts fs → length fs ≡ length ts
-length_tables names [] [] a = refl
-length_tables names [] (f ∷ fs) a = absurd a
-length_tables names (t ∷ ts) [] a = absurd a
-length_tables names (t ∷ ts) (f ∷ fs) a = ap suc (length_tables names ts fs a.1)
+pub driven_file : (m : FileModel) (net : NetParts) → IsModelNet m net → (w : List ℕ) → among w (drivers m) ≡ true → IsFileNet m net.nets w
+driven_file m net is w h =
+    ⊎_elim (λ (y : among w m.inputs ≡ true). input_file m net is w y)
+    (λ (o : IsOutput m.tables w). let P : List ℕ → Type 0 = IsFileNet m net.nets in subst P (sym o.is) (output_file m net is o.place o.table o.listed))
+    (driven_by m net is w h)
 
-pub length_nets : (d : Design) (nets : List (Option FlatNet)) → AreNets (drivers d) d.inputs d.tables nets → length nets ≡ length (drivers d)
-length_nets d nets a =
-    ap length a.nets_are
-    ∙ (length-append (map input_net d.inputs) a.of_tables
-    ∙ (let i = length-map d.inputs input_net in
-    let t = length_tables (drivers d) d.tables a.of_tables a.are_tables in
-    let l = length_drivers d in
-    let e : length (map input_net d.inputs) + length a.of_tables ≡ length (drivers d) = omega arith in
-    e))
-
-pub no_slot : (d : Design) (nets : List (Option FlatNet)) (n : ℕ) → AreNets (drivers d) d.inputs d.tables nets → length (drivers d) ≤ n → slot nets n ≡ None
-no_slot d nets n a h = let l = length_nets d nets a in get_or_past nets n None (omega arith)
-
-pub held_within : (d : Design) (nets : List (Option FlatNet)) (n : ℕ) (f : FlatNet) → AreNets (drivers d) d.inputs d.tables nets → slot nets n ≡ Some f → n < length (drivers d)
-held_within d nets n f a e =
-    ⊎_elim (λ (lt : n < length (drivers d)). lt) (λ (le : length (drivers d) ≤ n). absurd (none-some f (sym (no_slot d nets n a le) ∙ e)))
-    (cases_lt n (length (drivers d)))
-
--- ---- the columns of a net by its number
-
-pub columns_input : (names : List (List ℕ)) (d : Design) (n : ℕ) → InputPlace d n → row (columns_by_net names d) n ≡ []
-columns_input names d n p =
-    get_or_from_slice_get (columns_by_net names d) n [] []
-    (get_left (map no_columns d.inputs) (map (columns_in names) d.tables) n []
-    (slice_get-map no_columns d.inputs n ∙ ap (option_map no_columns) p.listed))
-
-pub columns_table : (names : List (List ℕ)) (d : Design) (n : ℕ) → (p : TablePlace d n) → row (columns_by_net names d) n ≡ nets_of names p.table.inputs
-columns_table names d n p =
-    get_or_from_slice_get (columns_by_net names d) n (nets_of names p.table.inputs) []
-    (get_right (map no_columns d.inputs) (map (columns_in names) d.tables) p.place n
-    (p.behind ∙ ap (λ k. k + p.place) (sym (length-map d.inputs no_columns)))
-    ∙ (slice_get-map (columns_in names) d.tables p.place ∙ ap (option_map (columns_in names)) p.listed))
-
--- ---- nets in lists of numbers
-
--- a net of the list stands in the list of its numbers
-pub stands_at : (names ws : List (List ℕ)) (i : ℕ) (w : List ℕ) (n : NetId) → slice_get ws i ≡ Some w → number_of names w ≡ n.0 → stands_in n (nets_of names ws) ≡ true
-stands_at names [] i w n e h = absurd (none-some w e)
-stands_at names (u ∷ us) zero w n e h = or_left _ _ (eq-eqb _ _ (ap (number_of names) (same_Some u w e) ∙ h))
-stands_at names (u ∷ us) (suc i) w n e h = or_right (nat_eq (number_of names u) n.0) _ (stands_at names us i w n e h)
-
-pub record Stands (names ws : List (List ℕ)) (n : NetId) : Type 0 where
-  pub place : ℕ
-  pub name : List ℕ
-  pub listed : slice_get ws place ≡ Some name
-  pub number : number_of names name ≡ n.0
-
--- and the other way round
-pub stands : (names ws : List (List ℕ)) (n : NetId) → stands_in n (nets_of names ws) ≡ true → Stands names ws n
-stands names [] n h = absurd (false≢true h)
-stands names (u ∷ us) n h =
-    ⊎_elim
-    (λ (e : nat_eq (number_of names u) n.0 ≡ true). record { place = 0; name = u; listed = refl; number = eqb-true _ _ e })
-    (λ (r : stands_in n (nets_of names us) ≡ true).
-    let s = stands names us n r in
-    record { place = suc s.place; name = s.name; listed = s.listed; number = s.number })
-    (or_cases (nat_eq (number_of names u) n.0) (stands_in n (nets_of names us)) h)
-
--- the inputs have the first numbers
-numbered_from : (names : List (List ℕ)) (k : ℕ) (ws : List (List ℕ)) → ((i : ℕ) (w : List ℕ) → slice_get ws i ≡ Some w → number_of names w ≡ k + i) → numbers_from k (length ws) ≡ nets_of names ws
-numbered_from names k [] h = refl
-numbered_from names k (w ∷ ws) h =
-    ap (λ (n : ℕ). record { 0 = n } ∷ numbers_from (k + 1) (length ws)) (let e : k ≡ k + 0 = omega arith in e ∙ sym (h 0 w refl))
-    ∙ ap (λ ns. net_of names w ∷ ns)
-    (numbered_from names (k + 1) ws (λ i u e. h (suc i) u e ∙ (let z : k + suc i ≡ k + 1 + i = omega arith in z)))
-
-pub inputs_numbered : (d : Design) → IsDistinct (drivers d) → numbers_from 0 (length d.inputs) ≡ nets_of (drivers d) d.inputs
-inputs_numbered d different =
-    numbered_from (drivers d) 0 d.inputs
-    (λ i w e. number_at (drivers d) i w different (get_left d.inputs (map output_of d.tables) i w e) ∙ (let z : i ≡ 0 + i = omega arith in z))
+-- so is each net that the model names
+pub named_file : (m : FileModel) (net : NetParts) → IsModelNet m net → (w : List ℕ) → among w (nets_named m) ≡ true → IsFileNet m net.nets w
+named_file m net is w h = driven_file m net is w (is.driven w h)

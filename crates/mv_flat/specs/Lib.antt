@@ -1,3 +1,6 @@
-pub mod Flat
 pub mod Numbers
-pub mod Tables
+pub mod Built
+pub mod Flat
+pub mod Values
+pub mod Marks
+pub mod Placed

@@ -1,38 +1,38 @@
--- The numbers of a design's nets: the place of each among the driven nets.
-use Rattle.std.specs.Prelude.{◌≡◌, ◌⊎◌, ℕ, Bool, true, false, not, ◌&&◌, unwrap_or, Result, MatchResult, List, [], ◌∷◌, ◌++◌, map}
-use Rattle.mv_base.specs.Names.{among, place_of}
+-- The columns of a model's tables by their numbers. The number of a net is its place among the names by number.
+use Rattle.std.specs.Prelude.{ℕ, Bool, List, [], ◌∷◌, ◌++◌, length, map, decimal, unwrap_or, slice_index_or, nat_eq, codes, if◌then◌else◌}
+use Rattle.std.specs.List.{range_with_len}
+use Rattle.std.specs.Cmp.Lexicographic.{pointwise}
+use Rattle.mv_base.specs.Names.{place_of}
 use Rattle.mv_base.specs.declared.number.NetId.{NetId}
-use Rattle.mv_plain.specs.declared.design.FileTable.{FileTable}
-use Rattle.mv_plain.specs.declared.design.Design.{Design}
-use Rattle.mv_flat.specs.declared.flat.stop.FlatStop.{FlatStop}
-use Rattle.mv_flat.specs.declared.flat.stop.FlatStop.TheVariants.{Memory}
+use Rattle.mv_design.specs.declared.design.Decl.{Decl}
+use Rattle.mv_design.specs.declared.table.FileTable.{FileTable}
+use Rattle.mv_rows.specs.declared.column.Column.{Column}
+use Rattle.mv_model.specs.Nets.{count_of}
+use Rattle.mv_model.specs.Numbers.{net_in}
 
--- the place of a name, and 0 for a name that has none
-unfoldable pub number_of : List (List ℕ) → List ℕ → ℕ
-number_of names w = unwrap_or (place_of w names) 0
+-- a column's net, and how many values it has
+abbrev pub column_of : List Decl → List (List ℕ) → List ℕ → Column
+column_of ds names net = record { net = net_in names net; count = count_of ds net }
 
--- the numbers of names
-abbrev pub net_of : List (List ℕ) → List ℕ → NetId
-net_of names w = record { 0 = number_of names w }
+-- the input columns of a table
+abbrev pub columns_at : List Decl → List (List ℕ) → FileTable → List Column
+columns_at ds names t = map (column_of ds names) t.inputs
 
-abbrev pub nets_of : List (List ℕ) → List (List ℕ) → List NetId
-nets_of names ws = map (net_of names) ws
+-- the output of a table with one
+abbrev pub output_of : FileTable → List ℕ
+output_of t = slice_index_or t.outputs 0 []
 
--- each name is new behind those seen and those before it
-abbrev pub all_new : List (List ℕ) → List (List ℕ) → Bool
-all_new seen [] = true
-all_new seen (w ∷ ws) = not (among w seen) && all_new (seen ++ w ∷ []) ws
+-- the number of the table's mark, or a number past all others where it has none
+abbrev pub mark_at : List (List ℕ) → FileTable → NetId
+mark_at names t = record { 0 = unwrap_or (place_of (46 ∷ output_of t) names) (length names) }
 
--- Ok only where the test holds, and an error that isn't want of memory only where it doesn't
-abbrev pub Tells : {T : Type 0} → Result T FlatStop → Bool → Type 0
-Tells result test = MatchResult result (λ _. test ≡ true) (λ stop. (stop ≡ Memory) ⊎ (test ≡ false))
+-- the names of a net's values as a network keeps them: none where they are the numbers from 0
+abbrev pub are_numbers : List (List ℕ) → Bool
+are_numbers values = pointwise (pointwise nat_eq) values (map decimal (range_with_len 0 (length values)))
 
--- the columns of each net's table, none for an input
-abbrev pub no_columns : List ℕ → List NetId
-no_columns w = []
+abbrev pub kept_names : List (List ℕ) → List (List ℕ)
+kept_names values = if are_numbers values then [] else values
 
-abbrev pub columns_in : List (List ℕ) → FileTable → List NetId
-columns_in names t = nets_of names t.inputs
-
-abbrev pub columns_by_net : List (List ℕ) → Design → List (List NetId)
-columns_by_net names d = map no_columns d.inputs ++ map (columns_in names) d.tables
+-- the name of a made net: `_m` and a number
+abbrev pub made_name : ℕ → List ℕ
+made_name n = codes "_m" ++ decimal n

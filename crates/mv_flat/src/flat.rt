@@ -1,30 +1,71 @@
-ghost use Rattle.std.specs.Prelude.{◌≡◌, ◌≤◌, length, IfOk, Err};
+ghost use Rattle.std.specs.Prelude.{◌≡◌, ◌≤◌, length, IfOk, IfErr};
 ghost use Rattle.mv_base.specs.declared.limits.TheConstants.{MAX_NETS};
-ghost use Rattle.mv_plain.specs.Designs.{IsProper, IsSound, drivers};
+ghost use Rattle.mv_model.specs.Nets.{root_of};
+ghost use Rattle.mv_model.specs.Numbers.{places};
+ghost use Rattle.mv_model.specs.Proper.{IsProper, IsProperModel};
+ghost use Rattle.mv_model.specs.Sound.{IsSoundModel, IsFault};
+ghost use Rattle.mv_flat.specs.Built.{IsBuilt};
 ghost use Rattle.mv_flat.specs.Flat.{IsFlat};
+ghost use Rattle.mv_flat.specs.Placed.{ArePlaced};
 
-mod nets;
-mod numbers;
-mod stop;
-mod table;
-
-use mv_net::{NetParts, sorted};
-use mv_plain::Design;
+use crate::nets::input_nets;
+use crate::tables::put_tables;
+use crate::values::Declared;
+use mv_base::{Items, Memory};
+use mv_design::{Design, FileModel};
+use mv_model::{FlatFault, Numbers, numbered};
+use mv_net::{NetParts, Network};
 use std::alloc::Global;
-pub use stop::FlatStop;
 
-/// The network of a sound design with at most `MAX_NETS` nets: the inputs and the outputs of its tables are its
-/// nets, numbered in that order.
-pub fn flatten(alloc: Global, design: &Design) -> Result<NetParts, FlatStop>
-    requires proper { IsProper design.now }
+/// The network of a sound design: a net for each input, and for each table a net for its output, and before that one for
+/// the mark that its default may need. The fault is the first of the design's nets.
+#[tactic(auto, using(crate::proofs::Whole::flat_design, crate::proofs::Whole::well_formed, crate::proofs::Whole::few_nets))]
+pub fn flatten(alloc: Global, design: &Design) -> Result<Network, FlatFault>
+    requires { IsProper design.now }
     ensures ok { IfOk result (λ net. IsFlat net design.now) }
-    ensures refused { result ≡ Err FlatStop.NotSound → IsSound design.now → length (drivers design.now) ≤ MAX_NETS → ⊥ }
+    ensures fault { IfErr result (IsFault (root_of design.now)) }
 {
-    let names = numbers::numbered(alloc, design)?;
-    let outputs = numbers::numbers(alloc, &names, design.outputs.as_slice())?;
-    let columns = numbers::columns(alloc, &names, design)?;
-    let Some(_) = sorted(alloc, columns.as_slice())? else {
-        return Err(FlatStop::NotSound);
-    };
-    Ok(nets::built(alloc, design, outputs, columns.as_slice())?)
+    let model = root(design);
+    let names = numbered(alloc, model)?;
+    let parts = built(alloc, model, &names)?;
+    Ok(Network::make(alloc, parts)?)
+}
+
+/// The root of the design.
+fn root(design: &Design) -> &FileModel
+    requires { IsProper design.now }
+    ensures { result.now ≡ root_of design.now }
+{
+    &design.models.as_slice()[design.root as usize]
+}
+
+/// The parts of a sound model's network.
+#[tactic(auto, using(crate::proofs::Behinds::placed))]
+fn built(alloc: Global, model: &FileModel, names: &Numbers) -> Result<NetParts, Memory>
+    requires proper { IsProperModel model.now }
+    requires sound { IsSoundModel model.now }
+    requires names { names.now ≡ places model.now }
+    requires few { length names.now ≤ MAX_NETS }
+    ensures { IfOk result (λ net. IsBuilt model.now net) }
+{
+    parts(alloc, model, names)
+}
+
+/// The parts of the network of a model whose nets have numbers.
+fn parts(alloc: Global, model: &FileModel, names: &Numbers) -> Result<NetParts, Memory>
+    requires proper { IsProperModel model.now }
+    requires placed { ArePlaced model.now names.now }
+    ensures { IfOk result (λ net. IsBuilt model.now net) }
+{
+    let declared = Declared::of(alloc, model.decls.as_slice())?;
+    let inputs = model.inputs.as_slice();
+    let mut nets = input_nets(alloc, model.decls.as_slice(), &declared, inputs)?;
+    put_tables(&mut nets, alloc, &declared, names, model)?;
+    Ok(NetParts {
+        root: model.name.copy()?,
+        inputs: names.list(alloc, inputs)?,
+        outputs: names.list(alloc, model.outputs.as_slice())?,
+        latches: Items::new(alloc),
+        nets,
+    })
 }

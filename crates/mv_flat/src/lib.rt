@@ -1,6 +1,15 @@
-//! A design to the parts of a network. In this version: one model of binary tables with one output.
+//! A design to its network. In this version: one model whose tables have one output, without latches and instances.
 #![tactic(auto)]
 
+mod columns;
 mod flat;
+mod fresh;
+mod marks;
+mod nets;
+mod tables;
+#[cfg(test)]
+mod tests;
+mod values;
 
-pub use flat::{FlatStop, flatten};
+pub use flat::flatten;
+pub use mv_model::FlatFault;

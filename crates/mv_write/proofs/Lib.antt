@@ -1,6 +1,11 @@
-pub mod Ascending
-pub mod Walks
-pub mod Lines
-pub mod Held
-pub mod Inverter
-pub mod Binary
+mod Members
+mod Spelling
+mod Ascending
+mod Walks
+mod Lines
+mod Parts
+mod Held
+mod Literals
+mod SampleParts
+mod SampleSets
+mod SampleNets

@@ -1,11 +1,17 @@
-//! The text of a network: the lines of its root, inputs, outputs and tables, appended to a sink piece by piece.
+//! The text of a network: the lines of its root, inputs and outputs, the declarations of its nets and their tables,
+//! appended to a sink piece by piece.
 #![tactic(auto)]
 
+mod declarations;
+mod entries;
 mod network;
 mod pieces;
 mod rows;
+mod tables;
 
 pub use network::write;
 
+#[cfg(test)]
+mod samples;
 #[cfg(test)]
 mod tests;

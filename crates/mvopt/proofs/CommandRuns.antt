@@ -1,15 +1,11 @@
--- Commands that ran one after the other: the parts that they wrote, and a network of the form stays of the form.
-use Rattle.std.proofs.Common.{◌≡◌, ◌∙◌, ℕ, ◌+◌, ◌<◌, ◌≤◌, List, [], ◌∷◌, ◌++◌, length, take, set, Option, Some, None, refl, sym, ap, subst, arith, ⊎_elim, length-append}
-use Rattle.std.proofs.lemmas.Bool.{cases_eq, cases_lt}
+-- Commands that ran one after the other: the parts that they wrote, and that they make no latches.
+use Rattle.std.proofs.Common.{◌≡◌, ◌∙◌, ℕ, ◌+◌, ◌<◌, ◌≤◌, List, [], ◌∷◌, ◌++◌, length, take, Option, refl, sym, ap, subst, arith, length-append}
 use Rattle.std.proofs.lemmas.Grind.{flat_map-append}
-use Rattle.std.proofs.lemmas.List.{append-nil, length-take, get_or-set_same, get_or-set_other, get_or_past, length-set}
+use Rattle.std.proofs.lemmas.List.{append-nil, length-take}
 use Rattle.mv_base.specs.Outside.{Gained, GainedPart}
 use Rattle.mv_base.proofs.Gains.{Gained-none, Gained-then, GainedPart-then}
-use Rattle.mv_net.specs.declared.parts.FlatNet.{FlatNet}
 use Rattle.mv_net.specs.declared.parts.NetParts.{NetParts}
-use Rattle.mv_net.specs.Binary.{IsBinary}
-use Rattle.mv_net.specs.Changes.{with_nets, without}
-use Rattle.mv_net.specs.Nets.{slot}
+use Rattle.mv_net.specs.Changes.{with_nets}
 use Rattle.mv_sweep.specs.Entries.{Entry, Begin, Remove, End, print}
 use Rattle.mv_sweep.specs.Drops.{Goes, IsFront, HasDropped, IsDropping, IsCutOff, begun, whole}
 use Rattle.mv_sweep.proofs.Removing.{Goes-append, print-append, front_begun}
@@ -77,37 +73,11 @@ HasRun-cut commands i a b c t u v lt ran cut = record {
       subst P (sym (print-append (entries_of ran.parts) cut.entries)) (GainedPart-then t u v _ _ ran.gained cut.went.gained);
 }
 
--- ---- networks of the form
-
--- a net that is held behind a removal was held before
-held_before : (nets : List (Option FlatNet)) (n m : ℕ) (f : FlatNet) → slot (set nets n None) m ≡ Some f → slot nets m ≡ Some f
-held_before nets n m f e =
-    ⊎_elim
-    (λ (same : m ≡ n).
-    ⊎_elim
-    (λ (low : n < length nets).
-    let gone : slot (set nets n None) m ≡ None = rw same (get_or-set_same nets n None None low) in
-    let bad : None ≡ Some f = sym gone ∙ e in
-    absurd cc)
-    (λ (past : length nets ≤ n).
-    let gone : slot (set nets n None) m ≡ None = get_or_past (set nets n None) m None (omega (arith, length-set nets n None)) in
-    let bad : None ≡ Some f = sym gone ∙ e in
-    absurd cc)
-    (cases_lt n (length nets)))
-    (λ other. sym (get_or-set_other nets n m None None other) ∙ e)
-    (cases_eq m n)
-
-removal_binary : (net : NetParts) (n : ℕ) → IsBinary net → IsBinary (without net n)
+-- no command makes latches
+pub Goes-latches : (a b : NetParts) (es : List Entry) → a.latches ≡ [] → Goes a es b → b.latches ≡ []
 unfolding with_nets
-removal_binary net n is = record {
-  root = is.root;
-  nets = λ m f e. is.nets m f (held_before net.nets n m f e);
-  latches = is.latches;
-}
-
-pub Goes-binary : (a b : NetParts) (es : List Entry) → IsBinary a → Goes a es b → IsBinary b
-Goes-binary a b [] is g = subst IsBinary (sym g) is
-Goes-binary a b (Begin ∷ es) is g = Goes-binary a b es is g
-Goes-binary a b (Remove w ∷ es) is g =
-    Goes-binary g.0 b es (subst IsBinary (sym g.1.0.new_is) (removal_binary a g.1.0.number is)) g.1.1
-Goes-binary a b (End k ∷ es) is g = Goes-binary a b es is g.1
+Goes-latches a b [] none g = ap (λ (n : NetParts). n.latches) g ∙ none
+Goes-latches a b (Begin ∷ es) none g = Goes-latches a b es none g
+Goes-latches a b (Remove w ∷ es) none g =
+    Goes-latches g.0 b es (ap (λ (n : NetParts). n.latches) g.1.0.new_is ∙ none) g.1.1
+Goes-latches a b (End k ∷ es) none g = Goes-latches a b es none g.1

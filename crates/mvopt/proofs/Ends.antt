@@ -7,11 +7,14 @@ use Rattle.mv_base.proofs.Meanings.{SameMeaning-then, Refines-from_same}
 use Rattle.mv_base.proofs.OutsideLemmas.{Rose-earlier}
 use Rattle.mv_net.specs.declared.parts.NetParts.{NetParts}
 use Rattle.mv_net.specs.Allowed.{of_net}
-use Rattle.mv_plain.specs.Relation.{of_design}
+use Rattle.mv_lex.specs.Lines.{lines_of}
+use Rattle.mv_model.specs.Meaning.{of_design}
+use Rattle.mv_read.specs.declared.network.NetFault.TheVariants.{Parse as ParseFault, Flat as FlatFault}
+use Rattle.mv_read.proofs.Refused.{refused-excludes}
 use Rattle.mv_sweep.specs.Entries.{print}
 use Rattle.mvopt.specs.declared.script.Command.{Command}
-use Rattle.mvopt.specs.declared.stop.NetFault.{NetFault}
-use Rattle.mvopt.specs.declared.stop.NetFault.TheVariants.{Lex, NotBuilt}
+use Rattle.mvopt.specs.declared.stop.FileFault.{FileFault}
+use Rattle.mvopt.specs.declared.stop.FileFault.TheVariants.{Lex, Parse, Flat}
 use Rattle.mvopt.specs.declared.stop.Stop.{Stop}
 use Rattle.mvopt.specs.declared.stop.Stop.TheVariants.{Words, Network, Script, Read, Memory}
 use Rattle.mvopt.specs.Exact.{ScriptIsRefused, NetworkIsRefused, ScriptIsTaken, IsExact, IsComplete}
@@ -27,7 +30,6 @@ use Rattle.mvopt.specs.Taken.{IsTaken, TakesScript, TakesCommands, TakesNetwork}
 use Rattle.mvopt.specs.Words.{word_at, accepts}
 use Rattle.mvopt.proofs.NetFiles.{reads_as}
 use Rattle.mvopt.proofs.Takes.{prepared_taken}
-use Rattle.mvopt.proofs.ReadBack.{reads_back}
 
 -- ---- the network that was left takes the place of the design
 
@@ -35,7 +37,7 @@ pub replaced : (words : List (List ℕ)) (before after : Option Held) (commands 
 replaced words None after commands first out now notes told p t w = tt
 replaced words (Some b) None commands first out now notes told p t w = absurd p
 replaced words (Some b) (Some a) commands first out now notes told p t w =
-    let back = reads_back w.net w.formed w.binary in
+    let back = w.back in
     let same = SameMeaning-then (of_net w.net) (of_net first) (of_design p.net_of.design) w.means p.net_of.flat.means in
     let P : List Command → Type 0 = λ cs. Runs cs first w.parts w.net in
     record {
@@ -45,7 +47,7 @@ replaced words (Some b) (Some a) commands first out now notes told p t w =
       current = p.current;
       ended = p.ended;
       design = p.net_of.design;
-      read = reads_as p.content p.net_of.design p.lexed p.net_of.read p.net_of.flat.sound;
+      read = reads_as p.content p.net_of.design p.lexed p.net_of.is p.net_of.flat.sound;
       first = first;
       flat = p.net_of.flat;
       script = t.content;
@@ -103,11 +105,12 @@ taken_refused Accepts name held t r =
     r.refused (subst Accepts (some_content t.content r.content (sym t.named ∙ r.named)) t.accepted)
 
 -- what is refused for a fault isn't accepted
-refuses_none : (content : List ℕ) (f : NetFault) → Refuses content f → IsAccepted content → ⊥
+refuses_none : (content : List ℕ) (f : FileFault) → Refuses content f → IsAccepted content → ⊥
 refuses_none content (Lex f) r a = let none = a.lexed in cc
-refuses_none content NotBuilt r a = r.other a.form
+refuses_none content (Parse f) r a = refused-excludes (lines_of content) (ParseFault f) r.first (λ e. cc) a.form
+refuses_none content (Flat f) r a = refused-excludes (lines_of content) (FlatFault f) r.unsound (λ e. cc) a.form
 
-taken_faulty : (name : List ℕ) (held : Held) (f : NetFault) → IsTaken IsAccepted name held → IsFaulty name held f → ⊥
+taken_faulty : (name : List ℕ) (held : Held) (f : FileFault) → IsTaken IsAccepted name held → IsFaulty name held f → ⊥
 taken_faulty name held f t r =
     refuses_none r.content f r.refused (subst IsAccepted (some_content t.content r.content (sym t.named ∙ r.named)) t.accepted)
 
@@ -124,7 +127,7 @@ network_both words None r t = r
 network_both words (Some h) r t = taken_refused IsAccepted (word_at words 1) h t r
 
 -- a stop of the reading
-pub exact_stop : (words : List (List ℕ)) (held : Option Held) (before now : ℕ) (stop : Stop) → ((stop ≡ Words → ⊥) → accepts words ≡ true) → ((f : NetFault) → stop ≡ Network f → TakesScript words held) → IsCause words held before now stop → IsExact words held (status_of stop)
+exact_stop : (words : List (List ℕ)) (held : Option Held) (before now : ℕ) (stop : Stop) → ((stop ≡ Words → ⊥) → accepts words ≡ true) → ((f : FileFault) → stop ≡ Network f → TakesScript words held) → IsCause words held before now stop → IsExact words held (status_of stop)
 exact_stop words held before now Words accepted first cause = record {
   words_refused = λ e. refl;
   script_refused = λ e r u. absurd (false≢true (sym cause ∙ e));
@@ -160,7 +163,7 @@ exact_taken words held status accepted script network = record {
 }
 
 -- files that hold all that is named refuse nothing
-pub complete_stop : (words : List (List ℕ)) (held : Option Held) (a b c d before now : ℕ) (stop : Stop) → IsCause words held before now stop → IsComplete words held a b c d (status_of stop)
+complete_stop : (words : List (List ℕ)) (held : Option Held) (a b c d before now : ℕ) (stop : Stop) → IsCause words held before now stop → IsComplete words held a b c d (status_of stop)
 complete_stop words None a b c d before now stop cause = record { succeeds = λ r o n. absurd r }
 complete_stop words (Some h) a b c d before now Words cause = record { succeeds = λ r o n. absurd (false≢true (sym cause ∙ r.words_accepted)) }
 complete_stop words (Some h) a b c d before now (Network f) cause = record { succeeds = λ r o n. absurd (taken_faulty (word_at words 1) h f r.network cause) }
@@ -255,12 +258,23 @@ stop_is r stop cause e f = cc
 pub status_other : {T : Type 0} (result : Result T Stop) (stop : Stop) → result ≡ Err stop → (status_of stop ≡ 1 → ⊥) → result ≡ Err Words → ⊥
 status_other result stop e never f = never (words_status stop (stop_is result stop Words e f))
 
+-- a refusal is exact, and complete
+pub exact_refused : {T : Type 0} (words : List (List ℕ)) (held : Option Held) (before now : ℕ) (result : Result T Stop) (stop : Stop) (status : ℕ) → result ≡ Err stop → status ≡ status_of stop → ((result ≡ Err Words → ⊥) → accepts words ≡ true) → ((f : FileFault) → result ≡ Err (Network f) → TakesScript words held) → IsCause words held before now stop → IsExact words held status
+exact_refused words held before now result stop status is same accepted first cause =
+    let P : ℕ → Type 0 = λ s. IsExact words held s in
+    subst P (sym same) (exact_stop words held before now stop (λ never. accepted (λ e. never (stop_is result stop Words is e))) (λ f e. first f (is ∙ ap Err e)) cause)
+
+pub complete_refused : (words : List (List ℕ)) (held : Option Held) (a b c d before now : ℕ) (stop : Stop) (status : ℕ) → status ≡ status_of stop → IsCause words held before now stop → IsComplete words held a b c d status
+complete_refused words held a b c d before now stop status same cause =
+    let P : ℕ → Type 0 = λ s. IsComplete words held a b c d s in
+    subst P (sym same) (complete_stop words held a b c d before now stop cause)
+
 -- neither done nor failed at writing
 pub status_unwritten : (stop : Stop) → (status_of stop ≡ 0) ⊎ (status_of stop ≡ 5) → ⊥
 status_unwritten stop h =
     ⊎_elim (λ (e : status_of stop ≡ 0). status_not_done stop e) (λ (e : status_of stop ≡ 5). status_not_write stop e) h
 
-network_status : (stop : Stop) → status_of stop ≡ 2 → (f : NetFault) × (stop ≡ Network f)
+network_status : (stop : Stop) → status_of stop ≡ 2 → (f : FileFault) × (stop ≡ Network f)
 network_status Words e = absurd (omega arith)
 network_status (Network f) e = (f, refl)
 network_status Script e = absurd (omega arith)
@@ -268,7 +282,7 @@ network_status Read e = absurd (omega arith)
 network_status Memory e = absurd (omega arith)
 
 -- what the refusal of a network says before it
-pub status_first : {T F : Type 0} (result : Result T Stop) (stop : Stop) → result ≡ Err stop → ((f : NetFault) → result ≡ Err (Network f) → F) → (status_of stop ≡ 0) ⊎ (status_of stop ≡ 2) ⊎ (status_of stop ≡ 5) → F
+pub status_first : {T F : Type 0} (result : Result T Stop) (stop : Stop) → result ≡ Err stop → ((f : FileFault) → result ≡ Err (Network f) → F) → (status_of stop ≡ 0) ⊎ (status_of stop ≡ 2) ⊎ (status_of stop ≡ 5) → F
 status_first result stop e fact h =
     ⊎_elim (λ (z : status_of stop ≡ 0). absurd (status_not_done stop z)) (λ (k : (status_of stop ≡ 2) ⊎ (status_of stop ≡ 5)). ⊎_elim (λ (z : status_of stop ≡ 2). let n = network_status stop z in fact n.0 (e ∙ ap Err n.1)) (λ (z : status_of stop ≡ 5). absurd (status_not_write stop z)) k) h
 

@@ -2,16 +2,8 @@ pub mod CommandRuns
 pub mod Ends
 pub mod FileReads
 pub mod LexedReads
-pub mod NetDesign
 pub mod NetFiles
-pub mod NetForm
-pub mod NetMeaning
-pub mod NetNumbers
-pub mod NetProper
-pub mod NetRows
 pub mod NumberLines
-pub mod ReadBack
 pub mod ScriptWords
 pub mod Takes
-pub mod WordLines
 pub mod Works

@@ -8,17 +8,21 @@ use Rattle.mv_base.specs.declared.limits.TheConstants.{MAX_SCRIPT_BYTES}
 use Rattle.mv_base.proofs.OutsideLemmas.{Rose-earlier}
 use Rattle.mv_lex.specs.declared.fault.LexFault.{LexFault}
 use Rattle.mv_lex.specs.declared.lines.LexLine.{LexLine}
+use Rattle.mv_fault.specs.declared.fault.ParseFault.{ParseFault}
+use Rattle.mv_model.specs.declared.fault.FlatFault.{FlatFault}
 use Rattle.mv_net.specs.declared.parts.NetParts.{NetParts}
+use Rattle.mv_parse.specs.Grammar.{FirstFault}
+use Rattle.mv_read.specs.Reads.{IsNetOf, IsUnsound}
 use Rattle.mvopt.specs.declared.script.Command.{Command}
-use Rattle.mvopt.specs.declared.stop.NetFault.{NetFault}
-use Rattle.mvopt.specs.declared.stop.NetFault.TheVariants.{Lex, NotBuilt}
+use Rattle.mvopt.specs.declared.stop.FileFault.{FileFault}
+use Rattle.mvopt.specs.declared.stop.FileFault.TheVariants.{Lex, Parse, Flat}
 use Rattle.mvopt.specs.declared.stop.Stop.{Stop}
 use Rattle.mvopt.specs.declared.stop.Stop.TheVariants.{Words, Network, Script, Read as Unread, Memory}
 use Rattle.mvopt.specs.Faults.{RefusesNetwork}
 use Rattle.mvopt.specs.FileReading.{WasRead, Read, StaySame, Stay, Lacks}
 use Rattle.mvopt.specs.LexedFiles.{WasLexed, HasFault}
-use Rattle.mvopt.specs.Made.{IsNetOf, Prepared}
-use Rattle.mvopt.specs.Run.{HasForm, IsRefused, RefusesScript, LacksOne, LacksFile}
+use Rattle.mvopt.specs.Made.{Prepared}
+use Rattle.mvopt.specs.Run.{IsRefused, RefusesScript, LacksOne, LacksFile}
 use Rattle.mvopt.specs.Scripts.{is_script, commands_in}
 use Rattle.mvopt.specs.Stops.{IsCause}
 use Rattle.mvopt.specs.Taken.{TakesScript, TakesCommands, TakesNetwork}
@@ -94,16 +98,21 @@ pub network_faulty : (words : List (List ℕ)) (old : Option Held) (f : LexFault
 network_faulty words None f h = tt
 network_faulty words (Some o) f h = record { content = h.content; named = h.named; refused = h.fault_is }
 
--- a file of another form
-pub network_refused : (words : List (List ℕ)) (old new : Option Held) (lines : List LexLine) → WasLexed old new (word_at words 1) lines → (HasForm lines → ⊥) → RefusesNetwork words old NotBuilt
-network_refused words None new lines w never = tt
-network_refused words (Some o) None lines w never = absurd w.read
-network_refused words (Some o) (Some n) lines w never =
-    record {
-      content = w.content;
-      named = w.read.named;
-      refused = record { lexed = w.lexed; other = λ h. never (subst HasForm (sym w.lines_are) h) };
-    }
+-- a file whose lines have a fault
+pub network_unread : (words : List (List ℕ)) (old new : Option Held) (lines : List LexLine) (f : ParseFault) → WasLexed old new (word_at words 1) lines → FirstFault lines f → RefusesNetwork words old (Parse f)
+network_unread words None new lines f w h = tt
+network_unread words (Some o) None lines f w h = absurd w.read
+network_unread words (Some o) (Some n) lines f w h =
+    let P : List LexLine → Type 0 = λ l. FirstFault l f in
+    record { content = w.content; named = w.read.named; refused = record { lexed = w.lexed; first = subst P w.lines_are h } }
+
+-- a file whose design isn't sound
+pub network_unsound : (words : List (List ℕ)) (old new : Option Held) (lines : List LexLine) (f : FlatFault) → WasLexed old new (word_at words 1) lines → IsUnsound lines f → RefusesNetwork words old (Flat f)
+network_unsound words None new lines f w h = tt
+network_unsound words (Some o) None lines f w h = absurd w.read
+network_unsound words (Some o) (Some n) lines f w h =
+    let P : List LexLine → Type 0 = λ l. IsUnsound l f in
+    record { content = w.content; named = w.read.named; refused = record { lexed = w.lexed; unsound = subst P w.lines_are h } }
 
 pub network_prepared : (words : List (List ℕ)) (old new : Option Held) (lines : List LexLine) (net : NetParts) → WasLexed old new (word_at words 1) lines → IsNetOf lines net → Prepared words old new net
 network_prepared words None new lines net w h = tt
@@ -120,7 +129,7 @@ network_prepared words (Some o) (Some n) lines net w h =
       net_of = subst P w.lines_are h;
     }
 
-pub ruleset takes_network = (network_faulty, network_refused, network_prepared, lacks_network)
+pub ruleset takes_network = (network_faulty, network_unread, network_unsound, network_prepared, lacks_network)
 
 -- ---- one after the other
 
@@ -134,7 +143,7 @@ lacks_earlier words a b s l =
       lacks = ⊎_elim (λ (e : file_named (word_at words 1) b.files ≡ None). inl (ap (file_named (word_at words 1)) (sym s.files) ∙ e)) (λ (e : file_named (word_at words 2) b.files ≡ None). inr (ap (file_named (word_at words 2)) (sym s.files) ∙ e)) l.lacks;
     }
 
-network_earlier : (words : List (List ℕ)) (a b : Option Held) (f : NetFault) → Stay a b → RefusesNetwork words b f → RefusesNetwork words a f
+network_earlier : (words : List (List ℕ)) (a b : Option Held) (f : FileFault) → Stay a b → RefusesNetwork words b f → RefusesNetwork words a f
 network_earlier words None b f s r = tt
 network_earlier words (Some a) None f s r = absurd s
 network_earlier words (Some a) (Some b) f s r =
@@ -193,7 +202,7 @@ prepared_taken words (Some o) (Some n) net p =
     record {
       content = p.content;
       named = p.held;
-      accepted = record { lexed = p.lexed; form = record { design = n.design; read = n.read; sound = n.flat.sound; nets = n.flat.nets } };
+      accepted = record { lexed = p.lexed; form = record { design = n.design; is = n.is; within = n.within; sound = n.flat.sound; nets = n.flat.nets } };
     }
 
 -- accepted words are three

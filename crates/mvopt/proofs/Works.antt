@@ -7,15 +7,12 @@ use Rattle.mv_base.proofs.Gains.{Gained-then, GainedPart-then}
 use Rattle.mv_base.proofs.OutsideLemmas.{Rose-earlier}
 use Rattle.mv_net.specs.declared.parts.NetParts.{NetParts}
 use Rattle.mv_net.specs.Allowed.{of_net}
-use Rattle.mv_net.specs.Binary.{IsBinary}
-use Rattle.mv_net.specs.Formed.{WellFormed}
 use Rattle.mv_net.specs.Nets.{literals_in}
 use Rattle.mv_write.specs.Text.{text_of}
+use Rattle.mv_back.specs.Back.{ReadsBack}
 use Rattle.mvopt.specs.declared.script.Command.{Command}
 use Rattle.mvopt.specs.Outcomes.{HasRun, IsNoteCut, IsEndCut, HasWorked, IsCut}
 use Rattle.mvopt.specs.Run.{done_line}
-use Rattle.mvopt.specs.Runs.{entries_of}
-use Rattle.mvopt.proofs.CommandRuns.{Goes-binary}
 
 -- ---- the end of the work
 
@@ -34,8 +31,8 @@ done_cut out notes told a b c d line text p rose = record { how = inr (refl, ros
 same_line : (first net : NetParts) (before : ℕ) → before ≡ literals_in first.nets → done_line before (literals_in net.nets) ≡ done_line (literals_in first.nets) (literals_in net.nets)
 same_line first net before e = ap (λ n. done_line n (literals_in net.nets)) e
 
-pub work_done : (commands : List Command) (first net : NetParts) (before : ℕ) (out now notes mid told : Option (List ℕ)) → before ≡ literals_in first.nets → HasRun commands first net notes mid → SameMeaning (of_net net) (of_net first) → WellFormed net → IsBinary first → Gained out now (text_of net) → Gained mid told (done_line before (literals_in net.nets)) → HasWorked commands first out now notes told
-work_done commands first net before out now notes mid told e ran means formed binary text line =
+pub work_done : (commands : List Command) (first net : NetParts) (before : ℕ) (out now notes mid told : Option (List ℕ)) → before ≡ literals_in first.nets → HasRun commands first net notes mid → SameMeaning (of_net net) (of_net first) → ReadsBack net → Gained out now (text_of net) → Gained mid told (done_line before (literals_in net.nets)) → HasWorked commands first out now notes told
+work_done commands first net before out now notes mid told e ran means back text line =
     let P : List ℕ → Type 0 = λ z. Gained mid told z in
     record {
       parts = ran.parts;
@@ -43,8 +40,7 @@ work_done commands first net before out now notes mid told e ran means formed bi
       runs = ran.runs;
       noted = Gained-then notes mid told _ _ ran.gained (subst P (same_line first net before e) line);
       gained = text;
-      formed = formed;
-      binary = Goes-binary first net (entries_of ran.parts) binary ran.runs.goes;
+      back = back;
       means = means;
     }
 

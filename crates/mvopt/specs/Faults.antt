@@ -5,28 +5,40 @@ use Rattle.mv_base.specs.declared.limits.TheConstants.{MAX_NETWORK_BYTES}
 use Rattle.mv_lex.specs.declared.fault.LexFault.{LexFault}
 use Rattle.mv_lex.specs.declared.fault.LexFault.TheVariants.{BadByte, LongWord, OpenBracket, TooLarge, Memory}
 use Rattle.mv_lex.specs.Lines.{lines_of, lex_fault}
-use Rattle.mvopt.specs.declared.stop.NetFault.{NetFault}
-use Rattle.mvopt.specs.declared.stop.NetFault.TheVariants.{Lex, NotBuilt}
-use Rattle.mvopt.specs.Run.{HasForm, Tells, number_line, numbers_line}
+use Rattle.mv_fault.specs.declared.fault.ParseFault.{ParseFault}
+use Rattle.mv_fault.specs.Told.{parse_line}
+use Rattle.mv_parse.specs.Grammar.{FirstFault}
+use Rattle.mv_model.specs.declared.fault.FlatFault.{FlatFault}
+use Rattle.mv_model.specs.Told.{flat_line}
+use Rattle.mv_read.specs.Reads.{IsUnsound}
+use Rattle.mvopt.specs.declared.stop.FileFault.{FileFault}
+use Rattle.mvopt.specs.declared.stop.FileFault.TheVariants.{Lex, Parse, Flat}
+use Rattle.mvopt.specs.Run.{Tells, number_line, numbers_line}
 use Rattle.mvopt.specs.Words.{word_at}
 
--- the bytes have no fault, but their lines are not of the accepted form
-pub record HasOtherForm (content : List ℕ) : Type 0 where
+-- the bytes have no fault, but this is the first one of their lines
+pub record HasLineFault (content : List ℕ) (f : ParseFault) : Type 0 where
   pub lexed : lex_fault MAX_NETWORK_BYTES content ≡ None
-  pub other : HasForm (lines_of content) → ⊥
+  pub first : FirstFault (lines_of content) f
 
--- the content is refused for this fault: the first one of its bytes, or else their form
-abbrev pub Refuses : List ℕ → NetFault → Type 0
+-- neither have their lines one, but the design that they say isn't sound, or has too many nets
+pub record HasNetFault (content : List ℕ) (f : FlatFault) : Type 0 where
+  pub lexed : lex_fault MAX_NETWORK_BYTES content ≡ None
+  pub unsound : IsUnsound (lines_of content) f
+
+-- the content is refused for this fault
+abbrev pub Refuses : List ℕ → FileFault → Type 0
 Refuses content (Lex f) = lex_fault MAX_NETWORK_BYTES content ≡ Some f
-Refuses content NotBuilt = HasOtherForm content
+Refuses content (Parse f) = HasLineFault content f
+Refuses content (Flat f) = HasNetFault content f
 
 -- the named file's content is refused for this fault
-pub record IsFaulty (name : List ℕ) (held : Held) (fault : NetFault) : Type 0 where
+pub record IsFaulty (name : List ℕ) (held : Held) (fault : FileFault) : Type 0 where
   pub content : List ℕ
   pub named : file_named name held.files ≡ Some content
   pub refused : Refuses content fault
 
-abbrev pub RefusesNetwork : List (List ℕ) → Option Held → NetFault → Type 0
+abbrev pub RefusesNetwork : List (List ℕ) → Option Held → FileFault → Type 0
 RefusesNetwork words None fault = Unit {0}
 RefusesNetwork words (Some held) fault = IsFaulty (word_at words 1) held fault
 
@@ -39,12 +51,13 @@ lex_line (TooLarge line) = number_line (codes "# fault network 4 TooLarge line "
 lex_line Memory = codes "# fault memory\n"
 
 -- the line of each fault
-abbrev pub net_line : NetFault → List ℕ
+abbrev pub net_line : FileFault → List ℕ
 net_line (Lex f) = lex_line f
-net_line NotBuilt = codes "# fault network 39 NotBuilt\n"
+net_line (Parse f) = parse_line f
+net_line (Flat f) = flat_line f
 
 -- the named network is refused for some fault, and the notes tell that fault's line
 pub record TellsFault (words : List (List ℕ)) (held : Option Held) (notes told : Option (List ℕ)) (before now : ℕ) : Type 0 where
-  pub fault : NetFault
+  pub fault : FileFault
   pub refuses : RefusesNetwork words held fault
   pub tells : Tells notes told before now (net_line fault)

@@ -2,20 +2,10 @@
 use Rattle.std.specs.Prelude.{◌≡◌, ℕ, Option, Some, None, List, []}
 use Rattle.mv_base.specs.Outside.{Held, file_named}
 use Rattle.mv_base.specs.declared.limits.TheConstants.{MAX_NETWORK_BYTES}
-use Rattle.mv_flat.specs.Flat.{IsFlat}
-use Rattle.mv_lex.specs.declared.lines.LexLine.{LexLine}
 use Rattle.mv_lex.specs.Lines.{lines_of, lex_fault}
 use Rattle.mv_net.specs.declared.parts.NetParts.{NetParts}
-use Rattle.mv_plain.specs.declared.design.Design.{Design}
-use Rattle.mv_plain.specs.Grammar.{IsRead}
-use Rattle.mv_plain.specs.Reading.{words_of}
+use Rattle.mv_read.specs.Reads.{IsNetOf}
 use Rattle.mvopt.specs.Words.{word_at}
-
--- the network of the design that the lines say
-pub record IsNetOf (lines : List LexLine) (net : NetParts) : Type 0 where
-  pub design : Design
-  pub read : IsRead (words_of lines) design
-  pub flat : IsFlat net design
 
 -- the network file was read to its end, and its content, which has no fault, became this network
 pub record WasPrepared (words : List (List ℕ)) (before after : Held) (net : NetParts) : Type 0 where

@@ -4,10 +4,9 @@ use Rattle.mv_base.specs.Meaning.{SameMeaning}
 use Rattle.mv_base.specs.Outside.{Held, Gained, GainedPart, Rose}
 use Rattle.mv_net.specs.declared.parts.NetParts.{NetParts}
 use Rattle.mv_net.specs.Allowed.{of_net}
-use Rattle.mv_net.specs.Binary.{IsBinary}
-use Rattle.mv_net.specs.Formed.{WellFormed}
 use Rattle.mv_sweep.specs.Entries.{Entry, print}
 use Rattle.mv_write.specs.Text.{text_of}
+use Rattle.mv_back.specs.Back.{ReadsBack}
 use Rattle.mvopt.specs.declared.script.Command.{Command}
 use Rattle.mvopt.specs.Made.{Prepared}
 use Rattle.mvopt.specs.Run.{Tells, fault_line}
@@ -41,15 +40,14 @@ pub record IsNoteCut (commands : List Command) (old new : NetParts) (notes told 
 pub record IsEndCut (out now notes told : Option (List ℕ)) (a b c d : ℕ) (line text : List ℕ) : Type 0 where
   pub how : (Rose a b × (Gained notes told line × GainedPart out now text)) ⊎ ((now ≡ out) × Rose c d × GainedPart notes told line)
 
--- the work is done: the network that was left means the same, and its text was written
+-- the work is done: the network that was left means the same, and its text, which reads back, was written
 pub record HasWorked (commands : List Command) (first : NetParts) (out now notes told : Option (List ℕ)) : Type 0 where
   pub parts : List Part
   pub net : NetParts
   pub runs : Runs commands first parts net
   pub noted : Gained notes told (all_notes parts first net)
   pub gained : Gained out now (text_of net)
-  pub formed : WellFormed net
-  pub binary : IsBinary net
+  pub back : ReadsBack net
   pub means : SameMeaning (of_net net) (of_net first)
 
 -- the notes failed at the done line

@@ -3,11 +3,11 @@ use Rattle.std.specs.Prelude.{◌≡◌, ℕ, true, Option, Some, None, List, []
 use Rattle.mv_base.specs.Meaning.{Refines}
 use Rattle.mv_base.specs.Outside.{Held, file_named, Gained}
 use Rattle.mv_net.specs.declared.parts.NetParts.{NetParts}
-use Rattle.mv_plain.specs.declared.design.Design.{Design}
-use Rattle.mv_plain.specs.Relation.{of_design}
+use Rattle.mv_design.specs.declared.design.Design.{Design}
+use Rattle.mv_model.specs.Meaning.{of_design}
 use Rattle.mv_flat.specs.Flat.{IsFlat}
 use Rattle.mv_write.specs.Text.{text_of}
-use Rattle.mvopt.specs.Run.{ReadsAs}
+use Rattle.mv_back.specs.Back.{ReadsAs}
 use Rattle.mvopt.specs.Runs.{Part, Runs, all_notes}
 use Rattle.mvopt.specs.Scripts.{is_script, commands_in}
 use Rattle.mvopt.specs.Words.{word_at}

@@ -1,30 +1,13 @@
 -- What a run promises.
-use Rattle.std.specs.Prelude.{◌≡◌, ℕ, ◌≤◌, true, Option, Some, None, List, [], ◌∷◌, ◌++◌, length, codes, decimal, ◌⊎◌, ◌==◌, if◌then◌else◌}
+use Rattle.std.specs.Prelude.{◌≡◌, ℕ, true, Option, Some, None, List, [], ◌∷◌, ◌++◌, codes, decimal, ◌⊎◌, ◌==◌, if◌then◌else◌}
 use Rattle.mv_base.specs.Outside.{Held, file_named, Gained, GainedPart, Rose}
-use Rattle.mv_base.specs.declared.limits.TheConstants.{MAX_NETWORK_BYTES, MAX_NETS}
-use Rattle.mv_lex.specs.declared.lines.LexLine.{LexLine}
-use Rattle.mv_lex.specs.Lines.{lines_of, is_clean, lex_fault}
-use Rattle.mv_plain.specs.declared.design.Design.{Design}
-use Rattle.mv_plain.specs.Designs.{IsSound, drivers}
-use Rattle.mv_plain.specs.Grammar.{Says, IsRead}
-use Rattle.mv_plain.specs.Reading.{words_of}
+use Rattle.mv_base.specs.declared.limits.TheConstants.{MAX_NETWORK_BYTES}
+use Rattle.mv_lex.specs.Lines.{lines_of, lex_fault}
+use Rattle.mv_read.specs.Reads.{HasForm}
 use Rattle.mvopt.specs.Scripts.{is_script}
 use Rattle.mvopt.specs.Words.{word_at}
 
--- the bytes read as this design: they have no fault, their lines say the design, and it is sound
-pub record ReadsAs (bytes : List ℕ) (d : Design) : Type 0 where
-  pub clean : is_clean bytes ≡ true
-  pub says : Says (words_of (lines_of bytes)) d
-  pub sound : IsSound d
-
--- lines of the accepted form, within its limits
-pub record HasForm (lines : List LexLine) : Type 0 where
-  pub design : Design
-  pub read : IsRead (words_of lines) design
-  pub sound : IsSound design
-  pub nets : length (drivers design) ≤ MAX_NETS
-
--- a network file that is accepted: its bytes have no fault, and its lines are of the form
+-- a network file that is accepted: its bytes have no fault, and its lines say a sound design, within the limits
 pub record IsAccepted (bytes : List ℕ) : Type 0 where
   pub lexed : lex_fault MAX_NETWORK_BYTES bytes ≡ None
   pub form : HasForm (lines_of bytes)

@@ -3,7 +3,6 @@
 
 mod commands;
 mod lines;
-mod net_file;
 mod numbers;
 mod read;
 mod run;

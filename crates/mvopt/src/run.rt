@@ -16,8 +16,8 @@ use mv_base::{Files, Sink};
 use std::alloc::Global;
 
 /// Puts the line of a refusal to the notes, as far as they take it.
-fn refuse<E: Sink>(stop: Stop, notes: &mut E)
-    ensures { Tells (E.told notes.old) (E.told notes.new) (E.faults notes.old) (E.faults notes.new) (line_of stop) }
+fn refuse<E: Sink>(stop: &Stop, notes: &mut E)
+    ensures { Tells (E.told notes.old) (E.told notes.new) (E.faults notes.old) (E.faults notes.new) (line_of stop.now) }
 {
     match put_line(stop, notes) {
         Ok(()) => {}
@@ -60,15 +60,15 @@ pub fn run<F: Files, O: Sink, E: Sink>(
     let work = match prepare(alloc, words, files) {
         Ok(work) => work,
         Err(stop) => {
-            refuse(stop, notes);
-            return status(stop);
+            refuse(&stop, notes);
+            return status(&stop);
         }
     };
     match carry_out(alloc, work, out, notes) {
         Ok(()) => 0,
         Err(WorkStop::Write) => 5,
         Err(WorkStop::Memory) => {
-            refuse(Stop::Memory, notes);
+            refuse(&Stop::Memory, notes);
             6
         }
     }

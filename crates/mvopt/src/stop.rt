@@ -6,27 +6,30 @@ ghost use Rattle.mvopt.specs.Stops.{status_of, line_of};
 use crate::numbers::{put_number, put_numbers};
 use mv_base::{Failed, Sink, put_piece};
 use mv_lex::LexFault;
+use mv_model::{FlatFault, put_flat_fault};
+use mv_parse::{ParseFault, put_parse_fault};
 
-/// Why a network file is refused: a fault of its bytes, or lines of another form than the accepted one.
-#[derive(Clone, Copy, Debug, PartialEq, Eq)]
-pub enum NetFault {
+/// Why a network file is refused: for a fault of its bytes, of its lines, or of the design that they say.
+#[derive(Debug, Drop)]
+pub enum FileFault {
     Lex(LexFault),
-    NotBuilt,
+    Parse(ParseFault),
+    Flat(FlatFault),
 }
 
 /// Why a run ends before it has a network to write.
-#[derive(Clone, Copy, Debug, PartialEq, Eq)]
+#[derive(Debug, Drop)]
 pub enum Stop {
     Words,
-    Network(NetFault),
+    Network(FileFault),
     Script,
     Read,
     Memory,
 }
 
 /// The status that the process ends with.
-pub fn status(stop: Stop) -> u8
-    ensures { result ≡ status_of stop }
+pub fn status(stop: &Stop) -> u8
+    ensures { result ≡ status_of stop.now }
 {
     match stop {
         Stop::Words => 1,
@@ -62,18 +65,19 @@ fn put_lex_line<E: Sink>(fault: LexFault, notes: &mut E) -> Result<(), Failed>
 }
 
 /// Puts the line of a fault of a network file.
-fn put_net_line<E: Sink>(fault: NetFault, notes: &mut E) -> Result<(), Failed>
-    ensures { Appends (E.told notes.old) (E.told notes.new) (E.faults notes.old) (E.faults notes.new) (net_line fault) result }
+fn put_net_line<E: Sink>(fault: &FileFault, notes: &mut E) -> Result<(), Failed>
+    ensures { Appends (E.told notes.old) (E.told notes.new) (E.faults notes.old) (E.faults notes.new) (net_line fault.now) result }
 {
     match fault {
-        NetFault::Lex(fault) => put_lex_line(fault, notes),
-        NetFault::NotBuilt => put_piece(b"# fault network 39 NotBuilt\n", notes),
+        FileFault::Lex(fault) => put_lex_line(*fault, notes),
+        FileFault::Parse(fault) => put_parse_fault(fault, notes),
+        FileFault::Flat(fault) => put_flat_fault(fault, notes),
     }
 }
 
 /// Puts the line that says why a run ends. It takes no memory.
-pub fn put_line<E: Sink>(stop: Stop, notes: &mut E) -> Result<(), Failed>
-    ensures { Appends (E.told notes.old) (E.told notes.new) (E.faults notes.old) (E.faults notes.new) (line_of stop) result }
+pub fn put_line<E: Sink>(stop: &Stop, notes: &mut E) -> Result<(), Failed>
+    ensures { Appends (E.told notes.old) (E.told notes.new) (E.faults notes.old) (E.faults notes.new) (line_of stop.now) result }
 {
     match stop {
         Stop::Words => put_piece(b"# fault words\n", notes),

@@ -1,6 +1,5 @@
-ghost use Rattle.std.specs.Prelude.{◌≡◌, ◌≤◌, map, length, string_bytes, true, Err, IfOk, IfErr, OnOk};
-ghost use Rattle.mv_net.specs.Binary.{IsBinary};
-ghost use Rattle.mvopt.specs.declared.stop.NetFault.{NetFault};
+ghost use Rattle.std.specs.Prelude.{◌≡◌, ◌≤◌, [], map, length, string_bytes, true, Err, IfOk, IfErr, OnOk};
+ghost use Rattle.mvopt.specs.declared.stop.FileFault.{FileFault};
 ghost use Rattle.mvopt.specs.FileReading.{Stay};
 ghost use Rattle.mvopt.specs.Made.{Prepared};
 ghost use Rattle.mvopt.specs.Stops.{IsCause};
@@ -8,15 +7,14 @@ ghost use Rattle.mvopt.specs.Taken.{TakesScript, TakesCommands};
 ghost use Rattle.mvopt.specs.Words.{accepts};
 
 use crate::lines::{LinesStop, read_lines};
-use crate::net_file::network_of;
 use crate::read::{ReadStop, read_file};
 use crate::script::{Command, ScriptStop, read_script};
-use crate::stop::{NetFault, Stop};
+use crate::stop::{FileFault, Stop};
 use crate::words::{is_accepted, word_at};
 use mv_base::{Files, Items, MAX_SCRIPT_BYTES};
 use mv_lex::LexFault;
 use mv_net::Network;
-use mv_plain::ParseStop;
+use mv_read::{NetFault, network_of};
 use std::alloc::Global;
 
 /// Reads the script file, and gives its commands.
@@ -31,7 +29,7 @@ fn take_script<F: Files>(
     ensures commands { IfOk result (λ commands. TakesCommands (map string_bytes words.now) (F.held files.old) commands) }
     ensures stay { Stay (F.held files.old) (F.held files.new) }
     ensures later { F.faults files.old ≤ F.faults files.new }
-    ensures only { (fault : NetFault) → result ≡ Err (Stop.Network fault) → ⊥ }
+    ensures only { (fault : FileFault) → result ≡ Err (Stop.Network fault) → ⊥ }
     ensures stopped { IfErr result (IsCause (map string_bytes words.now) (F.held files.old) (F.faults files.old) (F.faults files.new)) }
 {
     let text = match read_file(alloc, files, word_at(words, 2), MAX_SCRIPT_BYTES) {
@@ -51,19 +49,20 @@ fn take_script<F: Files>(
 fn take_network<F: Files>(alloc: Global, words: &[String], files: &mut F) -> Result<Network, Stop>
     requires { length words.now ≡ 3 }
     ensures made { IfOk result (Prepared (map string_bytes words.now) (F.held files.old) (F.held files.new)) }
-    ensures binary { IfOk result IsBinary }
+    ensures latches { IfOk result (λ net. net.latches ≡ []) }
     ensures stopped { IfErr result (IsCause (map string_bytes words.now) (F.held files.old) (F.faults files.old) (F.faults files.new)) }
 {
     let lines = match read_lines(alloc, files, word_at(words, 1)) {
         Ok(lines) => lines,
         Err(LinesStop::Failed) => return Err(Stop::Read),
         Err(LinesStop::Lex(LexFault::Memory)) => return Err(Stop::Memory),
-        Err(LinesStop::Lex(fault)) => return Err(Stop::Network(NetFault::Lex(fault))),
+        Err(LinesStop::Lex(fault)) => return Err(Stop::Network(FileFault::Lex(fault))),
     };
-    match network_of(alloc, lines.as_slice()) {
+    match network_of(alloc, lines) {
         Ok(net) => Ok(net),
-        Err(ParseStop::NotBuilt) => Err(Stop::Network(NetFault::NotBuilt)),
-        Err(ParseStop::Memory) => Err(Stop::Memory),
+        Err(NetFault::Parse(fault)) => Err(Stop::Network(FileFault::Parse(fault))),
+        Err(NetFault::Flat(fault)) => Err(Stop::Network(FileFault::Flat(fault))),
+        Err(NetFault::Memory) => Err(Stop::Memory),
     }
 }
 
@@ -78,10 +77,10 @@ pub struct Work {
 #[tactic(auto, using(crate::proofs::Takes::prepares))]
 pub fn prepare<F: Files>(alloc: Global, words: &[String], files: &mut F) -> Result<Work, Stop>
     ensures taken { OnOk result (TakesScript (map string_bytes words.now) (F.held files.old)) }
-    ensures first { (fault : NetFault) → result ≡ Err (Stop.Network fault) → TakesScript (map string_bytes words.now) (F.held files.old) }
+    ensures first { (fault : FileFault) → result ≡ Err (Stop.Network fault) → TakesScript (map string_bytes words.now) (F.held files.old) }
     ensures commands { IfOk result (λ work. TakesCommands (map string_bytes words.now) (F.held files.old) work.commands) }
     ensures made { IfOk result (λ work. Prepared (map string_bytes words.now) (F.held files.old) (F.held files.new) work.net) }
-    ensures binary { IfOk result (λ work. IsBinary work.net) }
+    ensures latches { IfOk result (λ work. work.net.latches ≡ []) }
     ensures stopped { IfErr result (IsCause (map string_bytes words.now) (F.held files.old) (F.faults files.old) (F.faults files.new)) }
     ensures accepted { (result ≡ Err Stop.Words → ⊥) → accepts (map string_bytes words.now) ≡ true }
 {

@@ -480,58 +480,223 @@ fn each_put_of_the_output_fails_behind_a_drop(rt: HostRuntime) -> Result<(), Fai
     Ok(())
 }
 
-/// Networks that break one condition of the form each.
-const REFUSED: [&str; 37] = [
-    "",
-    ".model m\n.inputs a\n.outputs z\n.table a -> z\n0 1\n",
-    ".model m\n.inputs a\n.outputs z\n.table a -> z\n0 1\n.end\n.end\n",
-    ".model m\n.inputs a\n.outputs z\n.table a -> z\n0 1\n.end x\n",
-    ".model m\n.outputs z\n.table -> z\n1\n.end\n",
-    ".model m\n.inputs a\n.table a -> z\n0 1\n.end\n",
-    ".model m\n.model n\n.inputs a\n.outputs z\n.table a -> z\n0 1\n.end\n",
-    ".model m\n.inputs\n.outputs\n.end\n.model n\n.inputs\n.outputs\n.end\n",
-    ".model\n.inputs a\n.outputs z\n.table a -> z\n0 1\n.end\n",
-    ".model m n\n.inputs a\n.outputs z\n.table a -> z\n0 1\n.end\n",
-    ".model m=n\n.inputs a\n.outputs z\n.table a -> z\n0 1\n.end\n",
-    ".model m\n.inputs a\n.outputs z\n.table a z\n0 1\n.end\n",
-    ".model m\n.inputs a\n.outputs z y\n.table a -> z y\n0 1 1\n.end\n",
-    ".model m\n.inputs a\n.outputs z\n.table a a -> z\n0 0 1\n.end\n",
-    ".model m\n.inputs a a\n.outputs z\n.table a -> z\n0 1\n.end\n",
-    ".model m\n.inputs a\n.outputs z z\n.table a -> z\n0 1\n.end\n",
-    ".model m\n.inputs a\n.outputs z\n.table a -> z\n1\n.end\n",
-    ".model m\n.inputs a\n.outputs z\n.table a -> z\n0 1 1\n.end\n",
-    ".model m\n.inputs a\n.outputs z\n.table a -> z\n0 2\n.end\n",
-    ".model m\n.inputs a\n.outputs z\n0 1\n.table a -> z\n0 1\n.end\n",
-    ".model m\n.inputs a\n.outputs z\n.table a -> z\n0 1\n.table -> z\n1\n.end\n",
-    ".model m\n.inputs a\n.outputs a\n.table -> a\n1\n.end\n",
-    ".model m\n.inputs a\n.outputs y\n.table a -> z\n0 1\n.end\n",
-    ".model m\n.inputs a\n.outputs z\n.table b -> z\n0 1\n.end\n",
-    ".model m\n.inputs a\n.outputs z\n.table z -> z\n0 1\n.end\n",
-    ".model m\n.inputs a\n.outputs z\n.table y -> z\n0 1\n.table z -> y\n0 1\n.end\n",
-    ".model m\n.inputs a#\n.outputs z\n.table a# -> z\n0 1\n.end\n",
-    ".model m\n.inputs a\\ b\n.outputs z\n.table a\\ b -> z\n0 0 1\n.end\n",
-    ".model m\n.inputs (a)\n.outputs z\n.table (a) -> z\n0 1\n.end\n",
-    ".model m\n.inputs !{a}\n.outputs z\n.table !{a} -> z\n0 1\n.end\n",
-    ".model m\n.inputs a\n.outputs z\n.table a -> z\n(0,1) 1\n.end\n",
-    ".model m\n.inputs a\n.outputs z\n.latch a z 0\n.end\n",
-    ".model m\n.inputs a\n.outputs z\n.table a -> z\n.default 0\n.end\n",
-    ".model m\n.inputs a\n.outputs z\n.names a z\n0 1\n.end\n",
-    ".model m\n.inputs a\n.outputs z\n.mv a 2\n.table a -> z\n0 1\n.end\n",
-    ".model m\n.inputs .a\n.outputs z\n.table .a -> z\n0 1\n.end\n",
-    ".model m\n.inputs a,b\n.outputs z\n.table a,b -> z\n0 1\n.end\n",
+/// Network files whose lines have a fault, and the end of the line that tells it.
+const REFUSED: [(&str, &str); 21] = [
+    ("", "20 NoModel line 1"),
+    (".model m\n.inputs a", "7 NoEnd line 1"),
+    (
+        ".model m\n.inputs a\n.outputs z\n.table a -> z\n0 1\n",
+        "7 NoEnd line 1",
+    ),
+    (".model m\n.end\n.end\n", "6 OutsideModel line 3"),
+    (".model m\n.end x\n", "9 Extra line 2 .end"),
+    (".model m\n.model n\n.end\n", "7 NoEnd line 1"),
+    (".model m\n.end\n.model n\n.end\n", "39 NotBuilt line 3"),
+    (".model\n.end\n", "8 Missing line 1 .model"),
+    (".model m=n\n.end\n", "36 BadName line 1 m=n"),
+    (
+        ".model m\n.outputs z y\n.table -> z y\n1 1\n.end\n",
+        "39 NotBuilt line 3",
+    ),
+    (".model m\n.inputs a a\n.end\n", "19 Repeated line 2 a"),
+    (
+        ".model m\n.inputs a\n.table a -> z\n1\n.end\n",
+        "13 Columns line 4 2 1",
+    ),
+    (
+        ".model m\n.inputs a\n.table a -> z\n0 2\n.end\n",
+        "14 UnknownValue line 4 2",
+    ),
+    (
+        ".model m\n.inputs a\n.table a -> z\n0 =b\n.end\n",
+        "15 BadEqual line 4 b",
+    ),
+    (
+        ".model m\n.inputs a\n0 1\n.table a -> z\n.end\n",
+        "37 NoTable line 3",
+    ),
+    (".model m\n.inputs a\\ b\n.end\n", "36 BadName line 2 a\\"),
+    (".model m\n.inputs (a)\n.end\n", "36 BadName line 2 (a)"),
+    (
+        ".model m\n.inputs a\n.outputs z\n.latch a z 0\n.end\n",
+        "39 NotBuilt line 4",
+    ),
+    (".model m\n.mv x 129\n.end\n", "21 Limit line 2 Values 129"),
+    (
+        ".model m\n.mv x 3\n.mv x 2\n.end\n",
+        "12 Redeclared line 3 x",
+    ),
+    (".model m\n.gate x\n.end\n", "5 UnknownCommand line 2 .gate"),
 ];
 
 #[test]
-fn networks_of_another_form_are_refused(rt: HostRuntime) -> Result<(), Fail> {
-    for net in REFUSED {
+fn faults_of_the_lines_are_told_with_their_line(rt: HostRuntime) -> Result<(), Fail> {
+    for (net, fault) in REFUSED {
+        assert!(rt; is_refused(rt.alloc(), net.as_bytes(), fault)?, "{fault}");
+    }
+    Ok(())
+}
+
+/// Network files whose design isn't sound, and the end of the line that tells it.
+const UNSOUND: [(&str, &str); 8] = [
+    (
+        ".model m\n.table -> z\n1\n.table -> z\n1\n.end\n",
+        "28 DrivenTwice z",
+    ),
+    (
+        ".model m\n.inputs a\n.table -> a\n1\n.end\n",
+        "28 DrivenTwice a",
+    ),
+    (".model m\n.outputs y\n.end\n", "29 Undriven y"),
+    (
+        ".model m\n.outputs z\n.table b -> z\n0 1\n.end\n",
+        "29 Undriven b",
+    ),
+    (
+        ".model m\n.outputs z\n.table z -> z\n0 1\n.end\n",
+        "30 Cycle z",
+    ),
+    (
+        ".model c\n.inputs\n.outputs x\n.table y -> x\n- =y\n.table x -> y\n- =x\n.end\n",
+        "30 Cycle x",
+    ),
+    // A column that holds only `-` counts too.
+    (
+        ".model m\n.outputs z\n.table y -> z\n- 1\n.table z -> y\n- 1\n.end\n",
+        "30 Cycle z",
+    ),
+    // What is driven twice is told first, then what isn't driven, then a cycle.
+    (
+        ".model m\n.outputs z u\n.table z -> z\n- 1\n.table -> t\n1\n.table -> t\n1\n.end\n",
+        "28 DrivenTwice t",
+    ),
+];
+
+#[test]
+fn designs_that_are_not_sound_are_refused_with_a_net(rt: HostRuntime) -> Result<(), Fail> {
+    for (net, fault) in UNSOUND {
+        assert!(rt; is_refused(rt.alloc(), net.as_bytes(), fault)?, "{fault}");
+    }
+    Ok(())
+}
+
+/// Network files, what is written of them, and what the notes say.
+const WRITTEN: [(&str, &str, &str); 16] = [
+    // Names of nets may be digits, entries are turned round, and a table may have a default.
+    (
+        ".model t\n.inputs a 7\n.outputs z\n.mv a, 7 3\n.table a 7 -> z\n2 !2 1\n.default 0\n.end\n",
+        ".model t\n.inputs a 7\n.outputs z\n.mv a 3\n.mv 7 3\n.table a 7 -> z\n.default 0\n2 (0,1) 1\n.end\n",
+        "# done 2 2\n",
+    ),
+    // A partial table below a default.
+    (
+        ".model x\n.inputs a\n.outputs z\n.table a -> x\n0 1\n.table x -> z\n.default 1\n0 0\n.end\n",
+        ".model x\n.inputs a\n.outputs z\n.table a -> x\n0 1\n.table x -> z\n.default 1\n0 0\n.end\n",
+        "# done 2 2\n",
+    ),
+    // Two columns of one net: a row that asks both values of it vanishes.
+    (
+        ".model m\n.inputs a\n.outputs z\n.table a a -> z\n0 1 1\n- 1 1\n0 0 0\n.end\n",
+        ".model m\n.inputs a\n.outputs z\n.table a -> z\n1 1\n0 0\n.end\n",
+        "# done 2 2\n",
+    ),
+    // Ranges and names with hyphens.
+    (
+        ".model v\n.inputs s\n.outputs z\n.mv s 4 a b a-b c\n.table s -> z\n{a-b} 1\n{a-c} 0\n!{ a-b , c } (0,1)\n.end\n",
+        ".model v\n.inputs s\n.outputs z\n.mv s 4 a b a-b c\n.table s -> z\na-b 1\n- 0\n(a,b) -\n.end\n",
+        "# done 2 2\n",
+    ),
+    // A default that names a column needs a mark.
+    (
+        ".model d\n.inputs a b\n.outputs z\n.table a b -> z\n1 - 1\n.default =b\n.end\n",
+        ".model d\n.inputs a b\n.outputs z\n.table a -> _m1\n.default 1\n1 0\n.table a b _m1 -> z\n1 - - 1\n- 0 1 0\n- 1 1 1\n.end\n",
+        "# done 6 6\n",
+    ),
+    // The mark has the first number whose name is free.
+    (
+        ".model d\n.inputs _m1 b\n.outputs z\n.table _m1 b -> z\n1 - 1\n.default =b\n.end\n",
+        ".model d\n.inputs _m1 b\n.outputs z\n.table _m1 -> _m2\n.default 1\n1 0\n.table _m1 b _m2 -> z\n1 - - 1\n- 0 1 0\n- 1 1 1\n.end\n",
+        "# done 6 6\n",
+    ),
+    // A row that says no value takes the default away where it matches.
+    (
+        ".model d\n.inputs a\n.outputs z\n.table a -> z\n.default 1\n0 !-\n.end\n",
+        ".model d\n.inputs a\n.outputs z\n.table a -> _m1\n.default 1\n0 0\n.table _m1 -> z\n1 1\n.end\n",
+        "# done 2 2\n",
+    ),
+    // So it needs no mark where it always matches: nothing is allowed then.
+    (
+        ".model d\n.inputs a\n.outputs z\n.table a -> z\n.default 1\n- !-\n.end\n",
+        ".model d\n.inputs a\n.outputs z\n.table -> z\n.end\n",
+        "# done 0 0\n",
+    ),
+    // A default beside a row without literals goes.
+    (
+        ".model d\n.inputs a\n.outputs z\n.table a -> z\n.default 1\n- 0\n.end\n",
+        ".model d\n.inputs a\n.outputs z\n.table -> z\n0\n.end\n",
+        "# done 0 0\n",
+    ),
+    // Two tables give the value of one input.
+    (
+        ".model e\n.inputs a\n.outputs p q\n.mv a, p, q 3\n.table a -> p\n- =a\n.table a -> q\n(1,2) =a\n.end\n",
+        ".model e\n.inputs a\n.outputs p q\n.mv a 3\n.mv p 3\n.mv q 3\n.table a -> p\n0 0\n1 1\n2 2\n.table a -> q\n1 1\n2 2\n.end\n",
+        "# done 5 5\n",
+    ),
+    // Values are matched by position, whatever their names.
+    (
+        ".model e\n.inputs a\n.outputs z\n.mv a 2 x y\n.mv z 2 y x\n.table a -> z\n- =a\n.end\n",
+        ".model e\n.inputs a\n.outputs z\n.mv a 2 x y\n.mv z 2 y x\n.table a -> z\nx y\ny x\n.end\n",
+        "# done 2 2\n",
+    ),
+    // A net of one value: its full set is written `-`.
+    (
+        ".model o\n.inputs a\n.outputs z\n.mv a 1\n.mv z 1 only\n.table a -> z\n0 only\n.end\n",
+        ".model o\n.inputs a\n.outputs z\n.mv a 1\n.mv z 1 only\n.table -> z\n-\n.end\n",
+        "# done 0 0\n",
+    ),
+    // Names as strange as they may be.
+    (
+        ".model m-1\n.inputs - = !a 7 a=b\n.outputs 0 -\n.mv = 3 x-y * <1>\n.table - = -> 0\n0 x-y 1\n1 (*,<1>) 0\n.end\n",
+        ".model m-1\n.inputs - = !a 7 a=b\n.outputs 0 -\n.mv = 3 x-y * <1>\n.table - = -> 0\n0 x-y 1\n1 (*,<1>) 0\n.end\n",
+        "# done 4 4\n",
+    ),
+    // Values that are spelled out and are the numbers from 0 aren't written.
+    (
+        ".model n\n.inputs a b\n.outputs\n.mv a 3 0 1 2\n.mv b 2 0 1\n.end\n",
+        ".model n\n.inputs a b\n.outputs\n.mv a 3\n.end\n",
+        "# done 0 0\n",
+    ),
+    // Lines may be left out, and a table's output may stand last without an arrow.
+    (
+        ".model m\n.inputs a\n.outputs z\n.names a z\n.def 0\n1 1\n.end\n",
+        ".model m\n.inputs a\n.outputs z\n.table a -> z\n.default 0\n1 1\n.end\n",
+        "# done 1 1\n",
+    ),
+    // A table without rows, and no ports.
+    (
+        ".model m\n.table -> z\n.end\n",
+        ".model m\n.inputs\n.outputs\n.table -> z\n.end\n",
+        "# done 0 0\n",
+    ),
+];
+
+#[test]
+fn values_sets_and_defaults_are_written_in_one_form(rt: HostRuntime) -> Result<(), Fail> {
+    for (net, want, noted) in WRITTEN {
         let end = run_on(rt.alloc(), "opt n s", net.as_bytes(), b"", no_fails())?;
-        assert_eq!(rt; end.status, 2, "{net}");
-        assert_eq!(rt; end.out.bytes(), b"".as_slice(), "{net}");
-        assert_eq!(rt;
-            end.notes.bytes(),
-            b"# fault network 39 NotBuilt\n".as_slice(),
-            "{net}"
-        );
+        assert_eq!(rt; end.status, 0, "{net}");
+        assert_eq!(rt; end.out.bytes(), want.as_bytes(), "{net}");
+        assert_eq!(rt; end.notes.bytes(), noted.as_bytes(), "{net}");
+    }
+    Ok(())
+}
+
+#[test]
+fn what_was_written_is_written_again_as_it_is(rt: HostRuntime) -> Result<(), Fail> {
+    for (_net, text, _noted) in WRITTEN {
+        let end = run_on(rt.alloc(), "opt n s", text.as_bytes(), b"", no_fails())?;
+        assert_eq!(rt; end.status, 0, "{text}");
+        assert_eq!(rt; end.out.bytes(), text.as_bytes(), "{text}");
     }
     Ok(())
 }
@@ -615,13 +780,13 @@ fn faults_of_the_bytes_have_lines_of_their_own(rt: HostRuntime) -> Result<(), Fa
 
 /// Network files of a front and a piece so many times, and the end of their line.
 const LONG: [(&[u8], &[u8], usize, &str); 7] = [
-    (b".model m\n", b"a", 1_024, "39 NotBuilt"),
+    (b".model m\n", b"a", 1_024, "37 NoTable line 2"),
     (b".model m\n", b"a", 1_025, "2 LongWord line 2"),
     (b"\n\n(", b" a", 199_999, "3 OpenBracket line 3"),
     (b"\n\n(", b" a", 200_000, "2 LongWord line 3"),
-    (b"", b"!", 1_024, "39 NotBuilt"),
+    (b"", b"!", 1_024, "6 OutsideModel line 1"),
     (b"", b"!", 1_025, "2 LongWord line 1"),
-    (b"# ", b"a", 20_000, "39 NotBuilt"),
+    (b"# ", b"a", 20_000, "20 NoModel line 1"),
 ];
 
 #[test]

@@ -1,7 +1,6 @@
-ghost use Rattle.std.specs.Prelude.{◌≡◌, ◌≤◌, Err, OnOk, OnErr};
+ghost use Rattle.std.specs.Prelude.{◌≡◌, ◌≤◌, [], Err, OnOk, OnErr};
 ghost use Rattle.mv_base.specs.Outside.{Gained};
 ghost use Rattle.mv_net.specs.Nets.{literals_in};
-ghost use Rattle.mv_net.specs.Binary.{IsBinary};
 ghost use Rattle.mv_write.specs.Text.{text_of};
 ghost use Rattle.mvopt.specs.Outcomes.{HasStoppedAt, HasWorked, IsCut, IsEndCut};
 ghost use Rattle.mvopt.specs.Run.{done_line};
@@ -9,6 +8,7 @@ ghost use Rattle.mvopt.specs.Run.{done_line};
 use crate::commands::run_commands;
 use crate::numbers::put_numbers;
 use crate::take::Work;
+use mv_back::reads_back;
 use mv_base::{Failed, Sink};
 use mv_net::Network;
 use mv_sweep::Stop;
@@ -29,7 +29,7 @@ fn finish<O: Sink, E: Sink>(
     out: &mut O,
     notes: &mut E,
 ) -> Result<(), Failed>
-    requires { IsBinary net.now }
+    requires { net.now.latches ≡ [] }
     ensures written { OnOk result (Gained (O.told out.old) (O.told out.new) (text_of net.now)) }
     ensures noted { OnOk result (Gained (E.told notes.old) (E.told notes.new) (done_line before (literals_in net.now.nets))) }
     ensures cut { OnErr result (IsEndCut (O.told out.old) (O.told out.new) (E.told notes.old) (E.told notes.new) (O.faults out.old) (O.faults out.new) (E.faults notes.old) (E.faults notes.new) (done_line before (literals_in net.now.nets)) (text_of net.now)) }
@@ -49,7 +49,7 @@ pub fn carry_out<O: Sink, E: Sink>(
     out: &mut O,
     notes: &mut E,
 ) -> Result<(), WorkStop>
-    requires { IsBinary work.net }
+    requires { work.net.latches ≡ [] }
     ensures ok { OnOk result (HasWorked work.commands work.net (O.told out.old) (O.told out.new) (E.told notes.old) (E.told notes.new)) }
     ensures write { result ≡ Err WorkStop.Write → IsCut work.commands work.net (O.told out.old) (O.told out.new) (E.told notes.old) (E.told notes.new) (O.faults out.old) (O.faults out.new) (E.faults notes.old) (E.faults notes.new) }
     ensures memory { result ≡ Err WorkStop.Memory → HasStoppedAt work.commands work.net (E.told notes.old) (E.told notes.new) }
@@ -57,14 +57,13 @@ pub fn carry_out<O: Sink, E: Sink>(
     ensures later { result ≡ Err WorkStop.Memory → E.faults notes.old ≤ E.faults notes.new }
 {
     let Work { mut net, commands } = work;
-    net.well_formed();
     let before = net.literals();
     match run_commands(alloc, &mut net, commands.as_slice(), notes) {
         Ok(()) => {}
         Err(Stop::Note) => return Err(WorkStop::Write),
         Err(Stop::Memory) => return Err(WorkStop::Memory),
     }
-    net.well_formed();
+    reads_back(&net);
     match finish(&net, before, out, notes) {
         Ok(()) => Ok(()),
         Err(_failed) => Err(WorkStop::Write),

@@ -1,32 +1,39 @@
 use Rattle.std.proofs.Common.{◌+◌, drop}
 use Rattle.std.specs.List.{flat_map}
+use Rattle.mv_base.proofs.Gains.{next, stop, finish}
 use Rattle.mv_lex.specs.Text.{line_text}
 use Rattle.mv_cover.specs.declared.line.Line.{Line}
+use Rattle.mv_net.specs.Nets.{slot, spelled_in, values_in}
 use Rattle.mv_write.specs.Text.{line_words}
 use Rattle.mv_write.specs.Walk.{numbers}
-use Rattle.mv_write.proofs.Binary.{line-binary}
-use Rattle.mv_base.proofs.Gains.{next, stop, finish}
-use Rattle.mv_write.proofs.Lines.{rest-more, rest-none}
 use Rattle.mv_write.proofs.Held.{line-fanins}
+use Rattle.mv_write.proofs.Lines.{rest-more, rest-none}
+use Rattle.mv_write.proofs.Literals.{line-over}
 use Rattle.mv_write.proofs.rows.put_rows.Goals as goal
 
-pub put_row-requires : goal.put_row-requires
-put_row-requires g c = record {
-  fanins = line-fanins c.args.lines.now c.loop-line.line-index c.line-item.result c.args.fanins.now c.loop-line-test.true c.line-item.is c.requires.fanins;
-  binary = line-binary c.args.lines.now c.loop-line.line-index c.line-item.result c.loop-line-test.true c.line-item.is c.requires.binary;
-}
+pub put_row-requires-clause-fanins : goal.put_row-requires-clause-fanins
+put_row-requires-clause-fanins g c =
+    line-fanins c.args.lines.now c.loop-line.line-index c.line-item.result c.args.fanins.now c.loop-line-test.true c.line-item.is c.requires.fanins
+
+pub put_row-requires-clause-line : goal.put_row-requires-clause-line
+put_row-requires-clause-line g c =
+    let nets = c.args.net.now.nets in
+    line-over nets (values_in (slot nets c.args.n.0)) c.args.lines.now c.loop-line.line-index c.line-item.result c.loop-line-test.true c.line-item.is c.requires.lines
 
 pub returns-in_err-put_row : goal.returns-in_err-put_row
 returns-in_err-put_row g c =
-    let text = λ (x : Line). line_text (line_words (numbers c.args.fanins.now) x) in
+    let nets = c.args.net.now.nets in
+    let text = λ (x : Line). line_text (line_words nets (spelled_in (slot nets c.args.n.0)) (numbers c.args.fanins.now) x) in
     stop (flat_map text (drop (c.loop-line.line-index + 1) c.args.lines.now)) _ _ c.loop-line.invariant (rest-more text c.args.lines.now c.loop-line.line-index c.line-item.result c.loop-line-test.true c.line-item.is) c.in_err-put_row.ensures c.from_residual.ensures.1
 
 pub loop-line-preserved : goal.loop-line-preserved
 loop-line-preserved g c =
-    let text = λ (x : Line). line_text (line_words (numbers c.args.fanins.now) x) in
+    let nets = c.args.net.now.nets in
+    let text = λ (x : Line). line_text (line_words nets (spelled_in (slot nets c.args.n.0)) (numbers c.args.fanins.now) x) in
     next c.loop-line.invariant (rest-more text c.args.lines.now c.loop-line.line-index c.line-item.result c.loop-line-test.true c.line-item.is) c.in_ok-put_row.ensures
 
 pub returns : goal.returns
 returns g c =
-    let text = λ (x : Line). line_text (line_words (numbers c.args.fanins.now) x) in
+    let nets = c.args.net.now.nets in
+    let text = λ (x : Line). line_text (line_words nets (spelled_in (slot nets c.args.n.0)) (numbers c.args.fanins.now) x) in
     finish c.loop-line.invariant (rest-none text c.args.lines.now c.loop-line.line-index c.loop-line-test.false)

@@ -1,0 +1,150 @@
+-- The nets that a network's model names are held nets of the network.
+use Rattle.std.proofs.Common.{inl, inr, ◌⊎◌, ◌≡◌, ℕ, true, List, [], ◌∷◌, ◌++◌, length, Option, Some, refl, sym, ◌∙◌, ap, ⊎_elim}
+use Rattle.std.specs.List.{flat_map}
+use Rattle.std.proofs.lemmas.Bool.{or_cases, or_left, or_right, eq-eqb, cond_both}
+use Rattle.mv_base.specs.Names.{same_word, among}
+use Rattle.mv_base.proofs.NameLemmas.{same_word_is, among-append}
+use Rattle.mv_cover.specs.declared.cover.Cover.{Cover}
+use Rattle.mv_cover.specs.Covers.{cover_reads}
+use Rattle.mv_design.specs.declared.table.FileTable.{FileTable}
+use Rattle.mv_design.specs.declared.design.FileModel.{FileModel}
+use Rattle.mv_model.specs.Nets.{columns_of, outputs_of, nets_named, with_name, with_names, nets_of, drivers}
+use Rattle.mv_net.specs.declared.parts.FlatNet.{FlatNet}
+use Rattle.mv_net.specs.declared.parts.NetParts.{NetParts}
+use Rattle.mv_net.specs.Nets.{slot, name_in, net_reads}
+use Rattle.mv_net.specs.Formed.{WellFormed}
+use Rattle.mv_net.proofs.Known.{reads_readable}
+use Rattle.mv_write.specs.Text.{fanins_of}
+use Rattle.mv_back.specs.Models.{IsModelOf}
+use Rattle.mv_back.proofs.Numbers.{number_in, numbers_of, names_at, names_at-numbers, IsHeldAt, AllHeld, held_from, held_in, range-passes, passes-at}
+use Rattle.mv_back.proofs.ModelTables.{IsOfNet, AllOfNets, all_of_nets}
+use Rattle.mv_back.proofs.Driven.{inputs_held, outputs_held}
+
+-- ---- what is among several lists
+
+-- a word of the second list is one of both
+pub among_right : (w : List ℕ) (us ws : List (List ℕ)) → among w ws ≡ true → among w (us ++ ws) ≡ true
+among_right w us ws h = among-append w us ws ∙ or_right _ _ h
+
+pub among_left : (w : List ℕ) (us ws : List (List ℕ)) → among w us ≡ true → among w (us ++ ws) ≡ true
+among_left w us ws h = among-append w us ws ∙ or_left _ _ h
+
+pub among_cases : (w : List ℕ) (us ws : List (List ℕ)) → among w (us ++ ws) ≡ true → (among w us ≡ true) ⊎ (among w ws ≡ true)
+among_cases w us ws h = or_cases _ _ (sym (among-append w us ws) ∙ h)
+
+-- ---- names once
+
+one_more : (w u : List ℕ) (names : List (List ℕ)) → among w (with_name names u) ≡ true → among w (names ++ u ∷ []) ≡ true
+one_more w u names h =
+    let P : List (List ℕ) → Type 0 = λ ws. among w ws ≡ true → among w (names ++ u ∷ []) ≡ true in
+    cond_both (among u names) names (names ++ u ∷ []) P (λ _ g. among_left w names (u ∷ []) g) (λ _ g. g) h
+
+among_all : (w : List ℕ) (names ws : List (List ℕ)) → among w (with_names names ws) ≡ true → (among w names ≡ true) ⊎ (among w ws ≡ true)
+among_all w names [] h = inl h
+among_all w names (u ∷ us) h =
+    ⊎_elim (λ (y : among w (with_name names u) ≡ true). first y) (λ (y : among w us ≡ true). inr (or_right _ _ y)) (among_all w (with_name names u) us h)
+  where
+    only : (same_word w u ≡ true) ⊎ (among w [] ≡ true) → (among w names ≡ true) ⊎ (among w (u ∷ us) ≡ true)
+    only (inl e) = inr (or_left _ _ e)
+    only (inr e) = cc
+
+    first : among w (with_name names u) ≡ true → (among w names ≡ true) ⊎ (among w (u ∷ us) ≡ true)
+    first y =
+        ⊎_elim (λ (a : among w names ≡ true). inl a) (λ (b : among w (u ∷ []) ≡ true). only (or_cases _ _ b)) (among_cases w names (u ∷ []) (one_more w u names y))
+
+-- the nets of a model are nets that it names
+pub named_of : (m : FileModel) (w : List ℕ) → among w (nets_of m) ≡ true → among w (nets_named m) ≡ true
+unfolding nets_of
+named_of m w h = ⊎_elim (λ (y : among w [] ≡ true). cc) (λ (y : among w (nets_named m) ≡ true). y) (among_all w [] (nets_named m) h)
+
+-- ---- a driver is named
+
+output_column : (w : List ℕ) (ts : List FileTable) → among w (flat_map outputs_of ts) ≡ true → among w (flat_map columns_of ts) ≡ true
+output_column w [] h = h
+output_column w (t ∷ ts) h =
+    ⊎_elim
+    (λ (y : among w t.outputs ≡ true). among_left w (columns_of t) (flat_map columns_of ts) (among_right w t.inputs t.outputs y))
+    (λ (y : among w (flat_map outputs_of ts) ≡ true). among_right w (columns_of t) (flat_map columns_of ts) (output_column w ts y))
+    (among_cases w t.outputs (flat_map outputs_of ts) h)
+
+pub driver_named : (m : FileModel) (w : List ℕ) → among w (drivers m) ≡ true → among w (nets_named m) ≡ true
+unfolding drivers nets_named
+driver_named m w h =
+    let more = flat_map columns_of m.tables in
+    ⊎_elim
+    (λ (y : among w m.inputs ≡ true). among_left w m.inputs (m.outputs ++ more) y)
+    (λ (y : among w (flat_map outputs_of m.tables) ≡ true). among_right w m.inputs (m.outputs ++ more) (among_right w m.outputs more (output_column w m.tables y)))
+    (among_cases w m.inputs (flat_map outputs_of m.tables) h)
+
+-- ---- a named net is held
+
+-- the word is the name of a held net
+pub record IsNameOf (nets : List (Option FlatNet)) (w : List ℕ) : Type 0 where
+  pub number : ℕ
+  pub held : IsHeldAt nets number
+  pub is : w ≡ name_in (slot nets number)
+
+-- a name of some numbers is that of one of them
+pub record IsNameIn (nets : List (Option FlatNet)) (ks : List ℕ) (w : List ℕ) : Type 0 where
+  pub number : ℕ
+  pub among : number_in number ks ≡ true
+  pub is : w ≡ name_in (slot nets number)
+
+pub name_in_list : (nets : List (Option FlatNet)) (ks : List ℕ) (w : List ℕ) → among w (names_at nets ks) ≡ true → IsNameIn nets ks w
+name_in_list nets [] w h = cc
+name_in_list nets (k ∷ ks) w h =
+    ⊎_elim
+    (λ (y : same_word w (name_in (slot nets k)) ≡ true). record { number = k; among = or_left _ _ (eq-eqb k k refl); is = same_word_is w _ y })
+    (λ (y : among w (names_at nets ks) ≡ true). let n = name_in_list nets ks w y in record { number = n.number; among = or_right _ _ n.among; is = n.is })
+    (or_cases _ _ h)
+
+name_of_held : (nets : List (Option FlatNet)) (ks : List ℕ) (w : List ℕ) → AllHeld nets ks → among w (names_at nets ks) ≡ true → IsNameOf nets w
+name_of_held nets ks w all h =
+    let n = name_in_list nets ks w h in
+    record { number = n.number; held = held_in nets ks n.number all n.among; is = n.is }
+
+-- a fanin of a net's cover is read by the net
+pub fanin_read : (net : NetParts) (k : ℕ) (f : FlatNet) (c : Cover) → slot net.nets k ≡ Some f → f.table ≡ Some c → (m : ℕ) → number_in m (fanins_of (length net.nets) c) ≡ true → net_reads (slot net.nets k) m ≡ true
+fanin_read net k f c h t m i =
+    let reads : cover_reads c m ≡ true = passes-at m (fanins_of (length net.nets) c) (λ j. cover_reads c j) (range-passes 0 (length net.nets) (λ j. cover_reads c j)) i in
+    rw (h, t) reads
+
+pub fanins_held : (net : NetParts) → WellFormed net → (k : ℕ) (f : FlatNet) (c : Cover) → slot net.nets k ≡ Some f → f.table ≡ Some c → AllHeld net.nets (fanins_of (length net.nets) c)
+fanins_held net formed k f c h t =
+    held_from net.nets (fanins_of (length net.nets) c) (λ m i. let r = reads_readable net k m formed (fanin_read net k f c h t m i) in record { net = r.net; held = r.held })
+
+-- the output of a net's table is the net
+pub output_is : (nets : List (Option FlatNet)) (t : FileTable) (o : IsOfNet nets t) (w : List ℕ) → among w t.outputs ≡ true → w ≡ name_in (slot nets o.number)
+output_is nets t o w h =
+    ⊎_elim
+    (λ (y : same_word w o.net.name ≡ true). same_word_is w o.net.name y ∙ sym (ap name_in o.held))
+    (λ (y : among w [] ≡ true). cc)
+    (or_cases (same_word w o.net.name) (among w []) (ap (among w) (sym o.is.outputs) ∙ h))
+
+column_held : (net : NetParts) → WellFormed net → (t : FileTable) → IsOfNet net.nets t → (w : List ℕ) → among w (columns_of t) ≡ true → IsNameOf net.nets w
+column_held net formed t o w h =
+    let fanins = fanins_of (length net.nets) o.cover in
+    ⊎_elim
+    (λ (y : among w t.inputs ≡ true). name_of_held net.nets fanins w (fanins_held net formed o.number o.net o.cover o.held o.table) (ap (among w) (sym o.is.inputs) ∙ y))
+    (λ (y : among w t.outputs ≡ true). record { number = o.number; held = record { net = o.net; held = o.held }; is = output_is net.nets t o w y })
+    (among_cases w t.inputs t.outputs h)
+
+columns_held : (net : NetParts) → WellFormed net → (ts : List FileTable) → AllOfNets net.nets ts → (w : List ℕ) → among w (flat_map columns_of ts) ≡ true → IsNameOf net.nets w
+columns_held net formed [] all w h = cc
+columns_held net formed (t ∷ ts) all w h =
+    ⊎_elim
+    (λ (y : among w (columns_of t) ≡ true). column_held net formed t all.0 w y)
+    (λ (y : among w (flat_map columns_of ts) ≡ true). columns_held net formed ts all.1 w y)
+    (among_cases w (columns_of t) (flat_map columns_of ts) h)
+
+pub named_held : (net : NetParts) (m : FileModel) → WellFormed net → IsModelOf net m → (w : List ℕ) → among w (nets_named m) ≡ true → IsNameOf net.nets w
+unfolding nets_named
+named_held net m formed model w h =
+    let more = flat_map columns_of m.tables in
+    ⊎_elim
+    (λ (y : among w m.inputs ≡ true). name_of_held net.nets (numbers_of net.inputs) w (inputs_held net formed) (ap (among w) (sym (model.inputs ∙ names_at-numbers net.nets net.inputs)) ∙ y))
+    (λ (y : among w (m.outputs ++ more) ≡ true). ⊎_elim
+    (λ (z : among w m.outputs ≡ true). name_of_held net.nets (numbers_of net.outputs) w (outputs_held net formed) (ap (among w) (sym (model.outputs ∙ names_at-numbers net.nets net.outputs)) ∙ z))
+    (λ (z : among w more ≡ true). columns_held net formed m.tables (all_of_nets net.nets m.tables model.tables) w z)
+    (among_cases w m.outputs more y))
+    (among_cases w m.inputs (m.outputs ++ more) h)

@@ -1,0 +1,32 @@
+-- The text of a well-formed network without latches reads as a design that means what the network means.
+use Rattle.std.proofs.Common.{◌≡◌, List, [], sym, subst}
+use Rattle.mv_lex.specs.declared.lines.LexLine.{LexLine}
+use Rattle.mv_parse.specs.Grammar.{IsDesign}
+use Rattle.mv_model.specs.Nets.{root_of}
+use Rattle.mv_model.specs.Meaning.{of_design}
+use Rattle.mv_net.specs.declared.parts.NetParts.{NetParts}
+use Rattle.mv_net.specs.Formed.{WellFormed}
+use Rattle.mv_write.specs.Text.{text_of}
+use Rattle.mv_back.specs.Back.{ReadsAs, ReadsBack, design_with}
+use Rattle.mv_back.proofs.NetLines.{lines-back, clean-back}
+use Rattle.mv_back.proofs.ModelBack.{IsReadModel, model-back}
+use Rattle.mv_back.proofs.BackSound.{sound-back}
+use Rattle.mv_back.proofs.BackMeaning.{means-back}
+
+reads_as : (net : NetParts) → WellFormed net → net.latches ≡ [] → (r : IsReadModel net) → ReadsAs (text_of net) (design_with r.model)
+unfolding root_of
+reads_as net formed none r = record {
+  clean = clean-back net formed none;
+  design = subst (λ (ls : List LexLine). IsDesign ls (design_with r.model)) (sym (lines-back net formed none)) r.design;
+  sound = record { root = sound-back net r.model formed none r.is_model };
+}
+
+pub reads-back : (net : NetParts) → WellFormed net → net.latches ≡ [] → ReadsBack net
+unfolding of_design root_of
+reads-back net formed none =
+    let r = model-back net formed none in
+    record {
+      design = design_with r.model;
+      reads = reads_as net formed none r;
+      means = means-back net r.model formed none r.is_model;
+    }

@@ -1,0 +1,29 @@
+-- What the text of a network reads as.
+use Rattle.std.specs.Prelude.{◌≡◌, ℕ, true, List, [], ◌∷◌}
+use Rattle.mv_base.specs.Meaning.{SameMeaning}
+use Rattle.mv_lex.specs.Lines.{lines_of, is_clean}
+use Rattle.mv_design.specs.declared.design.FileModel.{FileModel}
+use Rattle.mv_design.specs.declared.design.Design.{Design}
+use Rattle.mv_parse.specs.Grammar.{IsDesign}
+use Rattle.mv_model.specs.Sound.{IsSound}
+use Rattle.mv_model.specs.Meaning.{of_design}
+use Rattle.mv_net.specs.declared.parts.NetParts.{NetParts}
+use Rattle.mv_net.specs.Allowed.{of_net}
+use Rattle.mv_write.specs.Text.{text_of}
+
+-- the bytes read as this design: they have no fault, the grammar relates their lines to the design, and it is sound. No limit
+-- of the program is asked for
+pub record ReadsAs (bytes : List ℕ) (d : Design) : Type 0 where
+  pub clean : is_clean bytes ≡ true
+  pub design : IsDesign (lines_of bytes) d
+  pub sound : IsSound d
+
+-- the text of the network reads as a design that means the same
+pub record ReadsBack (net : NetParts) : Type 0 where
+  pub design : Design
+  pub reads : ReadsAs (text_of net) design
+  pub means : SameMeaning (of_design design) (of_net net)
+
+-- a design of this one model
+abbrev pub design_with : FileModel → Design
+design_with m = record { root = 0; models = m ∷ [] }

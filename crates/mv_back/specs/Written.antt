@@ -1,0 +1,27 @@
+-- Words and lines that are read back as they are written, bracketed words among them.
+use Rattle.std.specs.Prelude.{ℕ, Bool, false, ◌&&◌, ◌||◌, not, ◌==◌, List, [], ◌∷◌, length, if◌then◌else◌}
+use Rattle.std.specs.List.{list_all}
+use Rattle.mv_base.specs.Names.{is_visible}
+use Rattle.mv_lex.specs.Text.{is_plain_word}
+
+-- a byte of a word: it can be seen, and begins no comment
+abbrev pub is_word_byte : ℕ → Bool
+is_word_byte b = is_visible b && not (b == 35)
+
+-- the bytes behind the `(` of a list: those of words, of which the first `)` is the last
+abbrev pub is_list_rest : List ℕ → Bool
+is_list_rest [] = false
+is_list_rest (b ∷ bs) = if b == 41 then length bs == 0 else is_word_byte b && is_list_rest bs
+
+-- a list in brackets: it begins with `(`, ends with its only `)`, and all its bytes are those of words
+abbrev pub is_list_word : List ℕ → Bool
+is_list_word [] = false
+is_list_word (b ∷ bs) = (b == 40) && is_list_rest bs
+
+-- a word that is read back as it is written: a plain one, or a list in brackets
+unfoldable pub is_written_word : List ℕ → Bool
+is_written_word w = is_plain_word w || is_list_word w
+
+-- a line that is read back as it is written: it has a word, and each is such a word
+unfoldable pub is_written_line : List (List ℕ) → Bool
+is_written_line words = not (length words == 0) && list_all is_written_word words

@@ -1,0 +1,9 @@
+//! What the text of a network reads as: a design that means what the network means.
+#![tactic(auto)]
+
+mod back;
+
+pub use back::reads_back;
+
+#[cfg(test)]
+mod tests;

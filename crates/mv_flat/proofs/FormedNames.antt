@@ -1,0 +1,154 @@
+-- No two nets of a model's network have one name: the drivers are apart, and each mark's name is new.
+use Rattle.std.proofs.Common.{◌≡◌, ◌⊎◌, ℕ, zero, suc, Bool, true, false, List, [], ◌∷◌, ◌++◌, map, Option, Some, None, refl, sym, ◌∙◌, ap, subst, ⊎_elim, inl, inr}
+use Rattle.std.specs.List.{flat_map}
+use Rattle.std.proofs.lemmas.Bool.{false≢true, or_parts}
+use Rattle.std.proofs.lemmas.Option.{none-some, same_Some}
+use Rattle.mv_base.specs.Names.{among, AreApart}
+use Rattle.mv_base.proofs.NameLemmas.{among-append}
+use Rattle.mv_cover.specs.declared.cover.Cover.{Cover}
+use Rattle.mv_design.specs.declared.design.Decl.{Decl}
+use Rattle.mv_design.specs.declared.design.FileModel.{FileModel}
+use Rattle.mv_design.specs.declared.table.FileTable.{FileTable}
+use Rattle.mv_net.specs.declared.parts.FlatNet.{FlatNet}
+use Rattle.mv_net.specs.declared.parts.NetParts.{NetParts}
+use Rattle.mv_net.specs.declared.parts.Kind.TheVariants.{Input}
+use Rattle.mv_net.specs.Nets.{slot}
+use Rattle.mv_model.specs.Nets.{drivers, outputs_of}
+use Rattle.mv_model.specs.Numbers.{places, may_mark}
+use Rattle.mv_flat.specs.Built.{file_net, IsMark, AreTables}
+use Rattle.mv_flat.proofs.Blocks.{AreSingle}
+use Rattle.mv_flat.proofs.Places.{IsModelNet, single_tables, outputs_are}
+use Rattle.mv_model.proofs.Soundness.{in_left, in_right}
+use Rattle.mv_flat.proofs.Naming.{among_first, among_later}
+
+-- ---- nets whose names are those of drivers in order, or new
+
+-- the name is that of the next driver
+record IsNext (Rest : List (List ℕ) → Type 0) (left : List (List ℕ)) (w : List ℕ) : Type 0 where
+  rest : List (List ℕ)
+  is : left ≡ w ∷ rest
+  are : Rest rest
+
+-- each net has the name of the next driver, or one that isn't held and then is
+abbrev AreNamed : List (List ℕ) → List (List ℕ) → List (Option FlatNet) → Type 0
+AreNamed left held [] = Unit {0}
+AreNamed left held (None ∷ fs) = AreNamed left held fs
+AreNamed left held (Some f ∷ fs) = IsNext (λ rest. AreNamed rest held fs) left f.name ⊎ ((among f.name held ≡ false) × AreNamed left (held ++ f.name ∷ []) fs)
+
+abbrev Lies : List (List ℕ) → List (List ℕ) → Type 0
+Lies us ws = (w : List ℕ) → among w us ≡ true → among w ws ≡ true
+
+rest_lies : (left held rest : List (List ℕ)) (w : List ℕ) → left ≡ w ∷ rest → Lies left held → Lies rest held
+rest_lies left held rest w e lies u h = lies u (ap (among u) e ∙ among_later u w rest h)
+
+next_held : (left held rest : List (List ℕ)) (w : List ℕ) → left ≡ w ∷ rest → Lies left held → among w held ≡ true
+next_held left held rest w e lies = lies w (ap (among w) e ∙ among_first w rest)
+
+longer_lies : (left held : List (List ℕ)) (w : List ℕ) → Lies left held → Lies left (held ++ w ∷ [])
+longer_lies left held w lies u h = in_left u held (w ∷ []) (lies u h)
+
+not_before : (held : List (List ℕ)) (w u : List ℕ) → among u (held ++ w ∷ []) ≡ false → among u held ≡ false
+not_before held w u h = (or_parts (among u held) (among u (w ∷ [])) (sym (among-append u held (w ∷ [])) ∙ h)).0
+
+-- ---- the names of such nets
+
+left_or_new : (left held : List (List ℕ)) (fs : List (Option FlatNet)) (n : ℕ) (f : FlatNet) → AreNamed left held fs → Lies left held → slot fs n ≡ Some f → (among f.name left ≡ true) ⊎ (among f.name held ≡ false)
+left_or_new left held [] n f named lies e = absurd (none-some f e)
+left_or_new left held (None ∷ fs) zero f named lies e = absurd (none-some f e)
+left_or_new left held (None ∷ fs) (suc n) f named lies e = left_or_new left held fs n f named lies e
+left_or_new left held (Some g ∷ fs) zero f named lies e =
+    let same : g ≡ f = same_Some g f e in
+    ⊎_elim
+    (λ (i : IsNext (λ rest. AreNamed rest held fs) left g.name). inl (ap (λ (h : FlatNet). among h.name left) (sym same) ∙ (ap (among g.name) i.is ∙ among_first g.name i.rest)))
+    (λ (i : (among g.name held ≡ false) × AreNamed left (held ++ g.name ∷ []) fs). inr (ap (λ (h : FlatNet). among h.name held) (sym same) ∙ i.0))
+    named
+left_or_new left held (Some g ∷ fs) (suc n) f named lies e =
+    ⊎_elim
+    (λ (i : IsNext (λ rest. AreNamed rest held fs) left g.name).
+    ⊎_elim (λ (y : among f.name i.rest ≡ true). inl (ap (among f.name) i.is ∙ among_later f.name g.name i.rest y)) (λ (y : among f.name held ≡ false). inr y)
+    (left_or_new i.rest held fs n f i.are (rest_lies left held i.rest g.name i.is lies) e))
+    (λ (i : (among g.name held ≡ false) × AreNamed left (held ++ g.name ∷ []) fs).
+    ⊎_elim (λ (y : among f.name left ≡ true). inl y) (λ (y : among f.name (held ++ g.name ∷ []) ≡ false). inr (not_before held g.name f.name y))
+    (left_or_new left (held ++ g.name ∷ []) fs n f i.1 (longer_lies left held g.name lies) e))
+    named
+
+-- a net behind the first has another name
+others_differ : (left held : List (List ℕ)) (g : FlatNet) (fs : List (Option FlatNet)) (n : ℕ) (f : FlatNet) → AreNamed left held (Some g ∷ fs) → Lies left held → AreApart left → slot fs n ≡ Some f → g.name ≡ f.name → ⊥
+others_differ left held g fs n f named lies apart e same =
+    ⊎_elim
+    (λ (i : IsNext (λ rest. AreNamed rest held fs) left g.name).
+    let a : AreApart (g.name ∷ i.rest) = subst AreApart i.is apart in
+    ⊎_elim (λ (y : among f.name i.rest ≡ true). false≢true (sym a.0 ∙ (ap (λ w. among w i.rest) same ∙ y)))
+    (λ (y : among f.name held ≡ false). false≢true (sym y ∙ (ap (λ w. among w held) (sym same) ∙ next_held left held i.rest g.name i.is lies)))
+    (left_or_new i.rest held fs n f i.are (rest_lies left held i.rest g.name i.is lies) e))
+    (λ (i : (among g.name held ≡ false) × AreNamed left (held ++ g.name ∷ []) fs).
+    ⊎_elim (λ (y : among f.name left ≡ true). false≢true (sym i.0 ∙ (ap (λ w. among w held) same ∙ lies f.name y)))
+    (λ (y : among f.name (held ++ g.name ∷ []) ≡ false). false≢true (sym y ∙ (ap (λ w. among w (held ++ g.name ∷ [])) (sym same) ∙ in_right g.name held (g.name ∷ []) (among_first g.name []))))
+    (left_or_new left (held ++ g.name ∷ []) fs n f i.1 (longer_lies left held g.name lies) e))
+    named
+
+differ : (left held : List (List ℕ)) (fs : List (Option FlatNet)) (n k : ℕ) (f g : FlatNet) → AreNamed left held fs → Lies left held → AreApart left → slot fs n ≡ Some f → slot fs k ≡ Some g → f.name ≡ g.name → n ≡ k
+differ left held [] n k f g named lies apart e h same = absurd (none-some f e)
+differ left held (None ∷ fs) zero k f g named lies apart e h same = absurd (none-some f e)
+differ left held (None ∷ fs) (suc n) zero f g named lies apart e h same = absurd (none-some g h)
+differ left held (None ∷ fs) (suc n) (suc k) f g named lies apart e h same = ap suc (differ left held fs n k f g named lies apart e h same)
+differ left held (Some x ∷ fs) zero zero f g named lies apart e h same = refl
+differ left held (Some x ∷ fs) zero (suc k) f g named lies apart e h same =
+    absurd (others_differ left held x fs k g named lies apart h (ap (λ (y : FlatNet). y.name) (same_Some x f e) ∙ same))
+differ left held (Some x ∷ fs) (suc n) zero f g named lies apart e h same =
+    absurd (others_differ left held x fs n f named lies apart e (ap (λ (y : FlatNet). y.name) (same_Some x g h) ∙ sym same))
+differ left held (Some x ∷ fs) (suc n) (suc k) f g named lies apart e h same =
+    ap suc
+    (⊎_elim
+    (λ (i : IsNext (λ rest. AreNamed rest held fs) left x.name).
+    let a : AreApart (x.name ∷ i.rest) = subst AreApart i.is apart in
+    differ i.rest held fs n k f g i.are (rest_lies left held i.rest x.name i.is lies) a.1 e h same)
+    (λ (i : (among x.name held ≡ false) × AreNamed left (held ++ x.name ∷ []) fs). differ left (held ++ x.name ∷ []) fs n k f g i.1 (longer_lies left held x.name lies) apart e h same)
+    named)
+
+-- ---- the nets of a model are such
+
+mark_named : (left held : List (List ℕ)) (may : Bool) (o : Option Cover) (mark : List (Option FlatNet)) (after : List (List ℕ)) (f : FlatNet) (fs : List (Option FlatNet)) → IsMark held may o mark after → IsNext (λ rest. AreNamed rest after fs) left f.name → AreNamed left held ((mark ++ Some f ∷ []) ++ fs)
+mark_named left held true (Some c) mark after f fs h next =
+    let P : List (Option FlatNet) → Type 0 = λ ms. AreNamed left held ((ms ++ Some f ∷ []) ++ fs) in
+    let Q : List (List ℕ) → Type 0 = λ ws. IsNext (λ rest. AreNamed rest ws fs) left f.name in
+    subst P (sym h.nets_are) (inr (h.fresh.fresh, inl (subst Q h.after_is next)))
+mark_named left held true None mark after f fs h next =
+    let P : List (Option FlatNet) → Type 0 = λ ms. AreNamed left held ((ms ++ Some f ∷ []) ++ fs) in
+    let Q : List (List ℕ) → Type 0 = λ ws. IsNext (λ rest. AreNamed rest ws fs) left f.name in
+    subst P (sym h.nets_are) (inl (subst Q h.after_is next))
+mark_named left held false (Some c) mark after f fs h next = absurd h
+mark_named left held false None mark after f fs h next =
+    let P : List (Option FlatNet) → Type 0 = λ ms. AreNamed left held ((ms ++ Some f ∷ []) ++ fs) in
+    let Q : List (List ℕ) → Type 0 = λ ws. IsNext (λ rest. AreNamed rest ws fs) left f.name in
+    subst P (sym h.nets_are) (inl (subst Q h.after_is next))
+
+tables_named : (ds : List Decl) (names : List (List ℕ)) (ts : List FileTable) (held : List (List ℕ)) (fs : List (Option FlatNet)) → AreSingle ts → AreTables ds names ts held fs → AreNamed (flat_map outputs_of ts) held fs
+tables_named ds names [] held fs single a =
+    let P : List (Option FlatNet) → Type 0 = AreNamed [] held in
+    subst P (sym a) tt
+tables_named ds names (t ∷ ts) held fs single a =
+    let P : List (Option FlatNet) → Type 0 = AreNamed (flat_map outputs_of (t ∷ ts)) held in
+    subst P (sym (a.joined ∙ ap (λ x. x ++ a.rest) a.are_here.nets_are))
+    (mark_named (flat_map outputs_of (t ∷ ts)) held (may_mark t) a.are_here.flat.mark a.are_here.mark a.after _ a.rest a.are_here.marked
+    (record {
+      rest = flat_map outputs_of ts;
+      is = ap (λ os. os ++ flat_map outputs_of ts) (outputs_are t (single 0 t refl));
+      are = tables_named ds names ts a.after a.rest (λ k. single (suc k)) a.are_rest;
+    }))
+
+inputs_named : (ds : List Decl) (ws left held : List (List ℕ)) (fs : List (Option FlatNet)) → AreNamed left held fs → AreNamed (ws ++ left) held (map (file_net ds Input None) ws ++ fs)
+inputs_named ds [] left held fs named = named
+inputs_named ds (w ∷ ws) left held fs named = inl (record { rest = ws ++ left; is = refl; are = inputs_named ds ws left held fs named })
+
+all_named : (m : FileModel) (net : NetParts) → IsModelNet m net → AreNamed (drivers m) (drivers m) net.nets
+unfolding drivers
+all_named m net is =
+    let P : List (Option FlatNet) → Type 0 = AreNamed (drivers m) (drivers m) in
+    subst P (sym is.built.nets_are)
+    (inputs_named m.decls m.inputs (flat_map outputs_of m.tables) (drivers m) is.built.of_tables
+    (tables_named m.decls (places m) m.tables (drivers m) is.built.of_tables (single_tables m net is) is.built.are_tables))
+
+-- no two nets have one name
+pub nets_differ : (m : FileModel) (net : NetParts) → IsModelNet m net → (n k : ℕ) (f g : FlatNet) → slot net.nets n ≡ Some f → slot net.nets k ≡ Some g → f.name ≡ g.name → n ≡ k
+nets_differ m net is n k f g e h same = differ (drivers m) (drivers m) net.nets n k f g (all_named m net is) (λ w y. y) is.once.apart e h same

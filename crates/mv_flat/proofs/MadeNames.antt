@@ -1,0 +1,172 @@
+-- Names of made nets: different numbers give different names, and the least number whose name is free is found.
+use Rattle.std.proofs.Common.{◌≡◌, ◌⊎◌, ℕ, zero, suc, ◌+◌, ◌*◌, ◌-◌, ◌<◌, ◌≤◌, ◌^◌, Bool, true, false, ◌||◌, List, [], ◌∷◌, ◌++◌, length, drop, map, Option, Some, None, is_some, is_none, refl, sym, ◌∙◌, ap, subst, arith, ⊎_elim, decimal, append_assoc}
+use Rattle.std.specs.List.{range_with_len}
+use Rattle.std.proofs.lemmas.Bool.{false≢true, cases_Bool, cases_lt, cases_order, or_from, or_cases, or_left, or_right, false_from_ne_true}
+use Rattle.std.proofs.lemmas.Fmt.{decimal_injective}
+use Rattle.std.proofs.lemmas.List.{append-nil, length-append}
+use Rattle.std.proofs.lemmas.List.FromFn.{length-map-range_with_len}
+use Rattle.mv_base.specs.Names.{same_word, among, place_of, AreApart}
+use Rattle.mv_base.proofs.NameLemmas.{same_word_is, same_word_refl, among-append, is_some-place_of}
+use Rattle.mv_cover.specs.declared.cover.Cover.{Cover}
+use Rattle.mv_net.specs.declared.parts.FlatNet.{FlatNet}
+use Rattle.mv_model.proofs.Distinct.{apart_length}
+use Rattle.mv_model.proofs.Soundness.{in_left, in_right}
+use Rattle.mv_flat.specs.Numbers.{made_name}
+use Rattle.mv_flat.specs.Built.{made_net}
+use Rattle.mv_flat.specs.Marks.{IsLast, IsNext, Behind, AddsNets, MarkNets}
+
+-- ---- different numbers
+
+made_injective : (m n : ℕ) → m < 2 ^ 64 → n < 2 ^ 64 → made_name m ≡ made_name n → m ≡ n
+made_injective m n l k e = decimal_injective m n l k (ap (drop 2) e)
+
+pub made_differ : (m n : ℕ) → m < 2 ^ 64 → n < 2 ^ 64 → (m ≡ n → ⊥) → same_word (made_name m) (made_name n) ≡ false
+made_differ m n l k apart = false_from_ne_true _ (λ y. apart (made_injective m n l k (same_word_is _ _ y)))
+
+abbrev made_names : ℕ → ℕ → List (List ℕ)
+made_names a n = map made_name (range_with_len a n)
+
+none_before : (m a n : ℕ) → m < a → a + n < 2 ^ 64 → among (made_name m) (made_names a n) ≡ false
+none_before m a zero low small = refl
+none_before m a (suc n) low small =
+    or_from _ _ (made_differ m a (omega arith) (omega arith) (λ e. omega (arith, e))) (none_before m (a + 1) n (omega arith) (omega arith))
+
+made_apart : (a n : ℕ) → a + n < 2 ^ 64 → AreApart (made_names a n)
+made_apart a zero small = tt
+made_apart a (suc n) small = (none_before a (a + 1) n (omega arith) (omega arith), made_apart (a + 1) n (omega arith))
+
+made_within : (ws : List (List ℕ)) (a n : ℕ) → ((k : ℕ) → a ≤ k → k < a + n → among (made_name k) ws ≡ true) → (v : List ℕ) → among v (made_names a n) ≡ true → among v ws ≡ true
+made_within ws a zero h v e = absurd (false≢true e)
+made_within ws a (suc n) h v e =
+    ⊎_elim
+    (λ (y : same_word v (made_name a) ≡ true). ap (λ w. among w ws) (same_word_is v (made_name a) y) ∙ h a (omega arith) (omega arith))
+    (λ (y : among v (made_names (a + 1) n) ≡ true). made_within ws (a + 1) n (λ k l m. h k (omega arith) (omega arith)) v y)
+    (or_cases _ _ e)
+
+-- so many made names can't all be among fewer words
+pub made_few : (ws : List (List ℕ)) (a n : ℕ) → a + n < 2 ^ 64 → ((k : ℕ) → a ≤ k → k < a + n → among (made_name k) ws ≡ true) → n ≤ length ws
+made_few ws a n small h =
+    let l = apart_length (made_names a n) ws (made_apart a n small) (made_within ws a n h) in
+    let e = length-map-range_with_len made_name a n in
+    omega arith
+
+-- the last made number is no more than the names that are held
+pub last_few : (names held : List (List ℕ)) (last : ℕ) → IsLast names held last → last ≤ length held
+last_few names held last h =
+    let s = h.small in
+    made_few held 1 last (omega arith) (λ k l m. h.before k (omega arith) (omega arith))
+
+-- ---- the next number
+
+not_found : (o : Option ℕ) → is_none o ≡ true → is_some o ≡ false
+not_found None h = refl
+not_found (Some k) h = absurd (false≢true h)
+
+found : (o : Option ℕ) → is_none o ≡ false → is_some o ≡ true
+found None h = absurd (false≢true (sym h))
+found (Some k) h = refl
+
+pub next_found : (names : List (List ℕ)) (last number : ℕ) (name : List ℕ) (place : Option ℕ) → last < number → number < 2 ^ 32 → name ≡ made_name number → place ≡ place_of name names → is_none place ≡ true → ((k : ℕ) → last < k → k < number → among (made_name k) names ≡ true) → IsNext names last number name
+next_found names last number name place later small is e none least = record {
+  later = later;
+  small = small;
+  is = is;
+  fresh = sym (is_some-place_of name names) ∙ (ap is_some (sym e) ∙ not_found place none);
+  least = least;
+}
+
+pub next_passed : (names : List (List ℕ)) (last number : ℕ) (name : List ℕ) (place : Option ℕ) → name ≡ made_name number → place ≡ place_of name names → is_none place ≡ false → ((k : ℕ) → last < k → k < number → among (made_name k) names ≡ true) → (k : ℕ) → last < k → k < number + 1 → among (made_name k) names ≡ true
+next_passed names last number name place is e some least k low high =
+    ⊎_elim
+    (λ (l : k < number). least k low l)
+    (λ (g : number ≤ k).
+    let same : k ≡ number = omega arith in
+    ap (λ j. among (made_name j) names) same ∙ (ap (λ w. among w names) (sym is) ∙ (sym (is_some-place_of name names) ∙ (ap is_some (sym e) ∙ found place some))))
+    (cases_lt k number)
+
+pub next_ends : (names : List (List ℕ)) (last number : ℕ) → last + length names + 2 < 2 ^ 32 → 2 ^ 32 - 1 ≤ number → ((k : ℕ) → last < k → k < number → among (made_name k) names ≡ true) → ⊥
+next_ends names last number room high least =
+    let l = made_few names (last + 1) (length names + 1) (omega arith) (λ k low below. least k (omega arith) (omega arith)) in
+    omega arith
+
+pub ruleset next = (next_found, next_passed, next_ends)
+
+-- ---- the nets of a mark
+
+last_more : (names held : List (List ℕ)) (before number : ℕ) (name : List ℕ) → IsLast names held before → IsNext names before number name → IsLast names (held ++ name ∷ []) number
+last_more names held before number name h n = record {
+  small = n.small;
+  before = λ k low high. ⊎_elim
+      (λ (l : k < number). in_left (made_name k) held (name ∷ []) (least k low l))
+      (λ (g : number ≤ k).
+      let same : k ≡ number = omega arith in
+      in_right (made_name k) held (name ∷ []) (ap (λ j. among (made_name j) (name ∷ [])) same ∙ (ap (λ w. among w (name ∷ [])) (sym n.is) ∙ or_left _ _ (same_word_refl name))))
+      (cases_lt k number);
+  behind = λ k low small.
+      let later = n.later in
+      let m = n.small in
+      let other : same_word (made_name k) name ≡ false = ap (same_word (made_name k)) n.is ∙ made_differ k number (omega arith) (omega arith) (λ e. omega (arith, e)) in
+      among-append (made_name k) held (name ∷ []) ∙ (ap (λ b. among (made_name k) held || (b || false)) other ∙ (or_none (among (made_name k) held) ∙ h.behind k (omega arith) small));
+}
+  where
+    or_none : (b : Bool) → (b || false) ≡ b
+    or_none true = refl
+    or_none false = refl
+
+    least : (k : ℕ) → 0 < k → k < number → among (made_name k) held ≡ true
+    least k low l =
+        ⊎_elim
+        (λ (a : before < k). h.behind k a (let m = n.small in omega arith) ∙ n.least k a l)
+        (λ (b : k ≤ before). h.before k low b)
+        (cases_lt before k)
+
+mark_here : (names : List (List ℕ)) (before number : ℕ) (name : List ℕ) (cover : Cover) (net : FlatNet) (old new : List (Option FlatNet)) (may : Bool) → may ≡ true → IsNext names before number name → Some net ≡ made_net name cover → new ≡ old ++ Some net ∷ [] → AddsNets (MarkNets may (Some cover)) names before number old new
+mark_here names before number name cover net old new true y n is e = record {
+  here = Some net ∷ [];
+  joined = e;
+  behind = λ held h. record {
+    after = held ++ name ∷ [];
+    are = record {
+      name = name;
+      fresh = record {
+        number = number;
+        is = n.is;
+        positive = let l = n.later in omega arith;
+        small = n.small;
+        fresh = ap (λ w. among w held) n.is ∙ (h.behind number n.later n.small ∙ (ap (λ w. among w names) (sym n.is) ∙ n.fresh));
+        least = λ k low l. ⊎_elim
+            (λ (a : before < k). h.behind k a (let m = n.small in omega arith) ∙ n.least k a l)
+            (λ (b : k ≤ before). h.before k low b)
+            (cases_lt before k);
+      };
+      nets_are = ap (λ f. f ∷ []) is;
+      after_is = refl;
+    };
+    lasts = last_more names held before number name h n;
+    few = let l = length-append held (name ∷ []) in omega arith;
+  };
+}
+mark_here names before number name cover net old new false y n is e = absurd (false≢true y)
+
+pub adds_mark : (names : List (List ℕ)) (before number : ℕ) (name : List ℕ) (mark : Option Cover) (cover : Cover) (net : FlatNet) (old new : List (Option FlatNet)) (may : Bool) → mark ≡ Some cover → may ≡ true → IsNext names before number name → Some net ≡ made_net name cover → new ≡ old ++ Some net ∷ [] → AddsNets (MarkNets may mark) names before number old new
+adds_mark names before number name mark cover net old new may m y n is e =
+    let P : Option Cover → Type 0 = λ o. AddsNets (MarkNets may o) names before number old new in
+    subst P (sym m) (mark_here names before number name cover net old new may y n is e)
+
+pub adds_place : (names : List (List ℕ)) (last : ℕ) (old new : List (Option FlatNet)) (may : Bool) → may ≡ true → new ≡ old ++ None ∷ [] → AddsNets (MarkNets may None) names last last old new
+adds_place names last old new true y e = record {
+  here = None ∷ [];
+  joined = e;
+  behind = λ held h. record { after = held; are = record { nets_are = refl; after_is = refl }; lasts = h; few = omega arith };
+}
+adds_place names last old new false y e = absurd (false≢true y)
+
+pub adds_nothing : (names : List (List ℕ)) (last : ℕ) (old : List (Option FlatNet)) (may : Bool) → may ≡ false → AddsNets (MarkNets may None) names last last old old
+adds_nothing names last old false n = record {
+  here = [];
+  joined = sym (append-nil old);
+  behind = λ held h. record { after = held; are = record { nets_are = refl; after_is = refl }; lasts = h; few = omega arith };
+}
+adds_nothing names last old true n = absurd (false≢true (sym n))
+
+pub ruleset added = (adds_mark, adds_place, adds_nothing)

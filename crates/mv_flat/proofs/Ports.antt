@@ -1,0 +1,50 @@
+-- The network of a model is seen from outside as the model is.
+use Rattle.std.proofs.Common.{◌≡◌, ℕ, Bool, true, false, Option, List, [], ◌∷◌, length, map, decimal, refl, sym, ◌∙◌, ap}
+use Rattle.std.specs.Prelude.{if◌then◌else◌, nat_eq}
+use Rattle.std.specs.List.{range_with_len}
+use Rattle.std.specs.Cmp.Lexicographic.{pointwise}
+use Rattle.std.proofs.lemmas.Slice.Eq.{bytes_eq-Decides, slice_eq-Decides}
+use Rattle.mv_base.specs.Meaning.{Port}
+use Rattle.mv_base.specs.Names.{among}
+use Rattle.mv_base.specs.declared.number.NetId.{NetId}
+use Rattle.mv_decl.specs.Nets.{values_of}
+use Rattle.mv_design.specs.declared.design.FileModel.{FileModel}
+use Rattle.mv_net.specs.declared.parts.FlatNet.{FlatNet}
+use Rattle.mv_net.specs.declared.parts.NetParts.{NetParts}
+use Rattle.mv_net.specs.Nets.{name_in, spelled_values, spelled_in, port_of, latch_port_of, interface_of}
+use Rattle.mv_model.specs.Nets.{nets_named}
+use Rattle.mv_model.specs.Numbers.{places, net_in}
+use Rattle.mv_model.specs.Meaning.{port}
+use Rattle.mv_flat.specs.Numbers.{are_numbers, kept_names}
+use Rattle.mv_flat.proofs.Places.{IsModelNet, named_file}
+use Rattle.mv_flat.proofs.Naming.{map_same, input_named, output_named}
+
+-- words that are found alike, one by one, are the same
+pub same_words : (us ws : List (List ℕ)) → pointwise (pointwise nat_eq) us ws ≡ true → us ≡ ws
+same_words us ws = (slice_eq-Decides bytes_eq-Decides us ws (pointwise (pointwise nat_eq) us ws) refl).0
+
+-- the values of a net are spelled as they were, whether their names are kept or not
+pub spelled-kept : (values : List (List ℕ)) → spelled_values (length values) (kept_names values) ≡ values
+spelled-kept values = spelled values (are_numbers values) refl
+  where
+    spelled : (vs : List (List ℕ)) (b : Bool) → are_numbers vs ≡ b → spelled_values (length vs) (if b then [] else vs) ≡ vs
+    spelled vs true e = sym (same_words vs (map decimal (range_with_len 0 (length vs))) e)
+    spelled [] false e = refl
+    spelled (v ∷ vs) false e = refl
+
+port_is : (m : FileModel) (net : NetParts) → IsModelNet m net → (w : List ℕ) → among w (nets_named m) ≡ true → port_of net.nets (net_in (places m) w) ≡ port m w
+port_is m net is w h =
+    ap (λ (s : Option FlatNet). let p : Port = record { name = name_in s; values = spelled_in s } in p) (named_file m net is w h).held
+    ∙ λ i. record { name = w; values = spelled-kept (values_of m.decls w) i }
+
+ports_are : (m : FileModel) (net : NetParts) → IsModelNet m net → (ns : List NetId) (ws : List (List ℕ)) → ns ≡ map (net_in (places m)) ws → ((w : List ℕ) → among w ws ≡ true → among w (nets_named m) ≡ true) → map (port_of net.nets) ns ≡ map (port m) ws
+ports_are m net is ns ws e named =
+    ap (map (port_of net.nets)) e ∙ map_same (net_in (places m)) (port_of net.nets) (port m) ws (λ w h. port_is m net is w (named w h))
+
+pub looks_alike : (m : FileModel) (net : NetParts) → IsModelNet m net → interface_of net ≡ record { inputs = map (port m) m.inputs; outputs = map (port m) m.outputs; latches = [] }
+unfolding interface_of
+looks_alike m net is =
+    let ins = ports_are m net is net.inputs m.inputs is.built.inputs (λ w h. input_named m w h) in
+    let outs = ports_are m net is net.outputs m.outputs is.built.outputs (λ w h. output_named m w h) in
+    let none : map (latch_port_of net.nets) net.latches ≡ [] = ap (map (latch_port_of net.nets)) is.built.latches in
+    λ i. record { inputs = ins i; outputs = outs i; latches = none i }

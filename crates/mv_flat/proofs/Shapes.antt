@@ -1,0 +1,133 @@
+-- The columns of a file's table by number: they fit its rows, and the mark's number is none of theirs.
+use Rattle.std.proofs.Common.{◌≡◌, ℕ, zero, suc, ◌+◌, ◌<◌, ◌≤◌, Bool, true, false, cond, unwrap_or, List, [], ◌∷◌, ◌++◌, length, get_or, map, Option, Some, None, refl, sym, ◌∙◌, ap, subst, arith, nat_eq, ◌==◌, All}
+use Rattle.std.specs.List.{list_all, slice_get}
+use Rattle.std.proofs.lemmas.Bool.{false≢true, and_parts, cond-true, cond-false, false_from_ne_true}
+use Rattle.std.proofs.lemmas.Bool.Decides.{nat_tests}
+use Rattle.std.proofs.lemmas.List.{length-map}
+use Rattle.std.proofs.lemmas.List.Elements.{All-nil, All-cons, All-append, All-weaker}
+use Rattle.mv_base.specs.Names.{among, place_of, is_net_name}
+use Rattle.mv_base.specs.Set.{full, Within}
+use Rattle.mv_base.specs.declared.number.NetId.{NetId}
+use Rattle.mv_base.specs.declared.limits.TheConstants.{MAX_VALUES}
+use Rattle.mv_base.proofs.NameLemmas.{IsPlace-from_place}
+use Rattle.mv_design.specs.declared.design.Decl.{Decl}
+use Rattle.mv_design.specs.declared.table.Entry.{Entry}
+use Rattle.mv_design.specs.declared.table.Entry.TheVariants.{Set, Same}
+use Rattle.mv_design.specs.declared.table.Row.{Row}
+use Rattle.mv_design.specs.declared.table.FileTable.{FileTable}
+use Rattle.mv_rows.specs.declared.column.Column.{Column}
+use Rattle.mv_rows.specs.Cubes.{IsColumn, AreColumns, CountBy, FitRow}
+use Rattle.mv_rows.specs.Lines.{FitEntry}
+use Rattle.mv_rows.specs.Flat.{entry_of, with_mark, IsRow, IsDefault, IsTable}
+use Rattle.mv_model.specs.Nets.{count_of}
+use Rattle.mv_model.specs.Numbers.{net_in, number_in}
+use Rattle.mv_model.specs.Proper.{FitSets, FitOutput, FitOutputs, IsFileDecl, IsFileRow, IsFileTable}
+use Rattle.mv_model.proofs.Listed.{IsNumber-among, name_at}
+use Rattle.mv_model.proofs.Distinct.{lawful_undotted}
+use Rattle.mv_flat.specs.Numbers.{column_of, columns_at, output_of, mark_at}
+use Rattle.mv_flat.specs.Placed.{are_known, IsPlacedTable}
+use Rattle.mv_flat.proofs.Indexed.{values_few}
+
+-- ---- numbers of values
+
+-- how many values the net with a number has: two at the mark, and elsewhere those of the name
+abbrev count_by : List Decl → List (List ℕ) → ℕ → ℕ → ℕ
+count_by ds names mark n = cond (n == mark) 2 (count_of ds (get_or names n []))
+
+-- the number of a lawful name isn't the mark's
+place_other : (names : List (List ℕ)) (w out : List ℕ) (o : Option ℕ) → place_of (46 ∷ out) names ≡ o → among w names ≡ true → is_net_name w ≡ true → number_in names w ≡ unwrap_or o (length names) → ⊥
+place_other names w out None e known lawful same = let l = (IsNumber-among names w known).within in omega (arith, same)
+place_other names w out (Some k) e known lawful same =
+    let p = IsPlace-from_place (46 ∷ out) names k e in
+    let there : Some w ≡ Some (46 ∷ out) = sym (IsNumber-among names w known).listed ∙ (ap (slice_get names) same ∙ p.found) in
+    let is : w ≡ 46 ∷ out = cc in
+    let P : List ℕ → Type 0 = λ x. is_net_name x ≡ true in
+    false≢true (sym (lawful_undotted (46 ∷ out) (subst P is lawful)))
+
+mark_other : (names : List (List ℕ)) (t : FileTable) (w : List ℕ) → among w names ≡ true → is_net_name w ≡ true → number_in names w ≡ (mark_at names t).0 → ⊥
+mark_other names t w known lawful same = place_other names w (output_of t) (place_of (46 ∷ output_of t) names) refl known lawful same
+
+column_counts : (ds : List Decl) (names : List (List ℕ)) (t : FileTable) (w : List ℕ) → among w names ≡ true → is_net_name w ≡ true → count_of ds w ≡ count_by ds names (mark_at names t).0 (number_in names w)
+column_counts ds names t w known lawful =
+    ap (count_of ds) (sym (name_at names w known))
+    ∙ sym (cond-false (number_in names w == (mark_at names t).0) 2 _ (unequal (number_in names w) _ (mark_other names t w known lawful)))
+  where
+    unequal : (m n : ℕ) → (m ≡ n → ⊥) → (m == n) ≡ false
+    unequal m n apart = false_from_ne_true (m == n) (λ y. apart (is_equal m n y))
+      where
+        is_equal : (a b : ℕ) → (a == b) ≡ true → a ≡ b
+        is_equal a b y = grind (arith, nat_tests)
+
+columns_count : (ds : List Decl) (names : List (List ℕ)) (t : FileTable) (ws : List (List ℕ)) → are_known names ws ≡ true → list_all is_net_name ws ≡ true → CountBy (count_by ds names (mark_at names t).0) (map (column_of ds names) ws)
+columns_count ds names t [] known lawful = All-nil _
+columns_count ds names t (w ∷ ws) known lawful =
+    let k = and_parts (among w names) _ known in
+    let l = and_parts (is_net_name w) _ lawful in
+    All-cons (λ (c : Column). c.count ≡ count_by ds names (mark_at names t).0 c.net.0) (column_of ds names w) (map (column_of ds names) ws) (column_counts ds names t w k.0 l.0) (columns_count ds names t ws k.1 l.1)
+
+mark_counts : (ds : List Decl) (names : List (List ℕ)) (mark : ℕ) → 2 ≡ count_by ds names mark mark
+mark_counts ds names mark = sym (cond-true (mark == mark) 2 _ (equal mark))
+  where
+    equal : (n : ℕ) → (n == n) ≡ true
+    equal n = grind (arith, nat_tests)
+
+-- ---- the columns
+
+columns_are : (ds : List Decl) (names ws : List (List ℕ)) → All IsFileDecl ds → All IsColumn (map (column_of ds names) ws)
+columns_are ds names [] all = All-nil _
+columns_are ds names (w ∷ ws) all =
+    let f = values_few ds w all in
+    All-cons IsColumn (column_of ds names w) (map (column_of ds names) ws) (record { some = f.some; few = f.few }) (columns_are ds names ws all)
+
+pub table_columns : (ds : List Decl) (names : List (List ℕ)) (t : FileTable) → All IsFileDecl ds → IsPlacedTable ds names t → AreColumns (columns_at ds names t)
+table_columns ds names t all p = record {
+  each = columns_are ds names t.inputs all;
+  count = count_by ds names (mark_at names t).0;
+  counts = columns_count ds names t t.inputs p.known p.fits.inputs;
+}
+
+pub marked_columns : (ds : List Decl) (names : List (List ℕ)) (t : FileTable) → All IsFileDecl ds → IsPlacedTable ds names t → AreColumns (with_mark (columns_at ds names t) (mark_at names t))
+marked_columns ds names t all p = record {
+  each = All-append IsColumn (columns_at ds names t) _ (columns_are ds names t.inputs all) (All-cons IsColumn _ [] (record { some = omega arith; few = omega arith }) (All-nil _));
+  count = count_by ds names (mark_at names t).0;
+  counts =
+      let P : Column → Type 0 = λ (c : Column). c.count ≡ count_by ds names (mark_at names t).0 c.net.0 in
+      All-append P (columns_at ds names t) _ (columns_count ds names t t.inputs p.known p.fits.inputs) (All-cons P _ [] (mark_counts ds names (mark_at names t).0) (All-nil P));
+}
+
+-- ---- the rows
+
+sets_fit : (ds : List Decl) (names ws : List (List ℕ)) (sets : List ℕ) → FitSets ds ws sets → FitRow (map (column_of ds names) ws) sets
+sets_fit ds names [] [] h = tt
+sets_fit ds names [] (s ∷ sets) h = absurd h
+sets_fit ds names (w ∷ ws) [] h = absurd h
+sets_fit ds names (w ∷ ws) (s ∷ sets) h = (h.0, sets_fit ds names ws sets h.1)
+
+entry_fits : (ds : List Decl) (names : List (List ℕ)) (t : FileTable) (out : List ℕ) (e : Entry) → FitOutput ds t.inputs out e → FitEntry (columns_at ds names t) e
+entry_fits ds names t out (Set s) h = tt
+entry_fits ds names t out (Same k) h = let l = h.within in let e = length-map t.inputs (column_of ds names) in omega arith
+
+-- one entry that fits
+record IsOne (ds : List Decl) (names : List (List ℕ)) (t : FileTable) (entries : List Entry) : Type 0 where
+  single : length entries ≡ 1
+  entry : FitEntry (columns_at ds names t) (entry_of entries)
+
+one_fits : (ds : List Decl) (names : List (List ℕ)) (t : FileTable) (outs : List (List ℕ)) (entries : List Entry) → length outs ≡ 1 → FitOutputs ds t.inputs outs entries → IsOne ds names t entries
+one_fits ds names t [] entries single h = absurd (omega (arith, single))
+one_fits ds names t (o ∷ p ∷ os) entries single h = absurd (omega (arith, single))
+one_fits ds names t (o ∷ []) [] single h = absurd h
+one_fits ds names t (o ∷ []) (e ∷ f ∷ es) single h = absurd h.1
+one_fits ds names t (o ∷ []) (e ∷ []) single h = record { single = refl; entry = entry_fits ds names t o e h.0 }
+
+row_is : (ds : List Decl) (names : List (List ℕ)) (t : FileTable) → IsFileTable ds t → (r : Row) → IsFileRow ds t r → IsRow (columns_at ds names t) r
+row_is ds names t h r f =
+    let o = one_fits ds names t t.outputs r.outs h.single f.outs in
+    record { sets = sets_fit ds names t.inputs r.ins f.sets; single = o.single; entry = o.entry }
+
+pub table_is : (ds : List Decl) (names : List (List ℕ)) (t : FileTable) → IsPlacedTable ds names t → IsTable (columns_at ds names t) t
+table_is ds names t p = record {
+  rows = All-weaker (IsFileRow ds t) (IsRow (columns_at ds names t)) (row_is ds names t p.fits) t.rows p.fits.rows;
+  default = λ entries e.
+      let o = one_fits ds names t t.outputs entries p.fits.single (p.fits.default entries e) in
+      record { single = o.single; entry = o.entry };
+}

@@ -1,0 +1,14 @@
+-- The root is one of the models.
+use Rattle.std.proofs.Common.{◌≡◌, ◌∙◌, ◌<◌, ap, length, get_or, List, arith}
+use Rattle.std.proofs.lemmas.List.{get_or_default}
+use Rattle.mv_design.specs.declared.design.FileModel.{FileModel}
+use Rattle.mv_model.specs.Nets.{root_of, no_model}
+use Rattle.mv_flat.proofs.flat.root.Goals as goal
+
+pub returns : goal.returns
+unfolding root_of
+returns c =
+    let d = c.args.design.now in
+    let model = c.index-as_slice-design.result in
+    let low : d.root < length d.models = omega (arith, c.requires.single, c.requires.root_is) in
+    c.index-as_slice-design.is ∙ (ap (λ (models : List FileModel). get_or models d.root model) c.as_slice.ensures ∙ get_or_default d.models d.root model no_model low)

@@ -1,0 +1,35 @@
+-- Models whose nets have numbers, and the nets of their tables behind others.
+use Rattle.std.specs.Prelude.{◌≡◌, ℕ, ◌+◌, ◌*◌, ◌≤◌, Bool, true, Option, List, ◌++◌, length, All}
+use Rattle.std.specs.List.{list_all}
+use Rattle.mv_base.specs.Names.{among}
+use Rattle.mv_base.specs.declared.limits.TheConstants.{MAX_NETS}
+use Rattle.mv_design.specs.declared.design.Decl.{Decl}
+use Rattle.mv_design.specs.declared.design.FileModel.{FileModel}
+use Rattle.mv_design.specs.declared.table.FileTable.{FileTable}
+use Rattle.mv_model.specs.Nets.{drivers}
+use Rattle.mv_model.specs.Numbers.{places}
+use Rattle.mv_model.specs.Proper.{IsFileTable}
+use Rattle.mv_net.specs.declared.parts.FlatNet.{FlatNet}
+use Rattle.mv_flat.specs.Built.{AreTables}
+
+-- each of these nets has a number
+abbrev pub are_known : List (List ℕ) → List (List ℕ) → Bool
+are_known names nets = list_all (λ net. among net names) nets
+
+-- a table whose input columns have numbers
+pub record IsPlacedTable (ds : List Decl) (names : List (List ℕ)) (t : FileTable) : Type 0 where
+  pub fits : IsFileTable ds t
+  pub known : are_known names t.inputs ≡ true
+
+-- the names are those of a model's nets by number, with the columns of its tables among them
+pub record ArePlaced (m : FileModel) (names : List (List ℕ)) : Type 0 where
+  pub are : names ≡ places m
+  pub few : length names ≤ MAX_NETS
+  pub driven : length (drivers m) + length m.tables ≤ 2 * MAX_NETS
+  pub tables : All (IsPlacedTable m.decls names) m.tables
+
+-- nets with those of the model's tables behind them
+pub record AddsTables (m : FileModel) (old new : List (Option FlatNet)) : Type 0 where
+  pub here : List (Option FlatNet)
+  pub joined : new ≡ old ++ here
+  pub are : AreTables m.decls (places m) m.tables (drivers m) here

@@ -1,0 +1,47 @@
+//! The columns of tables by number.
+ghost use Rattle.std.specs.Prelude.{◌≡◌, ◌≤◌, length, IfOk, All};
+ghost use Rattle.mv_base.specs.declared.limits.TheConstants.{MAX_NETS};
+ghost use Rattle.mv_model.specs.Proper.{IsFileDecl};
+ghost use Rattle.mv_flat.specs.Numbers.{columns_at, mark_at};
+ghost use Rattle.mv_flat.specs.Values.{IsDeclared};
+
+use crate::values::Declared;
+use mv_base::{Memory, NetId};
+use mv_design::{Decl, FileTable};
+use mv_model::{Numbers, mark_name};
+use mv_rows::Column;
+use std::alloc::Global;
+
+/// The input columns of the table.
+pub fn columns(
+    alloc: Global,
+    decls: &[Decl],
+    declared: &Declared,
+    names: &Numbers,
+    table: &FileTable,
+) -> Result<Vec<Column>, Memory>
+    requires declared { IsDeclared decls.now declared.now }
+    requires proper { All IsFileDecl decls.now }
+    requires few { length names.now ≤ MAX_NETS }
+    ensures { IfOk result (λ columns. columns.items ≡ columns_at decls.now names.now table.now) }
+{
+    let mut columns = Vec::new(alloc);
+    for net in table.inputs.as_slice() {
+        columns.push(Column {
+            net: names.of(net),
+            count: declared.count_of(decls, net),
+        })?;
+    }
+    Ok(columns)
+}
+
+/// The number of the table's mark, or a number past all others where it has none.
+pub fn mark_of(alloc: Global, names: &Numbers, table: &FileTable) -> Result<NetId, Memory>
+    requires single { length table.now.outputs ≡ 1 }
+    requires few { length names.now ≤ MAX_NETS }
+    ensures { IfOk result (λ mark. mark ≡ mark_at names.now table.now) }
+{
+    let name = mark_name(alloc, &table.outputs.as_slice()[0])?;
+    let place = names.place(&name).unwrap_or(names.len());
+    Ok(NetId(place as u32))
+}

@@ -1,0 +1,96 @@
+//! The nets of tables.
+ghost use Rattle.std.specs.Prelude.{◌≡◌, ◌+◌, ◌<◌, ◌≤◌, ◌^◌, length, IfOk, OnOk, All};
+ghost use Rattle.mv_base.specs.declared.limits.TheConstants.{MAX_NETS};
+ghost use Rattle.mv_model.specs.Proper.{IsProperModel, IsFileDecl};
+ghost use Rattle.mv_rows.specs.Flat.{IsMade};
+ghost use Rattle.mv_rows.specs.Covers.{IsFlatTable};
+ghost use Rattle.mv_flat.specs.Numbers.{columns_at, mark_at};
+ghost use Rattle.mv_flat.specs.Marks.{AddsNets, TableNets};
+ghost use Rattle.mv_flat.specs.Values.{IsDeclared};
+ghost use Rattle.mv_flat.specs.Placed.{IsPlacedTable, ArePlaced, AddsTables};
+
+use crate::columns::{columns, mark_of};
+use crate::marks::put_mark;
+use crate::nets::file_net;
+use crate::values::Declared;
+use mv_base::{Items, Memory};
+use mv_design::{Decl, FileModel, FileTable};
+use mv_model::Numbers;
+use mv_net::{FlatNet, Kind};
+use mv_rows::{FlatTable, flat_table};
+use std::alloc::Global;
+
+/// Adds the nets of the tables, table after table.
+#[tactic(auto, using(crate::proofs::Behinds::tabled))]
+pub fn put_tables(
+    nets: &mut Items<Option<FlatNet>>,
+    alloc: Global,
+    declared: &Declared,
+    names: &Numbers,
+    model: &FileModel,
+) -> Result<(), Memory>
+    requires declared { IsDeclared model.now.decls declared.now }
+    requires proper { IsProperModel model.now }
+    requires placed { ArePlaced model.now names.now }
+    ensures { OnOk result (AddsTables model.now nets.old nets.new) }
+{
+    let mut last = 0;
+    for table in model.tables.as_slice() {
+        put_table(
+            nets,
+            &mut last,
+            alloc,
+            model.decls.as_slice(),
+            declared,
+            names,
+            table,
+        )?;
+    }
+    Ok(())
+}
+
+/// Adds the nets of a table. `last` is the number of the last made name.
+#[tactic(auto, using(crate::proofs::Needs::mark_needed, crate::proofs::Behinds::adds_table))]
+fn put_table(
+    nets: &mut Items<Option<FlatNet>>,
+    last: &mut u32,
+    alloc: Global,
+    decls: &[Decl],
+    declared: &Declared,
+    names: &Numbers,
+    table: &FileTable,
+) -> Result<(), Memory>
+    requires declared { IsDeclared decls.now declared.now }
+    requires proper { All IsFileDecl decls.now }
+    requires placed { IsPlacedTable decls.now names.now table.now }
+    requires few { length names.now ≤ MAX_NETS }
+    requires later { last.old + length names.now + 2 < 2 ^ 32 }
+    ensures { OnOk result (AddsNets (TableNets decls.now names.now table.now) names.now last.old last.new nets.old nets.new) }
+{
+    let FlatTable { cover, mark } = covers(alloc, decls, declared, names, table)?;
+    put_mark(nets, last, alloc, names, table, mark)?;
+    let output = &table.outputs.as_slice()[0];
+    let net = file_net(alloc, decls, declared, Kind::Table, Some(cover), output)?;
+    nets.push(Some(net))?;
+    Ok(())
+}
+
+/// The covers of the table's output and of its mark.
+fn covers(
+    alloc: Global,
+    decls: &[Decl],
+    declared: &Declared,
+    names: &Numbers,
+    table: &FileTable,
+) -> Result<FlatTable, Memory>
+    requires declared { IsDeclared decls.now declared.now }
+    requires proper { All IsFileDecl decls.now }
+    requires placed { IsPlacedTable decls.now names.now table.now }
+    requires few { length names.now ≤ MAX_NETS }
+    ensures made { IfOk result (λ flat. IsMade (columns_at decls.now names.now table.now) table.now (mark_at names.now table.now) flat) }
+    ensures relation { IfOk result (λ flat. IsFlatTable (columns_at decls.now names.now table.now) table.now (mark_at names.now table.now) flat) }
+{
+    let columns = columns(alloc, decls, declared, names, table)?;
+    let mark = mark_of(alloc, names, table)?;
+    flat_table(alloc, columns.as_slice(), table, mark)
+}

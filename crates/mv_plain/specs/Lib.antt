@@ -1,4 +1,0 @@
-pub mod Designs
-pub mod Grammar
-pub mod Reading
-pub mod Relation

@@ -1,0 +1,60 @@
+-- Lines that are refused, and those that have a network.
+use Rattle.std.proofs.Common.{◌≡◌, ◌⊎◌, ◌≤◌, List, [], inl, inr, length, refl, sym, ap, subst, ◌∙◌}
+use Rattle.std.specs.Prelude.{Some, None}
+use Rattle.mv_base.specs.declared.limits.TheConstants.{MAX_FLAT_NETS}
+use Rattle.mv_lex.specs.declared.lines.LexLine.{LexLine}
+use Rattle.mv_design.specs.declared.design.Design.{Design}
+use Rattle.mv_fault.specs.declared.fault.ParseFault.{ParseFault}
+use Rattle.mv_fault.specs.declared.fault.ParseFault.TheVariants.{Memory as NoParseMemory}
+use Rattle.mv_fault.specs.Tells.{first}
+use Rattle.mv_parse.specs.Grammar.{faults_of, IsDesign, IsWithin, FirstFault}
+use Rattle.mv_net.specs.declared.parts.NetParts.{NetParts}
+use Rattle.mv_model.specs.declared.fault.FlatFault.{FlatFault}
+use Rattle.mv_model.specs.declared.fault.FlatFault.TheVariants.{Memory as NoFlatMemory}
+use Rattle.mv_model.specs.Nets.{root_of, nets_of}
+use Rattle.mv_model.specs.Sound.{IsSoundModel, IsFault}
+use Rattle.mv_model.proofs.Soundness.{fault-excludes}
+use Rattle.mv_flat.specs.Flat.{IsFlat}
+use Rattle.mv_read.specs.declared.network.NetFault.{NetFault}
+use Rattle.mv_read.specs.declared.network.NetFault.TheVariants.{Parse, Flat, Memory}
+use Rattle.mv_read.specs.Reads.{IsNetOf, HasForm, IsUnsound, IsFaultOf, parse_refused, flat_refused}
+use Rattle.mv_read.proofs.Proper.{no-faults, proper}
+
+-- ---- what is told
+
+pub parse-told : (lines : List LexLine) (f : ParseFault) → (f ≡ NoParseMemory) ⊎ FirstFault lines f → IsFaultOf lines (parse_refused f)
+parse-told lines NoParseMemory told = tt
+parse-told lines _ (inl e) = cc
+parse-told lines _ (inr told) = told
+
+pub flat-told : (lines : List LexLine) (d : Design) (f : FlatFault) → IsDesign lines d → IsWithin lines → IsFault (root_of d) f → IsFaultOf lines (flat_refused f)
+flat-told lines d NoFlatMemory is within fault = tt
+flat-told lines d _ is within fault = record { design = d; is = is; within = within; fault = fault; cause = λ e. cc }
+
+pub net-told : (lines : List LexLine) (d : Design) (net : NetParts) → IsDesign lines d → IsWithin lines → IsFlat net d → IsNetOf lines net
+net-told lines d net is within flat = record { design = d; is = is; within = within; flat = flat }
+
+pub ruleset networks = (proper, parse-told, flat-told, net-told)
+
+-- ---- refused lines have no network
+
+pub HasForm-from_net : (lines : List LexLine) (net : NetParts) → IsNetOf lines net → HasForm lines
+HasForm-from_net lines net h = record { design = h.design; is = h.is; within = h.within; sound = h.flat.sound; nets = h.flat.nets }
+
+parse-excludes : (lines : List LexLine) (f : ParseFault) → FirstFault lines f → HasForm lines → ⊥
+parse-excludes lines f told h =
+    let none : faults_of lines ≡ [] = no-faults lines h.design h.is h.within in
+    let e : None ≡ Some f = ap first (sym none) ∙ told.first in
+    cc
+
+flat-excludes : (lines : List LexLine) (f : FlatFault) → IsUnsound lines f → HasForm lines → ⊥
+flat-excludes lines f u h =
+    let same : h.design ≡ u.design = h.is.is ∙ sym u.is.is in
+    let P : Design → Type 0 = λ d. IsSoundModel (root_of d) in
+    let Q : Design → Type 0 = λ d. length (nets_of (root_of d)) ≤ MAX_FLAT_NETS in
+    fault-excludes (root_of u.design) f u.fault u.cause (subst P same h.sound.root) (subst Q same h.nets)
+
+pub refused-excludes : (lines : List LexLine) (f : NetFault) → IsFaultOf lines f → (f ≡ Memory → ⊥) → HasForm lines → ⊥
+refused-excludes lines (Parse f) told some h = parse-excludes lines f told h
+refused-excludes lines (Flat f) told some h = flat-excludes lines f told h
+refused-excludes lines Memory told some h = some refl

@@ -1,0 +1,54 @@
+-- Lines and the network that they say, or why they say none.
+use Rattle.std.specs.Prelude.{◌≡◌, ◌≤◌, List, length}
+use Rattle.mv_base.specs.declared.limits.TheConstants.{MAX_FLAT_NETS}
+use Rattle.mv_lex.specs.declared.lines.LexLine.{LexLine}
+use Rattle.mv_design.specs.declared.design.Design.{Design}
+use Rattle.mv_fault.specs.declared.fault.ParseFault.{ParseFault}
+use Rattle.mv_fault.specs.declared.fault.ParseFault.TheVariants.{Memory as NoParseMemory}
+use Rattle.mv_parse.specs.Grammar.{IsDesign, IsWithin, FirstFault}
+use Rattle.mv_net.specs.declared.parts.NetParts.{NetParts}
+use Rattle.mv_model.specs.declared.fault.FlatFault.{FlatFault}
+use Rattle.mv_model.specs.declared.fault.FlatFault.TheVariants.{Memory as NoFlatMemory}
+use Rattle.mv_model.specs.Nets.{root_of, nets_of}
+use Rattle.mv_model.specs.Sound.{IsSound, IsFault}
+use Rattle.mv_flat.specs.Flat.{IsFlat}
+use Rattle.mv_read.specs.declared.network.NetFault.{NetFault}
+use Rattle.mv_read.specs.declared.network.NetFault.TheVariants.{Parse, Flat, Memory}
+
+-- the network of the design that the lines say
+pub record IsNetOf (lines : List LexLine) (net : NetParts) : Type 0 where
+  pub design : Design
+  pub is : IsDesign lines design
+  pub within : IsWithin lines
+  pub flat : IsFlat net design
+
+-- lines that say a sound design with few enough nets, within the limits
+pub record HasForm (lines : List LexLine) : Type 0 where
+  pub design : Design
+  pub is : IsDesign lines design
+  pub within : IsWithin lines
+  pub sound : IsSound design
+  pub nets : length (nets_of (root_of design)) ≤ MAX_FLAT_NETS
+
+-- lines that say a design which isn't sound, or has too many nets, and the fault that is told of it
+pub record IsUnsound (lines : List LexLine) (f : FlatFault) : Type 0 where
+  pub design : Design
+  pub is : IsDesign lines design
+  pub within : IsWithin lines
+  pub fault : IsFault (root_of design) f
+  pub cause : f ≡ NoFlatMemory → ⊥
+
+-- why lines are refused: their first fault, or what is wrong with their design; for want of memory any may be
+abbrev pub IsFaultOf : List LexLine → NetFault → Type 0
+IsFaultOf lines (Parse f) = FirstFault lines f
+IsFaultOf lines (Flat f) = IsUnsound lines f
+IsFaultOf lines Memory = Unit {0}
+
+-- want of memory is told alike wherever it comes
+abbrev pub parse_refused : ParseFault → NetFault
+parse_refused NoParseMemory = Memory
+parse_refused f = Parse f
+
+abbrev pub flat_refused : FlatFault → NetFault
+flat_refused NoFlatMemory = Memory
+flat_refused f = Flat f

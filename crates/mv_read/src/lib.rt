@@ -1,0 +1,10 @@
+//! Lines of a network file to a network, and what a design that the grammar accepts is like.
+#![tactic(auto)]
+
+mod laws;
+mod network;
+#[cfg(test)]
+mod tests;
+
+pub use laws::{designs_are_proper, one_answer};
+pub use network::{NetFault, network_of};

@@ -1,0 +1,82 @@
+-- Texts of declarations, tables and networks, piece by piece as they are written.
+use Rattle.std.proofs.Common.{◌≡◌, ◌∙◌, ℕ, ◌+◌, ◌<◌, ◌≤◌, true, false, ◌&&◌, nat_eq, IsTrue, is_some, Option, Some, None, List, [], ◌∷◌, ◌++◌, length, drop, map, codes, decimal, refl, sym, ap}
+use Rattle.std.specs.List.{flat_map}
+use Rattle.std.proofs.lemmas.Bool.{false≢true}
+use Rattle.std.proofs.lemmas.List.{append-nil, at_drop_more, at_drop_all}
+use Rattle.std.proofs.lemmas.List.Concat.{flat_map-append}
+use Rattle.std.proofs.lemmas.List.Folds.{flat_map-map}
+use Rattle.mv_base.specs.declared.number.NetId.{NetId}
+use Rattle.mv_lex.specs.Text.{spaced, line_text}
+use Rattle.mv_cover.specs.declared.line.Line.{Line}
+use Rattle.mv_cover.specs.declared.cover.Cover.{Cover}
+use Rattle.mv_net.specs.declared.parts.FlatNet.{FlatNet}
+use Rattle.mv_net.specs.declared.parts.NetParts.{NetParts}
+use Rattle.mv_net.specs.Nets.{slot, name_in, values_in, table_in, spelled_in}
+use Rattle.mv_net.specs.Index.{value_names_in}
+use Rattle.mv_write.specs.Text.{entry_word, fanins_of, line_words, default_words, cover_words, table_words, net_words, decl_words, names_of, inner_lines, net_lines, text_of}
+use Rattle.mv_write.specs.Walk.{numbers}
+
+-- ---- lines of all nets, by number
+
+pub nets-more : (each : Option FlatNet → List (List (List ℕ))) (nets : List (Option FlatNet)) (i : ℕ) → i < length nets → flat_map line_text (flat_map each (drop i nets)) ≡ flat_map line_text (each (slot nets i)) ++ flat_map line_text (flat_map each (drop (i + 1) nets))
+nets-more each nets i low =
+    at_drop_more (λ l. flat_map line_text (flat_map each l)) nets i None low ∙ flat_map-append line_text (each (slot nets i)) (flat_map each (drop (i + 1) nets))
+
+pub nets-none : (each : Option FlatNet → List (List (List ℕ))) (nets : List (Option FlatNet)) (i : ℕ) → length nets ≤ i → flat_map line_text (flat_map each (drop i nets)) ≡ []
+nets-none each nets i high = at_drop_all (λ l. flat_map line_text (flat_map each l)) nets i high
+
+-- a number that isn't held has no lines
+pub unheld-text : (each : Option FlatNet → List (List (List ℕ))) (f : Option FlatNet) → each None ≡ [] → is_some f ≡ false → flat_map line_text (each f) ≡ []
+unheld-text each None none h = ap (flat_map line_text) none
+unheld-text each (Some f) none h = absurd (false≢true (sym h))
+
+-- ---- declarations
+
+pub declared-text : (f : Option FlatNet) → IsTrue (is_some f) → (nat_eq (values_in f) 2 && nat_eq (length (value_names_in f)) 0) ≡ false → flat_map line_text (decl_words f) ≡ line_text (codes ".mv" ∷ name_in f ∷ decimal (values_in f) ∷ value_names_in f)
+declared-text None held e = absurd (false≢true held)
+declared-text (Some f) held e = rw e (append-nil (line_text (codes ".mv" ∷ f.name ∷ decimal f.values ∷ f.value_names)))
+
+pub plain-text : (f : Option FlatNet) → IsTrue (is_some f) → (nat_eq (values_in f) 2 && nat_eq (length (value_names_in f)) 0) ≡ true → flat_map line_text (decl_words f) ≡ []
+plain-text None held e = absurd (false≢true held)
+plain-text (Some f) held e = rw e refl
+
+-- ---- tables
+
+pub default-text : (values : List (List ℕ)) (default : Option ℕ) (set : ℕ) → default ≡ Some set → flat_map line_text (default_words values default) ≡ codes ".default " ++ (entry_word values set ++ 10 ∷ [])
+unfolding line_text spaced
+default-text values default set e =
+    let word = entry_word values set in
+    ap (λ d. flat_map line_text (default_words values d)) e ∙ (append-nil (line_text (codes ".default" ∷ word ∷ [])) ∙ ap (λ t. codes ".default " ++ (t ++ 10 ∷ [])) (append-nil word))
+
+pub default-none : (values : List (List ℕ)) (default : Option ℕ) → default ≡ None → flat_map line_text (default_words values default) ≡ []
+default-none values default e = ap (λ d. flat_map line_text (default_words values d)) e
+
+names-numbers : (nets : List (Option FlatNet)) (ns : List NetId) → map (λ m. name_in (slot nets m)) (numbers ns) ≡ names_of nets ns
+names-numbers nets [] = refl
+names-numbers nets (n ∷ ns) = ap (λ ws. name_in (slot nets n.0) ∷ ws) (names-numbers nets ns)
+
+pub table-text : (nets : List (Option FlatNet)) (c : Cover) (values : List (List ℕ)) (fanins : List NetId) (given name : List ℕ) (lines : List Line) → numbers fanins ≡ fanins_of (length nets) c → given ≡ name → lines ≡ c.lines
+    → flat_map line_text (table_words nets (Some c) values name) ≡ line_text (codes ".table" ∷ names_of nets fanins ++ codes "->" ∷ given ∷ []) ++ (flat_map line_text (default_words values c.default) ++ flat_map (λ l. line_text (line_words nets values (numbers fanins) l)) lines)
+table-text nets c values fanins given name lines ns is same =
+    let default = default_words values c.default in
+    let words : Line → List (List ℕ) = line_words nets values (numbers fanins) in
+    let rows : flat_map line_text (map words c.lines) ≡ flat_map (λ l. line_text (words l)) lines = flat_map-map line_text words c.lines ∙ ap (flat_map (λ l. line_text (words l))) (sym same) in
+    let behind = flat_map-append line_text default (map words c.lines) ∙ ap (λ t. flat_map line_text default ++ t) rows in
+    ap (λ fs. flat_map line_text (cover_words nets values name fs c)) (sym ns) ∙ (λ j. line_text (codes ".table" ∷ names-numbers nets fanins j ++ codes "->" ∷ sym is j ∷ []) ++ behind j)
+
+-- the lines of a net are those of its table
+pub net_words-is : (nets : List (Option FlatNet)) (f : Option FlatNet) (table : Option Cover) → table_in f ≡ table → flat_map line_text (net_words nets f) ≡ flat_map line_text (table_words nets table (spelled_in f) (name_in f))
+net_words-is nets None table e = ap (λ t. flat_map line_text (table_words nets t [] [])) e
+net_words-is nets (Some f) table e = ap (λ t. flat_map line_text (table_words nets t (spelled_in (Some f)) f.name)) e
+
+-- ---- the whole
+
+pub inner-text : (nets : List (Option FlatNet)) → flat_map line_text (inner_lines nets) ≡ flat_map line_text (flat_map decl_words nets) ++ flat_map line_text (flat_map (net_words nets) nets)
+inner-text nets = flat_map-append line_text (flat_map decl_words nets) (flat_map (net_words nets) nets)
+
+pub whole-text : (net : NetParts) (root : List ℕ) (inputs outputs : List NetId) → root ≡ net.root → inputs ≡ net.inputs → outputs ≡ net.outputs
+    → text_of net ≡ line_text (codes ".model" ∷ root ∷ []) ++ (line_text (codes ".inputs" ∷ names_of net.nets inputs) ++ (line_text (codes ".outputs" ∷ names_of net.nets outputs) ++ (flat_map line_text (inner_lines net.nets) ++ codes ".end\n")))
+unfolding text_of net_lines line_text spaced
+whole-text net root inputs outputs r i o =
+    let inner = inner_lines net.nets in
+    ap (λ t. line_text (codes ".model" ∷ net.root ∷ []) ++ (line_text (codes ".inputs" ∷ names_of net.nets net.inputs) ++ (line_text (codes ".outputs" ∷ names_of net.nets net.outputs) ++ t))) (flat_map-append line_text inner ((codes ".end" ∷ []) ∷ [])) ∙ (λ j. line_text (codes ".model" ∷ sym r j ∷ []) ++ (line_text (codes ".inputs" ∷ names_of net.nets (sym i j)) ++ (line_text (codes ".outputs" ∷ names_of net.nets (sym o j)) ++ (flat_map line_text inner ++ codes ".end\n"))))

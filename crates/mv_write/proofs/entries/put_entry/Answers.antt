@@ -1,0 +1,17 @@
+use Rattle.std.proofs.Common.{◌≡◌, ◌∙◌, ◌++◌, sym, ap}
+use Rattle.mv_base.proofs.Gains.{start, next, last}
+use Rattle.mv_net.specs.Nets.{slot, spelled_in, spelled_values}
+use Rattle.mv_write.specs.Text.{entry_word}
+use Rattle.mv_write.proofs.Spelling.{spelled-is, are-values}
+use Rattle.mv_write.proofs.entries.put_entry.Goals as goal
+
+pub put_set-requires-clause-values : goal.put_set-requires-clause-values
+put_set-requires-clause-values g c =
+    rw (c.values.ensures, c.value_names.ensures) (are-values c.args.net.now c.args.n.0 c.well_formed-2.ensures c.requires.held)
+
+pub returns : goal.returns
+returns g c =
+    let f = slot c.args.net.now.nets c.args.n.0 in
+    let spelled : spelled_values c.values.result c.value_names.result.now ≡ spelled_in f = (λ i. spelled_values (c.values.ensures i) (c.value_names.ensures i)) ∙ spelled-is f c.requires.held in
+    let text = ap (λ values. entry_word values c.args.set ++ c.args.behind.now) (sym spelled) in
+    last (next (start _ _ _) text c.in_ok-put_set.ensures) c.put_piece.ensures
