@@ -4,7 +4,7 @@ PROGRAM = crates/mvopt/out/mvopt
 .PHONY: demo test
 
 demo: $(PROGRAM)
-	@for file in examples/*.mv; do echo "$$ mvopt opt $$file examples/drop.script"; $(PROGRAM) opt $$file examples/drop.script || exit 1; done
+	@for file in examples/*.mv; do echo "$$ mvopt opt $$file $${file%.mv}.script"; $(PROGRAM) opt $$file $${file%.mv}.script || exit 1; done
 
 $(PROGRAM): $(shell find crates -name out -prune -o -type f -print)
 	cd crates/mvopt && rt run -- opt data/inv data/empty > /dev/null 2> /tmp/mvopt-build.log || { cat /tmp/mvopt-build.log; exit 1; }

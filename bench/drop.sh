@@ -4,7 +4,7 @@
 #   bench/drop.sh [N]        N is 1000 unless given; the program is crates/mvopt/out/mvopt (`make demo` builds it)
 # loose: `drop` on a chain of N and of 2N tables that nobody sees, which all go, the last first
 # wide:  `drop` on N and on 2N tables on one input that nobody reads, which all go, the first first
-# kept:  `drop` on a chain of 100N and of 200N tables that is seen at its end, so nothing goes
+# kept:  `drop` on a chain of 100N - 1 tables and of twice as many that is seen at its end, so nothing goes
 # none:  the same chain with an empty script
 set -euo pipefail
 cd "$(dirname "$0")/.."
@@ -43,7 +43,7 @@ n=${1:-1000}
 printf '%-6s %8s %8s %8s %8s %6s\n' kind tables seconds tables seconds ratio
 for kind in loose wide kept none; do
     size=$n
-    if [ "$kind" = kept ] || [ "$kind" = none ]; then size=$((100 * n)); fi
+    if [ "$kind" = kept ] || [ "$kind" = none ]; then size=$((100 * n - 1)); fi
     first=$(seconds "$kind" "$size")
     second=$(seconds "$kind" $((2 * size)))
     ratio=$(awk -v a="$first" -v b="$second" 'BEGIN { if (a > 0) printf "%.1f", b / a; else printf "-" }')
