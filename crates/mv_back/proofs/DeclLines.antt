@@ -6,7 +6,6 @@ use Rattle.std.proofs.lemmas.Bool.{cases_Bool, cond-false}
 use Rattle.std.proofs.lemmas.List.{map-append}
 use Rattle.mv_base.specs.Names.{among, names_differ}
 use Rattle.mv_lex.specs.declared.lines.LexLine.{LexLine}
-use Rattle.mv_lex.specs.Text.{lines_from}
 use Rattle.mv_design.specs.declared.design.Decl.{Decl}
 use Rattle.mv_decl.specs.Nets.{nets_of, with_decl, with_decls}
 use Rattle.mv_parse.specs.declared.command.Command.TheVariants.{Mv}
@@ -22,6 +21,7 @@ use Rattle.mv_back.proofs.NewNames.{new-word}
 use Rattle.mv_back.proofs.Declared.{mv_words, declares, declared-none}
 use Rattle.mv_back.proofs.Nets.{EachNet, CanBeSaid}
 use Rattle.mv_back.proofs.Lookups.{decl_of, declared}
+use Rattle.mv_back.specs.Written.{lines_from}
 
 -- behind these lines of a model these lines are fine, and declare these nets besides
 pub record AreDecls (h : LexLine) (front lines : List LexLine) (more : List Decl) : Type 0 where

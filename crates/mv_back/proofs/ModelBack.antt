@@ -6,7 +6,6 @@ use Rattle.std.proofs.lemmas.Bool.{and_parts}
 use Rattle.std.proofs.lemmas.List.Folds.{list_all-append}
 use Rattle.mv_base.specs.Names.{names_differ}
 use Rattle.mv_lex.specs.declared.lines.LexLine.{LexLine}
-use Rattle.mv_lex.specs.Text.{lines_from}
 use Rattle.mv_design.specs.declared.design.Decl.{Decl}
 use Rattle.mv_design.specs.declared.design.FileModel.{FileModel}
 use Rattle.mv_design.specs.declared.table.FileTable.{FileTable}
@@ -32,6 +31,7 @@ use Rattle.mv_back.proofs.Kept.{tables-behind, values-behind}
 use Rattle.mv_back.proofs.NetTables.{CanTable, SayTables, tables-said, tables-fine}
 use Rattle.mv_back.proofs.HeldTables.{table-net}
 use Rattle.mv_back.proofs.NetSays.{model_line, inputs_line, outputs_line, decl_part, tables_from, table_part, end_line, body, net-split, decls-alone, decls-begin_none, net-goes, net-inputs, net-outputs, decls-tables}
+use Rattle.mv_back.specs.Written.{lines_from}
 
 -- the lines of the network say this model, and it is the network's
 pub record IsReadModel (net : NetParts) : Type 0 where

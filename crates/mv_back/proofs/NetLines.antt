@@ -15,9 +15,8 @@ use Rattle.mv_net.specs.Nets.{slot, name_in, spelled_in, spelled_values, table_r
 use Rattle.mv_net.specs.Formed.{stands_in, latch_resets, WellFormed}
 use Rattle.mv_net.proofs.Known.{reads_readable}
 use Rattle.mv_lex.specs.Lines.{lines_of, is_clean}
-use Rattle.mv_lex.specs.Text.{lines_from}
 use Rattle.mv_write.specs.Text.{fanins_of, fanin_word, set_in, entry_word, line_words, default_words, head_words, cover_words, table_words, net_words, is_plain_pair, decl_words, names_of, inner_lines, net_lines, text_of}
-use Rattle.mv_back.specs.Written.{is_written_word, is_written_line}
+use Rattle.mv_back.specs.Written.{is_written_word, is_written_line, lines_from}
 use Rattle.mv_model.proofs.Decimals.{decimal-value_name}
 use Rattle.mv_back.proofs.Spelled.{spelled-held}
 use Rattle.mv_back.proofs.Lawful.{plain-written, net_name-written, value_name-written, value_names-written, entry-written}

@@ -6,7 +6,6 @@ use Rattle.std.proofs.lemmas.Bool.{cases_Bool, and_from, and_parts, or_left, or_
 use Rattle.std.proofs.lemmas.List.Folds.{list_all-append}
 use Rattle.std.proofs.lemmas.Grind.{flat_map-append}
 use Rattle.mv_lex.specs.declared.lines.LexLine.{LexLine}
-use Rattle.mv_lex.specs.Text.{lines_from}
 use Rattle.mv_decl.specs.Nets.{with_decls}
 use Rattle.mv_table.specs.Tables.{behind_first}
 use Rattle.mv_parse.specs.declared.command.Command.{Command}
@@ -21,6 +20,7 @@ use Rattle.mv_back.proofs.Commands.{command-model, command-inputs, command-outpu
 use Rattle.mv_back.proofs.Opened.{goes_on}
 use Rattle.mv_back.proofs.LinesFrom.{lines_from-append}
 use Rattle.mv_back.proofs.Kept.{begins_none, of_table, table-goes}
+use Rattle.mv_back.specs.Written.{lines_from}
 
 -- ---- the lines
 

@@ -5,7 +5,6 @@ use Rattle.std.specs.List.{list_all, flat_map}
 use Rattle.std.proofs.lemmas.Bool.{and_from, or_right}
 use Rattle.std.proofs.lemmas.List.Folds.{list_all-append}
 use Rattle.mv_lex.specs.declared.lines.LexLine.{LexLine}
-use Rattle.mv_lex.specs.Text.{lines_from}
 use Rattle.mv_design.specs.declared.design.Decl.{Decl}
 use Rattle.mv_design.specs.declared.table.FileTable.{FileTable}
 use Rattle.mv_cover.specs.declared.cover.Cover.{Cover}
@@ -24,6 +23,7 @@ use Rattle.mv_back.proofs.TableLines.{head_line, one_default, table_lines, table
 use Rattle.mv_back.proofs.LinesFrom.{lines_from-append}
 use Rattle.mv_back.proofs.Kept.{keeps, is_fresh, of_table, tables-table, values-table, table-goes}
 use Rattle.mv_back.proofs.TableText.{IsTableNet, are_rows, kept_words, SayTable, table-said}
+use Rattle.mv_back.specs.Written.{lines_from}
 
 module _ (nets : List (Option FlatNet)) (ds : List Decl) where
   -- if the net has a table, it can be said

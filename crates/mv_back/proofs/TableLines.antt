@@ -6,7 +6,6 @@ use Rattle.std.proofs.lemmas.Bool.{and_parts, eqb-true, not-true}
 use Rattle.mv_base.specs.Names.{begins_with, is_net_name}
 use Rattle.mv_base.specs.declared.limits.TheConstants.{MAX_TABLE_LINES}
 use Rattle.mv_lex.specs.declared.lines.LexLine.{LexLine}
-use Rattle.mv_lex.specs.Text.{lines_from}
 use Rattle.mv_fault.specs.declared.fault.Which.TheVariants.{TableLines}
 use Rattle.mv_fault.specs.declared.fault.ParseFault.TheVariants.{Limit}
 use Rattle.mv_fault.specs.Tells.{when}
@@ -22,6 +21,7 @@ use Rattle.mv_back.proofs.Commands.{command-table, command-default, command-row}
 use Rattle.mv_back.proofs.Opened.{goes_on, going-push, faults-going}
 use Rattle.mv_back.proofs.Limits.{only_limits, limits-append, when-limit, AreFine}
 use Rattle.mv_back.proofs.Columns.{columns, ins-written, outs-written, columns-limits}
+use Rattle.mv_back.specs.Written.{lines_from}
 
 -- ---- rows
 

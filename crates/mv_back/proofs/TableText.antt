@@ -8,7 +8,6 @@ use Rattle.std.proofs.lemmas.List.Folds.{list_all-map}
 use Rattle.mv_base.specs.Names.{begins_with, same_word, is_net_name}
 use Rattle.mv_base.proofs.NameLemmas.{same_word_is}
 use Rattle.mv_lex.specs.declared.lines.LexLine.{LexLine}
-use Rattle.mv_lex.specs.Text.{lines_from}
 use Rattle.mv_design.specs.declared.table.Entry.{Entry}
 use Rattle.mv_design.specs.declared.table.Row.{Row}
 use Rattle.mv_design.specs.declared.design.Decl.{Decl}
@@ -28,6 +27,7 @@ use Rattle.mv_back.proofs.Columns.{ins-written, outs-written}
 use Rattle.mv_back.proofs.TableLines.{is_row_line, head_line}
 use Rattle.mv_back.proofs.Rows.{IsColumn, outs-none, outs-are, name_at, IsFanin, row-none, row-is}
 use Rattle.mv_back.proofs.Kept.{keeps}
+use Rattle.mv_back.specs.Written.{lines_from}
 
 -- a line of a row is no default
 not_word : (w v : List ℕ) → begins_with 46 v ≡ true → begins_with 46 w ≡ false → same_word w v ≡ false

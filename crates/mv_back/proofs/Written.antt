@@ -9,11 +9,11 @@ use Rattle.mv_lex.specs.declared.parts.Kind.TheVariants.{Start}
 use Rattle.mv_lex.specs.Words.{Cut, cut_of, finished, waits}
 use Rattle.mv_lex.specs.Lines.{is_acceptable, is_line_feed, is_hash, joins, texts, all_joined, pieces, words_of, numbered, is_readable, is_closed, lines_of, is_clean}
 use Rattle.mv_lex.specs.Reading.{with_bytes}
-use Rattle.mv_lex.specs.Text.{spaced, line_text, lines_from}
+use Rattle.mv_lex.specs.Text.{spaced, line_text}
 use Rattle.mv_lex.proofs.Cuts.{pieces-first}
 use Rattle.mv_lex.proofs.Cutting.{cut_at, cut_of-bytes, with_bytes-append}
 use Rattle.mv_lex.proofs.Tails.{before_hash-clear}
-use Rattle.mv_back.specs.Written.{is_word_byte, is_written_word, is_written_line}
+use Rattle.mv_back.specs.Written.{is_word_byte, is_written_word, is_written_line, lines_from}
 use Rattle.mv_back.proofs.Ends.{ends_with-behind, own_text}
 use Rattle.mv_back.proofs.Words.{word_byte, written_word, cut-back}
 

@@ -1,8 +1,8 @@
 -- Words and lines that are read back as they are written, bracketed words among them.
-use Rattle.std.specs.Prelude.{ℕ, Bool, false, ◌&&◌, ◌||◌, not, ◌==◌, List, [], ◌∷◌, length, if◌then◌else◌}
+use Rattle.std.specs.Prelude.{ℕ, Bool, false, ◌&&◌, ◌||◌, not, ◌==◌, ◌+◌, List, [], ◌∷◌, length, if◌then◌else◌}
 use Rattle.std.specs.List.{list_all}
-use Rattle.mv_base.specs.Names.{is_visible}
-use Rattle.mv_lex.specs.Text.{is_plain_word}
+use Rattle.mv_base.specs.Names.{is_visible, is_bracketed, ends_with}
+use Rattle.mv_lex.specs.declared.lines.LexLine.{LexLine}
 
 -- a byte of a word: it can be seen, and begins no comment
 abbrev pub is_word_byte : ℕ → Bool
@@ -18,6 +18,10 @@ abbrev pub is_list_word : List ℕ → Bool
 is_list_word [] = false
 is_list_word (b ∷ bs) = (b == 40) && is_list_rest bs
 
+-- a plain word: it has a byte, all its bytes are those of words, it isn't bracketed, and it doesn't end in `\`
+abbrev pub is_plain_word : List ℕ → Bool
+is_plain_word w = not (length w == 0) && list_all (λ b. is_visible b && not (b == 35)) w && not (is_bracketed w) && not (ends_with 92 w)
+
 -- a word that is read back as it is written: a plain one, or a list in brackets
 unfoldable pub is_written_word : List ℕ → Bool
 is_written_word w = is_plain_word w || is_list_word w
@@ -25,3 +29,8 @@ is_written_word w = is_plain_word w || is_list_word w
 -- a line that is read back as it is written: it has a word, and each is such a word
 unfoldable pub is_written_line : List (List ℕ) → Bool
 is_written_line words = not (length words == 0) && list_all is_written_word words
+
+-- the lines with these words, one on each physical line, the first of which has this number
+abbrev pub lines_from : ℕ → List (List (List ℕ)) → List LexLine
+lines_from number [] = []
+lines_from number (ws ∷ ls) = record { number = number; words = ws } ∷ lines_from (number + 1) ls

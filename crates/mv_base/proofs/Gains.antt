@@ -60,6 +60,19 @@ Appends-then a b c n m k x y (Err e) p q = record {
   cause = HasCause-then n m k (Ok tt) (Err e) p.cause q.cause;
 }
 
+-- a call that appends nothing
+GainedPart-none : (a : Option (List ℕ)) → GainedPart a a []
+GainedPart-none None = tt
+GainedPart-none (Some o) = record { front = []; back = []; whole = refl; gained = ap Some (sym (append-nil o)) }
+
+pub appends_nothing : (a b : Option (List ℕ)) (n m : ℕ) (r : Result (Unit {0}) Failed) → b ≡ a → HasCause n m r → Appends a b n m [] r
+appends_nothing a b n m (Ok u) e c =
+    let P : Option (List ℕ) → Type 0 = λ z. Gained a z [] in
+    record { ok = subst P (sym e) (Gained-none a); part = tt; cause = c }
+appends_nothing a b n m (Err f) e c =
+    let P : Option (List ℕ) → Type 0 = λ z. GainedPart a z [] in
+    record { ok = tt; part = subst P (sym e) (GainedPart-none a); cause = c }
+
 -- a call that failed in the middle of a longer text
 pub Appends-cut : (a b : Option (List ℕ)) (n m : ℕ) (x y : List ℕ) (e : Failed) → Appends a b n m x (Err e) → Appends a b n m (x ++ y) (Err e)
 Appends-cut a b n m x y e p = record { ok = tt; part = GainedPart-more a b x y p.part; cause = p.cause }

@@ -119,10 +119,6 @@ AreApart-push (u ∷ us) w a new = (
   AreApart-push us w a.1 ((or_parts _ _ new).1),
 )
 
--- no words are distinct, and a new one behind distinct words keeps them so
-pub IsDistinct-empty : IsDistinct []
-IsDistinct-empty = record { apart = tt }
-
 pub IsDistinct-push : (ws : List (List ℕ)) (w : List ℕ) → IsDistinct ws → among w ws ≡ false → IsDistinct (ws ++ w ∷ [])
 IsDistinct-push ws w d new = record { apart = AreApart-push ws w d.apart new }
 

@@ -90,10 +90,6 @@ second : (p q : Bool) → (p && q) ≡ p → IsTrue p → IsTrue q
 second true q e h = e
 second false q e h = cc
 
-first_of_both : (p q : Bool) → (p && q) ≡ true → p ≡ true
-first_of_both true q e = refl
-first_of_both false q e = e
-
 either : {P : Type 0} (p q : Bool) → (IsTrue p → P) → (IsTrue q → P) → (p || q) ≡ true → P
 either true q f g e = f refl
 either false q f g e = g e
@@ -145,28 +141,6 @@ within_test a b = (
 )
 
 -- ---- sets of values: what calls make of them is one
-
-pub IsSet-empty : IsSet empty
-IsSet-empty = record { below = λ v h. absurd (false≢true (sym (has-empty v) ∙ h)) }
-
-pub IsSet-one : (u : ℕ) → u < MAX_VALUES → IsSet (one u)
-IsSet-one u small = record { below = λ v h. rw ((Decides-eqb v u).0 (sym (has-one u v) ∙ h)) small }
-
-pub IsSet-full : (k : ℕ) → k ≤ MAX_VALUES → IsSet (full k)
-IsSet-full k small = record {
-  below = λ v h.
-      let under : v < k = (Decides-ltb v k).0 (sym (has-full k v) ∙ h) in
-      omega arith;
-}
-
-pub IsSet-meet : (a b : ℕ) → IsSet a → IsSet (meet a b)
-IsSet-meet a b s = record { below = λ v h. s.below v (first_of_both (has a v) (has b v) (sym (has-meet a b v) ∙ h)) }
-
-pub IsSet-join : (a b : ℕ) → IsSet a → IsSet b → IsSet (join a b)
-IsSet-join a b s t = record { below = λ v h. either (has a v) (has b v) (s.below v) (t.below v) (sym (has-join a b v) ∙ h) }
-
-pub IsSet-minus : (a b : ℕ) → IsSet a → IsSet (minus a b)
-IsSet-minus a b s = record { below = λ v h. s.below v (first_of_both (has a v) (not (has b v)) (sym (has-minus a b v) ∙ h)) }
 
 -- a set of values is a number below 2 ^ MAX_VALUES: it is where it meets the full set
 pub bound-from_IsSet : (s : ℕ) → IsSet s → s < 2 ^ MAX_VALUES
@@ -223,13 +197,6 @@ count-more s v new =
     let before : count_ones s ≡ count_ones high + count_ones low = ap count_ones split ∙ ones_cat v high low fits in
     let after : count_ones (bit_or s (2 ^ v)) ≡ count_ones (high + 1) + count_ones low = ap count_ones more ∙ ones_cat v (high + 1) low fits in
     omega (arith, before, after, even_more high zero_there)
-
-pub count-full : (k : ℕ) → count_ones (full k) ≡ k
-unfolding full
-count-full k = ones-ones k
-
-pub count-one : (u : ℕ) → count_ones (one u) ≡ 1
-count-one u = ap count_ones (sym (join_empty (one u))) ∙ (count-more empty u (has-empty u) ∙ omega (arith, count-empty))
 
 -- a set without members is the empty one
 pub empty_from_count : (s : ℕ) → count_ones s ≡ 0 → s ≡ empty

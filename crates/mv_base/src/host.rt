@@ -1,11 +1,22 @@
 //! The real outside: files by path, standard input, standard output and standard error. None of them tells its bytes.
-ghost use Rattle.std.specs.Prelude.{◌≤◌, ◌≡◌, length, None, IfOk};
+ghost use Rattle.std.specs.Prelude.{◌≤◌, ◌≡◌, ◌+◌, ◌++◌, length, take, None, IfOk};
+ghost use Rattle.mv_base.specs.Outside.{Rose};
+ghost use Rattle.mv_base.specs.declared.host.TheConstants.{ROOM as room_bytes};
 
 use crate::{Failed, Files, Sink};
 use std::io::Read;
 use std::marker::Model;
 use std::rt::Files as Disk;
 use std::{fs, io};
+
+// Counts a fault.
+fn counted(faults: &mut u64) -> Failed
+    ensures rose { Rose faults.old faults.new }
+    ensures later { faults.old ≤ faults.new }
+{
+    *faults = faults.saturating_add(1);
+    Failed
+}
 
 // What is being read.
 #[derive(Drop)]
@@ -86,8 +97,7 @@ impl<R: Disk + Input> Files for HostFiles<R> {
             return Ok(());
         }
         let Ok(file) = fs::open(&self.rt, name) else {
-            self.faults = self.faults.saturating_add(1);
-            return Err(Failed);
+            return Err(counted(&mut self.faults));
         };
         self.source = Source::File(file);
         Ok(())
@@ -95,8 +105,7 @@ impl<R: Disk + Input> Files for HostFiles<R> {
 
     fn next(&mut self, room: &mut [u8]) -> Result<usize, Failed> {
         let Ok(count) = self.source.fill(room) else {
-            self.faults = self.faults.saturating_add(1);
-            return Err(Failed);
+            return Err(counted(&mut self.faults));
         };
         Ok(count)
     }
@@ -120,10 +129,42 @@ fn write_whole(out: &impl Print, piece: &[u8]) -> bool {
     false
 }
 
-/// Standard output, seen by contracts as the count of its faults.
+/// How many bytes standard output holds back before it writes them.
+const ROOM: usize = 16_384;
+
+// Bytes that are held back.
+#[derive(Drop)]
+struct Held {
+    bytes: [u8; ROOM],
+    len: usize,
+    ghost within: { len ≤ room_bytes },
+}
+
+impl Held {
+    // How many bytes more there is room for.
+    fn room(&self) -> usize
+        ensures { result + self.now.len ≡ ROOM }
+    {
+        ROOM - self.len
+    }
+
+    // Puts the piece behind the bytes.
+    fn add(&mut self, piece: &[u8])
+        requires { length piece.now + self.old.len ≤ ROOM }
+        ensures { take self.new.len self.new.bytes ≡ take self.old.len self.old.bytes ++ piece.now }
+    {
+        let end = self.len + piece.len();
+        self.bytes[self.len..end].copy_from_slice(piece);
+        self.len = end;
+    }
+}
+
+/// Standard output, seen by contracts as the count of its faults. It writes what it has taken once that is enough for a
+/// write of some size, or at `flush`: who doesn't flush it at the end loses the rest.
 #[derive(Drop)]
 pub struct HostOut<P: Print> {
     out: P,
+    held: Held,
     faults: u64,
 }
 
@@ -136,11 +177,32 @@ impl<P: Print> Model for HostOut<P> {
 }
 
 impl<P: Print> HostOut<P> {
+    ghost use Rattle.mv_base.specs.Outside.{HasCause};
+
     /// The output that the runtime reaches.
     pub fn new(out: P) -> Self
         ensures { result ≡ 0 }
     {
-        HostOut { out, faults: 0 }
+        HostOut {
+            out,
+            held: Held {
+                bytes: [0; ROOM],
+                len: 0,
+            },
+            faults: 0,
+        }
+    }
+
+    // Writes what is held back.
+    fn write_held(&mut self) -> Result<(), Failed>
+        ensures { HasCause self.old self.new result }
+    {
+        let is_written = write_whole(&self.out, &self.held.bytes[..self.held.len]);
+        self.held.len = 0;
+        if is_written {
+            return Ok(());
+        }
+        Err(counted(&mut self.faults))
     }
 }
 
@@ -150,11 +212,21 @@ impl<P: Print> Sink for HostOut<P> {
     ghost faults = { λ s. s };
 
     fn put(&mut self, piece: &[u8]) -> Result<(), Failed> {
+        if piece.len() > self.held.room() {
+            self.write_held()?;
+        }
+        if piece.len() <= self.held.room() {
+            self.held.add(piece);
+            return Ok(());
+        }
         if write_whole(&self.out, piece) {
             return Ok(());
         }
-        self.faults = self.faults.saturating_add(1);
-        Err(Failed)
+        Err(counted(&mut self.faults))
+    }
+
+    fn flush(&mut self) -> Result<(), Failed> {
+        self.write_held()
     }
 }
 
@@ -191,7 +263,6 @@ impl<P: Print> Sink for HostErr<P> {
         if write_whole(&self.err, piece) {
             return Ok(());
         }
-        self.faults = self.faults.saturating_add(1);
-        Err(Failed)
+        Err(counted(&mut self.faults))
     }
 }

@@ -28,6 +28,15 @@ impl<T> Items<T> {
         }
     }
 
+    /// The list without elements, with room for so many.
+    pub fn with_room(alloc: Global, room: usize) -> Result<Self, Memory>
+        ensures { IfOk result (λ list. list ≡ []) }
+    {
+        Ok(Items {
+            list: Vec::with_capacity(alloc, room)?,
+        })
+    }
+
     /// The list of a vector's elements.
     pub fn of(list: Vec<T>) -> Self
         ensures { result ≡ list.items }
@@ -115,14 +124,21 @@ impl<T: Copy> Items<T> {
 }
 
 impl Items<Name> {
+    /// The list of these names.
+    pub fn of_names(alloc: Global, names: &[Name]) -> Result<Items<Name>, Memory>
+        ensures { IfOk result (λ list. list ≡ names.now) }
+    {
+        let mut list = Items::new(alloc);
+        for name in names {
+            list.push(name.copy()?)?;
+        }
+        Ok(list)
+    }
+
     /// An equal list of names.
     pub fn copy_names(&self) -> Result<Items<Name>, Memory>
         ensures { IfOk result (λ c. c ≡ self.now) }
     {
-        let mut copied = Items::new(self.allocator());
-        for name in self.as_slice() {
-            copied.push(name.copy()?)?;
-        }
-        Ok(copied)
+        Items::of_names(self.allocator(), self.as_slice())
     }
 }

@@ -34,5 +34,5 @@ pub use name::Name;
 pub use name_set::NameSet;
 pub use number::{NetId, Value};
 pub use outside::{Failed, Files, Sink};
-pub use pieces::{put_both, put_piece};
+pub use pieces::{flush, put_both, put_piece};
 pub use value_set::{ValueSet, set_laws};

@@ -1,4 +1,4 @@
-ghost use Rattle.std.specs.Prelude.{◌≤◌, ℕ, List, Option, length, OnOk, OnErr, IfOk};
+ghost use Rattle.std.specs.Prelude.{◌≡◌, ◌≤◌, ℕ, List, Option, length, OnOk, OnErr, IfOk};
 
 /// The one way in which the outside fails. What it was is not told.
 #[derive(Clone, Copy, Debug, PartialEq, Eq)]
@@ -39,4 +39,12 @@ pub trait Sink {
         ensures ok { OnOk result (Gained (told self.old) (told self.new) piece.now) }
         ensures part { OnErr result (GainedPart (told self.old) (told self.new) piece.now) }
         ensures cause { HasCause (faults self.old) (faults self.new) result };
+
+    /// Hands on what the object has taken and still holds back. One that holds nothing back has nothing to do.
+    fn flush(&mut self) -> Result<(), Failed>
+        ensures told { told self.new ≡ told self.old }
+        ensures cause { HasCause (faults self.old) (faults self.new) result }
+    {
+        Ok(())
+    }
 }

@@ -181,7 +181,9 @@ fn a_missing_file_fails(rt: HostRuntime) {
 
 #[test]
 fn standard_output_takes_an_empty_piece(rt: HostRuntime) {
-    assert_eq!(rt; HostOut::new(rt.stdout()).put(b""), Ok(()));
+    let mut out = HostOut::new(rt.stdout());
+    assert_eq!(rt; out.put(b""), Ok(()));
+    assert_eq!(rt; out.flush(), Ok(()));
 }
 
 #[test]

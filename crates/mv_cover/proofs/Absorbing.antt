@@ -2,7 +2,7 @@
 use Rattle.std.proofs.Common.{◌≡◌, ◌∙◌, ℕ, suc, zero, ◌+◌, ◌<◌, ◌≤◌, Bool, true, false, not, ◌&&◌, ◌||◌, List, [], ◌∷◌, ◌++◌, length, filter, nat_eq, inl, inr, refl, sym, ap, arith, Option, Some, None, All, add-one, get_or, append_assoc, drop, drop-cons}
 use Rattle.indexmap.specs.IndexSet.{insert_key}
 use Rattle.std.specs.List.{list_any, Contains}
-use Rattle.std.proofs.lemmas.Bool.{cases_Bool, false≢true, and_parts, and_from, not-true, not_from_false, eq-eqb, false_from_ne_true}
+use Rattle.std.proofs.lemmas.Bool.{cases_Bool, false≢true, and_parts, and_from, or_left, or_right, not-true, not_from_false, eq-eqb, false_from_ne_true}
 use Rattle.std.proofs.lemmas.List.Elements.{All-contains, All-filter, All-cons, All-head, All-tail}
 use Rattle.std.proofs.lemmas.List.Folds.{list_any_at, list_any-append}
 use Rattle.std.proofs.lemmas.Map.Views.{any-filter_same}
@@ -18,7 +18,6 @@ use Rattle.mv_cover.specs.Containing.{set_within, set_lies, lies_in}
 use Rattle.mv_cover.specs.Equal.{line_eq}
 use Rattle.mv_cover.specs.Keys.{same_lit, same_line, line_eq-Decides}
 use Rattle.mv_cover.specs.Absorb.{firsts, line_lies, swallowed_by, unswallowed, some_bare, default_beside, absorbed}
-use Rattle.mv_cover.proofs.Local.{or_left, or_right}
 use Rattle.mv_cover.proofs.Covering.{same_number}
 use Rattle.mv_cover.proofs.Meets.{Rises, Rises-cube, nothing_below, order}
 use Rattle.mv_cover.proofs.Containing.{lies_inside, same_from_Within}

@@ -30,11 +30,6 @@ ascend_below k l (m ∷ ls) h b =
     let rest : m.net.0 + length (m ∷ ls) ≤ k = ascend_below k m ls p.1 q.1 in
     omega arith
 
--- a cube of nets below k has at most k literals
-pub cube_short : (k : ℕ) (cube : List Lit) → IsCube cube → list_all (λ (m : Lit). nat_lt m.net.0 k) cube ≡ true → length cube ≤ k
-cube_short k [] is b = omega arith
-cube_short k (l ∷ ls) is b = omega (arith, ascend_below k l ls is.ascending b)
-
 -- the literals are a sum over the lines
 pub literals-sum : (ls : List Line) → literals_of ls ≡ sum_by (λ (l : Line). length l.cube) ls
 literals-sum = is_sum_by literals_of (λ (l : Line). length l.cube) refl (λ _ _. refl)

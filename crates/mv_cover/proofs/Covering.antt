@@ -1,7 +1,7 @@
 -- Cofactors of cubes: they match as the cubes do where the net has the value, and they are smaller.
 use Rattle.std.proofs.Common.{◌≡◌, ◌∙◌, ℕ, ◌+◌, ◌≤◌, ◌<◌, Bool, true, false, ◌&&◌, ◌||◌, List, [], ◌∷◌, length, ◌++◌, nat_eq, nat_lt, inl, inr, refl, sym, ap, arith, get_or, cond, MatchBool, subst, zero, suc, Result, Ok, Err, IfOk}
 use Rattle.std.specs.List.{list_all, list_any}
-use Rattle.std.proofs.lemmas.Bool.{cases_Bool, false≢true, and_parts, ltb-true, eq-eqb, ne_eqb}
+use Rattle.std.proofs.lemmas.Bool.{cases_Bool, false≢true, and_parts, or_left, or_right, ltb-true, eq-eqb, ne_eqb}
 use Rattle.std.specs.Cmp.{unsigned_Decides}
 use Rattle.mv_base.specs.Set.{has}
 use Rattle.mv_cover.specs.declared.cube.Lit.{Lit}
@@ -11,7 +11,6 @@ use Rattle.mv_cover.specs.Covers.{some_matches, cube_reads, lines_read}
 use Rattle.mv_cover.specs.Covering.{IsPoint, AreWithin, CoversAll, MissesSome}
 use Rattle.mv_cover.specs.Cofactors.{MatchEach, cubes_match, cubes_read, AreCubesWithin, CubesCover, CubesMiss, CoverBelow, cube_allows, cube_without, cofactor_of, cubes_of, literals_in}
 use Rattle.mv_cover.proofs.Points.{lines_read-append}
-use Rattle.mv_cover.proofs.Local.{or_left, or_right}
 
 pub same_number : (a b : ℕ) → nat_eq a b ≡ true → a ≡ b
 same_number a b h = (unsigned_Decides a b).0 h
@@ -184,10 +183,6 @@ cover_more counts cs n value below part = record {
       ];
 }
 
--- all values of a net that has values
-pub cover_end : (counts : List ℕ) (cs : List (List Lit)) (n : ℕ) → 0 < get_or counts n 0 → CoverBelow counts cs n (get_or counts n 0) → CubesCover counts cs
-cover_end counts cs n some below = record { each = λ at p. below.each at p (p.below n some) }
-
 -- the cubes of the lines match and read as the lines do
 pub cubes_match-lines : (at : ℕ → ℕ) (ls : List Line) → cubes_match at (cubes_of ls) ≡ some_matches at ls
 cubes_match-lines at [] = refl
@@ -298,7 +293,3 @@ inside : (counts : List ℕ) (n : ℕ) → 0 < get_or counts n 0 → n < length 
 inside [] n h = absurd (omega arith)
 inside (c ∷ cs) zero h = omega arith
 inside (c ∷ cs) (suc n) h = omega (arith, inside cs n h)
-
--- an assignment within the counts of all nets is a point
-pub IsPoint-from_all : (counts : List ℕ) (at : ℕ → ℕ) → ((n : ℕ) → n < length counts → at n < get_or counts n 0) → IsPoint counts at
-IsPoint-from_all counts at each = record { below = λ n some. each n (inside counts n some) }

@@ -4,8 +4,5 @@ use Rattle.mv_cover.specs.declared.line.Line.{Line}
 use Rattle.mv_cover.specs.Equal.{line_eq}
 pub use Rattle.mv_cover.specs.Keys.{lit_eq-Decides, cube_eq-Decides, line_eq-Decides}
 
-pub line_eq-same : (a b : Line) → line_eq a b ≡ true → a ≡ b
-line_eq-same a b = (line_eq-Decides a b).0
-
 pub line_eq-refl : (a : Line) → line_eq a a ≡ true
 line_eq-refl a = (line_eq-Decides a a).1 refl

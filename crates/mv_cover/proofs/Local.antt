@@ -1,18 +1,12 @@
 -- A cover depends on the nets that it has literals on, and on no other.
-use Rattle.std.proofs.Common.{◌≡◌, ℕ, Bool, true, false, not, ◌&&◌, ◌||◌, List, [], ◌∷◌, refl, nat_eq, eq-eqb}
+use Rattle.std.proofs.Common.{◌≡◌, ℕ, true, not, ◌&&◌, ◌||◌, List, [], ◌∷◌, refl, nat_eq, eq-eqb}
+use Rattle.std.proofs.lemmas.Bool.{or_left, or_right}
 use Rattle.mv_base.specs.Set.{has}
 use Rattle.mv_cover.specs.declared.cube.Lit.{Lit}
 use Rattle.mv_cover.specs.declared.line.Line.{Line}
 use Rattle.mv_cover.specs.declared.cover.Cover.{Cover}
 use Rattle.mv_cover.specs.Cubes.{matches}
 use Rattle.mv_cover.specs.Covers.{some_matches, some_gives, default_gives, allowed, cube_reads, lines_read, cover_reads}
-
-pub or_left : (x y : Bool) → x ≡ true → (x || y) ≡ true
-or_left x y h = rw h refl
-
-pub or_right : (x y : Bool) → y ≡ true → (x || y) ≡ true
-or_right true y h = refl
-or_right false y h = h
 
 pub matches-local : (cube : List Lit) (x y : ℕ → ℕ) → ((m : ℕ) → cube_reads cube m ≡ true → x m ≡ y m) → matches x cube ≡ matches y cube
 matches-local [] x y h = refl

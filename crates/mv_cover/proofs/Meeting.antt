@@ -5,7 +5,7 @@ use Rattle.std.proofs.lemmas.List.{drop_all}
 use Rattle.std.specs.Prelude.{◌↔◌}
 use Rattle.std.specs.List.{list_all, Contains}
 use Rattle.std.specs.Cmp.{unsigned_Decides}
-use Rattle.std.proofs.lemmas.Bool.{cases_Bool, false≢true, and_parts, and_from, and_left, or_left, or_right, ltb-true, lt-ltb, ne_eqb, eq-eqb, not-true, not_from_false, false_from_ne_true, eqb-false}
+use Rattle.std.proofs.lemmas.Bool.{cases_Bool, false≢true, and_parts, and_from, or_left, or_right, ltb-true, lt-ltb, ne_eqb, eq-eqb, not-true, not_from_false, false_from_ne_true, eqb-false}
 use Rattle.mv_base.specs.Set.{has, empty, meet}
 use Rattle.mv_base.proofs.Sets.{has-meet, has-empty}
 use Rattle.mv_cover.specs.declared.cube.Lit.{Lit}
@@ -307,15 +307,6 @@ walked_both a b i j l m in_a in_b at_i at_j n t w =
       first = ascend_tail l xs p;
       second = ascend_tail m ys q;
     }
-
--- two literals that can't hold together keep the cubes apart
-pub walked_clash : (a b : List Lit) (i j : ℕ) (l m : Lit) → i < length a → j < length b → l ≡ get_or a i l → m ≡ get_or b j m → l.net.0 ≡ m.net.0 → nat_eq (meet l.set m.set) empty ≡ true → Walked a b i j → cubes_meet a b ≡ false
-walked_clash a b i j l m in_a in_b at_i at_j n t w =
-    let ys = drop (j + 1) b in
-    let none : lits_meet l m ≡ false = rw (eq-eqb l.net.0 m.net.0 n) (rw t refl) in
-    let row : list_all (lits_meet l) (m ∷ ys) ≡ false = and_left (lits_meet l m) (list_all (lits_meet l) ys) none in
-    let all : cubes_meet (l ∷ drop (i + 1) a) (m ∷ ys) ≡ false = and_left (list_all (lits_meet l) (m ∷ ys)) (cubes_meet (drop (i + 1) a) (m ∷ ys)) row in
-    sym w.same ∙ ((λ k. cubes_meet (rest_at a i l in_a at_i k) (rest_at b j m in_b at_j k)) ∙ all)
 
 -- at the end of either the cubes meet
 pub walked_all_first : (a b : List Lit) (i j : ℕ) → length a ≤ i → Walked a b i j → cubes_meet a b ≡ true

@@ -249,11 +249,6 @@ same_lits j k (l ∷ ls) (m ∷ ms) p q same =
           ]
     ]
 
--- there is one cube at most that two cubes meet in
-pub IsMet-unique : (a b c d : List Lit) → IsMet a b c → IsMet a b d → c ≡ d
-IsMet-unique a b c d p q =
-    same_lits 0 0 c d (Rises-cube c p.cube.ascending) (Rises-cube d q.cube.ascending) (λ n. p.sets n ∙ sym (q.sets n))
-
 -- ---- the walk along both lists
 
 -- merging with nothing changes nothing, and two lists begin with the next literal of their first

@@ -1,6 +1,6 @@
 -- Members of sets, found.
-use Rattle.std.proofs.Common.{◌≡◌, ◌∙◌, ℕ, zero, suc, ◌+◌, ◌<◌, ◌≤◌, ◌^◌, ◌*◌, Bool, true, false, not, ◌⊎◌, ◌≢◌, Some, None, List, [], ◌∷◌, nat_eq, inl, inr, refl, sym, ap, arith, below_more}
-use Rattle.std.proofs.lemmas.Bool.{cases_Bool, false≢true, and_parts, and_from, eq-eqb, ne_eqb}
+use Rattle.std.proofs.Common.{◌≡◌, ◌∙◌, ℕ, zero, suc, ◌+◌, ◌<◌, ◌≤◌, ◌^◌, ◌*◌, true, false, not, ◌⊎◌, ◌≢◌, Some, None, List, [], ◌∷◌, nat_eq, inl, inr, refl, sym, ap, arith, below_more}
+use Rattle.std.proofs.lemmas.Bool.{cases_Bool, false≢true, and_parts, and_from, not-true, eq-eqb, ne_eqb}
 use Rattle.std.proofs.lemmas.Nat.{pow_pos}
 use Rattle.std.proofs.Math.Nat.{pow-suc}
 use Rattle.mv_base.specs.Set.{has, empty}
@@ -47,11 +47,6 @@ member_of s some =
           absurd (false≢true (sym some ∙ eq-eqb s empty (same_set s empty nowhere)))
     ]
 
--- a test that fails, by its opposite
-isnt : (b : Bool) → not b ≡ true → b ≡ false
-isnt true h = sym h
-isnt false h = refl
-
 -- an assignment at which the literals hold, which is 0 off their nets
 pub record PointOf (c : List Lit) : Type 0 where
   pub at : ℕ → ℕ
@@ -62,7 +57,7 @@ pub point_of : (k : ℕ) (c : List Lit) → Rises k c → list_all (λ l. not (n
 point_of k [] r some = record { at = λ _. 0; there = refl; zeros = λ n e. refl }
 point_of k (l ∷ ls) r some =
     let p = and_parts (not (nat_eq l.set empty)) (list_all (λ (m : Lit). not (nat_eq m.set empty)) ls) some in
-    let member = member_of l.set (isnt (nat_eq l.set empty) p.0) in
+    let member = member_of l.set (not-true (nat_eq l.set empty) p.0) in
     let rest = point_of (l.net.0 + 1) ls r.1 p.1 in
     let at = changed l.net.0 member.0 rest.at in
     let agree = changed-agrees l.net.0 member.0 rest.at in

@@ -1,17 +1,14 @@
 -- What cubes and lines say of a point, over lists that are joined or reordered.
-use Rattle.std.proofs.Common.{◌≡◌, ◌∙◌, ℕ, Bool, true, false, not, ◌&&◌, ◌||◌, List, [], ◌∷◌, ◌++◌, ◌+◌, nat_eq, inl, inr, refl, sym, ap, add-one, arith}
+use Rattle.std.proofs.Common.{◌≡◌, ◌∙◌, ℕ, Bool, true, false, not, ◌&&◌, ◌||◌, List, [], ◌∷◌, ◌++◌, ◌+◌, nat_eq, refl, sym, ap, add-one, arith}
 use Rattle.std.specs.List.{list_all, list_any, Contains}
-use Rattle.std.specs.List.Sorted.{IsPermutation}
-use Rattle.std.proofs.lemmas.Bool.{cases_Bool, false≢true, and_from, ne_eqb, eq-eqb}
-use Rattle.std.proofs.lemmas.List.Folds.{list_all-append, list_all_at}
-use Rattle.std.proofs.lemmas.List.Sorted.{list_any-IsPermutation}
+use Rattle.std.proofs.lemmas.Bool.{false≢true, and_from, or_left, ne_eqb, eq-eqb}
+use Rattle.std.proofs.lemmas.List.Folds.{list_all-append}
 use Rattle.mv_base.specs.Set.{has, empty, one, join}
 use Rattle.mv_base.proofs.Sets.{has-one, has-empty, has-join}
 use Rattle.mv_cover.specs.declared.cube.Lit.{Lit}
 use Rattle.mv_cover.specs.declared.line.Line.{Line}
 use Rattle.mv_cover.specs.Cubes.{holds, matches}
 use Rattle.mv_cover.specs.Covers.{some_matches, some_gives, lines_read}
-use Rattle.mv_cover.proofs.Local.{or_left}
 
 -- a test of each element, as a test that fails of none
 none_fails : (b a c : Bool) → a ≡ not c → (b && a) ≡ not (not b || c)
@@ -25,27 +22,11 @@ list_all-none p (x ∷ xs) = none_fails (p x) (list_all p xs) (list_any (λ y. n
 pub matches-append : (at : ℕ → ℕ) (xs ys : List Lit) → matches at (xs ++ ys) ≡ (matches at xs && matches at ys)
 matches-append at xs ys = list_all-append (holds at) xs ys
 
-pub matches-permutation : (at : ℕ → ℕ) (xs ys : List Lit) → IsPermutation xs ys → matches at xs ≡ matches at ys
-matches-permutation at xs ys p =
-    list_all-none (holds at) xs ∙ ap not (list_any-IsPermutation (λ l. not (holds at l)) xs ys p) ∙ sym (list_all-none (holds at) ys)
-
--- a literal of a cube that holds holds
-pub matches-holds : (at : ℕ → ℕ) (xs : List Lit) (l : Lit) → Contains xs l → matches at xs ≡ true → holds at l ≡ true
-matches-holds at xs l c m =
-    elim (cases_Bool (holds at l)) [
-      | inl t ↦ t
-      | inr f ↦ absurd (false≢true (sym (list_all_at (holds at) xs c.0 l c.1 (ap (holds at) c.2 ∙ f)) ∙ m))
-    ]
-
 -- a cube each of whose literals holds holds
 pub holds-matches : (at : ℕ → ℕ) (xs : List Lit) → ((l : Lit) → Contains xs l → holds at l ≡ true) → matches at xs ≡ true
 holds-matches at [] each = refl
 holds-matches at (x ∷ xs) each =
     and_from (holds at x) (matches at xs) (each x (0, omega arith, refl)) (holds-matches at xs (λ l c. each l (c.0 + 1, omega arith, rw add-one c.2)))
-
--- a cube whose literals are among those of another holds where that one does
-pub matches-among : (at : ℕ → ℕ) (xs ys : List Lit) → ((l : Lit) → Contains ys l → Contains xs l) → matches at xs ≡ true → matches at ys ≡ true
-matches-among at xs ys among m = holds-matches at ys (λ l c. matches-holds at xs l (among l c) m)
 
 -- either of two, further down a list
 or_more : (m a b c : Bool) → c ≡ (a || b) → (m || c) ≡ ((m || a) || b)

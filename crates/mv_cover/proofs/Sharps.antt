@@ -1,8 +1,8 @@
 -- The parts of a cube outside another: they hold where they should, no two together, and they suit the counts.
-use Rattle.std.proofs.Common.{◌≡◌, ◌∙◌, ℕ, ◌+◌, ◌≤◌, ◌<◌, ◌≢◌, Bool, true, false, not, ◌&&◌, ◌⊎◌, List, [], ◌∷◌, ◌++◌, get_or, nat_eq, inl, inr, refl, sym, ap, subst, arith, Option, Some, None, unwrap_or, All, AllPairs, length, slice_set, insert, add-one, drop, suc, drop-cons, append_assoc, append-nil}
+use Rattle.std.proofs.Common.{◌≡◌, ◌∙◌, ℕ, ◌+◌, ◌≤◌, ◌<◌, ◌≢◌, Bool, true, false, not, ◌&&◌, ◌⊎◌, List, [], ◌∷◌, ◌++◌, get_or, nat_eq, inl, inr, refl, sym, ap, subst, arith, Option, Some, None, unwrap_or, All, AllPairs, length, slice_set, insert, add-one, drop, append_assoc, append-nil}
 use Rattle.std.specs.List.{list_all}
 use Rattle.std.proofs.Math.Bool.{and-false, and-true}
-use Rattle.std.proofs.lemmas.Bool.{cases_Bool, false≢true, and_parts, and_from, ltb-true, lt-ltb, le-ltb, eq-eqb, ne_eqb, not_from_false}
+use Rattle.std.proofs.lemmas.Bool.{cases_Bool, false≢true, and_parts, and_from, or_left, or_right, ltb-true, lt-ltb, le-ltb, eq-eqb, ne_eqb, not_from_false}
 use Rattle.std.proofs.lemmas.List.{drop_all}
 use Rattle.std.proofs.lemmas.List.Elements.{All-nil, All-cons, All-append}
 use Rattle.std.proofs.lemmas.List.Kept.{AllPairs-cons}
@@ -19,10 +19,9 @@ use Rattle.mv_cover.specs.Meets.{literal_at}
 use Rattle.mv_cover.specs.Containing.{FitsNet, FitsCube}
 use Rattle.mv_cover.specs.Sharp.{Suits, IsCubeOver, AreApart, values_at, literals_below, with_literal, inside_of, outside_of, parts_outside, sharp_of}
 use Rattle.mv_cover.proofs.Covering.{same_number, swap, matches-without}
-use Rattle.mv_cover.proofs.Local.{or_left, or_right}
 use Rattle.mv_cover.proofs.Meets.{Rises, Rises-cube, ascend-Rises, order, nothing_below}
 use Rattle.mv_cover.proofs.Containing.{fits_at}
-use Rattle.mv_cover.proofs.Meeting.{HoldTogether, together, meet_from_point}
+use Rattle.mv_cover.proofs.Meeting.{HoldTogether, together, meet_from_point, rest_at}
 
 -- ---- a literal put on its net
 
@@ -551,10 +550,6 @@ cut_none counts c d lits before e is it s meets =
       suits = s;
       together = together c d is it meets;
     })
-
--- what is left begins with the literal at the place
-rest_at : (d : List Lit) (i : ℕ) (l : Lit) → i < length d → l ≡ get_or d i l → drop i d ≡ l ∷ drop (i + 1) d
-rest_at d i l low e = rw add-one (drop-cons d i l low ∙ ap (λ x. x ∷ drop (suc i) d) (sym e))
 
 -- the literals left are a cube
 pub cut_cube : (counts : List ℕ) (c d : List Lit) (before list : List (List Lit)) (lits : List Lit) (i : ℕ) → Cut counts c d before list lits i → IsCube lits

@@ -2,7 +2,7 @@
 use Rattle.std.proofs.Common.{◌≡◌, ◌∙◌, ℕ, suc, ◌+◌, ◌<◌, ◌≤◌, List, [], ◌∷◌, length, drop, drop-cons, add-one, take, get_or, nat_eq, inl, inr, sym, ap, subst, zero, arith}
 use Rattle.std.proofs.lemmas.Bool.{cases_Bool, false≢true}
 use Rattle.std.proofs.lemmas.List.{drop_all, take_all, take_more}
-use Rattle.std.proofs.lemmas.List.Elements.{All-nil, All-cons, All-append, All-get_or}
+use Rattle.std.proofs.lemmas.List.Elements.{All-nil, All-cons, All-append}
 use Rattle.mv_base.specs.declared.limits.TheConstants.{MAX_VALUES}
 use Rattle.mv_cover.specs.declared.cube.Lit.{Lit}
 use Rattle.mv_cover.specs.declared.line.Line.{Line}
@@ -14,10 +14,6 @@ use Rattle.mv_cover.proofs.Covering.{same_number}
 -- the cube suits the counts if its literals from this place on do
 pub record SuitsBehind (counts : List ℕ) (c : List Lit) (i : ℕ) : Type 0 where
   pub enough : Suits counts (drop i c) → Suits counts c
-
--- before the first literal nothing is left out
-pub behind_none : (counts : List ℕ) (c : List Lit) → SuitsBehind counts c 0
-behind_none counts c = record { enough = λ s. s }
 
 -- one literal in front
 Suits-cons : (counts : List ℕ) (l : Lit) (ls : List Lit) → SuitsNet counts l → Suits counts ls → Suits counts (l ∷ ls)
@@ -61,8 +57,3 @@ lines_more counts lines i line cube low e f s so_far =
 -- all lines
 pub lines_all : (counts : List ℕ) (lines own : List Line) (i : ℕ) → length lines ≤ i → lines ≡ own → LinesSuit counts (take i lines) → LinesSuit counts own
 lines_all counts lines own i end e so_far = subst (λ (x : List Line). LinesSuit counts x) (take_all i lines end ∙ e) so_far
-
--- and so does the cube of each line
-pub LinesSuit-get_or : (counts : List ℕ) (lines : List Line) (i : ℕ) (line : Line) (cube : List Lit) → i < length lines → line ≡ get_or lines i line → cube ≡ line.cube → LinesSuit counts lines → Suits counts cube
-LinesSuit-get_or counts lines i line cube low e f s =
-    subst (Suits counts) (sym (f ∙ ap (λ (l : Line). l.cube) e)) (All-get_or (λ (l : Line). Suits counts l.cube) lines i line low s)

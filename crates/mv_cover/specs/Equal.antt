@@ -18,12 +18,14 @@ cube_eq a b = pointwise lit_eq a b
 abbrev pub line_eq : Line → Line → Bool
 line_eq a b = cube_eq a.cube b.cube && nat_eq a.out b.out
 
--- what a hash is fed with
+-- what a hash is fed with: the net, then the set
 abbrev pub lit_fed : Lit → HashWrites
 lit_fed l = fed.u32 l.net.0 ++ fed.u128 l.set
 
+-- the number of literals, then each of them
 abbrev pub cube_fed : List Lit → HashWrites
 cube_fed c = fed.slice lit_fed c
 
+-- the cube, then the output
 abbrev pub line_fed : Line → HashWrites
 line_fed l = cube_fed l.cube ++ fed.u128 l.out

@@ -1,4 +1,4 @@
-ghost use Rattle.std.specs.Prelude.{◌≡◌, IfOk, MatchBool, MatchOption, slice_index, length, nat_eq, [], true};
+ghost use Rattle.std.specs.Prelude.{◌≡◌, IfOk, MatchBool, MatchOption, length, nat_eq, [], true};
 ghost use Rattle.std.specs.List.{list_any};
 ghost use Rattle.mv_cover.specs.Covers.{cube_reads};
 ghost use Rattle.mv_cover.specs.Covering.{AreWithin, CoversAll, MissesSome};
@@ -6,6 +6,7 @@ ghost use Rattle.mv_cover.specs.Cofactors.{AreCubesWithin, IsChoice, CubesCover,
 
 use crate::alike::alike;
 use crate::busiest::busiest_net;
+use crate::count::count_of;
 use crate::{Cover, Line, Lit};
 use mv_base::{Items, Memory, NetId, Value, ValueSet};
 use std::alloc::Global;
@@ -101,13 +102,6 @@ fn first_net(cube: &[Lit]) -> Option<NetId>
         None => None,
         Some(literal) => Some(literal.net),
     }
-}
-
-/// How many values the net has, which is none outside the counts.
-fn count_of(counts: &[u16], net: NetId) -> u16
-    ensures { result ≡ slice_index counts.now net.0 }
-{
-    counts.get(net.0 as usize).copied().unwrap_or(0)
 }
 
 /// What the cubes ask of the other nets where the net has the value.

@@ -6,6 +6,7 @@ mod alike;
 mod busiest;
 mod complement;
 mod contain;
+mod count;
 mod cover;
 mod covers;
 mod cube;

@@ -5,6 +5,7 @@ ghost use Rattle.mv_cover.specs.Cofactors.{cubes_match};
 ghost use Rattle.mv_cover.specs.Overlap.{cubes_meet};
 ghost use Rattle.mv_cover.specs.Sharp.{Suits, IsCubeOver, AreApart, values_at, literals_below, with_literal, inside_of, outside_of, parts_outside, sharp_of};
 
+use crate::count::count_of;
 use crate::{Cube, Lit, overlap};
 use mv_base::{MAX_VALUES, Memory, NetId, ValueSet};
 
@@ -95,7 +96,7 @@ fn values_at(lits: &[Lit], net: NetId, counts: &[u16]) -> ValueSet
             return l.set;
         }
     }
-    ValueSet::full(counts.get(net.0 as usize).copied().unwrap_or(0))
+    ValueSet::full(count_of(counts, net))
 }
 
 /// Puts the literal on its net, in place of one that is there.

@@ -3,6 +3,7 @@ ghost use Rattle.mv_cover.specs.Containing.{FitsNet};
 ghost use Rattle.mv_cover.specs.Sharp.{SuitsNet, Suits};
 ghost use Rattle.mv_cover.specs.Complement.{LinesSuit};
 
+use crate::count::count_of;
 use crate::{Cover, Cube, Line, Lit};
 use mv_base::{MAX_VALUES, ValueSet};
 
@@ -26,6 +27,7 @@ impl Cover {
     }
 }
 
+/// Whether the cube of each line suits the counts.
 fn lines_suit(lines: &[Line], counts: &[u16]) -> bool
     ensures { MatchBool result (LinesSuit counts.now lines.now) (LinesSuit counts.now lines.now → ⊥) }
 {
@@ -37,6 +39,7 @@ fn lines_suit(lines: &[Line], counts: &[u16]) -> bool
     true
 }
 
+/// Whether each of the literals suits the counts.
 fn all_suit(lits: &[Lit], counts: &[u16]) -> bool
     ensures { MatchBool result (Suits counts.now lits.now) (Suits counts.now lits.now → ⊥) }
 {
@@ -52,7 +55,7 @@ fn all_suit(lits: &[Lit], counts: &[u16]) -> bool
 fn fits(l: Lit, counts: &[u16]) -> bool
     ensures { MatchBool result (SuitsNet counts.now l) (SuitsNet counts.now l → ⊥) }
 {
-    let count = counts.get(l.net.0 as usize).copied().unwrap_or(0);
+    let count = count_of(counts, l.net);
     if count == 0 || MAX_VALUES < count {
         return false;
     }

@@ -329,6 +329,11 @@ fn sharps_hold_once_where_they_should(rt: HostRuntime) -> Result<(), Memory> {
     Ok(())
 }
 
+/// Whether the cube of some line holds at the point.
+fn some_line_holds(cover: &Cover, point: &[u16]) -> bool {
+    cover.lines.as_slice().iter().any(|l| holds(&l.cube, point))
+}
+
 /// The values that the cover allows at the point.
 fn allowed(cover: &Cover, point: &[u16]) -> ValueSet {
     let mut set = ValueSet::empty();
@@ -367,11 +372,7 @@ fn cover_is_right(alloc: Global, cover: &Cover) -> Result<bool, CoverStop> {
     let made = spelled(cover, alloc, &[2, 3])?;
     for place in 0u16..6 {
         let point = [place % 2, place / 2];
-        let none = cover
-            .lines
-            .as_slice()
-            .iter()
-            .all(|l| !holds(&l.cube, &point));
+        let none = !some_line_holds(cover, &point);
         if holding(list.as_slice(), &point) != usize::from(none) {
             return Ok(false);
         }
@@ -577,45 +578,14 @@ fn drawn_lines(alloc: Global, state: &mut u32) -> Result<Items<Line>, Memory>
     Ok(lines)
 }
 
-/// Whether the point has a value of each literal's set.
-fn has(cube: &Cube, point: &[u16]) -> bool {
-    for l in cube.lits() {
-        let value = point.get(l.net.0 as usize).copied().unwrap_or(0);
-        if !l.set.has(Value(value)) {
-            return false;
-        }
-    }
-    true
-}
-
-/// What the lines and the default say of a value at a point, line by line: whether some line matches, and whether the
-/// value is allowed.
-fn says(cover: &Cover, point: &[u16], value: Value) -> (bool, bool) {
-    let mut matched = false;
-    let mut given = false;
-    for line in cover.lines.as_slice() {
-        if has(&line.cube, point) {
-            matched = true;
-            given = given || line.out.has(value);
-        }
-    }
-    match cover.default {
-        Some(out) if !matched => (false, out.has(value)),
-        _ => (matched, given),
-    }
-}
-
-/// Whether the two covers say the same at each point, and whether the first has a line there.
+/// Whether the two covers allow the same at each point, and whether the first has a line there.
 fn compare(cover: &Cover, other: &Cover) -> (bool, bool) {
     let mut same = true;
     let mut all = true;
-    for place in 0..12 {
+    for place in 0u16..12 {
         let point = [place % 2, place / 2 % 3, place / 6];
-        for value in 0..3 {
-            let (matched, allowed) = says(cover, &point, Value(value));
-            all = all && matched;
-            same = same && says(other, &point, Value(value)).1 == allowed;
-        }
+        same = same && allowed(cover, &point) == allowed(other, &point);
+        all = all && some_line_holds(cover, &point);
     }
     (same, all)
 }

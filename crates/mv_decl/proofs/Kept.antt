@@ -105,6 +105,14 @@ values_two ds net values e h = record {
   within = rw h (omega arith);
 }
 
+-- no declaration has more values than a net may have
+pub values_few : (ds : List Decl) (k : ℕ) (d : Decl) (values : List (List ℕ)) → AllByRecursion HasValues ds → slice_get ds k ≡ Some d → values ≡ d.values → length values ≤ MAX_VALUES
+values_few ds k d values all e h = rw h (counts_at ds k d all e).1
+
+-- a place of a net is one of a declaration
+pub place_taken : (ds : List Decl) (net : List ℕ) (k : ℕ) → place_of net (nets_of ds) ≡ Some k → slice_get ds k ≡ None → ⊥
+place_taken ds net k e none = let f = found ds net k e in let both : Some f.decl ≡ None = sym f.get ∙ none in cc
+
 -- a call that declares one more net, or fails and leaves them, keeps it so
 pub counts_after : (result : Result (Unit {0}) Memory) (old new : List Decl) (d : Decl) → OnOk result (new ≡ with_decl old d) → OnErr result (new ≡ old) → AllByRecursion HasValues old → HasValues d → AllByRecursion HasValues new
 counts_after (Ok u) old new d ok err all has = subst (λ ds. AllByRecursion HasValues ds) (sym ok) (counts_with old d all has)

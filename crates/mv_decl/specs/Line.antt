@@ -14,6 +14,7 @@ use Rattle.mv_decl.specs.Nets.{nets_of, values_of}
 
 -- ---- commas: each is a word of its own
 
+-- a word that is one comma
 abbrev pub is_comma : List ℕ → Bool
 is_comma w = same_word w (codes ",")
 
@@ -22,6 +23,7 @@ abbrev pub word_or_none : List ℕ → List (List ℕ)
 word_or_none [] = []
 word_or_none (b ∷ bs) = (b ∷ bs) ∷ []
 
+-- a comma and the word behind it
 abbrev pub comma_and : List ℕ → List (List ℕ)
 comma_and w = codes "," ∷ word_or_none w
 
@@ -36,9 +38,11 @@ commas_apart words = flat_map pieces_of words
 -- ---- the nets, up to the count. In front, and behind a comma, a name has to stand (`must`), whatever the word is; else a
 -- word of digits is the count
 
+-- a word of digits only
 abbrev pub is_digits : List ℕ → Bool
 is_digits w = list_all (λ b. nat_le 48 b && nat_le b 57) w
 
+-- the word is the count, where no name has to stand
 abbrev pub is_count : Bool → List ℕ → Bool
 is_count must w = not must && is_digits w
 
@@ -46,6 +50,7 @@ is_count must w = not must && is_digits w
 unfoldable pub net_faults : ℕ → List ℕ → List ParseFault
 net_faults n w = when (not (is_net_name w)) (BadName n w)
 
+-- the faults of the words up to the count: a comma where a name has to stand, no count, and names that are not lawful
 abbrev pub head_faults : ℕ → List ℕ → Bool → List (List ℕ) → List ParseFault
 head_faults n word must [] = Missing n word ∷ []
 head_faults n word must (w ∷ ws) =
@@ -53,6 +58,7 @@ head_faults n word must (w ∷ ws) =
     else if is_count must w then []
     else net_faults n w ++ head_faults n word false ws
 
+-- the nets that these words name
 abbrev pub head_nets : Bool → List (List ℕ) → List (List ℕ)
 head_nets must [] = []
 head_nets must (w ∷ ws) =
@@ -92,6 +98,7 @@ named_values count (w ∷ ws) = w ∷ ws
 abbrev pub told_number : ℕ → ℕ
 told_number n = min n (2 ^ 64 - 1)
 
+-- a count is at least 1, and at most the values that a net may have
 unfoldable pub count_faults : ℕ → List ℕ → List ParseFault
 count_faults n w = when (number_of w == 0) (BadCount n w) ++ when (nat_lt MAX_VALUES (number_of w)) (Limit n Values (told_number (number_of w)))
 
@@ -99,6 +106,7 @@ count_faults n w = when (number_of w == 0) (BadCount n w) ++ when (nat_lt MAX_VA
 unfoldable pub value_faults : ℕ → List (List ℕ) → List ℕ → List ParseFault
 value_faults n earlier w = when (not (is_value_name w)) (BadName n w) ++ when (among w earlier) (Repeated n w)
 
+-- names of values, behind these others
 abbrev pub name_faults : ℕ → List (List ℕ) → List (List ℕ) → List ParseFault
 name_faults n earlier [] = []
 name_faults n earlier (w ∷ ws) = value_faults n earlier w ++ name_faults n (earlier ++ w ∷ []) ws
@@ -108,13 +116,15 @@ abbrev pub length_faults : ℕ → ℕ → List (List ℕ) → List ParseFault
 length_faults n count [] = []
 length_faults n count (w ∷ ws) = when (not (length (w ∷ ws) == count)) (ValueNames n count (length (w ∷ ws)))
 
--- a net that was declared before with other values
+-- the same names of values in the same order
 abbrev pub same_values : List (List ℕ) → List (List ℕ) → Bool
 same_values a b = pointwise (pointwise nat_eq) a b
 
+-- the net is declared, with other values than these
 unfoldable pub is_redeclared : List Decl → List (List ℕ) → List ℕ → Bool
 is_redeclared ds values net = among net (nets_of ds) && not (same_values (values_of ds net) values)
 
+-- nets that were declared before with other values than the line says
 abbrev pub redeclared_faults : ℕ → List Decl → List (List ℕ) → List (List ℕ) → List ParseFault
 redeclared_faults n ds values [] = []
 redeclared_faults n ds values (net ∷ nets) = when (is_redeclared ds values net) (Redeclared n net) ++ redeclared_faults n ds values nets
@@ -126,16 +136,19 @@ abbrev pub values_from : List (List ℕ) → List (List ℕ)
 values_from [] = []
 values_from (w ∷ ws) = named_values (number_of w) (value_names ws)
 
--- the nets of a line, and the values that it gives them
+-- the nets of a line
 unfoldable pub nets_said : List (List ℕ) → List (List ℕ)
 nets_said words = head_nets true (commas_apart words)
 
+-- the values that a line gives its nets
 unfoldable pub values_said : List (List ℕ) → List (List ℕ)
 values_said words = values_from (from_count true (commas_apart words))
 
+-- these nets, each with these values
 abbrev pub decls_for : List (List ℕ) → List (List ℕ) → List Decl
 decls_for values nets = map (λ net. record { net = net; values = values }) nets
 
+-- the declarations of a line
 unfoldable pub decls_said : List (List ℕ) → List Decl
 decls_said words = decls_for (values_said words) (nets_said words)
 

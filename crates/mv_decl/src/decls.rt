@@ -1,5 +1,6 @@
-ghost use Rattle.std.specs.Prelude.{◌≡◌, ◌<◌, ◌≤◌, [], length, slice_get, IfOk, IfSome, OnOk, OnErr};
+ghost use Rattle.std.specs.Prelude.{◌≡◌, ◌<◌, ◌≤◌, ℕ, List, [], length, slice_get, IfOk, IfSome, OnOk, OnErr};
 ghost use Rattle.mv_base.specs.declared.limits.TheConstants.{MAX_VALUES as most_values};
+ghost use Rattle.mv_base.specs.Names.{place_of};
 ghost use Rattle.mv_decl.specs.Nets.{values_of, with_decl, nets_of, two_values, IsKept};
 ghost use Rattle.mv_decl.specs.Line.{same_values, is_redeclared};
 ghost use Rattle.mv_design.specs.declared.design.Decl.{Decl};
@@ -52,6 +53,28 @@ impl Decls {
     {
         match self.nets.place(net) {
             Some(at) => declared_at(&self.list, at),
+            None => self.two.as_slice(),
+        }
+    }
+
+    /// The place of the net's declaration, if it has one.
+    pub fn place(&self, net: &Name) -> Option<usize>
+        ensures { result ≡ place_of net.now (nets_of self.now) }
+    {
+        self.nets.place(net)
+    }
+
+    /// The names of the values of the nets with a declaration at this place: for many questions after one net, whose place
+    /// is looked up once.
+    pub fn values_at(&self, place: Option<usize>) -> &[Name]
+        ensures value { (net : List ℕ) → place ≡ place_of net (nets_of self.now) → result.now ≡ values_of self.now net }
+        ensures within { length result.now ≤ most_values }
+    {
+        let Some(at) = place else {
+            return self.two.as_slice();
+        };
+        match self.list.get(at) {
+            Some(decl) => decl.values.as_slice(),
             None => self.two.as_slice(),
         }
     }

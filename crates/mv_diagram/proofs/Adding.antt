@@ -1,5 +1,5 @@
 -- What is added, as restrictions of a set.
-use Rattle.std.proofs.Common.{◌≡◌, ℕ, zero, suc, add-one, ◌+◌, ◌<◌, ◌==◌, Bool, true, List, length, slice_index, Option, Some, is_some, if◌then◌else◌, refl, sym, ap, subst, ◌∙◌, inl, inr, arith}
+use Rattle.std.proofs.Common.{◌≡◌, ℕ, zero, suc, add-one, ◌+◌, ◌-◌, ◌<◌, ◌==◌, ◌⊎◌, Bool, true, List, length, slice_index, Option, Some, is_some, if◌then◌else◌, refl, sym, ap, subst, ◌∙◌, inl, inr, arith}
 use Rattle.mv_pool.specs.Places.{Contents, with_item}
 use Rattle.mv_diagram.specs.declared.node.Node.{Node}
 use Rattle.mv_diagram.specs.declared.table.Table.{Table}
@@ -14,11 +14,11 @@ use Rattle.mv_diagram.proofs.Reclaiming.{held_by, held_from, item_some, node_the
 use Rattle.mv_diagram.proofs.Restricting.{restriction_whole, restriction_same, restriction_no}
 use Rattle.mv_base.specs.Set.{has}
 use Rattle.mv_diagram.proofs.Points.{beside}
-use Rattle.mv_diagram.proofs.Literals.{literal_from, literal_reads, literal_past, seen_all}
-use Rattle.mv_diagram.proofs.Tables.{table_holds, table_held, table_first_of, table_split}
+use Rattle.mv_diagram.proofs.Literals.{literal_from, literal_reads, literal_step, literal_past, seen_all}
+use Rattle.mv_diagram.proofs.Tables.{Adds-more, table_holds, table_held, table_parted}
 use Rattle.mv_diagram.specs.declared.node.Test.{Test}
 use Rattle.mv_diagram.specs.declared.memo.Operation.{Operation}
-use Rattle.mv_diagram.specs.First.{IsFirst, IsSplit}
+use Rattle.mv_diagram.specs.First.{AreParted}
 use Rattle.mv_diagram.specs.Results.{result_of}
 use Rattle.mv_diagram.proofs.Applying.{both_same, parts_yes, parts_no}
 
@@ -75,8 +75,7 @@ module _ (old new : Table) (s : IsSound old.counts.items old.pool.places) (adds 
   table_part d whole held r = restriction_same new.counts.items adds.sound.values no_variable whole whole _ _ (λ p range. refl) (λ p. sym (table_holds old new s adds d p held))
       (subst (λ v. IsRestriction v no_variable whole (λ p. holds old.counts.items old.pool.places d p)) (sym (ap (λ v. v.items) adds.counts)) r)
 
-module _ (operation : Operation) (old new : Table) (s : IsSound old.counts.items old.pool.places) (adds : Adds old new) (a b : ℕ) (ha : is_held old.pool.places a ≡ true) (hb : is_held old.pool.places b ≡ true)
-    (t : Test) (f : IsFirst old.counts.items old.pool.places a b t) (ay an by bn : ℕ) (sa : IsSplit old.counts.items old.pool.places a t ay an) (sb : IsSplit old.counts.items old.pool.places b t by bn) where
+module _ (operation : Operation) (old new : Table) (s : IsSound old.counts.items old.pool.places) (adds : Adds old new) (a b : ℕ) (t : Test) (ay an by bn : ℕ) (parted : AreParted old.counts.items old.pool.places a b t ay an by bn) where
   abbrev whole : Point → Bool
   whole p = result_of operation (holds new.counts.items new.pool.places a p) (holds new.counts.items new.pool.places b p)
 
@@ -93,20 +92,31 @@ module _ (operation : Operation) (old new : Table) (s : IsSound old.counts.items
       → IsRestriction mid.counts.items no_variable (λ p. result_of operation (holds mid.counts.items mid.pool.places ay p) (holds mid.counts.items mid.pool.places by p)) (λ p. holds mid.counts.items mid.pool.places d p)
       → IsRestriction new.counts.items no_variable whole (λ p. holds new.counts.items new.pool.places d p)
   from_yes mid first more d hd r =
-      parts_yes new.counts.items new.pool.places adds.sound operation a b (table_held old new s adds a ha) (table_held old new s adds b hb) t (table_first_of old new s adds a b t ha hb f) ay an by bn
-      (table_split old new s adds a t ay an ha sa) (table_split old new s adds b t by bn hb sb) _
-      (operands_part mid first.sound more ay by d (table_held old mid s first ay sa.yes_held) (table_held old mid s first by sb.yes_held) hd r)
+      parts_yes new.counts.items new.pool.places adds.sound operation a b t ay an by bn (table_parted old new s adds a b t ay an by bn parted) _
+      (operands_part mid first.sound more ay by d (table_held old mid s first ay parted.left.yes_held) (table_held old mid s first by parted.right.yes_held) hd r)
 
-  pub from_no : (mid : Table) → Adds old mid → Adds mid new → (d : ℕ) → is_held mid.pool.places d ≡ true
+  from_no : (mid : Table) → Adds old mid → Adds mid new → (d : ℕ) → is_held mid.pool.places d ≡ true
       → IsRestriction mid.counts.items no_variable (λ p. result_of operation (holds mid.counts.items mid.pool.places an p) (holds mid.counts.items mid.pool.places bn p)) (λ p. holds mid.counts.items mid.pool.places d p)
       → IsRestriction new.counts.items no_variable whole (λ p. holds new.counts.items new.pool.places d p)
   from_no mid first more d hd r =
-      parts_no new.counts.items new.pool.places adds.sound operation a b (table_held old new s adds a ha) (table_held old new s adds b hb) t (table_first_of old new s adds a b t ha hb f) ay an by bn
-      (table_split old new s adds a t ay an ha sa) (table_split old new s adds b t by bn hb sb) _
-      (operands_part mid first.sound more an bn d (table_held old mid s first an sa.no_held) (table_held old mid s first bn sb.no_held) hd r)
+      parts_no new.counts.items new.pool.places adds.sound operation a b t ay an by bn (table_parted old new s adds a b t ay an by bn parted) _
+      (operands_part mid first.sound more an bn d (table_held old mid s first an parted.left.no_held) (table_held old mid s first bn parted.right.no_held) hd r)
+
+  -- what both add, the one for yes first
+  pub from_both : (one two : Table) → Adds old one → Adds one two → Adds two new
+      → AddsParts one.counts.items old.pool.places one.pool.places (λ p. result_of operation (holds one.counts.items one.pool.places ay p) (holds one.counts.items one.pool.places by p))
+      → AddsParts two.counts.items one.pool.places two.pool.places (λ p. result_of operation (holds two.counts.items two.pool.places an p) (holds two.counts.items two.pool.places bn p))
+      → (d : ℕ) → is_held two.pool.places d ≡ true → (is_held old.pool.places d ≡ true) ⊎ IsRestriction new.counts.items no_variable whole (λ p. holds new.counts.items new.pool.places d p)
+  from_both one two first second third ones twos d held = elim (twos.each d held) [
+    | inr r ↦ inr (from_no two (Adds-more old one two first second) third d held r)
+    | inl before ↦ elim (ones.each d before) [
+      | inr r ↦ inr (from_yes one first (Adds-more one two new second third) d before r)
+      | inl was ↦ inl was
+    ]
+  ]
 
 -- a test more of a literal
-pub literal_parts : (base : List (Option Node)) (old new : Table) → IsSound old.counts.items old.pool.places → Adds old new → (var set low : ℕ) (whole : Point → Bool) → var < length old.counts.items → low + 1 < slice_index old.counts.items var
+literal_parts : (base : List (Option Node)) (old new : Table) → IsSound old.counts.items old.pool.places → Adds old new → (var set low : ℕ) (whole : Point → Bool) → var < length old.counts.items → low + 1 < slice_index old.counts.items var
     → AddsParts old.counts.items base old.pool.places (literal_from old.counts.items var set (low + 1)) → AddsParts new.counts.items old.pool.places new.pool.places whole → ((p : Point) → whole p ≡ literal_from new.counts.items var set low p)
     → AddsParts new.counts.items base new.pool.places (literal_from new.counts.items var set low)
 literal_parts base old new s adds var set low whole variable below before now is =
@@ -144,3 +154,22 @@ literal_down counts base ns s var set (suc low) within below parts = literal_dow
         (λ p range. ap (λ x. literal_from counts var set x p) (sym (add-one low)) ∙ ap (has set) (literal_past counts ns s var set within low p)) (λ p. refl) r))
   ];
 })
+
+-- a test more of a literal, of the value before the last one
+module _ (old new : Table) (s : IsSound old.counts.items old.pool.places) (adds : Adds old new) (var set value : ℕ) (within : var < length old.counts.items) (below : value < slice_index old.counts.items var) (some : 0 < value)
+    (y rest : ℕ) (here : (p : Point) → holds old.counts.items old.pool.places y p ≡ has set (value - 1)) (later : (p : Point) → holds old.counts.items old.pool.places rest p ≡ literal_from old.counts.items var set value p) where
+  next : value - 1 + 1 ≡ value
+  next = omega arith
+
+  abbrev made : Point → Bool
+  made p = if p var == (value - 1) then holds old.counts.items old.pool.places y p else holds old.counts.items old.pool.places rest p
+
+  pub made_set : (p : Point) → made p ≡ literal_from new.counts.items var set (value - 1) p
+  made_set p =
+      literal_step old.counts.items old.pool.places s var set within (value - 1) p _ _ (omega arith) (here p) (later p ∙ ap (λ x. literal_from old.counts.items var set x p) (sym next))
+      ∙ ap (λ v. literal_from v var set (value - 1) p) (sym (ap (λ v. v.items) adds.counts))
+
+  pub made_parts : (base : List (Option Node)) → AddsParts old.counts.items base old.pool.places (literal_from old.counts.items var set value) → AddsParts new.counts.items old.pool.places new.pool.places made
+      → AddsParts new.counts.items base new.pool.places (literal_from new.counts.items var set (value - 1))
+  made_parts base before now = literal_parts base old new s adds var set (value - 1) made within (omega arith)
+      (subst (λ x. AddsParts old.counts.items base old.pool.places (literal_from old.counts.items var set x)) (sym next) before) now made_set

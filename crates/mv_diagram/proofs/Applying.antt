@@ -7,7 +7,7 @@ use Rattle.mv_diagram.specs.declared.memo.Operation.{Operation}
 use Rattle.mv_diagram.specs.Sets.{Point, node_at, with_value, holds, is_held}
 use Rattle.mv_diagram.specs.Sound.{order, first, IsSound}
 use Rattle.mv_diagram.specs.Works.{IsLacking}
-use Rattle.mv_diagram.specs.First.{IsFirst, IsSplit}
+use Rattle.mv_diagram.specs.First.{AreParted, IsSplit}
 use Rattle.mv_diagram.specs.Results.{IsResult, result_of}
 use Rattle.mv_diagram.proofs.Following.{holds_end, first-le, first-end}
 use Rattle.mv_diagram.proofs.Points.{beside, beside_fails, holds_later, holds_beside, value_there}
@@ -20,9 +20,6 @@ pub both_same : (operation : Operation) (x y u v : Bool) → x ≡ u → y ≡ v
 both_same operation x y u v e f = ap (λ z. result_of operation z y) e ∙ ap (result_of operation u) f
 
 module _ (counts : List ℕ) (ns : List (Option Node)) (s : IsSound counts ns) (operation : Operation) (a b : ℕ) (ha : is_held ns a ≡ true) (hb : is_held ns b ≡ true) where
-  abbrev pub combined : Point → Bool
-  combined p = result_of operation (holds counts ns a p) (holds counts ns b p)
-
   -- a result that is known at once
   pub result_at_once : (d : ℕ) → ((f : ℕ → Bool) → f 0 ≡ false → f 1 ≡ true → f d ≡ result_of operation (f a) (f b))
       → ((f : ℕ → Bool) → f 0 ≡ true → f 1 ≡ true → f a ≡ true → f b ≡ true → f d ≡ true) → IsResult counts ns operation a b d
@@ -58,56 +55,59 @@ module _ (counts : List ℕ) (ns : List (Option Node)) (s : IsSound counts ns) (
       one true e = ap (λ n. n == 1) e
       one false e = ap (λ n. n == 1) e
 
-  module _ (t : Test) (f : IsFirst counts ns a b t) (ay an by bn : ℕ) (sa : IsSplit counts ns a t ay an) (sb : IsSplit counts ns b t by bn) where
-    -- the whole by the results where the test says yes and where it says no
-    pub result_whole : (y n : ℕ) → IsResult counts ns operation ay by y → IsResult counts ns operation an bn n
-        → (p : Point) → (if p t.var == t.value then holds counts ns y p else holds counts ns n p) ≡ combined p
-    result_whole y n iy in' p = by_test (p t.var == t.value) ∙ both_same operation _ _ _ _ (sym (sa.set p)) (sym (sb.set p))
-      where
-        by_test : (x : Bool) → (if x then holds counts ns y p else holds counts ns n p)
-            ≡ result_of operation (if x then holds counts ns ay p else holds counts ns an p) (if x then holds counts ns by p else holds counts ns bn p)
-        by_test true = iy.set p
-        by_test false = in'.set p
+module _ (counts : List ℕ) (ns : List (Option Node)) (s : IsSound counts ns) (operation : Operation) (a b : ℕ) (t : Test) (ay an by bn : ℕ) (parted : AreParted counts ns a b t ay an by bn) where
+  abbrev pub combined : Point → Bool
+  combined p = result_of operation (holds counts ns a p) (holds counts ns b p)
 
-    pub result_split : (d y n : ℕ) → IsResult counts ns operation ay by y → IsResult counts ns operation an bn n → is_held ns d ≡ true → order t.var t.value ≤ first counts ns d
-        → ((p : Point) → holds counts ns d p ≡ (if p t.var == t.value then holds counts ns y p else holds counts ns n p)) → IsResult counts ns operation a b d
-    result_split d y n iy in' held later set = record {
-      left = ha;
-      right = hb;
-      held = held;
-      later = λ from low also. elim f.one [ inl level ↦ omega arith | inr level ↦ omega arith ];
-      set = λ p. set p ∙ result_whole y n iy in' p;
-    }
+  -- the whole by the results where the test says yes and where it says no
+  pub result_whole : (y n : ℕ) → IsResult counts ns operation ay by y → IsResult counts ns operation an bn n
+      → (p : Point) → (if p t.var == t.value then holds counts ns y p else holds counts ns n p) ≡ combined p
+  result_whole y n iy in' p = by_test (p t.var == t.value) ∙ both_same operation _ _ _ _ (sym (parted.left.set p)) (sym (parted.right.set p))
+    where
+      by_test : (x : Bool) → (if x then holds counts ns y p else holds counts ns n p)
+          ≡ result_of operation (if x then holds counts ns ay p else holds counts ns an p) (if x then holds counts ns by p else holds counts ns bn p)
+      by_test true = iy.set p
+      by_test false = in'.set p
 
-    combined_reads : Reads counts (order t.var t.value) combined
-    combined_reads = record { each = λ p q agree. both_same operation _ _ _ _ ((Reads-diagram counts ns s a (order t.var t.value) f.left).each p q agree) ((Reads-diagram counts ns s b (order t.var t.value) f.right).each p q agree) }
+  -- a diagram with these points and no earlier test is the result
+  pub result_parted : (d : ℕ) → is_held ns d ≡ true → order t.var t.value ≤ first counts ns d → ((p : Point) → holds counts ns d p ≡ combined p) → IsResult counts ns operation a b d
+  result_parted d held later set = record {
+    left = parted.left_held;
+    right = parted.right_held;
+    held = held;
+    later = λ from low also. elim parted.test.one [ inl level ↦ omega arith | inr level ↦ omega arith ];
+    set = set;
+  }
 
-    side_yes : (d y n : ℕ) (p : Point) → IsSplit counts ns d t y n → holds counts ns y p ≡ holds counts ns d (with_value p t.var t.value)
-    side_yes d y n p is =
-        let q = with_value p t.var t.value in
-        sym (holds_later counts ns s y p t.var t.value is.yes_later)
-        ∙ sym (is.set q ∙ ap (λ x. if x then holds counts ns y q else holds counts ns n q) (eq-eqb _ _ (value_there p t.var t.value t.var refl)))
+  combined_reads : Reads counts (order t.var t.value) combined
+  combined_reads = record { each = λ p q agree. both_same operation _ _ _ _ ((Reads-diagram counts ns s a (order t.var t.value) parted.test.left).each p q agree) ((Reads-diagram counts ns s b (order t.var t.value) parted.test.right).each p q agree) }
 
-    side_no : (d y n : ℕ) (p : Point) → IsSplit counts ns d t y n → holds counts ns n p ≡ holds counts ns d (beside counts t p)
-    side_no d y n p is =
-        let q = beside counts t p in
-        sym (holds_beside counts ns s n t p is.no_later)
-        ∙ sym (is.set q ∙ ap (λ x. if x then holds counts ns y q else holds counts ns n q) (ne_eqb _ _ (beside_fails counts ns s t p f.test)))
+  side_yes : (d y n : ℕ) (p : Point) → IsSplit counts ns d t y n → holds counts ns y p ≡ holds counts ns d (with_value p t.var t.value)
+  side_yes d y n p is =
+      let q = with_value p t.var t.value in
+      sym (holds_later counts ns s y p t.var t.value is.yes_later)
+      ∙ sym (is.set q ∙ ap (λ x. if x then holds counts ns y q else holds counts ns n q) (eq-eqb _ _ (value_there p t.var t.value t.var refl)))
 
-    -- where no diagram has the result of one side, none has the whole
-    pub result_lacks_yes : IsLacking counts ns (λ p. result_of operation (holds counts ns ay p) (holds counts ns by p)) → IsLacking counts ns combined
-    result_lacks_yes lacking =
-        lacking_yes counts ns s t f.test combined combined_reads (lacking_same counts ns s _ _ (λ p. both_same operation _ _ _ _ (side_yes a ay an p sa) (side_yes b by bn p sb)) lacking)
+  side_no : (d y n : ℕ) (p : Point) → IsSplit counts ns d t y n → holds counts ns n p ≡ holds counts ns d (beside counts t p)
+  side_no d y n p is =
+      let q = beside counts t p in
+      sym (holds_beside counts ns s n t p is.no_later)
+      ∙ sym (is.set q ∙ ap (λ x. if x then holds counts ns y q else holds counts ns n q) (ne_eqb _ _ (beside_fails counts ns s t p parted.test.test)))
 
-    pub result_lacks_no : IsLacking counts ns (λ p. result_of operation (holds counts ns an p) (holds counts ns bn p)) → IsLacking counts ns combined
-    result_lacks_no lacking =
-        lacking_no counts ns s t f.test combined combined_reads (lacking_same counts ns s _ _ (λ p. both_same operation _ _ _ _ (side_no a ay an p sa) (side_no b by bn p sb)) lacking)
+  -- where no diagram has the result of one side, none has the whole
+  pub result_lacks_yes : IsLacking counts ns (λ p. result_of operation (holds counts ns ay p) (holds counts ns by p)) → IsLacking counts ns combined
+  result_lacks_yes lacking =
+      lacking_yes counts ns s t parted.test.test combined combined_reads (lacking_same counts ns s _ _ (λ p. both_same operation _ _ _ _ (side_yes a ay an p parted.left) (side_yes b by bn p parted.right)) lacking)
 
-    -- restrictions of the result of one side, and of the whole
-    pub parts_yes : (part : Point → Bool) → IsRestriction counts no_variable (λ p. result_of operation (holds counts ns ay p) (holds counts ns by p)) part → IsRestriction counts no_variable combined part
-    parts_yes part r = restriction_yes counts s.values no_variable t f.test combined combined_reads part
-        (restriction_same counts s.values no_variable _ (λ p. combined (with_value p t.var t.value)) part part (λ p range. both_same operation _ _ _ _ (side_yes a ay an p sa) (side_yes b by bn p sb)) (λ p. refl) r)
+  pub result_lacks_no : IsLacking counts ns (λ p. result_of operation (holds counts ns an p) (holds counts ns bn p)) → IsLacking counts ns combined
+  result_lacks_no lacking =
+      lacking_no counts ns s t parted.test.test combined combined_reads (lacking_same counts ns s _ _ (λ p. both_same operation _ _ _ _ (side_no a ay an p parted.left) (side_no b by bn p parted.right)) lacking)
 
-    pub parts_no : (part : Point → Bool) → IsRestriction counts no_variable (λ p. result_of operation (holds counts ns an p) (holds counts ns bn p)) part → IsRestriction counts no_variable combined part
-    parts_no part r = restriction_no counts s.values no_variable t f.test combined combined_reads part
-        (restriction_same counts s.values no_variable _ (λ p. combined (beside counts t p)) part part (λ p range. both_same operation _ _ _ _ (side_no a ay an p sa) (side_no b by bn p sb)) (λ p. refl) r)
+  -- restrictions of the result of one side, and of the whole
+  pub parts_yes : (part : Point → Bool) → IsRestriction counts no_variable (λ p. result_of operation (holds counts ns ay p) (holds counts ns by p)) part → IsRestriction counts no_variable combined part
+  parts_yes part r = restriction_yes counts s.values no_variable t parted.test.test combined combined_reads part
+      (restriction_same counts s.values no_variable _ (λ p. combined (with_value p t.var t.value)) part part (λ p range. both_same operation _ _ _ _ (side_yes a ay an p parted.left) (side_yes b by bn p parted.right)) (λ p. refl) r)
+
+  pub parts_no : (part : Point → Bool) → IsRestriction counts no_variable (λ p. result_of operation (holds counts ns an p) (holds counts ns bn p)) part → IsRestriction counts no_variable combined part
+  parts_no part r = restriction_no counts s.values no_variable t parted.test.test combined combined_reads part
+      (restriction_same counts s.values no_variable _ (λ p. combined (beside counts t p)) part part (λ p range. both_same operation _ _ _ _ (side_no a ay an p parted.left) (side_no b by bn p parted.right)) (λ p. refl) r)

@@ -1,5 +1,5 @@
 -- Places as they are gathered.
-use Rattle.std.proofs.Common.{◌≡◌, ℕ, ◌+◌, ◌<◌, Bool, true, false, List, [], ◌∷◌, ◌++◌, length, Option, Some, All, count_by, get_or, refl, sym, ap, ◌∙◌, inl, inr, true≢false, arith}
+use Rattle.std.proofs.Common.{◌≡◌, ℕ, ◌+◌, ◌<◌, Bool, true, false, List, [], ◌∷◌, ◌++◌, length, Option, Some, All, count_by, get_or, sym, ap, ◌∙◌, inl, inr, true≢false, arith}
 use Rattle.std.proofs.Math.ListN.{set}
 use Rattle.std.proofs.lemmas.Bool.{cases_eq, cases_lt}
 use Rattle.std.proofs.lemmas.List.{get_or-set_same, get_or-set_other, length-set, length-append}
@@ -19,10 +19,6 @@ pub record AreSeen (roots : List Dd) (marks : List Bool) (count : ℕ) : Type 0 
 all_split : {X : Type 0} (P : X → Type 0) (xs : List X) (x : X) → All P (xs ++ x ∷ []) → All P xs × P x
 all_split P [] x h = (All-nil P, All-head P x [] h)
 all_split P (y ∷ ys) x h = let rest = all_split P ys x (All-tail P y (ys ++ x ∷ []) h) in (All-cons P y ys (All-head P y (ys ++ x ∷ []) h) rest.0, rest.1)
-
--- nothing new
-pub added_same : (place : Option Id) (m : List Bool) (ids : List Id) → AreMarked m ids → ((id : Id) → place ≡ Some id → mark m id.0 ≡ true) → IsAdded place m ids m ids
-added_same place m ids are there = record { marked = are; size = refl; there = there; stays = λ n h. h; only = λ s h all. all }
 
 -- a place more
 pub added_new : (place : Option Id) (id : Id) (m : List Bool) (ids : List Id) → AreMarked m ids → id.0 < length m → mark m id.0 ≡ false → place ≡ Some id → IsAdded place m ids (set m id.0 true) (ids ++ id ∷ [])

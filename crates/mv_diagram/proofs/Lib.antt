@@ -9,6 +9,7 @@ pub mod Remembering
 pub mod Firsts
 pub mod Tables
 pub mod Applying
+pub mod Sides
 pub mod Looking
 pub mod Literals
 pub mod Showing

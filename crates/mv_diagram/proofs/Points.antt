@@ -15,13 +15,6 @@ value_there p var value v e = ap (λ b. if b then value else p v) (eq-eqb v var 
 pub value_elsewhere : (p : Point) (var value v : ℕ) → (v ≡ var → ⊥) → with_value p var value v ≡ p v
 value_elsewhere p var value v ne = ap (λ b. if b then value else p v) (ne_eqb v var ne)
 
--- the value that is there already
-pub value_again : (p : Point) (var value v : ℕ) → p var ≡ value → with_value p var value v ≡ p v
-value_again p var value v e = elim (cases_eq v var) [
-  | inl same ↦ value_there p var value v same ∙ sym e ∙ ap p (sym same)
-  | inr other ↦ value_elsewhere p var value v other
-]
-
 -- a value of the variable keeps a point in range
 pub InRange-with : (counts : List ℕ) (p : Point) (var value : ℕ) → InRange counts p → value < slice_index counts var → InRange counts (with_value p var value)
 InRange-with counts p var value range below = record {

@@ -16,7 +16,7 @@ use Rattle.mv_diagram.specs.Quantified.{Agrees, Agreeing, IsQuantified, Quantifi
 use Rattle.mv_diagram.proofs.Following.{if_same, node_is, holds_end, first-node}
 use Rattle.mv_diagram.proofs.Points.{beside, beside_there, beside_elsewhere, InRange-with, InRange-beside, value_elsewhere, holds_yes, holds_no_beside}
 use Rattle.mv_diagram.proofs.Looking.{step_yes, step_no}
-use Rattle.mv_diagram.proofs.Tables.{table_held, table_first, table_holds}
+use Rattle.mv_diagram.proofs.Tables.{Adds-more, table_held, table_first, table_holds, table_node}
 
 -- the joining operation has the answer where one side has it
 one_answers : (answer x y : Bool) → result_of (joining answer) x y ≡ answer → (x ≡ answer) ⊎ (y ≡ answer)
@@ -150,6 +150,16 @@ module _ (old new : Table) (s : IsSound old.counts.items old.pool.places) (adds 
 
   pub table_quantifies : (entries : List (Key × Dd)) → Quantifies old.counts.items old.pool.places vars answer entries → Quantifies new.counts.items new.pool.places vars answer entries
   table_quantifies entries are = record { each = λ k d there. table_quantified k.left.0 d.0 (are.each k d there) }
+
+-- what is joined of the results for the two children of a node, each in the table that it left
+pub quantified_all : (vars : ℕ → Bool) (answer : Bool) (old one two new : Table) → IsSound old.counts.items old.pool.places → Adds old one → Adds one two → Adds two new
+    → (d r y m : ℕ) (n : Node) (joined : Bool) → node_at old.pool.places d ≡ Some n → is_held old.pool.places d ≡ true → joined ≡ vars n.test.var
+    → IsQuantified one.counts.items one.pool.places vars answer n.yes.0 y → IsQuantified two.counts.items two.pool.places vars answer n.no.0 m
+    → IsJoined new.counts.items new.pool.places joined answer n.test y m r → IsQuantified new.counts.items new.pool.places vars answer d r
+quantified_all vars answer old one two new s first second third d r y m n joined e held chosen iy im ij =
+    let adds = Adds-more old two new (Adds-more old one two first second) third in
+    quantified_node new.counts.items new.pool.places adds.sound vars answer d r y m n joined (table_node old new adds d n e) (table_held old new s adds d held) chosen
+    (table_quantified one new first.sound (Adds-more one two new second third) vars answer n.yes.0 y iy) (table_quantified two new second.sound third vars answer n.no.0 m im) ij
 
 -- with one result more what is remembered is right
 pub quantifies_more : (counts : List ℕ) (ns : List (Option Node)) (vars : ℕ → Bool) (answer : Bool) (old new : List (Key × Dd)) (key : Key) (d : Dd) → Quantifies counts ns vars answer old → IsKept old new key d → IsQuantified counts ns vars answer key.left.0 d.0 → Quantifies counts ns vars answer new

@@ -1,6 +1,6 @@
 -- From the table to what callers see.
 use Rattle.std.specs.Bool.{OnFalse}
-use Rattle.std.proofs.Common.{◌≡◌, ℕ, ◌&&◌, Bool, true, false, not, List, Option, Result, Ok, Err, IfOk, IfErr, All, refl, sym, ap, subst, ◌∙◌, inl, inr, true≢false, arith}
+use Rattle.std.proofs.Common.{◌≡◌, ◌≤◌, ℕ, length, ◌&&◌, Bool, true, false, not, List, Option, Result, Ok, Err, IfOk, IfErr, All, refl, sym, ap, subst, ◌∙◌, inl, inr, true≢false, arith}
 use Rattle.std.proofs.Math.Path.{fun_ext}
 use Rattle.std.proofs.lemmas.List.Elements.{All-weaker}
 use Rattle.mv_diagram.specs.declared.node.Dd.{Dd}
@@ -11,9 +11,11 @@ use Rattle.mv_diagram.specs.Sound.{AreCounts, IsSound}
 use Rattle.mv_diagram.specs.Works.{Adds, IsLacking}
 use Rattle.mv_diagram.specs.Diagrams.{Contents, IsHeld, Keeps, AddsRestrictions, Lacks, Loses, has}
 use Rattle.mv_diagram.specs.declared.node.Nodes.{Nodes}
+use Rattle.mv_diagram.specs.declared.memo.Key.{Key}
 use Rattle.mv_diagram.specs.declared.memo.Operation.{Operation}
-use Rattle.mv_diagram.specs.Results.{IsResult, result_of}
-use Rattle.mv_diagram.specs.Quantified.{AddsMeets, AddsUnions, Agrees, IsQuantified, Exists, Forall, is_one_of}
+use Rattle.mv_diagram.specs.Results.{IsResult, Remembers, result_of}
+use Rattle.mv_diagram.specs.Quantified.{AddsAnswers, Agrees, IsQuantified, Forall, Spreads, is_one_of}
+use Rattle.mv_diagram.specs.Whole.{IsWhole}
 use Rattle.mv_diagram.specs.Parts.{no_variable, AddsParts, IsCombined, AddsCombined}
 use Rattle.mv_diagram.proofs.Restricting.{restriction_same}
 use Rattle.mv_diagram.proofs.Combining.{combined_same}
@@ -41,8 +43,17 @@ Keeps-adds old new n s adds = record {
   sets = λ d p h. table_holds old new s adds d.0 p h.is;
 }
 
-pub Lacks-lacking : (new : Table) (n : ℕ) (set : Point → Bool) → IsLacking new.counts.items new.pool.places set → Lacks (shown new n) set
-Lacks-lacking new n set lacking = record { none = λ d held same. lacking.none d.0 held.is same }
+-- what is always true of the fields stays so as nodes are added
+pub whole_adds : (old new : Table) (entries entries' : List (Key × Dd)) (reclaims marks ids chosen chosen' : ℕ) → Adds old new → chosen ≤ chosen' → Remembers new.counts.items new.pool.places entries'
+    → IsWhole old.counts.items old.pool.places entries old.pool.cap reclaims marks ids chosen → IsWhole new.counts.items new.pool.places entries' new.pool.cap reclaims marks ids chosen'
+whole_adds old new entries entries' reclaims marks ids chosen chosen' adds more remembers whole = record {
+  sound = adds.sound;
+  remembers = remembers;
+  ascends = λ none. adds.ascends (whole.ascends none);
+  marked = rw adds.cap whole.marked;
+  gathered = rw adds.cap whole.gathered;
+  room = omega (arith, ap (λ v. length v.items) adds.counts, whole.room);
+}
 
 module _ (operation : Operation) (old new : Table) (n : ℕ) (a b : Dd) (s : IsSound old.counts.items old.pool.places) (adds : Adds old new)
     (ha : IsHeld (shown old n) a) (hb : IsHeld (shown old n) b) where
@@ -123,30 +134,28 @@ module _ (old new : Table) (n : ℕ) (a : Dd) (vars : List ℕ) (chosen : ℕ �
   was : (q : Point) → holds new.counts.items new.pool.places a.0 q ≡ holds old.counts.items old.pool.places a.0 q
   was q = table_holds old new s adds a.0 q ha.is
 
-  pub exists_shown : (r : Result Dd Nodes) → IfOk r (λ d. IsQuantified new.counts.items new.pool.places chosen true a.0 d.0) → IfOk r (Exists (shown old n) (shown new n) vars a)
-  exists_shown (Err e) is = tt
-  exists_shown (Ok d) is = record {
+  pub spread_shown : (answer : Bool) (r : Result Dd Nodes) → IfOk r (λ d. IsQuantified new.counts.items new.pool.places chosen answer a.0 d.0) → IfOk r (Spreads (shown old n) (shown new n) vars answer a)
+  spread_shown answer (Err e) is = tt
+  spread_shown answer (Ok d) is = record {
     some = λ p range there. let at = is.some p range there in record { other = at.other; range = at.range; agrees = agrees_vars p at.other at.agrees; is = sym (was at.other) ∙ at.is };
     all = λ p q range agrees there. is.all p q range (agrees_chosen p q agrees) (was q ∙ there);
   }
-
-  pub forall_shown : (r : Result Dd Nodes) → IfOk r (λ d. IsQuantified new.counts.items new.pool.places chosen false a.0 d.0) → IfOk r (Forall (shown old n) (shown new n) vars a)
-  forall_shown (Err e) is = tt
-  forall_shown (Ok d) is = record {
-    every = λ p q there range agrees. true_unless _ (λ out. true≢false (sym there ∙ is.all p q range (agrees_chosen p q agrees) (was q ∙ out)));
-    all = λ p range every. true_unless _ (λ out. let at = is.some p range out in true≢false (sym (every at.other at.range (agrees_vars p at.other at.agrees)) ∙ sym (was at.other) ∙ at.is));
-  }
-    where
-      true_unless : (b : Bool) → (b ≡ false → ⊥) → b ≡ true
-      true_unless true never = refl
-      true_unless false never = absurd (never refl)
 
   -- with chosen variables in other words
   combined_chosen : (answer : Bool) (whole whole' part : Point → Bool) → ((p : Point) → whole p ≡ whole' p) → IsCombined new.counts.items chosen answer whole part → IsCombined new.counts.items (is_one_of vars) answer whole' part
   combined_chosen answer whole whole' part w m = combined_same new.counts.items adds.sound.values (is_one_of vars) answer whole whole' part part (λ p range. w p) (λ p. refl) (subst (λ x. IsCombined new.counts.items x answer whole part) (fun_ext same) m)
 
-  pub unions_shown : AddsCombined new.counts.items chosen true old.pool.places new.pool.places (λ p. holds new.counts.items new.pool.places a.0 p) → AddsUnions (shown old n) (shown new n) vars (λ p. has (shown old n) a p)
-  unions_shown added = record { each = λ d held. elim (added.each d.0 held.is) [ inl before ↦ inl (record { is = before }) | inr m ↦ inr (combined_chosen true _ _ _ was m) ] }
+  pub answers_shown : (answer : Bool) → AddsCombined new.counts.items chosen answer old.pool.places new.pool.places (λ p. holds new.counts.items new.pool.places a.0 p) → AddsAnswers (shown old n) (shown new n) vars answer (λ p. has (shown old n) a p)
+  answers_shown answer added = record { each = λ d held. elim (added.each d.0 held.is) [ inl before ↦ inl (record { is = before }) | inr m ↦ inr (combined_chosen answer _ _ _ was m) ] }
 
-  pub meets_shown : AddsCombined new.counts.items chosen false old.pool.places new.pool.places (λ p. holds new.counts.items new.pool.places a.0 p) → AddsMeets (shown old n) (shown new n) vars (λ p. has (shown old n) a p)
-  meets_shown added = record { each = λ d held. elim (added.each d.0 held.is) [ inl before ↦ inl (record { is = before }) | inr m ↦ inr (combined_chosen false _ _ _ was m) ] }
+true_unless : (b : Bool) → (b ≡ false → ⊥) → b ≡ true
+true_unless true never = refl
+true_unless false never = absurd (never refl)
+
+-- where the answer no is spread, all points are left that have no other answer beside them
+pub forall_of : (old new : Contents) (vars : List ℕ) (a : Dd) (r : Result Dd Nodes) → IfOk r (Spreads old new vars false a) → IfOk r (Forall old new vars a)
+forall_of old new vars a (Err e) is = tt
+forall_of old new vars a (Ok d) is = record {
+  every = λ p q there range agrees. true_unless _ (λ out. true≢false (sym there ∙ is.all p q range agrees out));
+  all = λ p range every. true_unless _ (λ out. let at = is.some p range out in true≢false (sym (every at.other at.range at.agrees) ∙ at.is));
+}

@@ -10,7 +10,7 @@ use Rattle.mv_diagram.specs.declared.table.Table.{Table}
 use Rattle.mv_diagram.specs.Sets.{Point, holds, is_held, node_at}
 use Rattle.mv_diagram.specs.Sound.{first, IsTest, IsSound}
 use Rattle.mv_diagram.specs.Works.{Adds}
-use Rattle.mv_diagram.specs.First.{IsFirst, IsSplit}
+use Rattle.mv_diagram.specs.First.{AreParted, IsFirst, IsSplit}
 use Rattle.mv_diagram.specs.Results.{IsKept, IsResult, Remembers, result_of}
 use Rattle.mv_diagram.proofs.Following.{if_same}
 use Rattle.mv_diagram.proofs.Growing.{Grows-same, Grows-more, held_node, node_stays, held_stays, first_stays, holds_stays}
@@ -36,7 +36,7 @@ module _ (old new : Table) (s : IsSound old.counts.items old.pool.places) (adds 
   pub table_test : (t : Test) → IsTest old.counts.items t → IsTest new.counts.items t
   table_test t is = subst (λ v. IsTest v t) (sym (ap (λ c. c.items) adds.counts)) is
 
-  pub table_split : (d : ℕ) (t : Test) (yes no : ℕ) → is_held old.pool.places d ≡ true → IsSplit old.counts.items old.pool.places d t yes no → IsSplit new.counts.items new.pool.places d t yes no
+  table_split : (d : ℕ) (t : Test) (yes no : ℕ) → is_held old.pool.places d ≡ true → IsSplit old.counts.items old.pool.places d t yes no → IsSplit new.counts.items new.pool.places d t yes no
   table_split d t y n held is = record {
     yes_held = table_held y is.yes_held;
     no_held = table_held n is.no_held;
@@ -59,12 +59,21 @@ module _ (old new : Table) (s : IsSound old.counts.items old.pool.places) (adds 
   pub table_remembers : (entries : List (Key × Dd)) → Remembers old.counts.items old.pool.places entries → Remembers new.counts.items new.pool.places entries
   table_remembers entries are = record { each = λ k d there. table_result k.operation k.left.0 k.right.0 d.0 (are.each k d there) }
 
-  pub table_first_of : (a b : ℕ) (t : Test) → is_held old.pool.places a ≡ true → is_held old.pool.places b ≡ true → IsFirst old.counts.items old.pool.places a b t → IsFirst new.counts.items new.pool.places a b t
+  table_first_of : (a b : ℕ) (t : Test) → is_held old.pool.places a ≡ true → is_held old.pool.places b ≡ true → IsFirst old.counts.items old.pool.places a b t → IsFirst new.counts.items new.pool.places a b t
   table_first_of a b t ha hb is = record {
     test = table_test t is.test;
     left = rw (table_first a ha) is.left;
     right = rw (table_first b hb) is.right;
     one = rw (table_first a ha, table_first b hb) is.one;
+  }
+
+  pub table_parted : (a b : ℕ) (t : Test) (ay an by bn : ℕ) → AreParted old.counts.items old.pool.places a b t ay an by bn → AreParted new.counts.items new.pool.places a b t ay an by bn
+  table_parted a b t ay an by bn is = record {
+    left_held = table_held a is.left_held;
+    right_held = table_held b is.right_held;
+    test = table_first_of a b t is.left_held is.right_held is.test;
+    left = table_split a t ay an is.left_held is.left;
+    right = table_split b t by bn is.right_held is.right;
   }
 
 -- with one result more what is remembered is right

@@ -25,3 +25,11 @@ pub record IsSplit (counts : List ℕ) (ns : List (Option Node)) (d : ℕ) (t : 
   pub yes_later : order (t.var + 1) 0 ≤ first counts ns yes
   pub no_later : order t.var t.value < first counts ns no
   pub set : (p : Point) → holds counts ns d p ≡ (if p t.var == t.value then holds counts ns yes p else holds counts ns no p)
+
+-- it is the first test of two diagrams, which are these where it says yes, and these where it says no
+pub record AreParted (counts : List ℕ) (ns : List (Option Node)) (a b : ℕ) (t : Test) (a_yes a_no b_yes b_no : ℕ) : Type 0 where
+  pub left_held : is_held ns a ≡ true
+  pub right_held : is_held ns b ≡ true
+  pub test : IsFirst counts ns a b t
+  pub left : IsSplit counts ns a t a_yes a_no
+  pub right : IsSplit counts ns b t b_yes b_no

@@ -36,17 +36,11 @@ pub record Piece (counts : List ℕ) (chosen : ℕ → Bool) (answer : Bool) (wh
   pub here : piece p ≡ answer
   pub within : (q : Point) → InRange counts q → piece q ≡ answer → part q ≡ answer
 
--- the part has the answer exactly where one of some restrictions has it
+-- the part has the answer exactly where one of some restrictions has it. Where the answer is yes it is their union: each
+-- of its points is in one that lies in it. Where it is no it is their meet: each point that it lacks is lacking in one
+-- in which it lies
 pub record IsCombined (counts : List ℕ) (chosen : ℕ → Bool) (answer : Bool) (whole part : Point → Bool) : Type 0 where
   pub each : (p : Point) → InRange counts p → part p ≡ answer → Piece counts chosen answer whole part p
-
--- a set is a union of restrictions: each of its points is in one that lies in the set
-abbrev pub IsUnion : List ℕ → (ℕ → Bool) → (Point → Bool) → (Point → Bool) → Type 0
-IsUnion counts chosen whole part = IsCombined counts chosen true whole part
-
--- a set is a meet of restrictions: each point that it lacks is lacking in one in which the set lies
-abbrev pub IsMeet : List ℕ → (ℕ → Bool) → (Point → Bool) → (Point → Bool) → Type 0
-IsMeet counts chosen whole part = IsCombined counts chosen false whole part
 
 -- each diagram that is held now and wasn't has the answer where one of some restrictions of the set has it
 pub record AddsCombined (counts : List ℕ) (chosen : ℕ → Bool) (answer : Bool) (old new : List (Option Node)) (whole : Point → Bool) : Type 0 where

@@ -11,7 +11,7 @@ use Rattle.mv_diagram.specs.Sets.{Point, InRange, holds, is_held}
 use Rattle.mv_diagram.specs.Sound.{order, first}
 use Rattle.mv_diagram.specs.Results.{result_of}
 use Rattle.mv_diagram.specs.Diagrams.{Contents, IsHeld, has}
-use Rattle.mv_diagram.specs.Parts.{IsUnion, IsMeet}
+use Rattle.mv_diagram.specs.Parts.{IsCombined}
 
 -- whether a variable is one of these
 abbrev pub is_one_of : List ℕ → ℕ → Bool
@@ -55,20 +55,29 @@ pub record IsJoined (counts : List ℕ) (ns : List (Option Node)) (joined answer
   pub later : order t.var t.value ≤ first counts ns d
   pub set : (p : Point) → holds counts ns d p ≡ joined_set counts ns joined answer t yes no p
 
+-- it has the answer exactly where the set has it at some point that agrees outside these variables
+pub record Spreads (old new : Contents) (vars : List ℕ) (answer : Bool) (a d : Dd) : Type 0 where
+  pub some : (p : Point) → InRange new.counts p → has new d p ≡ answer → Agreeing new.counts (is_one_of vars) (λ q. has old a q) answer p
+  pub all : (p q : Point) → InRange new.counts q → Agrees (is_one_of vars) p q → has old a q ≡ answer → has new d p ≡ answer
+
 -- it has each point that agrees with one of the set outside these variables, and no other
-pub record Exists (old new : Contents) (vars : List ℕ) (a d : Dd) : Type 0 where
-  pub some : (p : Point) → InRange new.counts p → has new d p ≡ true → Agreeing new.counts (is_one_of vars) (λ q. has old a q) true p
-  pub all : (p q : Point) → InRange new.counts q → Agrees (is_one_of vars) p q → has old a q ≡ true → has new d p ≡ true
+abbrev pub Exists : Contents → Contents → List ℕ → Dd → Dd → Type 0
+Exists old new vars a d = Spreads old new vars true a d
 
 -- it has each point with which all that agree outside these variables are in the set, and no other
 pub record Forall (old new : Contents) (vars : List ℕ) (a d : Dd) : Type 0 where
   pub every : (p q : Point) → has new d p ≡ true → InRange new.counts q → Agrees (is_one_of vars) p q → has old a q ≡ true
   pub all : (p : Point) → InRange new.counts p → ((q : Point) → InRange new.counts q → Agrees (is_one_of vars) p q → has old a q ≡ true) → has new d p ≡ true
 
--- each diagram that is held now and wasn't has a union of restrictions of the set, in which these variables have values
-pub record AddsUnions (old new : Contents) (vars : List ℕ) (set : Point → Bool) : Type 0 where
-  pub each : (d : Dd) → IsHeld new d → IsHeld old d ⊎ IsUnion new.counts (is_one_of vars) set (λ p. has new d p)
+-- each diagram that is held now and wasn't has the answer exactly where one of some restrictions of the set has it, in
+-- which these variables have values
+pub record AddsAnswers (old new : Contents) (vars : List ℕ) (answer : Bool) (set : Point → Bool) : Type 0 where
+  pub each : (d : Dd) → IsHeld new d → IsHeld old d ⊎ IsCombined new.counts (is_one_of vars) answer set (λ p. has new d p)
 
--- or a meet of such restrictions
-pub record AddsMeets (old new : Contents) (vars : List ℕ) (set : Point → Bool) : Type 0 where
-  pub each : (d : Dd) → IsHeld new d → IsHeld old d ⊎ IsMeet new.counts (is_one_of vars) set (λ p. has new d p)
+-- it has a union of such restrictions
+abbrev pub AddsUnions : Contents → Contents → List ℕ → (Point → Bool) → Type 0
+AddsUnions old new vars set = AddsAnswers old new vars true set
+
+-- or a meet of them
+abbrev pub AddsMeets : Contents → Contents → List ℕ → (Point → Bool) → Type 0
+AddsMeets old new vars set = AddsAnswers old new vars false set

@@ -3,9 +3,9 @@ ghost use Rattle.mv_base.specs.declared.limits.TheConstants.{MAX_VALUES};
 ghost use Rattle.mv_diagram.specs.Sets.{Point, holds, is_held, node_at};
 ghost use Rattle.mv_diagram.specs.Sound.{IsSound};
 ghost use Rattle.mv_diagram.specs.Works.{Adds, IsFull, IsLacking};
-ghost use Rattle.mv_diagram.specs.Results.{IsResult, Remembers, result_of};
+ghost use Rattle.mv_diagram.specs.Results.{AreSides, IsResult, Remembers, result_of};
 ghost use Rattle.mv_diagram.specs.Parts.{AddsParts};
-ghost use Rattle.mv_diagram.specs.First.{IsEarlier, IsFirst};
+ghost use Rattle.mv_diagram.specs.First.{AreParted, IsEarlier, IsFirst};
 
 use crate::memo::{Key, Memo, Operation, keep, recall};
 use crate::node::{ONE, ZERO};
@@ -74,11 +74,70 @@ fn first_test(table: &Table, a: Dd, b: Dd) -> Option<Test>
     }
 }
 
+/// A test, with what two diagrams are where it says yes, and where it says no.
+#[derive(Clone, Copy)]
+struct Parted {
+    test: Test,
+    yes: (Dd, Dd),
+    no: (Dd, Dd),
+}
+
+/// Parts two diagrams by their first test, or answers None where neither has one.
+fn part(table: &Table, a: Dd, b: Dd) -> Option<Parted>
+    requires sound { IsSound table.now.counts.items table.now.pool.places }
+    requires left { is_held table.now.pool.places a.0 ≡ true }
+    requires right { is_held table.now.pool.places b.0 ≡ true }
+    ensures some { IfSome result (λ at. AreParted table.now.counts.items table.now.pool.places a.0 b.0 at.test at.yes.0.0 at.no.0.0 at.yes.1.0 at.no.1.0) }
+    ensures left { IfNone result (node_at table.now.pool.places a.0 ≡ None) }
+    ensures right { IfNone result (node_at table.now.pool.places b.0 ≡ None) }
+{
+    let Some(test) = first_test(table, a, b) else {
+        return None;
+    };
+    let (a_yes, a_no) = split(table, a, test);
+    let (b_yes, b_no) = split(table, b, test);
+    Some(Parted {
+        test,
+        yes: (a_yes, b_yes),
+        no: (a_no, b_no),
+    })
+}
+
 /// The diagram of zero or one.
 pub fn end(holds: bool) -> Dd
     ensures { result.0 ≡ (if holds then 1 else 0) }
 {
     if holds { ONE } else { ZERO }
+}
+
+/// The result of an operation by its results where the first test says yes and where it says no. It is remembered.
+fn whole(
+    table: &mut Table,
+    memo: &mut Memo,
+    key: Key,
+    test: Test,
+    yes: Dd,
+    no: Dd,
+) -> Result<Dd, Nodes>
+    requires sound { IsSound table.old.counts.items table.old.pool.places }
+    requires remembers { Remembers table.old.counts.items table.old.pool.places memo.old.entries }
+    requires sides { AreSides table.old.counts.items table.old.pool.places key.operation key.left.0 key.right.0 test yes.0 no.0 }
+    ensures adds { Adds table.old table.new }
+    ensures remembers { Remembers table.new.counts.items table.new.pool.places memo.new.entries }
+    ensures ok { IfOk result (λ d. IsResult table.new.counts.items table.new.pool.places key.operation key.left.0 key.right.0 d.0) }
+    ensures added { AddsParts table.new.counts.items table.old.pool.places table.new.pool.places (λ p.
+        result_of key.operation (holds table.new.counts.items table.new.pool.places key.left.0 p) (holds table.new.counts.items table.new.pool.places key.right.0 p)) }
+    ensures full { IfErr result (IsFull table.new.pool) }
+    ensures lacking { IfErr result (λ e. IsLacking table.new.counts.items table.new.pool.places (λ p.
+        result_of key.operation (holds table.new.counts.items table.new.pool.places key.left.0 p) (holds table.new.counts.items table.new.pool.places key.right.0 p))) }
+{
+    match make(table, test, yes, no) {
+        Ok(d) => {
+            keep(memo, key, d);
+            Ok(d)
+        }
+        Err(stop) => Err(stop),
+    }
 }
 
 /// The operation on two diagrams, by their first test. With remembered results each pair of their nodes is visited
@@ -106,32 +165,20 @@ pub fn apply(
     if let Some(d) = at_once(operation, a, b) {
         return Ok(d);
     }
-    let key = Key {
-        operation,
-        left: a,
-        right: b,
-    };
+    let key = Key::of(operation, a, b);
     if let Some(d) = recall(memo, key) {
         return Ok(d);
     }
-    let Some(test) = first_test(table, a, b) else {
+    let Some(at) = part(table, a, b) else {
         return Ok(end(answer(operation, a == ONE, b == ONE)));
     };
-    let (a_yes, a_no) = split(table, a, test);
-    let (b_yes, b_no) = split(table, b, test);
-    let yes = match apply(table, memo, operation, a_yes, b_yes) {
+    let yes = match apply(table, memo, operation, at.yes.0, at.yes.1) {
         Ok(d) => d,
         Err(stop) => return Err(stop),
     };
-    let no = match apply(table, memo, operation, a_no, b_no) {
+    let no = match apply(table, memo, operation, at.no.0, at.no.1) {
         Ok(d) => d,
         Err(stop) => return Err(stop),
     };
-    match make(table, test, yes, no) {
-        Ok(d) => {
-            keep(memo, key, d);
-            Ok(d)
-        }
-        Err(stop) => Err(stop),
-    }
+    whole(table, memo, key, at.test, yes, no)
 }

@@ -3,7 +3,8 @@ ghost use Rattle.std.specs.Bool.{OnTrue, OnFalse};
 ghost use Rattle.mv_base.specs.Set.{has as has_value};
 ghost use Rattle.mv_diagram.specs.Sets.{Point, InRange, SameSet};
 ghost use Rattle.mv_diagram.specs.Sound.{AreCounts};
-ghost use Rattle.mv_diagram.specs.Quantified.{AddsMeets, AddsUnions, Exists, Forall};
+ghost use Rattle.mv_diagram.specs.Quantified.{AddsAnswers, AddsMeets, AddsUnions, Exists, Forall, Spreads};
+ghost use Rattle.mv_diagram.specs.Results.{result_of};
 ghost use Rattle.mv_diagram.specs.Diagrams.{AddsRestrictions, HasNoRoom, IsHeld, IsPoint, Keeps, Lacks, Loses, Reaches, has, point_of};
 
 use crate::apply::apply;
@@ -103,6 +104,21 @@ impl Diagrams {
         literal_of(&mut self.table, var, set)
     }
 
+    /// The points that the operation has of the two sets.
+    fn combine(&mut self, operation: Operation, a: Dd, b: Dd) -> Result<Dd, Nodes>
+        requires left { IsHeld self.old a }
+        requires right { IsHeld self.old b }
+        ensures keeps { Keeps self.old self.new }
+        ensures held { IfOk result (IsHeld self.new) }
+        ensures set { IfOk result (λ d. (p : Point) → has self.new d p ≡ result_of operation (has self.old a p) (has self.old b p)) }
+        ensures full { IfErr result (HasNoRoom self.new) }
+        ensures added { AddsRestrictions self.old self.new (λ p. result_of operation (has self.old a p) (has self.old b p)) }
+        ensures lacks { IfErr result (λ e. Lacks self.new (λ p. result_of operation (has self.old a p) (has self.old b p))) }
+        ensures values { AreCounts self.new.counts }
+    {
+        apply(&mut self.table, &mut self.memo, operation, a, b)
+    }
+
     /// The points of both. The time is that of visiting each pair of their nodes once, where all results are remembered.
     pub fn and(&mut self, a: Dd, b: Dd) -> Result<Dd, Nodes>
         requires left { IsHeld self.old a }
@@ -114,7 +130,7 @@ impl Diagrams {
         ensures added { AddsRestrictions self.old self.new (λ p. has self.old a p && has self.old b p) }
         ensures lacks { IfErr result (λ e. Lacks self.new (λ p. has self.old a p && has self.old b p)) }
     {
-        apply(&mut self.table, &mut self.memo, Operation::And, a, b)
+        self.combine(Operation::And, a, b)
     }
 
     /// The points of either.
@@ -128,7 +144,7 @@ impl Diagrams {
         ensures added { AddsRestrictions self.old self.new (λ p. has self.old a p || has self.old b p) }
         ensures lacks { IfErr result (λ e. Lacks self.new (λ p. has self.old a p || has self.old b p)) }
     {
-        apply(&mut self.table, &mut self.memo, Operation::Or, a, b)
+        self.combine(Operation::Or, a, b)
     }
 
     /// The points that aren't in it.
@@ -141,7 +157,29 @@ impl Diagrams {
         ensures added { AddsRestrictions self.old self.new (λ p. not (has self.old a p)) }
         ensures lacks { IfErr result (λ e. Lacks self.new (λ p. not (has self.old a p))) }
     {
-        apply(&mut self.table, &mut self.memo, Operation::Nand, a, a)
+        self.combine(Operation::Nand, a, a)
+    }
+
+    /// The set that has the answer exactly where some point that agrees outside these variables has it.
+    fn spread(&mut self, answer: bool, a: Dd, vars: &[u32]) -> Result<Dd, Nodes>
+        requires held { IsHeld self.old a }
+        requires vars { All (λ v. v < length self.old.counts) vars.now }
+        ensures keeps { Keeps self.old self.new }
+        ensures held { IfOk result (IsHeld self.new) }
+        ensures set { IfOk result (Spreads self.old self.new vars.now answer a) }
+        ensures full { IfErr result (HasNoRoom self.new) }
+        ensures added { AddsAnswers self.old self.new vars.now answer (λ p. has self.old a p) }
+    {
+        choose(vars, self.table.counts.len(), &mut self.chosen);
+        self.done.clear();
+        quantify(
+            &mut self.table,
+            &mut self.memo,
+            &mut self.done,
+            self.chosen.as_slice(),
+            answer,
+            a,
+        )
     }
 
     /// The points that agree, outside these variables, with some point of the set.
@@ -154,16 +192,7 @@ impl Diagrams {
         ensures full { IfErr result (HasNoRoom self.new) }
         ensures added { AddsUnions self.old self.new vars.now (λ p. has self.old a p) }
     {
-        choose(vars, self.table.counts.len(), &mut self.chosen);
-        self.done.clear();
-        quantify(
-            &mut self.table,
-            &mut self.memo,
-            &mut self.done,
-            self.chosen.as_slice(),
-            true,
-            a,
-        )
+        self.spread(true, a, vars)
     }
 
     /// The points with which all that agree outside these variables are in the set.
@@ -176,16 +205,7 @@ impl Diagrams {
         ensures full { IfErr result (HasNoRoom self.new) }
         ensures added { AddsMeets self.old self.new vars.now (λ p. has self.old a p) }
     {
-        choose(vars, self.table.counts.len(), &mut self.chosen);
-        self.done.clear();
-        quantify(
-            &mut self.table,
-            &mut self.memo,
-            &mut self.done,
-            self.chosen.as_slice(),
-            false,
-            a,
-        )
+        self.spread(false, a, vars)
     }
 
     /// Whether the point is in the set.

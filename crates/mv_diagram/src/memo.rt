@@ -1,4 +1,4 @@
-ghost use Rattle.std.specs.Prelude.{IfSome, Contains};
+ghost use Rattle.std.specs.Prelude.{◌≡◌, IfSome, Contains};
 ghost use Rattle.mv_diagram.specs.Results.{IsKept};
 
 use crate::Dd;
@@ -18,6 +18,19 @@ pub struct Key {
     pub operation: Operation,
     pub left: Dd,
     pub right: Dd,
+}
+
+impl Key {
+    /// The operation on these two diagrams.
+    pub fn of(operation: Operation, left: Dd, right: Dd) -> Key
+        ensures { result ≡ record { operation = operation; left = left; right = right } }
+    {
+        Key {
+            operation,
+            left,
+            right,
+        }
+    }
 }
 
 /// The results of operations, as far as they are remembered.

@@ -93,11 +93,7 @@ pub fn quantify(
     let Some(node) = node(table, d) else {
         return Ok(d);
     };
-    let key = Key {
-        operation: joining_of(answer),
-        left: d,
-        right: d,
-    };
+    let key = Key::of(joining_of(answer), d, d);
     if let Some(known) = recall(done, key) {
         return Ok(known);
     }

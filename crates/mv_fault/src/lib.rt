@@ -7,4 +7,4 @@ mod tell;
 mod tests;
 
 pub use fault::{ParseFault, Which};
-pub use tell::put_parse_fault;
+pub use tell::{put_parse_fault, which_name};

@@ -6,8 +6,8 @@ use crate::fault::{ParseFault as Fault, Which};
 use itoa::Buffer;
 use mv_base::{Failed, Name, Sink, put_both, put_piece};
 
-/// The name of a limit.
-fn which_name(which: Which) -> &'static [u8]
+/// The name of a limit, as it is told.
+pub fn which_name(which: Which) -> &'static [u8]
     ensures { result.now ≡ which_name which }
 {
     match which {

@@ -84,7 +84,7 @@ pub fn kept_names(alloc: Global, values: &[Name]) -> Result<Items<Name>, Memory>
     if are_numbers(values) {
         return Ok(Items::new(alloc));
     }
-    copied(alloc, values)
+    Items::of_names(alloc, values)
 }
 
 /// Whether the names are the numbers from 0.
@@ -99,15 +99,4 @@ fn are_numbers(values: &[Name]) -> bool
         }
     }
     true
-}
-
-/// Equal names.
-fn copied(alloc: Global, names: &[Name]) -> Result<Items<Name>, Memory>
-    ensures { IfOk result (λ copy. copy ≡ names.now) }
-{
-    let mut copy = Items::new(alloc);
-    for name in names {
-        copy.push(name.copy()?)?;
-    }
-    Ok(copy)
 }

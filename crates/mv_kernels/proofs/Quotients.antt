@@ -11,6 +11,7 @@ use Rattle.mv_cover.specs.declared.cube.Lit.{Lit}
 use Rattle.mv_cover.specs.Cubes.{nets_ascend, IsCube}
 use Rattle.mv_cover.specs.Equal.{lit_eq}
 use Rattle.mv_cover.specs.Keys.{lit_eq-Decides}
+use Rattle.mv_cover.proofs.Meeting.{ascend_tail}
 use Rattle.mv_kernels.specs.Symbols.{has_symbol, has_each, without, quotient, SameCubes}
 use Rattle.mv_kernels.specs.Order.{lit_cmp}
 use Rattle.mv_kernels.proofs.Lists.{Contains-map, Contains-from_map, Contains-filter, Contains-from_filter, All-Contains, filter_twice}
@@ -135,10 +136,6 @@ rest_above l (m ∷ ls) h =
     let p = and_parts (nat_lt l.net.0 m.net.0) (nets_ascend (m ∷ ls)) h in
     and_from (nat_lt l.net.0 m.net.0) (list_all (λ (o : Lit). nat_lt l.net.0 o.net.0) ls) p.0 (above-wider l.net.0 m.net.0 ls (ltb-true l.net.0 m.net.0 p.0) (rest_above m ls p.1))
 
-ascend-rest : (l : Lit) (ls : List Lit) → nets_ascend (l ∷ ls) ≡ true → nets_ascend ls ≡ true
-ascend-rest l [] h = refl
-ascend-rest l (m ∷ ls) h = (and_parts (nat_lt l.net.0 m.net.0) (nets_ascend (m ∷ ls)) h).1
-
 ascend-cons : (l : Lit) (ls : List Lit) → above l.net.0 ls ≡ true → nets_ascend ls ≡ true → nets_ascend (l ∷ ls) ≡ true
 unfolding above
 ascend-cons l [] a h = refl
@@ -149,7 +146,7 @@ ascend-filter : (p : Lit → Bool) (ls : List Lit) → nets_ascend ls ≡ true �
 unfolding above
 ascend-filter p [] h = refl
 ascend-filter p (l ∷ ls) h =
-    let rest = ascend-filter p ls (ascend-rest l ls h) in
+    let rest = ascend-filter p ls (ascend_tail l ls h) in
     cond_both (p l) (l ∷ filter p ls) (filter p ls) (λ (ms : List Lit). nets_ascend ms ≡ true)
     (λ _. ascend-cons l (filter p ls) (list_all-filter p (λ (m : Lit). nat_lt l.net.0 m.net.0) ls (rest_above l ls h)) rest) (λ _. rest)
 

@@ -82,7 +82,3 @@ open_piece-none p [] none = refl
 open_piece-none p (x ∷ w) none =
     let both = and_parts (not (p x)) (has_none p w) none in
     rw (not-true (p x) both.0, closed-none p w both.1) (ap (λ ys. x ∷ ys) (open_piece-none p w both.1))
-
--- without an end there is one piece
-pub pieces-none : (p : ℕ → Bool) (w : List ℕ) → has_none p w ≡ true → pieces p w ≡ w ∷ []
-pieces-none p w none = rw (closed-none p w none, open_piece-none p w none) refl

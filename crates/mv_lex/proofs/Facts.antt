@@ -175,11 +175,6 @@ numbered-words number [] = All-nil (λ (l : LexLine). 0 < length l.words)
 numbered-words number (group ∷ groups) =
     All-append (λ (l : LexLine). 0 < length l.words) (line_at number (words_of (texts group))) (numbered (number + length group) groups) (line_at-words number (words_of (texts group))) (numbered-words (number + length group) groups)
 
--- each line has a word
-pub lines_of-words : (bytes : List ℕ) → All (λ (l : LexLine). 0 < length l.words) (lines_of bytes)
-unfolding lines_of
-lines_of-words bytes = numbered-words 1 (all_joined (pieces is_line_feed bytes))
-
 nonempty-each : (words : List (List ℕ)) → All (λ w. 0 < length w) (nonempty words)
 nonempty-each [] = All-nil (λ w. 0 < length w)
 nonempty-each (w ∷ words) =
@@ -222,8 +217,3 @@ numbered-each : (number : ℕ) (groups : List (List (List ℕ))) → All (λ (l 
 numbered-each number [] = All-nil (λ (l : LexLine). All (λ w. 0 < length w) l.words)
 numbered-each number (group ∷ groups) =
     All-append (λ (l : LexLine). All (λ w. 0 < length w) l.words) (line_at number (words_of (texts group))) (numbered (number + length group) groups) (line_at-each number (words_of (texts group)) (words_of-each (texts group))) (numbered-each (number + length group) groups)
-
--- each word has a byte
-pub lines_of-each_word : (bytes : List ℕ) → All (λ (l : LexLine). All (λ w. 0 < length w) l.words) (lines_of bytes)
-unfolding lines_of
-lines_of-each_word bytes = numbered-each 1 (all_joined (pieces is_line_feed bytes))

@@ -5,5 +5,4 @@ pub mod Groups
 pub mod Longs
 pub mod After
 pub mod Facts
-pub mod Written
 pub mod Letters

@@ -124,10 +124,6 @@ IsPlainName-numbered front n small few plain =
 pub decimal-value_name : (n : ℕ) → n < 2 ^ 64 → is_value_name (decimal n) ≡ true
 decimal-value_name n small = value_name-from_plain (decimal n) (IsPlainName-decimal n small)
 
--- and of a net; so is one behind a few plain bytes
-pub decimal-net_name : (n : ℕ) → n < 2 ^ 64 → is_net_name (decimal n) ≡ true
-decimal-net_name n small = net_name-from_plain (decimal n) (IsPlainName-decimal n small)
-
 pub numbered-net_name : (front : List ℕ) (n : ℕ) → n < 2 ^ 64 → length front ≤ 1000 → list_all is_plain front ≡ true → is_net_name (front ++ decimal n) ≡ true
 numbered-net_name front n small few plain = net_name-from_plain (front ++ decimal n) (IsPlainName-numbered front n small few plain)
 

@@ -36,7 +36,8 @@ differ_counted (w ∷ ws) h =
 not_among : (n : ℕ) → nat_lt 0 n ≡ false → n ≤ 1
 not_among n h = grind (arith, nat_tests)
 
-drivers_counted : (m : FileModel) → IsDrivenOnce m → (w : List ℕ) → times w (drivers m) ≤ 1
+-- a net has one driver at most
+pub drivers_counted : (m : FileModel) → IsDrivenOnce m → (w : List ℕ) → times w (drivers m) ≤ 1
 drivers_counted m d w =
     ⊎_elim
     (λ (y : among w (drivers m) ≡ true). let e = d.once w (driver_is_net m w y) in let g : times w (drivers m) ≤ 1 = omega arith in g)
@@ -70,10 +71,6 @@ unlike_lawful : (u o : List ℕ) → is_dotted o ≡ false → same_word (mark_n
 unlike_lawful u o h =
     ⊎_elim (λ (y : same_word (mark_name u) o ≡ true). absurd (false≢true (sym h ∙ ap is_dotted (sym (same_word_is (mark_name u) o y)))))
     (λ (n : same_word (mark_name u) o ≡ false). n) (cases_Bool (same_word (mark_name u) o))
-
--- a lawful name is not a mark's
-pub lawful_no_mark : (w o : List ℕ) → is_net_name w ≡ true → same_word w (mark_name o) ≡ false
-lawful_no_mark w o h = unlike_mark w o (lawful_undotted w h)
 
 marks_counted : (u : List ℕ) (os : List (List ℕ)) → times (mark_name u) (map mark_name os) ≡ times u os
 marks_counted u [] = refl

@@ -32,9 +32,6 @@ some_more false n = grind (arith, nat_tests)
 more_other : (n : ℕ) → nat_lt 1 n ≡ nat_lt 1 (n + 0)
 more_other n = grind (arith, nat_tests)
 
-more_same : (n : ℕ) → (nat_lt 1 n || nat_lt 0 n) ≡ nat_lt 1 (n + 1)
-more_same n = grind (arith, nat_tests)
-
 again : (w u : List ℕ) (us : List (List ℕ)) (twice : List (List ℕ)) (known same : Bool) → nat_lt 0 (count_by (same_word u) us) ≡ known → same_word w u ≡ same → among w twice ≡ nat_lt 1 (count_by (same_word w) us) → among w (if known then with_name twice u else twice) ≡ nat_lt 1 (count_by (same_word w) us + cond same 1 0)
 again w u us twice true true k s e =
     among-with_name w twice u

@@ -8,6 +8,8 @@ pub mod Soundness
 pub mod Distinct
 pub mod Walks
 pub mod Clear
+pub mod Turned
+pub mod Spared
 pub mod Turns
 pub mod Decimals
 pub mod Placing

@@ -15,7 +15,7 @@ use Rattle.mv_design.specs.declared.design.FileModel.{FileModel}
 use Rattle.mv_model.specs.Numbers.{number_in}
 use Rattle.mv_model.specs.Sound.{IsRanked}
 use Rattle.mv_model.proofs.Entries.{Entry, name_of, columns_in, entry_reads, entries, reads_are}
-use Rattle.mv_model.proofs.Listed.{found, any_at, all_from, IsNumber-among, number_at, name_at, has_number, numbered_by}
+use Rattle.mv_model.proofs.Listed.{found, any_at, all_from, IsNumber-among, number_at, has_number, numbered_by}
 
 -- nets by number with different names, of which each column is one
 pub record AreNets (es : List Entry) (names : List (List ℕ)) : Type 0 where
@@ -91,20 +91,6 @@ pub ranked_by_name : (m : FileModel) (names : List (List ℕ)) → AreNets (entr
 ranked_by_name m names a r = record {
   rank = λ net. r.rank (number_in names net);
   falls = λ net above h. r.falls (number_in names net) (number_in names above) (reads_number (entries m) names net above a (reads_are m net above ∙ h));
-}
-
-falls_to : (rank : List ℕ → ℕ) (u v w x : List ℕ) → u ≡ v → w ≡ x → rank w < rank u → rank x < rank v
-falls_to rank u v w x e f h = rw (← e, ← f) h
-
--- and the other way round
-pub ranked_by_number : (m : FileModel) (names : List (List ℕ)) → AreNets (entries m) names → IsRanked m → AreRanked (columns_of (entries m) names)
-ranked_by_number m names a r = record {
-  rank = λ n. r.rank (get_or names n []);
-  falls = λ n k h.
-      let b = reads_name (entries m) names n k a h in
-      falls_to r.rank b.net (get_or names n []) b.above (get_or names k []) (sym b.net_at)
-      (sym (name_at names b.above b.above_known) ∙ ap (λ j. get_or names j []) b.above_number)
-      (r.falls b.net b.above (sym (reads_are m b.net b.above) ∙ b.reads));
 }
 
 -- each column is one of the nets

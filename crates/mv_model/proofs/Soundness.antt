@@ -15,7 +15,6 @@ use Rattle.mv_model.specs.declared.fault.FlatFault.{FlatFault}
 use Rattle.mv_model.specs.declared.fault.FlatFault.TheVariants.{DrivenTwice, Undriven, Cycle, Limit, Memory}
 use Rattle.mv_model.specs.Nets.{columns_of, outputs_of, nets_named, nets_of, drivers, drivers_of}
 use Rattle.mv_model.specs.Sound.{when, first, table_reads, reads, twice_at, undriven_at, many_faults, net_faults, IsDrivenOnce, IsRanked, IsSoundModel, ReadsOn, IsOnCycle, IsFault}
-use Rattle.mv_model.specs.Cycles.{TellsCycle}
 use Rattle.mv_model.proofs.Names.{among-with_names}
 
 -- ---- names in parts of lists
@@ -217,14 +216,6 @@ memory_is_fault m f e = let P : FlatFault → Type 0 = IsFault m in subst P (sym
 pub told_is_fault : (m : FileModel) (f : FlatFault) → (f ≡ Memory) ⊎ (first (net_faults m) ≡ Some f) → IsFault m f
 told_is_fault m f h = ⊎_elim (λ e. memory_is_fault m f e) (λ e. first_is_fault m f e) h
 
--- a net on a cycle, where the nets have no other fault
-pub cycle_is_fault : (m : FileModel) (f : FlatFault) → net_faults m ≡ [] → TellsCycle m f → IsFault m f
-cycle_is_fault m (DrivenTwice net) e t = absurd t
-cycle_is_fault m (Undriven net) e t = absurd t
-cycle_is_fault m (Limit which number) e t = absurd t
-cycle_is_fault m (Cycle net) e t = record { none = e; cycle = t }
-cycle_is_fault m Memory e t = tt
-
 -- ---- a model with a fault isn't sound
 
 falls_along : (m : FileModel) (r : IsRanked m) (last net : List ℕ) (path : List (List ℕ)) → ReadsOn m last net path → r.rank last < r.rank net
@@ -242,5 +233,5 @@ pub fault-excludes : (m : FileModel) (f : FlatFault) → IsFault m f → (f ≡ 
 fault-excludes m (DrivenTwice net) h n s few = no_first (net_faults m) (DrivenTwice net) (no_faults m s.driven few) h
 fault-excludes m (Undriven net) h n s few = no_first (net_faults m) (Undriven net) (no_faults m s.driven few) h
 fault-excludes m (Limit which number) h n s few = no_first (net_faults m) (Limit which number) (no_faults m s.driven few) h
-fault-excludes m (Cycle net) h n s few = cycle_excludes m net h.cycle s.acyclic
+fault-excludes m (Cycle net) h n s few = cycle_excludes m net h.first.cycle s.acyclic
 fault-excludes m Memory h n s few = n refl

@@ -1,8 +1,9 @@
 -- A net that is above itself by number is on a cycle of the model.
-use Rattle.std.proofs.Common.{◌≡◌, ℕ, ◌<◌, true, List, [], ◌∷◌, length, map, get_or, Some, refl, sym, ◌∙◌, ap, subst, arith, All}
+use Rattle.std.proofs.Common.{◌≡◌, ℕ, ◌<◌, true, suc, take, drop, List, [], ◌∷◌, ◌++◌, length, map, get_or, Some, refl, sym, ◌∙◌, ap, subst, arith, All}
 use Rattle.std.specs.List.{slice_get}
 use Rattle.std.specs.Option.{option_map}
-use Rattle.std.proofs.lemmas.List.{length-map}
+use Rattle.std.proofs.lemmas.List.{length-map, take-map, take-append-drop}
+use Rattle.std.proofs.Math.Seq.{drop-cons}
 use Rattle.std.proofs.lemmas.Option.{slice_get-map, slice_get_read, slice_get_within, same_Some}
 use Rattle.mv_base.specs.Names.{among}
 use Rattle.mv_base.specs.declared.number.NetId.{NetId}
@@ -12,13 +13,14 @@ use Rattle.mv_net.specs.Ranks.{IsRanked as AreRanked, AllBelow}
 use Rattle.mv_design.specs.declared.design.FileModel.{FileModel}
 use Rattle.mv_model.specs.Nets.{nets_of}
 use Rattle.mv_model.specs.Proper.{IsProperModel}
-use Rattle.mv_model.specs.Sound.{reads, ReadsOn, IsOnCycle, IsDrivenOnce, IsRanked}
+use Rattle.mv_model.specs.Sound.{reads, ReadsOn, IsOnCycle, IsFirstOnCycle, IsDrivenOnce, IsRanked}
 use Rattle.mv_model.specs.Numbers.{number_in, net_in, places}
 use Rattle.mv_model.specs.Columns.{numbers_in, columns_by_net}
-use Rattle.mv_model.specs.Cycles.{GoesOn, IsTurning, Covers}
+use Rattle.mv_model.specs.Cycles.{GoesOn, IsAbove, IsTurning}
+use Rattle.mv_model.proofs.Clear.{Covers}
 use Rattle.mv_model.proofs.Listed.{IsNumber-among, name_at, has_number, all_from, mapped}
 use Rattle.mv_model.proofs.Entries.{entries, columns_in, columns_are, names_are, reads_are}
-use Rattle.mv_model.proofs.Ranking.{AreNets, reads_name, ranked_by_name, ranked_by_number, columns_below, length_columns}
+use Rattle.mv_model.proofs.Ranking.{AreNets, reads_name, reads_number, ranked_by_name, columns_below, length_columns}
 use Rattle.mv_model.proofs.Soundness.{read_is_net, reader_is_net}
 use Rattle.mv_model.proofs.Distinct.{places_differ, net_is_place}
 
@@ -46,11 +48,6 @@ pub model_ranked : (m : FileModel) (columns : List (List NetId)) → IsProperMod
 model_ranked m columns p d e r =
     let P : List (List NetId) → Type 0 = AreRanked in
     ranked_by_name m (places m) (are_nets m p d) (subst P (sym (columns_same m columns p e)) r)
-
-pub model_ranks : (m : FileModel) (columns : List (List NetId)) → IsProperModel m → IsDrivenOnce m → columns ≡ columns_by_net (places m) m → IsRanked m → AreRanked columns
-model_ranks m columns p d e r =
-    let P : List (List NetId) → Type 0 = AreRanked in
-    subst P (columns_same m columns p e) (ranked_by_number m (places m) (are_nets m p d) r)
 
 -- ---- the nets in their order
 
@@ -93,7 +90,7 @@ goes_by_name m columns last n [] p d e g = step_by_name m columns n last p d e g
 goes_by_name m columns last n (k ∷ path) p d e g = (step_by_name m columns n k p d e g.0, goes_by_name m columns last k path p d e g.1)
 
 -- the net at a place of the order that is above itself by number
-pub on_cycle : (m : FileModel) (columns : List (List NetId)) (nets : List (List ℕ)) (order : List NetId) (place : ℕ) (w : List ℕ) → IsProperModel m → IsDrivenOnce m → columns ≡ columns_by_net (places m) m → nets ≡ nets_of m → order ≡ numbers_in (places m) nets
+on_cycle : (m : FileModel) (columns : List (List NetId)) (nets : List (List ℕ)) (order : List NetId) (place : ℕ) (w : List ℕ) → IsProperModel m → IsDrivenOnce m → columns ≡ columns_by_net (places m) m → nets ≡ nets_of m → order ≡ numbers_in (places m) nets
     → IsTurning columns order place → place < length nets → w ≡ get_or nets place w → IsOnCycle m w
 on_cycle m columns nets order place w p d e f o t lt is =
     let there = slice_get_read nets (length nets) place w refl lt is in
@@ -103,6 +100,35 @@ on_cycle m columns nets order place w p d e f o t lt is =
     let g = goes_by_name m columns t.net.0 t.net.0 t.turns.path p d e t.turns.goes in
     let P : List ℕ → Type 0 = IsOnCycle m in
     subst P named (record { path = map (name m) t.turns.path; closed = g })
+
+-- a cycle of names is one of numbers
+step_by_number : (m : FileModel) (columns : List (List NetId)) (net above : List ℕ) → IsProperModel m → IsDrivenOnce m → columns ≡ columns_by_net (places m) m → reads m net above ≡ true → has_id (row columns (number_in (places m) net)) (number_in (places m) above) ≡ true
+step_by_number m columns net above p d e h =
+    ap (λ cs. has_id (row cs (number_in (places m) net)) (number_in (places m) above)) (sym (columns_same m columns p e))
+    ∙ reads_number (entries m) (places m) net above (are_nets m p d) (reads_are m net above ∙ h)
+
+goes_by_number : (m : FileModel) (columns : List (List NetId)) (last net : List ℕ) (path : List (List ℕ)) → IsProperModel m → IsDrivenOnce m → columns ≡ columns_by_net (places m) m → ReadsOn m last net path → GoesOn columns (number_in (places m) last) (number_in (places m) net) (map (number_in (places m)) path)
+goes_by_number m columns last net [] p d e g = step_by_number m columns net last p d e g
+goes_by_number m columns last net (above ∷ path) p d e g = (step_by_number m columns net above p d e g.0, goes_by_number m columns last above path p d e g.1)
+
+above_by_number : (m : FileModel) (columns : List (List NetId)) (w : List ℕ) → IsProperModel m → IsDrivenOnce m → columns ≡ columns_by_net (places m) m → IsOnCycle m w → IsAbove columns (number_in (places m) w) (number_in (places m) w)
+above_by_number m columns w p d e c = record { path = map (number_in (places m)) c.path; goes = goes_by_number m columns w w c.path p d e c.closed }
+
+taken_number : (names nets : List (List ℕ)) (order : List NetId) (place : ℕ) (w : List ℕ) → order ≡ numbers_in names nets → among w (take place nets) ≡ true → has_id (take place order) (number_in names w) ≡ true
+taken_number names nets order place w o h =
+    ap (λ ns. has_id (take place ns) (number_in names w)) o
+    ∙ (ap (λ ns. has_id ns (number_in names w)) (take-map (net_in names) place nets) ∙ has_number names (take place nets) w h)
+
+-- the net at the first place of the order that is above itself by number
+pub first_on_cycle : (m : FileModel) (columns : List (List NetId)) (nets : List (List ℕ)) (order : List NetId) (place : ℕ) (w : List ℕ) → IsProperModel m → IsDrivenOnce m → columns ≡ columns_by_net (places m) m → nets ≡ nets_of m → order ≡ numbers_in (places m) nets
+    → IsTurning columns order place → place < length nets → w ≡ get_or nets place w → IsFirstOnCycle m w
+first_on_cycle m columns nets order place w p d e f o t lt is = record {
+  cycle = on_cycle m columns nets order place w p d e f o t lt is;
+  before = take place nets;
+  after = drop (suc place) nets;
+  place = sym f ∙ (sym (take-append-drop place nets) ∙ ap (λ ws. take place nets ++ ws) (drop-cons nets place w lt ∙ ap (λ u. u ∷ drop (suc place) nets) (sym is)));
+  least = λ u h c. t.first.none (number_in (places m) u) (taken_number (places m) nets order place u o h) (above_by_number m columns u p d e c);
+}
 
 -- a place of the order is one of the nets
 pub place_below : (names nets : List (List ℕ)) (columns : List (List NetId)) (order : List NetId) (place : ℕ) → order ≡ numbers_in names nets → IsTurning columns order place → place < length nets

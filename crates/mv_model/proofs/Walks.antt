@@ -10,7 +10,7 @@ use Rattle.mv_net.specs.Index.{has_id, row}
 use Rattle.mv_net.specs.Ranks.{AllBelow}
 use Rattle.mv_net.proofs.Orders.{has_id-append}
 use Rattle.mv_model.specs.declared.walk.Walk.{Walk}
-use Rattle.mv_model.specs.Cycles.{GoesOn, IsAbove, AreAbove, HasMarked, IsBlank, IsWalk, is_marked}
+use Rattle.mv_model.specs.Cycles.{GoesOn, IsAbove, AreAbove, HasMarked, IsWalk, is_marked}
 use Rattle.mv_model.proofs.Listed.{found, any_at}
 
 -- ---- columns
@@ -22,7 +22,7 @@ columns_read columns n x nets h e f = f ∙ (e ∙ get_or_default columns n x []
 pub row_below : (columns : List (List NetId)) (n : ℕ) → AllBelow columns → n < length columns → All (λ (c : NetId). c.0 < length columns) (row columns n)
 row_below columns n below h = below n [] h
 
-none_in : (nets : List NetId) (m : ℕ) → nets ≡ [] → has_id nets m ≡ true → ⊥
+pub none_in : (nets : List NetId) (m : ℕ) → nets ≡ [] → has_id nets m ≡ true → ⊥
 none_in nets m e h = false≢true (ap (λ ns. has_id ns m) (sym e) ∙ h)
 
 in_below : (nets : List NetId) (size m : ℕ) → All (λ (c : NetId). c.0 < size) nets → has_id nets m ≡ true → m < size
@@ -46,22 +46,10 @@ goes_more columns n above m [] g h = (g, h)
 goes_more columns n above m (k ∷ path) g h = (g.0, goes_more columns k above m path g.1 h)
 
 -- the columns of a net above n are above n
-above_more : (columns : List (List NetId)) (n above m : ℕ) → IsAbove columns n above → has_id (row columns above) m ≡ true → IsAbove columns n m
+pub above_more : (columns : List (List NetId)) (n above m : ℕ) → IsAbove columns n above → has_id (row columns above) m ≡ true → IsAbove columns n m
 above_more columns n above m a h = record { path = a.path ++ above ∷ []; goes = goes_more columns n above m a.path a.goes h }
 
 -- ---- the first step
-
-pub walk_first : (columns : List (List NetId)) (n : ℕ) (blank walk : Walk) → AllBelow columns → IsBlank blank (length columns) → HasMarked blank walk (row columns n) → IsWalk columns n walk 0
-walk_first columns n blank walk below b h =
-    let only : (k : ℕ) → has_id walk.listed.items k ≡ true → has_id (row columns n) k ≡ true = λ k e. h.only k (ap (λ ns. has_id ns k) (sym (h.listed ∙ ap (λ ns. ns ++ h.added) b.listed)) ∙ e) in
-    record {
-      long = h.long ∙ b.long;
-      below = λ k e. column_below columns n k below (only k e);
-      first = λ m e. h.marks m ∙ or_right (is_marked blank.marks.items m) _ e;
-      behind = λ place m c lt. absurd (omega arith);
-      listed = λ k e. ap (λ ns. has_id ns k) (h.listed ∙ ap (λ ns. ns ++ h.added) b.listed) ∙ h.fresh k e (b.marks k);
-      above = λ k e. record { path = []; goes = only k e };
-    }
 
 -- ---- one step more
 

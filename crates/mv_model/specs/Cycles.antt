@@ -1,12 +1,12 @@
 -- The nets above a net, by number, and how they are marked.
-use Rattle.std.specs.Prelude.{◌≡◌, ℕ, ◌<◌, Bool, true, false, ◌||◌, Some, List, [], ◌∷◌, ◌++◌, length, slice_get, slice_index_or}
+use Rattle.std.specs.Prelude.{◌≡◌, ℕ, ◌<◌, Bool, true, false, ◌||◌, ◌&&◌, nat_eq, nat_lt, Some, List, [], ◌∷◌, ◌++◌, length, take, slice_get, slice_index_or}
 use Rattle.mv_base.specs.declared.number.NetId.{NetId}
 use Rattle.mv_net.specs.Index.{has_id, row}
 use Rattle.mv_design.specs.declared.design.FileModel.{FileModel}
 use Rattle.mv_model.specs.declared.fault.FlatFault.{FlatFault}
 use Rattle.mv_model.specs.declared.fault.FlatFault.TheVariants.{DrivenTwice, Undriven, Cycle, Limit, Memory}
 use Rattle.mv_model.specs.declared.walk.Walk.{Walk}
-use Rattle.mv_model.specs.Sound.{IsOnCycle}
+use Rattle.mv_model.specs.Sound.{IsFirstOnCycle}
 
 -- nets of which each reads the next, and the last of which reads `last`
 abbrev pub GoesOn : List (List NetId) → ℕ → ℕ → List ℕ → Type 0
@@ -52,25 +52,43 @@ pub record IsWalk (columns : List (List NetId)) (n : ℕ) (walk : Walk) (done : 
   pub listed : (k : ℕ) → is_marked walk.marks.items k ≡ true → has_id walk.listed.items k ≡ true
   pub above : (k : ℕ) → has_id walk.listed.items k ≡ true → IsAbove columns n k
 
--- a net that isn't above itself, as the marks of the nets above it show
-pub record IsClear (columns : List (List NetId)) (n : ℕ) : Type 0 where
-  pub marks : List Bool
-  pub are : AreAbove columns n marks
-  pub clear : is_marked marks n ≡ false
+-- each net that is above itself is marked
+pub record MarksTurning (columns : List (List NetId)) (marks : List Bool) : Type 0 where
+  pub marked : (n : ℕ) → IsAbove columns n n → is_marked marks n ≡ true
 
--- the net at this place of the list is above itself
+-- the mark of n was taken, and no other
+pub record HasUnmarked (old new : List Bool) (n : ℕ) : Type 0 where
+  pub gone : is_marked new n ≡ false
+  pub others : (k : ℕ) → (k ≡ n → ⊥) → is_marked new k ≡ is_marked old k
+
+-- the lists turned round: that of m has n where that of n has m
+pub record AreReaders (columns readers : List (List NetId)) : Type 0 where
+  pub each : (n m : ℕ) → has_id (row readers m) n ≡ has_id (row columns n) m
+
+-- the same as far as the columns of the nets below i
+pub record AreReadersBelow (i : ℕ) (columns readers : List (List NetId)) : Type 0 where
+  pub long : length readers ≡ length columns
+  pub each : (n m : ℕ) → has_id (row readers m) n ≡ (nat_lt n i && has_id (row columns n) m)
+
+-- the reader was put on the lists of these nets, and nothing else on any list
+pub record HasReader (old : List (List NetId)) (nets : List NetId) (reader : NetId) (new : List (List NetId)) : Type 0 where
+  pub long : length new ≡ length old
+  pub each : (n m : ℕ) → has_id (row new m) n ≡ (has_id (row old m) n || (has_id nets m && nat_eq reader.0 n))
+
+-- none of these nets is above itself
+pub record NoneTurns (columns : List (List NetId)) (nets : List NetId) : Type 0 where
+  pub none : (n : ℕ) → has_id nets n ≡ true → IsAbove columns n n → ⊥
+
+-- the net at this place of the list is above itself, and none before it is
 pub record IsTurning (columns : List (List NetId)) (order : List NetId) (place : ℕ) : Type 0 where
   pub net : NetId
   pub at : slice_get order place ≡ Some net
   pub turns : IsAbove columns net.0 net.0
+  pub first : NoneTurns columns (take place order)
 
--- the list has each net that has columns
-abbrev pub Covers : List (List NetId) → List NetId → Type 0
-Covers columns order = (n m : ℕ) → has_id (row columns n) m ≡ true → has_id order n ≡ true
-
--- want of memory, or a net on a cycle
+-- want of memory, or the first net on a cycle
 abbrev pub TellsCycle : FileModel → FlatFault → Type 0
-TellsCycle m (Cycle net) = IsOnCycle m net
+TellsCycle m (Cycle net) = IsFirstOnCycle m net
 TellsCycle m Memory = Unit {0}
 TellsCycle m (DrivenTwice net) = ⊥
 TellsCycle m (Undriven net) = ⊥

@@ -33,6 +33,14 @@ pub record IsOnCycle (m : FileModel) (net : List ℕ) : Type 0 where
   pub path : List (List ℕ)
   pub closed : ReadsOn m net net path
 
+-- the first net that is above itself, in the order in which the model names its nets
+pub record IsFirstOnCycle (m : FileModel) (net : List ℕ) : Type 0 where
+  pub cycle : IsOnCycle m net
+  pub before : List (List ℕ)
+  pub after : List (List ℕ)
+  pub place : nets_of m ≡ before ++ net ∷ after
+  pub least : (w : List ℕ) → among w before ≡ true → IsOnCycle m w → ⊥
+
 -- a fault where a test holds
 abbrev pub when : Bool → FlatFault → List FlatFault
 when test f = if test then f ∷ [] else []
@@ -68,11 +76,11 @@ pub record IsSoundModel (m : FileModel) : Type 0 where
 pub record IsSound (d : Design) : Type 0 where
   pub root : IsSoundModel (root_of d)
 
--- why a model is refused: the first fault of its nets, or, where they have none, a net on a cycle. (A limit on the nets that
+-- why a model is refused: the first fault of its nets, or, where they have none, the first on a cycle. (A limit on the nets that
 -- the flattening makes is told later.)
 pub record HasCycle (m : FileModel) (net : List ℕ) : Type 0 where
   pub none : net_faults m ≡ []
-  pub cycle : IsOnCycle m net
+  pub first : IsFirstOnCycle m net
 
 abbrev pub IsFault : FileModel → FlatFault → Type 0
 IsFault m (Cycle net) = HasCycle m net

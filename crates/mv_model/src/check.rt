@@ -1,5 +1,6 @@
 ghost use Rattle.std.specs.Prelude.{◌≡◌, ◌≤◌, length, IfOk, IfErr, OnOk};
 ghost use Rattle.mv_base.specs.declared.limits.TheConstants.{MAX_FLAT_NETS, MAX_NETS};
+ghost use Rattle.mv_net.specs.Ranks.{IsRanked as AreRanked};
 ghost use Rattle.mv_model.specs.Nets.{nets_of};
 ghost use Rattle.mv_model.specs.Proper.{IsProperModel};
 ghost use Rattle.mv_model.specs.Sound.{IsDrivenOnce, IsFault, IsRanked, IsSoundModel};
@@ -58,7 +59,7 @@ fn check_cycles(
     }
 }
 
-/// The same, net by net.
+/// The same, net by net, where some net is on a cycle.
 fn check_turning(
     alloc: Global,
     model: &FileModel,
@@ -73,6 +74,7 @@ fn check_turning(
     requires few_nets { length (nets_of model.now) ≤ MAX_FLAT_NETS }
     requires few { length numbers.now ≤ MAX_NETS }
     requires columns { columns.now ≡ columns_by_net (places model.now) model.now }
+    requires unranked { AreRanked columns.now → ⊥ }
     ensures ranked { OnOk result (IsRanked model.now) }
     ensures fault { IfErr result (λ f. TellsCycle model.now f) }
 {

@@ -1,17 +1,17 @@
 //! Nets that are above themselves.
-ghost use Rattle.std.specs.Prelude.{◌<◌, ◌≤◌, length, IfOk, IfSome, IfNone, All};
+ghost use Rattle.std.specs.Prelude.{◌<◌, ◌≤◌, length, IfOk, IfSome, IfNone, MatchBool, All};
 ghost use Rattle.mv_base.specs.declared.limits.TheConstants.{MAX_NETS};
 ghost use Rattle.mv_base.specs.declared.number.NetId.{NetId};
-ghost use Rattle.mv_net.specs.Ranks.{AllBelow, IsRanked};
-ghost use Rattle.mv_model.specs.Cycles.{Covers, IsTurning};
+ghost use Rattle.mv_net.specs.Ranks.{AllBelow};
+ghost use Rattle.mv_model.specs.Cycles.{IsAbove, IsTurning, MarksTurning, NoneTurns};
 
-use crate::suspects::suspects;
+use crate::suspects::{is_left, suspects};
 use crate::walk::marks_above;
 use mv_base::{Items, MAX_NETS, Memory, NetId};
 use std::alloc::Global;
 
-/// The place of the first of these nets that is above itself. The suspects are looked at first: each net that is above itself
-/// is one of them, so the walks for all nets, which take long, are only taken where there is no such net.
+/// The place of the first of these nets that is above itself. Only the suspects are looked at one by one, since a walk for
+/// every net would take long: each net that is above itself is one of them.
 pub fn first_turning(
     alloc: Global,
     columns: &[Items<NetId>],
@@ -20,58 +20,34 @@ pub fn first_turning(
     requires below { AllBelow columns.now }
     requires nets { All (λ (n : NetId). n.0 < length columns.now) order.now }
     requires few { length columns.now ≤ MAX_NETS }
-    requires covers { Covers columns.now order.now }
     ensures some { IfOk result (λ found. IfSome found (λ place. IsTurning columns.now order.now place)) }
-    ensures none { IfOk result (λ found. IfNone found (IsRanked columns.now)) }
+    ensures none { IfOk result (λ found. IfNone found (NoneTurns columns.now order.now)) }
 {
     let suspects = suspects(alloc, columns)?;
-    match turning_suspect(alloc, columns, order, suspects.as_slice())? {
-        Some(place) => Ok(Some(place)),
-        None => turning(alloc, columns, order),
-    }
-}
-
-/// The place of the first of these nets that is a suspect and above itself.
-fn turning_suspect(
-    alloc: Global,
-    columns: &[Items<NetId>],
-    order: &[NetId],
-    suspects: &[bool],
-) -> Result<Option<usize>, Memory>
-    requires below { AllBelow columns.now }
-    requires nets { All (λ (n : NetId). n.0 < length columns.now) order.now }
-    ensures { IfOk result (λ found. IfSome found (λ place. IsTurning columns.now order.now place)) }
-{
     for place in 0..order.len() {
-        let net = order[place];
-        if suspects.get(net.0 as usize) == Some(&true) {
-            let marks = marks_above(alloc, columns, net)?;
-            if marks[net.0 as usize] {
-                return Ok(Some(place));
-            }
-        }
-    }
-    Ok(None)
-}
-
-/// The place of the first of these nets that is above itself, by a walk for each net.
-fn turning(
-    alloc: Global,
-    columns: &[Items<NetId>],
-    order: &[NetId],
-) -> Result<Option<usize>, Memory>
-    requires below { AllBelow columns.now }
-    requires nets { All (λ (n : NetId). n.0 < length columns.now) order.now }
-    requires covers { Covers columns.now order.now }
-    ensures some { IfOk result (λ found. IfSome found (λ place. IsTurning columns.now order.now place)) }
-    ensures none { IfOk result (λ found. IfNone found (IsRanked columns.now)) }
-{
-    for place in 0..order.len() {
-        let net = order[place];
-        let marks = marks_above(alloc, columns, net)?;
-        if marks[net.0 as usize] {
+        if is_turning(alloc, columns, suspects.as_slice(), order[place])? {
             return Ok(Some(place));
         }
     }
     Ok(None)
+}
+
+/// Whether the net is above itself.
+fn is_turning(
+    alloc: Global,
+    columns: &[Items<NetId>],
+    suspects: &[bool],
+    net: NetId,
+) -> Result<bool, Memory>
+    requires below { AllBelow columns.now }
+    requires net { net.0 < length columns.now }
+    requires suspects { MarksTurning columns.now suspects.now }
+    ensures { IfOk result
+        (λ turns. MatchBool turns (IsAbove columns.now net.0 net.0) (IsAbove columns.now net.0 net.0 → ⊥)) }
+{
+    if !is_left(suspects, net) {
+        return Ok(false);
+    }
+    let marks = marks_above(alloc, columns, net)?;
+    Ok(is_left(marks.as_slice(), net))
 }

@@ -1,14 +1,22 @@
 //! A filter: which nets may be on a cycle, so that few nets are looked at one by one.
-ghost use Rattle.std.specs.Prelude.{◌≤◌, length};
+ghost use Rattle.std.specs.Prelude.{◌≡◌, ◌<◌, ◌≤◌, ◌∷◌, ◌++◌, [], length, replicate, slice_set, All, IfOk, OnOk};
+ghost use Rattle.std.specs.List.{list_any};
 ghost use Rattle.mv_base.specs.declared.limits.TheConstants.{MAX_NETS};
+ghost use Rattle.mv_base.specs.declared.number.NetId.{NetId};
+ghost use Rattle.mv_net.specs.Index.{row};
+ghost use Rattle.mv_net.specs.Ranks.{AllBelow};
+ghost use Rattle.mv_model.specs.Cycles.{AreReaders, HasReader, HasUnmarked, MarksTurning, is_marked};
 
 use mv_base::{Items, MAX_NETS, Memory, NetId};
 use std::alloc::Global;
 
-/// Marks of the nets that may be on a cycle. A net that has no column left is taken out, again and again, and then a net that
-/// no net left has as a column. The time grows with the number of columns of nets and of their readers.
+/// Marks of the nets that may be on a cycle: each that is above itself is marked. A net that has no column left is taken
+/// out, again and again, and then a net that no net left has as a column. The time grows with the number of columns of nets
+/// and of their readers.
 pub fn suspects(alloc: Global, columns: &[Items<NetId>]) -> Result<Vec<bool>, Memory>
-    requires { length columns.now ≤ MAX_NETS }
+    requires below { AllBelow columns.now }
+    requires few { length columns.now ≤ MAX_NETS }
+    ensures { IfOk result (λ marks. MarksTurning columns.now marks.items) }
 {
     let readers = readers(alloc, columns)?;
     let mut left = vec![in alloc; true; columns.len()]?;
@@ -29,8 +37,10 @@ pub fn suspects(alloc: Global, columns: &[Items<NetId>]) -> Result<Vec<bool>, Me
 }
 
 /// For each net the nets that have it as a column.
-fn readers(alloc: Global, columns: &[Items<NetId>]) -> Result<Vec<Items<NetId>>, Memory>
-    requires { length columns.now ≤ MAX_NETS }
+fn readers(alloc: Global, columns: &[Items<NetId>]) -> Result<Items<Items<NetId>>, Memory>
+    requires below { AllBelow columns.now }
+    requires few { length columns.now ≤ MAX_NETS }
+    ensures { IfOk result (λ readers. AreReaders columns.now readers) }
 {
     let mut readers = blank(alloc, columns.len())?;
     for (number, nets) in columns.iter().enumerate() {
@@ -40,42 +50,60 @@ fn readers(alloc: Global, columns: &[Items<NetId>]) -> Result<Vec<Items<NetId>>,
 }
 
 /// As many empty lists.
-fn blank(alloc: Global, count: usize) -> Result<Vec<Items<NetId>>, Memory> {
-    let mut lists = Vec::new(alloc);
+fn blank(alloc: Global, count: usize) -> Result<Items<Items<NetId>>, Memory>
+    ensures { IfOk result (λ lists. lists ≡ replicate count []) }
+{
+    let mut lists = Items::new(alloc);
     'lists: for _ in 0..count {
         lists.push(Items::new(alloc))?;
     }
     Ok(lists)
 }
 
-/// Adds the reader of these nets.
+/// Puts the reader on the lists of these nets.
 fn add_reader(
-    readers: &mut Vec<Items<NetId>>,
+    readers: &mut Items<Items<NetId>>,
     nets: &[NetId],
     reader: NetId,
-) -> Result<(), Memory> {
+) -> Result<(), Memory>
+    requires { All (λ (n : NetId). n.0 < length readers.old) nets.now }
+    ensures { OnOk result (HasReader readers.old nets.now reader readers.new) }
+{
     for net in nets {
-        if let Some(list) = readers.get_mut(net.0 as usize) {
-            list.push(reader)?;
-        }
+        push_to(readers, net.0 as usize, reader)?;
     }
     Ok(())
 }
 
+/// Puts the reader at the end of the list at this place.
+fn push_to(readers: &mut Items<Items<NetId>>, place: usize, reader: NetId) -> Result<(), Memory>
+    requires { place < length readers.old }
+    ensures { OnOk result (readers.new ≡ slice_set readers.old place (row readers.old place ++ reader ∷ [])) }
+{
+    let mut list = readers.replace(place, Items::new(readers.allocator()));
+    list.push(reader)?;
+    readers.replace(place, list);
+    Ok(())
+}
+
 /// Takes out each net of the list of whose row no net is left, and puts the nets in whose rows it stands on the list again.
+/// A net that is above itself by these rows stays: such a net is in its row.
 fn take_out(
     left: &mut Vec<bool>,
     list: Vec<NetId>,
     rows: &[Items<NetId>],
     others: &[Items<NetId>],
-) -> Result<(), Memory> {
+) -> Result<(), Memory>
+    requires { MarksTurning rows.now left.old.items }
+    ensures { OnOk result (MarksTurning rows.now left.new.items) }
+{
     let mut list = list;
     let mut place = 0;
     while place < list.len() {
         let net = list[place];
-        if is_left(left.as_slice(), net) && !some_left(left.as_slice(), row(rows, net)) {
+        if is_left(left.as_slice(), net) && !some_left(left.as_slice(), row_of(rows, net)) {
             unmark(left, net);
-            list.extend_from_slice(row(others, net))?;
+            list.extend_from_slice(row_of(others, net))?;
         }
         place += 1;
     }
@@ -94,7 +122,9 @@ fn all_nets(alloc: Global, count: usize) -> Result<Vec<NetId>, Memory>
 }
 
 /// The row of a net.
-fn row(rows: &[Items<NetId>], net: NetId) -> &[NetId] {
+fn row_of(rows: &[Items<NetId>], net: NetId) -> &[NetId]
+    ensures { result.now ≡ row rows.now net.0 }
+{
     match rows.get(net.0 as usize) {
         Some(nets) => nets.as_slice(),
         None => &[],
@@ -102,7 +132,9 @@ fn row(rows: &[Items<NetId>], net: NetId) -> &[NetId] {
 }
 
 /// Whether the net is left.
-fn is_left(left: &[bool], net: NetId) -> bool {
+pub fn is_left(left: &[bool], net: NetId) -> bool
+    ensures { result ≡ is_marked left.now net.0 }
+{
     match left.get(net.0 as usize) {
         Some(mark) => *mark,
         None => false,
@@ -110,7 +142,9 @@ fn is_left(left: &[bool], net: NetId) -> bool {
 }
 
 /// Whether one of the nets is left.
-fn some_left(left: &[bool], nets: &[NetId]) -> bool {
+fn some_left(left: &[bool], nets: &[NetId]) -> bool
+    ensures { result ≡ list_any (λ (n : NetId). is_marked left.now n.0) nets.now }
+{
     for net in nets {
         if is_left(left, *net) {
             return true;
@@ -120,7 +154,9 @@ fn some_left(left: &[bool], nets: &[NetId]) -> bool {
 }
 
 /// Takes the mark from the net.
-fn unmark(left: &mut Vec<bool>, net: NetId) {
+fn unmark(left: &mut Vec<bool>, net: NetId)
+    ensures { HasUnmarked left.old.items left.new.items net.0 }
+{
     if let Some(mark) = left.get_mut(net.0 as usize) {
         *mark = false;
     }

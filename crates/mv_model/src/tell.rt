@@ -1,30 +1,11 @@
 ghost use Rattle.std.specs.Prelude.{◌≡◌, [], ◌∷◌, decimal};
 ghost use Rattle.mv_base.specs.Appends.{Appends};
-ghost use Rattle.mv_fault.specs.Told.{which_name};
 ghost use Rattle.mv_model.specs.Told.{flat_told, flat_line};
 
 use crate::fault::FlatFault;
 use itoa::Buffer;
 use mv_base::{Failed, Sink, put_both, put_piece};
-use mv_fault::Which;
-
-/// The name of a limit.
-fn limit_name(which: Which) -> &'static [u8]
-    ensures { result.now ≡ which_name which }
-{
-    match which {
-        Which::Values => b"Values",
-        Which::Columns => b"Columns",
-        Which::TableLines => b"TableLines",
-        Which::Models => b"Models",
-        Which::Depth => b"Depth",
-        Which::Instances => b"Instances",
-        Which::Nets => b"Nets",
-        Which::NetName => b"NetName",
-        Which::FlatLines => b"FlatLines",
-        Which::FlatEntries => b"FlatEntries",
-    }
-}
+use mv_fault::which_name;
 
 /// Puts a line with one word.
 fn put_word<K: Sink>(name: &[u8], word: &[u8], out: &mut K) -> Result<(), Failed>
@@ -56,7 +37,7 @@ pub fn put_flat_fault<K: Sink>(fault: &FlatFault, out: &mut K) -> Result<(), Fai
         FlatFault::Limit { which, number } => {
             let mut buffer = Buffer::new();
             let digits = buffer.format(*number).as_bytes();
-            put_words(b"35 Limit", limit_name(*which), digits, out)
+            put_words(b"35 Limit", which_name(*which), digits, out)
         }
         FlatFault::Memory => put_piece(b"# fault memory\n", out),
     }

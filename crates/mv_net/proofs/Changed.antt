@@ -2,7 +2,7 @@
 use Rattle.std.proofs.Common.{◌≡◌, ◌∙◌, ℕ, zero, suc, ◌+◌, ◌<◌, ◌≤◌, Bool, true, false, nat_eq, List, [], ◌∷◌, ◌++◌, length, map, set, Option, Some, None, if◌then◌else◌, refl, sym, ap, subst, ⊎_elim, eqb-true, append-nil, length-append, arith}
 use Rattle.std.specs.Option.{option_map, option_or}
 use Rattle.std.proofs.lemmas.Bool.{cases_Bool, cases_lt, cond_both, eqb-false}
-use Rattle.std.proofs.lemmas.List.{ext_get_or, get_or-set_same, get_or-set_other, get_or_past, get_or_append_left, get_or-append-add, set_past, set-set, length-set, length-map}
+use Rattle.std.proofs.lemmas.List.{ext_get_or, get_or-set_same, get_or-set_other, get_or_past, set_past, set-set, length-set, length-map}
 use Rattle.mv_base.specs.declared.number.NetId.{NetId}
 use Rattle.mv_cover.specs.declared.cover.Cover.{Cover}
 use Rattle.mv_net.specs.declared.change.NewTable.{NewTable}
@@ -38,24 +38,11 @@ slot-changed_nets c nets m =
     let e : 0 + m ≡ m = omega arith in
     slot-changed_from c 0 nets m ∙ ap (λ n. changed_net c n (slot nets m)) e
 
--- a net that was there before
-pub slot-changed : (net : NetParts) (c : Change) (m : ℕ) → m < length net.nets → slot (changed net c).nets m ≡ changed_net c m (slot net.nets m)
-unfolding changed
-slot-changed net c m low =
-    get_or_append_left (changed_from c 0 net.nets) (map made_net c.add) None m (omega (arith, length-changed_from c 0 net.nets)) ∙ slot-changed_nets c net.nets m
-
 -- as many numbers as before, and those of the nets that come
 pub length-changed : (net : NetParts) (c : Change) → length (changed net c).nets ≡ length net.nets + length c.add
 unfolding changed
 length-changed net c =
     omega (arith, length-append (changed_from c 0 net.nets) (map made_net c.add), length-changed_from c 0 net.nets, length-map c.add made_net)
-
--- a net that comes
-pub slot-added : (net : NetParts) (c : Change) (k : ℕ) → slot (changed net c).nets (length net.nets + k) ≡ slot (map made_net c.add) k
-unfolding changed
-slot-added net c k =
-    let long : length (changed_from c 0 net.nets) + k ≡ length net.nets + k = omega (arith, length-changed_from c 0 net.nets) in
-    ap (slot (changed_from c 0 net.nets ++ map made_net c.add)) (sym long) ∙ get_or-append-add (changed_from c 0 net.nets) (map made_net c.add) k None
 
 -- a changed network has few numbers, and is a network with what is made anew to be kept of it
 pub few_changed : (net now : NetParts) (c : Change) → now ≡ changed net c → length net.nets + length c.add ≤ MAX_NETS → length now.nets ≤ MAX_NETS

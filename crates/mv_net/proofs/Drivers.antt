@@ -2,7 +2,7 @@
 -- each assignment that agrees with one of them.
 use Rattle.std.proofs.Common.{◌≡◌, ◌∙◌, ℕ, ◌<◌, true, nat_eq, List, [], ◌∷◌, map, Option, Some, None, refl, sym, subst, eq-eqb}
 use Rattle.std.proofs.lemmas.Bool.{or_left, or_right}
-use Rattle.mv_base.specs.Meaning.{Refines, SameMeaning}
+use Rattle.mv_base.specs.Meaning.{SameMeaning}
 use Rattle.mv_base.specs.declared.number.NetId.{NetId}
 use Rattle.mv_net.specs.declared.parts.FlatNet.{FlatNet}
 use Rattle.mv_net.specs.declared.parts.FlatLatch.{FlatLatch}
@@ -128,15 +128,4 @@ SameMeaning-by net nets keeps down up = record {
   same = interface-kept net nets keeps;
   only = λ i s o n r a. allows_ports net nets net.nets i s o n r (λ m h. sym (keeps.values m h)) a (down a.at a.agrees);
   all = λ i s o n r a. allows_ports net net.nets nets i s o n r keeps.values a (up a.at a.agrees);
-}
-
--- it may take the place, if each that agrees with the nets before gives one with the same sources
-pub Refines-by : (net : NetParts) (nets : List (Option FlatNet)) → KeepsPorts net nets → ((x : ℕ → ℕ) → Agrees nets x → AgreesAtPorts net net.nets x) → ((x : ℕ → ℕ) → Agrees net.nets x → AgreesAtSources net nets x) → Refines (of_net (with_nets net nets)) (of_net net)
-unfolding of_net with_nets
-Refines-by net nets keeps down up = record {
-  narrows = record {
-    same = interface-kept net nets keeps;
-    only = λ i s o n r a. allows_ports net nets net.nets i s o n r (λ m h. sym (keeps.values m h)) a (down a.at a.agrees);
-  };
-  some = λ i s a. record { o = _; n = _; r = _; allowed = allows_sources net net.nets nets i s a.o a.n a.r keeps.values a.allowed (up a.allowed.at a.allowed.agrees) };
 }

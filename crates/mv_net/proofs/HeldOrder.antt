@@ -2,6 +2,7 @@
 use Rattle.std.proofs.Common.{◌≡◌, ◌∙◌, ℕ, zero, suc, Bool, true, false, ◌&&◌, ◌||◌, not, nat_eq, List, [], ◌∷◌, length, get_or, take, Some, is_some, refl, sym, ap, ⊎_elim, eqb-true, arith}
 use Rattle.std.specs.Prelude.{slice_get}
 use Rattle.std.specs.List.{filter}
+use Rattle.std.proofs.Math.Bool.{and-false}
 use Rattle.std.proofs.lemmas.Bool.{cases_Bool, and_parts, and_from, lt-ltb, false≢true}
 use Rattle.std.proofs.lemmas.List.{get_or_default}
 use Rattle.std.proofs.lemmas.Option.{slice_get_within}
@@ -30,12 +31,8 @@ without_first true true has h = absurd (false≢true (sym (h refl)))
 without_first true false has h = refl
 without_first false passes has h = refl
 
-has_none : (b : Bool) → false ≡ (b && false)
-has_none true = refl
-has_none false = refl
-
 has_id-passing : (test : ℕ → Bool) (ns : List NetId) (k : ℕ) → has_id (passing test ns) k ≡ (test k && has_id ns k)
-has_id-passing test [] k = has_none (test k)
+has_id-passing test [] k = sym (and-false (test k))
 has_id-passing test (n ∷ ns) k =
     let same : nat_eq n.0 k ≡ true → test k ≡ test n.0 = λ e. ap test (sym (eqb-true n.0 k e)) in
     ⊎_elim

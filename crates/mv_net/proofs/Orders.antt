@@ -5,7 +5,8 @@ use Rattle.std.specs.Cmp.{IsTotalOrder, on_total, nat_cmp_total, unsigned_ties}
 use Rattle.std.specs.List.{dedup, dedup_from}
 use Rattle.std.specs.List.Sorted.{IsSorted, IsStrictlySortedBy}
 use Rattle.std.specs.List.Retain.{IsFiltered, DiffersFromLast}
-use Rattle.std.proofs.lemmas.Bool.{cases_Bool, cases_order, cases_eq, or_cases, false≢true, and_from, and_parts, ltb-true, lt-ltb, le-ltb, ne_eqb}
+use Rattle.std.proofs.Math.Bool.{or-false}
+use Rattle.std.proofs.lemmas.Bool.{cases_Bool, cases_order, cases_eq, or_cases, or_left, or_right, false≢true, and_from, and_parts, ltb-true, lt-ltb, le-ltb, ne_eqb}
 use Rattle.std.proofs.lemmas.List.{take_more, append-nil}
 use Rattle.std.proofs.lemmas.List.Filters.{dedup_is}
 use Rattle.std.proofs.lemmas.List.Folds.{list_any-append}
@@ -99,20 +100,13 @@ IsAscending-same s t list e a = record { ascending = a.ascending; members = λ n
 pub IsAscending-none : (t : ℕ → Bool) → ((n : ℕ) → t n ≡ false) → IsAscending t []
 IsAscending-none t none = record { ascending = refl; members = λ n. sym (none n) }
 
-last_has : (b c : Bool) → b ≡ true → (b || c) ≡ true
-last_has b c e = rw e refl
-
-after_has : (b c : Bool) → c ≡ true → (b || c) ≡ true
-after_has true c e = refl
-after_has false c e = e
-
 ascend-push : (ns : List NetId) (k : NetId) → ids_ascend ns ≡ true → ((m : ℕ) → has_id ns m ≡ true → m < k.0) → ids_ascend (ns ++ k ∷ []) ≡ true
 ascend-push [] k up below = refl
 ascend-push (n ∷ []) k up below =
-    and_from (nat_lt n.0 k.0) true (lt-ltb n.0 k.0 (below n.0 (last_has (nat_eq n.0 n.0) false (eq-eqb n.0 n.0 refl)))) refl
+    and_from (nat_lt n.0 k.0) true (lt-ltb n.0 k.0 (below n.0 (or_left (nat_eq n.0 n.0) false (eq-eqb n.0 n.0 refl)))) refl
 ascend-push (n ∷ m ∷ ns) k up below =
     let p = and_parts (nat_lt n.0 m.0) (ids_ascend (m ∷ ns)) up in
-    and_from (nat_lt n.0 m.0) (ids_ascend ((m ∷ ns) ++ k ∷ [])) p.0 (ascend-push (m ∷ ns) k p.1 (λ i h. below i (after_has (nat_eq n.0 i) (has_id (m ∷ ns) i) h)))
+    and_from (nat_lt n.0 m.0) (ids_ascend ((m ∷ ns) ++ k ∷ [])) p.0 (ascend-push (m ∷ ns) k p.1 (λ i h. below i (or_right (nat_eq n.0 i) (has_id (m ∷ ns) i) h)))
 
 -- a test below k + 1 is the test below k, or at k
 below_more : (t : ℕ → Bool) (k n : ℕ) → (nat_lt n (k + 1) && t n) ≡ ((nat_lt n k && t n) || (nat_eq k n && t k))
@@ -120,13 +114,9 @@ below_more t k n =
     ⊎_elim
     (λ (e : n ≡ k). rw (e, lt-ltb k (k + 1) (omega arith), le-ltb k k (omega arith), eq-eqb k k refl) refl)
     (⊎_elim
-    (λ (l : n < k). rw (lt-ltb n (k + 1) (omega arith), lt-ltb n k l, ne_eqb k n (λ e. absurd (omega arith))) (or_none (t n)))
+    (λ (l : n < k). rw (lt-ltb n (k + 1) (omega arith), lt-ltb n k l, ne_eqb k n (λ e. absurd (omega arith))) (sym (or-false (t n))))
     (λ (g : k < n). rw (le-ltb n (k + 1) (omega arith), le-ltb n k (omega arith), ne_eqb k n (λ e. absurd (omega arith))) refl))
     (cases_order n k)
-  where
-    or_none : (b : Bool) → b ≡ (b || false)
-    or_none true = refl
-    or_none false = refl
 
 below_is : (b c : Bool) (n k : ℕ) → (nat_lt n k && b) ≡ true → n < k
 below_is b c n k e = ltb-true n k (and_parts (nat_lt n k) b e).0
@@ -176,7 +166,7 @@ ascend_tail n [] up = refl
 ascend_tail n (m ∷ ns) up = (and_parts (nat_lt n.0 m.0) (ids_ascend (m ∷ ns)) up).1
 
 first_has : (n : NetId) (ns : List NetId) → has_id (n ∷ ns) n.0 ≡ true
-first_has n ns = last_has (nat_eq n.0 n.0) (has_id ns n.0) (eq-eqb n.0 n.0 refl)
+first_has n ns = or_left (nat_eq n.0 n.0) (has_id ns n.0) (eq-eqb n.0 n.0 refl)
 
 -- the first of two ascending lists with the same members is no lower than the other's
 first_low : (m n : NetId) (ms ns : List NetId) → ids_ascend (m ∷ ms) ≡ true → has_id (m ∷ ms) n.0 ≡ true → m.0 ≤ n.0

@@ -36,9 +36,6 @@ pub record IsWritten (old : List (Option FlatNet)) (n : ℕ) (f : Option FlatNet
   pub here : slot new n ≡ f
   pub others : (m : ℕ) → (m ≡ n → ⊥) → slot new m ≡ slot old m
 
-pub IsWritten-set : (nets : List (Option FlatNet)) (n : ℕ) (f : Option FlatNet) → n < length nets → IsWritten nets n f (set nets n f)
-IsWritten-set nets n f low = record { here = get_or-set_same nets n f None low; others = λ m ne. get_or-set_other nets n m f None ne }
-
 -- a net that is gone isn't held, also past the last
 pub IsWritten-gone : (nets : List (Option FlatNet)) (n : ℕ) → IsWritten nets n None (set nets n None)
 IsWritten-gone nets n = record {

@@ -1,19 +1,15 @@
 -- Lists of fanins turned round into lists of readers.
-use Rattle.std.proofs.Common.{◌≡◌, ◌∙◌, ℕ, zero, suc, ◌+◌, ◌<◌, ◌≤◌, Bool, true, false, ◌&&◌, ◌||◌, cond, nat_eq, nat_lt, List, [], ◌∷◌, ◌++◌, length, get_or, set, take, replicate, Option, refl, sym, ap, subst, ⊎_elim, eq-eqb, eqb-true, arith}
-use Rattle.std.proofs.lemmas.Bool.{cases_Bool, cases_lt, and_parts, and_left, ltb-true, lt-ltb, le-ltb, ne_eqb, eqb-false}
-use Rattle.std.proofs.lemmas.List.{take_more, get_or-set_same, get_or-set_other, get_or_past, get_or-replicate, length-set, length-replicate}
+use Rattle.std.proofs.Common.{◌≡◌, ◌∙◌, ℕ, zero, suc, ◌+◌, ◌<◌, true, false, ◌&&◌, ◌||◌, cond, nat_eq, nat_lt, List, [], ◌∷◌, ◌++◌, length, get_or, set, take, refl, sym, ap, subst, ⊎_elim, eq-eqb, eqb-true, arith}
+use Rattle.std.proofs.Math.Bool.{or-false}
+use Rattle.std.proofs.lemmas.Bool.{cases_Bool, and_parts, or_from, ltb-true, ne_eqb, eqb-false}
+use Rattle.std.proofs.lemmas.List.{take_more, get_or-set_same, get_or-set_other, length-set}
 use Rattle.std.proofs.lemmas.List.Folds.{list_any_at}
 use Rattle.mv_base.specs.declared.number.NetId.{NetId}
-use Rattle.mv_net.specs.declared.parts.FlatNet.{FlatNet}
-use Rattle.mv_net.specs.Index.{has_id, ids_ascend, row, IsAscending, AreFanins, AreReaders}
-use Rattle.mv_net.specs.Turned.{AreTurned, AreTurnedBelow, IsPutOn}
-use Rattle.mv_net.proofs.Orders.{has_id-append, IsAscending-same, IsAscending-none, IsAscending-push, IsAscending-skip}
+use Rattle.mv_net.specs.Index.{has_id, ids_ascend, row, IsAscending}
+use Rattle.mv_net.specs.Turned.{AreTurnedBelow, IsPutOn}
+use Rattle.mv_net.proofs.Orders.{has_id-append, ascend_tail, IsAscending-push, IsAscending-skip}
 
 -- ---- ascending numbers differ
-
-ids_tail : (n : NetId) (ns : List NetId) → ids_ascend (n ∷ ns) ≡ true → ids_ascend ns ≡ true
-ids_tail n [] up = refl
-ids_tail n (m ∷ ns) up = (and_parts (nat_lt n.0 m.0) (ids_ascend (m ∷ ns)) up).1
 
 -- the first is below each later one
 pub head_below : (n : NetId) (ns : List NetId) (i : ℕ) (d : NetId) → ids_ascend (n ∷ ns) ≡ true → i < length ns → n.0 < (get_or ns i d).0
@@ -25,32 +21,22 @@ head_below n (m ∷ ns) (suc i) d up lt =
     let rest : m.0 < (get_or ns i d).0 = head_below m ns i d p.1 (omega arith) in
     omega arith
 
-both_false : (b c : Bool) → b ≡ false → c ≡ false → (b || c) ≡ false
-both_false b c e f = rw (e, f) refl
-
 -- none before a place is the number there
 pub apart_before : (ns : List NetId) (i : ℕ) (d : NetId) → ids_ascend ns ≡ true → i < length ns → has_id (take i ns) (get_or ns i d).0 ≡ false
 apart_before [] i d up lt = absurd (omega arith)
 apart_before (n ∷ ns) zero d up lt = refl
 apart_before (n ∷ ns) (suc i) d up lt =
     let far : n.0 < (get_or ns i d).0 = head_below n ns i d up (omega arith) in
-    both_false (nat_eq n.0 (get_or ns i d).0) (has_id (take i ns) (get_or ns i d).0) (ne_eqb n.0 (get_or ns i d).0 (λ e. absurd (omega arith))) (apart_before ns i d (ids_tail n ns up) (omega arith))
-
-or_nothing : (b : Bool) → (b || false) ≡ b
-or_nothing true = refl
-or_nothing false = refl
+    or_from (nat_eq n.0 (get_or ns i d).0) (has_id (take i ns) (get_or ns i d).0) (ne_eqb n.0 (get_or ns i d).0 (λ e. absurd (omega arith))) (apart_before ns i d (ascend_tail n ns up) (omega arith))
 
 pub has_id-more : (ns : List NetId) (i : ℕ) (x d : NetId) (m : ℕ) → i < length ns → x ≡ get_or ns i d → has_id (take (i + 1) ns) m ≡ (has_id (take i ns) m || nat_eq x.0 m)
 has_id-more ns i x d m lt is =
-    ap (λ l. has_id l m) (take_more ns i d lt) ∙ (has_id-append (take i ns) (get_or ns i d ∷ []) m ∙ ap (λ b. has_id (take i ns) m || b) (or_nothing (nat_eq (get_or ns i d).0 m) ∙ ap (λ (y : NetId). nat_eq y.0 m) (sym is)))
+    ap (λ l. has_id l m) (take_more ns i d lt) ∙ (has_id-append (take i ns) (get_or ns i d ∷ []) m ∙ ap (λ b. has_id (take i ns) m || b) (or-false (nat_eq (get_or ns i d).0 m) ∙ ap (λ (y : NetId). nat_eq y.0 m) (sym is)))
 
 pub has_id-at : (ns : List NetId) (i : ℕ) (d : NetId) → i < length ns → has_id ns (get_or ns i d).0 ≡ true
 has_id-at ns i d lt = list_any_at (λ (m : NetId). nat_eq m.0 (get_or ns i d).0) ns i d lt (eq-eqb (get_or ns i d).0 (get_or ns i d).0 refl)
 
 -- ---- one reader on the lists of its fanins
-
-pub IsPutOn-none : (rows : List (List NetId)) (k : NetId) → IsPutOn rows [] k rows
-IsPutOn-none rows k = record { long = refl; each = λ m. refl }
 
 -- the list at one place grew
 pub IsPutOn-more : (old mid new : List (List NetId)) (ns : List NetId) (i : ℕ) (x d k : NetId) → ids_ascend ns ≡ true → i < length ns → x ≡ get_or ns i d → x.0 < length mid → IsPutOn old (take i ns) k mid → new ≡ set mid x.0 (row mid x.0 ++ k ∷ []) → IsPutOn old (take (i + 1) ns) k new
@@ -70,28 +56,10 @@ IsPutOn-more old mid new ns i x d k up lt is within before e = record {
         let here : P x.0 = get_or-set_same mid x.0 (row mid x.0 ++ k ∷ []) [] within ∙ (ap (λ l. l ++ k ∷ []) (before.each x.0 ∙ ap (λ b. cond b (row old x.0 ++ k ∷ []) (row old x.0)) fresh) ∙ ap (λ b. cond b (row old x.0 ++ k ∷ []) (row old x.0)) (sym (ap (λ b. b || nat_eq x.0 x.0) fresh ∙ eq-eqb x.0 x.0 refl))) in
         subst P (eqb-true x.0 m y) here)
         (λ (f : nat_eq x.0 m ≡ false).
-        get_or-set_other mid x.0 m (row mid x.0 ++ k ∷ []) [] (λ e. eqb-false x.0 m f (sym e)) ∙ (before.each m ∙ ap (λ b. cond b (row old m ++ k ∷ []) (row old m)) (sym (ap (λ b. has_id (take i ns) m || b) f ∙ or_nothing (has_id (take i ns) m)))))
+        get_or-set_other mid x.0 m (row mid x.0 ++ k ∷ []) [] (λ e. eqb-false x.0 m f (sym e)) ∙ (before.each m ∙ ap (λ b. cond b (row old m ++ k ∷ []) (row old m)) (sym (ap (λ b. has_id (take i ns) m || b) f ∙ or-false (has_id (take i ns) m)))))
         (cases_Bool (nat_eq x.0 m))
 
-pub IsPutOn-all : (old new : List (List NetId)) (ns : List NetId) (i : ℕ) (k : NetId) → take i ns ≡ ns → IsPutOn old (take i ns) k new → IsPutOn old ns k new
-IsPutOn-all old new ns i k e h = let P : List NetId → Type 0 = λ l. IsPutOn old l k new in subst P e h
-
 -- ---- number by number
-
--- lists without nets have none at any number
-pub no_row : (count m : ℕ) → row (replicate count []) m ≡ []
-no_row count m =
-    ⊎_elim
-    (λ (l : m < count). get_or-replicate count m [] [] l)
-    (λ (g : count ≤ m). get_or_past (replicate count []) m [] (omega (arith, length-replicate {A = List NetId} count [])))
-    (cases_lt m count)
-
-pub AreTurnedBelow-none : (rows : List (List NetId)) → AreTurnedBelow 0 rows (replicate (length rows) [])
-AreTurnedBelow-none rows = record {
-  long = length-replicate (length rows) [];
-  each = λ m. let P : List NetId → Type 0 = IsAscending (λ n. nat_lt n 0 && has_id (row rows n) m) in
-      subst P (sym (no_row (length rows) m)) (IsAscending-none _ (λ n. and_left (nat_lt n 0) (has_id (row rows n) m) (le-ltb n 0 (omega arith))));
-}
 
 pub AreTurnedBelow-more : (i : ℕ) (rows mid new : List (List NetId)) (k : NetId) → k.0 ≡ i → AreTurnedBelow i rows mid → IsPutOn mid (row rows i) k new → AreTurnedBelow (i + 1) rows new
 AreTurnedBelow-more i rows mid new k is below put = record { long = put.long ∙ below.long; each = each }
@@ -112,23 +80,4 @@ AreTurnedBelow-more i rows mid new k is below put = record { long = put.long ∙
             let R : ℕ → Type 0 = λ j. IsAscending (λ n. nat_lt n j && has_id (row rows n) m) (row mid m) in
             subst Q is (IsAscending-push (λ n. has_id (row rows n) m) k (row mid m) (subst R (sym is) (below.each m)) (ap (λ j. has_id (row rows j) m) is ∙ y))
 
-pub AreTurned-all : (i : ℕ) (rows turned : List (List NetId)) → length rows ≤ i → AreTurnedBelow i rows turned → AreTurned rows turned
-AreTurned-all i rows turned all below = record {
-  long = below.long;
-  each = λ m. IsAscending-same _ _ _ (λ n. same m n) (below.each m);
-}
-  where
-    same : (m n : ℕ) → (nat_lt n i && has_id (row rows n) m) ≡ has_id (row rows n) m
-    same m n =
-        ⊎_elim
-        (λ (l : n < i). rw (lt-ltb n i l) refl)
-        (λ (g : i ≤ n). let e : row rows n ≡ [] = get_or_past rows n [] (omega arith) in rw (le-ltb n i g, e) refl)
-        (cases_lt n i)
-
 -- ---- over the nets of a network
-
-pub AreReaders-from_fanins : (nets : List (Option FlatNet)) (fanins readers : List (List NetId)) → AreFanins nets fanins → AreTurned fanins readers → AreReaders nets readers
-AreReaders-from_fanins nets fanins readers f t = record {
-  long = t.long ∙ f.long;
-  each = λ n. IsAscending-same _ _ _ (λ m. (f.each m).members n) (t.each n);
-}

@@ -20,11 +20,12 @@ abbrev pub count_for : ℕ → List NewCount → Option ℕ
 count_for n [] = None
 count_for n (c ∷ cs) = if nat_eq c.net.0 n then Some c.values else count_for n cs
 
--- a net with another table, and with another number of values, which then have no names of their own
+-- a net with another table, if one is given
 abbrev pub with_table : Option Cover → FlatNet → FlatNet
 with_table None f = f
 with_table (Some c) f = record f { table = Some c }
 
+-- a net with another number of values, if one is given: they then have no names of their own
 abbrev pub with_count : Option ℕ → FlatNet → FlatNet
 with_count None f = f
 with_count (Some k) f = record f { values = k; value_names = [] }
@@ -47,9 +48,10 @@ made_net m = Some (record { name = m.name; values = m.values; value_names = []; 
 unfoldable pub changed : NetParts → Change → NetParts
 changed net c = record net { nets = changed_from c 0 net.nets ++ map made_net c.add }
 
--- the network with other nets, and without the net at a number, which isn't used again
+-- the network with other nets
 unfoldable pub with_nets : NetParts → List (Option FlatNet) → NetParts
 with_nets net nets = record net { nets = nets }
 
+-- the network without the net at a number, which isn't used again
 abbrev pub without : NetParts → ℕ → NetParts
 without net n = with_nets net (slice_set net.nets n None)

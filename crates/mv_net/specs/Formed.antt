@@ -37,21 +37,23 @@ pub record IsReadable (nets : List (Option FlatNet)) (n : ℕ) : Type 0 where
   pub held : slot nets n ≡ Some net
   pub plain : net.kind ≡ Reset → ⊥
 
--- a set of a net's values that has some, or leaves some out
+-- some of the values of a net that has this many
 pub record IsOutput (values set : ℕ) : Type 0 where
   pub some : set ≡ empty → ⊥
   pub within : Within set (full values)
 
+-- a literal on a net that can be read, whose set has some of the net's values, but not all
 pub record IsLiteral (nets : List (Option FlatNet)) (l : Lit) : Type 0 where
   pub readable : IsReadable nets l.net.0
   pub set : IsOutput (values_in (slot nets l.net.0)) l.set
   pub not_full : l.set ≡ full (values_in (slot nets l.net.0)) → ⊥
 
--- facts of each literal, each line
+-- each is a literal
 abbrev pub AllLiterals : List (Option FlatNet) → List Lit → Type 0
 AllLiterals nets [] = Unit {0}
 AllLiterals nets (l ∷ ls) = IsLiteral nets l × AllLiterals nets ls
 
+-- each line has literals, and as its output some of the values of the output's net
 abbrev pub AllLines : List (Option FlatNet) → ℕ → List Line → Type 0
 AllLines nets values [] = Unit {0}
 AllLines nets values (l ∷ ls) = AllLiterals nets l.cube × IsOutput values l.out × AllLines nets values ls
@@ -61,11 +63,12 @@ abbrev pub AllCubes : List Line → Type 0
 AllCubes [] = Unit {0}
 AllCubes (l ∷ ls) = IsCube l.cube × AllCubes ls
 
--- no line stands twice
+-- the line is one of these
 abbrev pub IsLineAmong : Line → List Line → Type 0
 IsLineAmong l [] = ⊥
 IsLineAmong l (m ∷ ms) = (l ≡ m) ⊎ IsLineAmong l ms
 
+-- no line stands twice
 abbrev pub LinesDiffer : List Line → Type 0
 LinesDiffer [] = Unit {0}
 LinesDiffer (l ∷ ls) = (IsLineAmong l ls → ⊥) × LinesDiffer ls
@@ -106,8 +109,7 @@ pub record IsNet (nets : List (Option FlatNet)) (f : FlatNet) : Type 0 where
   pub table : is_some f.table ≡ has_table f.kind
   pub cover : (c : Cover) → f.table ≡ Some c → IsCover nets f.values c
 
--- a latch: its input can be read and has as many values as its output; its reset net is named by a full stop and
--- the latch's name, and has its value names
+-- the reset net of a latch: it is named by a full stop and the latch's name, and has the latch's values and their names
 pub record IsResetNet (nets : List (Option FlatNet)) (output n : ℕ) : Type 0 where
   pub kind : IsKind nets n Reset
   pub latch : FlatNet
@@ -116,23 +118,28 @@ pub record IsResetNet (nets : List (Option FlatNet)) (output n : ℕ) : Type 0 w
   pub values : kind.net.values ≡ latch.values
   pub value_names : kind.net.value_names ≡ latch.value_names
 
+-- a latch: its input can be read and has as many values as its output, and its reset net, if it has one, is such a net
 pub record IsLatch (nets : List (Option FlatNet)) (l : FlatLatch) : Type 0 where
   pub input : IsReadable nets l.input.0
   pub output : IsKind nets l.output.0 Latch
   pub values : values_in (slot nets l.input.0) ≡ values_in (slot nets l.output.0)
   pub reset : (n : NetId) → l.reset ≡ Some n → IsResetNet nets l.output.0 n.0
 
+-- each is a latch
 abbrev pub AllLatches : List (Option FlatNet) → List FlatLatch → Type 0
 AllLatches nets [] = Unit {0}
 AllLatches nets (l ∷ ls) = IsLatch nets l × AllLatches nets ls
 
+-- the outputs of the latches, in order
 abbrev pub latch_outputs : List FlatLatch → List NetId
 latch_outputs ls = map (λ (l : FlatLatch). l.output) ls
 
+-- the reset net, if there is one, before the others
 abbrev pub with_reset : Option NetId → List NetId → List NetId
 with_reset None ns = ns
 with_reset (Some n) ns = n ∷ ns
 
+-- the reset nets of the latches, in order
 abbrev pub latch_resets : List FlatLatch → List NetId
 latch_resets [] = []
 latch_resets (l ∷ ls) = with_reset l.reset (latch_resets ls)

@@ -48,11 +48,12 @@ row rows n = slice_index_or rows n []
 abbrev pub line_nets : List Line → List NetId
 line_nets ls = flat_map (λ (l : Line). map (λ (m : Lit). m.net) l.cube) ls
 
--- one list for each number: the nets that its net reads, or the nets that read it
+-- one list for each number: the nets that its net reads
 pub record AreFanins (nets : List (Option FlatNet)) (rows : List (List NetId)) : Type 0 where
   pub long : length rows ≡ length nets
   pub each : (n : ℕ) → IsAscending (λ m. net_reads (slot nets n) m) (row rows n)
 
+-- one list for each number: the nets that read its net
 pub record AreReaders (nets : List (Option FlatNet)) (rows : List (List NetId)) : Type 0 where
   pub long : length rows ≡ length nets
   pub each : (n : ℕ) → IsAscending (λ m. net_reads (slot nets m) n) (row rows n)

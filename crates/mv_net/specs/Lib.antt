@@ -6,7 +6,6 @@ pub mod Turned
 pub mod Names
 pub mod Seen
 pub mod Kept
-pub mod Binary
 pub mod Changes
 pub mod Total
 pub mod Order

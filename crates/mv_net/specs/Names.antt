@@ -30,9 +30,10 @@ IsFresh es (Some f) = number_of es f.name ≡ None
 pub record AreNamed (nets : List (Option FlatNet)) : Type 0 where
   pub apart : (n m : ℕ) (f g : FlatNet) → slot nets n ≡ Some f → slot nets m ≡ Some g → f.name ≡ g.name → n ≡ m
 
--- the pairs that a map holds, without its memory
+-- a pair that a map holds, without its memory
 abbrev pub entry_of : Vec ℕ Global × ℕ → List ℕ × ℕ
 entry_of e = (e.0.items, e.1)
 
+-- all of its pairs
 abbrev pub entries_of : List (Vec ℕ Global × ℕ) → List (List ℕ × ℕ)
 entries_of es = map entry_of es

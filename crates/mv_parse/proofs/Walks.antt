@@ -1,12 +1,15 @@
 -- The reader's way along the lines: where it stands, and what it has read.
-use Rattle.std.proofs.Common.{◌≡◌, ℕ, ◌+◌, ◌≤◌, ◌<◌, true, false, List, [], ◌∷◌, ◌++◌, length, take, drop, get_or, if◌then◌else◌, refl, sym, ap, ◌∙◌, ⊎_elim, arith}
+use Rattle.std.proofs.Common.{◌≡◌, ℕ, ◌+◌, ◌≤◌, ◌<◌, true, false, List, [], ◌∷◌, ◌++◌, length, take, drop, get_or, if◌then◌else◌, refl, sym, ap, ◌∙◌, ◌⊎◌, inl, inr, ⊎_elim, arith}
 use Rattle.std.specs.Prelude.{Option, Some, None, All}
 use Rattle.std.proofs.lemmas.Bool.{cases_Bool}
 use Rattle.std.proofs.lemmas.List.{take_all, drop_all, drop-append-le, length-append, length-take-le}
 use Rattle.std.proofs.lemmas.List.Elements.{All-nil, All-push}
 use Rattle.mv_base.specs.declared.limits.TheConstants.{MAX_COLUMNS}
 use Rattle.mv_lex.specs.declared.lines.LexLine.{LexLine}
+use Rattle.mv_fault.specs.declared.fault.ParseFault.{ParseFault}
+use Rattle.mv_fault.specs.declared.fault.ParseFault.TheVariants.{Memory}
 use Rattle.mv_fault.specs.Tells.{first}
+use Rattle.mv_fault.proofs.Firsts.{first-append}
 use Rattle.mv_parse.specs.declared.command.Command.{Command}
 use Rattle.mv_parse.specs.declared.command.Command.TheVariants.{Model, End}
 use Rattle.mv_parse.specs.declared.known.OpenTable.{OpenTable}
@@ -58,6 +61,16 @@ here_faults lines first at k l here = rw (here.known, here.open_lines) refl
 pub whole_design : (lines : List LexLine) (first at : ℕ) (k : Known) → IsAt lines first at k → length lines ≤ at → design_of lines ≡ record { root = 0; models = k.models }
 unfolding design_of
 whole_design lines first at k here h = rw (here.known, take_all at lines h) refl
+
+-- a fault of the line, or want of memory: it is the first of all lines
+pub refused : (lines : List LexLine) (from at : ℕ) (k : Known) (l : LexLine) (f : ParseFault) → IsAt lines from at k → at < length lines → l ≡ get_or lines at l → (f ≡ Memory) ⊎ (first (line_faults (command_at l) k (drop from (take at lines)) l) ≡ Some f) → (f ≡ Memory) ⊎ (first (faults_of lines) ≡ Some f)
+refused lines from at k l f here h e why =
+    ⊎_elim (λ (m : f ≡ Memory). inl m)
+    (λ (told : first (line_faults (command_at l) k (drop from (take at lines)) l) ≡ Some f).
+    let now : first (faults_at (take at lines) l) ≡ Some f = sym (ap first (here_faults lines from at k l here)) ∙ told in
+    let on : first (faults_behind (take at lines) (l ∷ drop (at + 1) lines)) ≡ Some f = first-append f (faults_at (take at lines) l) (faults_behind (take at lines ++ l ∷ []) (drop (at + 1) lines)) now in
+    inr (ap first (sym here.fault) ∙ (ap (λ ls. first (faults_behind (take at lines) ls)) (drop_one lines at l h e) ∙ on)))
+    why
 
 -- ---- one line on
 

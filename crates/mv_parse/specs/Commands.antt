@@ -2,6 +2,7 @@
 use Rattle.std.specs.Prelude.{ℕ, Bool, true, false, not, ◌||◌, List, [], ◌∷◌, codes, if◌then◌else◌}
 use Rattle.mv_base.specs.Names.{same_word, begins_with}
 use Rattle.mv_lex.specs.declared.lines.LexLine.{LexLine}
+use Rattle.mv_table.specs.Tables.{is_default_word}
 use Rattle.mv_parse.specs.declared.command.Command.{Command}
 use Rattle.mv_parse.specs.declared.command.Command.TheVariants.{Model, Inputs, Outputs, Mv, Table, Default, Row, End, Unbuilt, Unknown}
 
@@ -10,6 +11,7 @@ abbrev pub first_of : List (List ℕ) → List ℕ
 first_of [] = []
 first_of (w ∷ words) = w
 
+-- the first word of a line
 abbrev pub first_word : LexLine → List ℕ
 first_word l = first_of l.words
 
@@ -17,11 +19,9 @@ first_word l = first_of l.words
 abbrev pub is_unbuilt : List ℕ → Bool
 is_unbuilt w = same_word w (codes ".latch") || same_word w (codes ".reset") || same_word w (codes ".r") || same_word w (codes ".subckt") || same_word w (codes ".root")
 
+-- the words that say that a line begins a table
 abbrev pub is_table_word : List ℕ → Bool
 is_table_word w = same_word w (codes ".table") || same_word w (codes ".names")
-
-abbrev pub is_default_word : List ℕ → Bool
-is_default_word w = same_word w (codes ".default") || same_word w (codes ".def")
 
 -- a word that doesn't begin with a full stop begins a row
 unfoldable pub command_of : List ℕ → Command
@@ -37,6 +37,7 @@ command_of w =
     else if is_unbuilt w then Unbuilt
     else Unknown
 
+-- what a line is
 abbrev pub command_at : LexLine → Command
 command_at l = command_of (first_word l)
 
@@ -46,14 +47,17 @@ keeps_table Default = true
 keeps_table Row = true
 keeps_table _ = false
 
+-- the line is a row
 abbrev pub is_row : Command → Bool
 is_row Row = true
 is_row _ = false
 
+-- the line is a default
 abbrev pub is_default : Command → Bool
 is_default Default = true
 is_default _ = false
 
+-- the line begins a table
 abbrev pub is_table : Command → Bool
 is_table Table = true
 is_table _ = false
@@ -64,6 +68,7 @@ is_bound Model = true
 is_bound End = true
 is_bound _ = false
 
+-- the line ends its model
 abbrev pub is_end : Command → Bool
 is_end End = true
 is_end _ = false

@@ -48,6 +48,7 @@ abbrev pub values_at : Command → List Decl → LexLine → List LexLine → Li
 values_at Table ds l ls = table_faults ds l (front_rows ls)
 values_at _ ds l ls = []
 
+-- the same of all its lines
 abbrev pub value_faults : List Decl → List LexLine → List ParseFault
 value_faults ds [] = []
 value_faults ds (l ∷ ls) = values_at (command_at l) ds l ls ++ value_faults ds ls
@@ -101,6 +102,7 @@ line_faults c k ls l = unread_faults c k l ++ placed_faults c k.inside ls l
 abbrev pub behind_model : List LexLine → List LexLine
 behind_model part = drop 1 part
 
+-- the faults of a line behind these others
 abbrev pub faults_at : List LexLine → LexLine → List ParseFault
 faults_at before l = line_faults (command_at l) (known before) (behind_model (open_part before)) l
 
@@ -109,6 +111,7 @@ abbrev pub last_faults : Option OpenModel → ℕ → List ParseFault
 last_faults (Some m) models = NoEnd m.line ∷ []
 last_faults None models = when (models == 0) (NoModel 1)
 
+-- the faults of the end of a file, where its lines say `k`
 abbrev pub file_faults : Known → List ParseFault
 file_faults k = last_faults k.inside (length k.models)
 
@@ -117,6 +120,7 @@ abbrev pub faults_behind : List LexLine → List LexLine → List ParseFault
 faults_behind before [] = file_faults (known before)
 faults_behind before (l ∷ ls) = faults_at before l ++ faults_behind (before ++ l ∷ []) ls
 
+-- all faults of a file
 unfoldable pub faults_of : List LexLine → List ParseFault
 faults_of lines = faults_behind [] lines
 

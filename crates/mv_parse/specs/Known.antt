@@ -18,27 +18,30 @@ use Rattle.mv_parse.specs.Commands.{first_of, command_at, keeps_table, is_row, i
 
 -- ---- the lines of one model, behind its first
 
--- the names on all lines of inputs, joined in order
+-- the names on a line of inputs
 abbrev pub inputs_at : Command → List (List ℕ) → List (List ℕ)
 inputs_at Inputs words = words
 inputs_at _ words = []
 
+-- the inputs of a model with these lines: the names on all its lines of inputs, joined in order
 abbrev pub inputs_of : List LexLine → List (List ℕ)
 inputs_of ls = flat_map (λ l. inputs_at (command_at l) (behind_first l)) ls
 
--- and of outputs
+-- and on a line of outputs
 abbrev pub outputs_at : Command → List (List ℕ) → List (List ℕ)
 outputs_at Outputs words = words
 outputs_at _ words = []
 
+-- its outputs
 abbrev pub outputs_of : List LexLine → List (List ℕ)
 outputs_of ls = flat_map (λ l. outputs_at (command_at l) (behind_first l)) ls
 
--- the declarations, wherever they stand: each net keeps its first
+-- and the declarations on a line
 abbrev pub decls_at : Command → List (List ℕ) → List Decl
 decls_at Mv words = decls_said words
 decls_at _ words = []
 
+-- its declarations, wherever they stand: each net keeps its first
 abbrev pub decls_of : List LexLine → List Decl
 decls_of ls = with_decls [] (flat_map (λ l. decls_at (command_at l) (behind_first l)) ls)
 
@@ -47,10 +50,12 @@ abbrev pub front_rows : List LexLine → List LexLine
 front_rows [] = []
 front_rows (l ∷ ls) = if keeps_table (command_at l) then l ∷ front_rows ls else []
 
+-- the table that a line begins, if it begins one
 abbrev pub table_at : Command → List Decl → LexLine → List LexLine → List FileTable
 table_at Table ds l ls = table_of ds l (front_rows ls) ∷ []
 table_at _ ds l ls = []
 
+-- the tables of a model with these lines
 abbrev pub tables_of : List Decl → List LexLine → List FileTable
 tables_of ds [] = []
 tables_of ds (l ∷ ls) = table_at (command_at l) ds l ls ++ tables_of ds ls
@@ -64,6 +69,7 @@ table_state l ls = record {
   has_default = list_any (λ r. is_default (command_at r)) ls;
 }
 
+-- the table that is open behind these lines, if one is
 abbrev pub open_table : List LexLine → Option OpenTable
 open_table [] = None
 open_table (l ∷ ls) =
@@ -71,6 +77,7 @@ open_table (l ∷ ls) =
 
 -- ---- models: the lines are cut behind each `.end`
 
+-- a line in front of the first part
 abbrev pub onto_part : LexLine → List (List LexLine) → List (List LexLine)
 onto_part l [] = []
 onto_part l (part ∷ parts) = (l ∷ part) ∷ parts
@@ -80,6 +87,7 @@ abbrev pub ended : List LexLine → List (List LexLine)
 ended [] = []
 ended (l ∷ ls) = if is_end (command_at l) then [] ∷ ended ls else onto_part l (ended ls)
 
+-- a line stands in the open part unless it stands in a part that has ended
 abbrev pub with_front : List (List LexLine) → LexLine → List LexLine → List LexLine
 with_front [] l ls = l ∷ ls
 with_front (_ ∷ _) l ls = ls
@@ -100,10 +108,12 @@ open_model l ls = record {
   table = open_table ls;
 }
 
+-- the model that a part begins, if it has a line
 abbrev pub inside_of : List LexLine → Option OpenModel
 inside_of [] = None
 inside_of (l ∷ ls) = Some (open_model l ls)
 
+-- a model that has ended, of which these are the lines behind its first
 abbrev pub file_model : OpenModel → List LexLine → FileModel
 file_model m ls = record {
   name = m.name;
@@ -116,10 +126,12 @@ file_model m ls = record {
   parts = [];
 }
 
+-- the same, if there is a model
 abbrev pub closed : Option OpenModel → List LexLine → List FileModel
 closed None ls = []
 closed (Some m) ls = file_model m ls ∷ []
 
+-- the model that a part says, if it has a line
 abbrev pub model_of : List LexLine → List FileModel
 model_of part = closed (inside_of part) (drop 1 part)
 

@@ -20,30 +20,39 @@ use Rattle.mv_parse.specs.Known.{file_model}
 abbrev pub new_model : LexLine → OpenModel
 new_model l = record { line = l.number; name = first_of (behind_first l); inputs = []; outputs = []; decls = []; table = None }
 
+-- a table that a first line with these words begins
 abbrev pub new_table : List (List ℕ) → OpenTable
 new_table words = record { ins = length (ins_of words); outs = length (outs_of words); rows = 0; has_default = false }
 
+-- a model with further inputs; a line that is no row and no default closes its table
 abbrev pub with_inputs : List (List ℕ) → OpenModel → OpenModel
 with_inputs words m = record m { inputs = m.inputs ++ words; table = None }
 
+-- with further outputs
 abbrev pub with_outputs : List (List ℕ) → OpenModel → OpenModel
 with_outputs words m = record m { outputs = m.outputs ++ words; table = None }
 
+-- with the declarations that these words say
 abbrev pub with_declared : List (List ℕ) → OpenModel → OpenModel
 with_declared words m = record m { decls = with_decls m.decls (decls_said words); table = None }
 
+-- with a table that begins
 abbrev pub with_table : List (List ℕ) → OpenModel → OpenModel
 with_table words m = record m { table = Some (new_table words) }
 
+-- a table whose default has stood
 abbrev pub default_seen : OpenTable → OpenTable
 default_seen t = record t { has_default = true }
 
+-- a table with one more row
 abbrev pub row_seen : OpenTable → OpenTable
 row_seen t = record t { rows = t.rows + 1 }
 
+-- a model behind a default of its open table
 abbrev pub with_default : OpenModel → OpenModel
 with_default m = record m { table = option_map default_seen m.table }
 
+-- a model behind a row of it
 abbrev pub with_row : OpenModel → OpenModel
 with_row m = record m { table = option_map row_seen m.table }
 
@@ -61,15 +70,18 @@ inside_step _ l m = m
 abbrev pub outside_stepped : List FileModel → LexLine → Known
 outside_stepped models l = record { models = models; inside = Some (new_model l) }
 
+-- a line within a model goes on with it, or ends it
 abbrev pub inside_stepped : Command → List FileModel → OpenModel → List LexLine → LexLine → Known
 inside_stepped c models m ls l =
     if is_end c then record { models = models ++ file_model m ls ∷ []; inside = None }
     else record { models = models; inside = Some (inside_step c l m) }
 
+-- a line outside a model, or within one
 abbrev pub placed_step : Command → List FileModel → Option OpenModel → List LexLine → LexLine → Known
 placed_step c models None ls l = outside_stepped models l
 placed_step c models (Some m) ls l = inside_stepped c models m ls l
 
+-- what is known behind a line
 unfoldable pub stepped : Command → Known → List LexLine → LexLine → Known
 stepped c k ls l = placed_step c k.models k.inside ls l
 

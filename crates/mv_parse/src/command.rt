@@ -1,8 +1,9 @@
 ghost use Rattle.std.specs.Prelude.{◌≡◌};
-ghost use Rattle.mv_parse.specs.Commands.{command_of, command_at, first_of, first_word, is_unbuilt, is_table_word, is_default_word, keeps_table, is_end, is_bound, is_table};
+ghost use Rattle.mv_parse.specs.Commands.{command_of, command_at, first_of, first_word, is_unbuilt, is_table_word, keeps_table, is_end, is_bound, is_table};
 
 use mv_base::Name;
 use mv_lex::LexLine;
+use mv_table::is_default_word;
 use mv_word::{begins_with, is_text};
 
 /// What a line is.
@@ -21,6 +22,7 @@ pub enum Command {
     Unknown,
 }
 
+/// Whether the word is a command that this version doesn't read.
 fn is_unbuilt(word: &[u8]) -> bool
     ensures { result ≡ is_unbuilt word.now }
 {
@@ -31,16 +33,11 @@ fn is_unbuilt(word: &[u8]) -> bool
         || is_text(word, b".root")
 }
 
+/// Whether the word says that its line begins a table.
 fn is_table_word(word: &[u8]) -> bool
     ensures { result ≡ is_table_word word.now }
 {
     is_text(word, b".table") || is_text(word, b".names")
-}
-
-fn is_default_word(word: &[u8]) -> bool
-    ensures { result ≡ is_default_word word.now }
-{
-    is_text(word, b".default") || is_text(word, b".def")
 }
 
 /// What a line with this first word is.

@@ -1,11 +1,11 @@
-ghost use Rattle.std.specs.Prelude.{◌≡◌, ◌≤◌, ◌+◌, All, Some, false, IfOk, OnOk};
+ghost use Rattle.std.specs.Prelude.{◌≡◌, ◌≤◌, ◌+◌, All, Some, true, false, IfOk, OnOk};
 ghost use Rattle.mv_base.specs.declared.limits.TheConstants.{MAX_COLUMNS as most_columns};
 ghost use Rattle.mv_lex.specs.declared.lines.LexLine.{LexLine};
 ghost use Rattle.mv_fault.specs.Tells.{Tells};
 ghost use Rattle.mv_parse.specs.declared.known.OpenTable.{OpenTable};
 ghost use Rattle.mv_table.specs.Tables.{behind_first};
 ghost use Rattle.mv_parse.specs.Commands.{first_word, is_end};
-ghost use Rattle.mv_parse.specs.Grammar.{line_faults, unread_faults, outside_faults, inside_faults, end_faults};
+ghost use Rattle.mv_parse.specs.Grammar.{line_faults, unread_faults, placed_faults, outside_faults, inside_faults, end_faults};
 ghost use Rattle.mv_parse.specs.Known.{file_model};
 ghost use Rattle.mv_parse.specs.Steps.{stepped, new_model, inside_step, Narrow, IsSmall};
 
@@ -153,6 +153,27 @@ fn inside_line(
     }
 }
 
+/// A line that ends the open model, if there is one.
+#[tactic(auto, using(mv_fault::proofs::Firsts::firsts), unfolding(crate::specs::Steps::stepped))]
+fn end_open(
+    alloc: Global,
+    known: &mut Known,
+    command: Command,
+    lines: &[LexLine],
+    line: &LexLine,
+) -> Result<(), ParseFault>
+    requires narrow { All (λ (l : LexLine). Narrow l) lines.now }
+    requires ends { is_end command ≡ true }
+    ensures fault { Tells result (placed_faults command known.old.inside lines.now line.now) }
+    ensures ok { OnOk result (known.new ≡ stepped command known.old lines.now line.now) }
+{
+    match known.inside.take() {
+        None => known.inside = Some(outside_line(alloc, command, line)?),
+        Some(model) => known.models.push(end_line(alloc, model, lines, line)?)?,
+    }
+    Ok(())
+}
+
 /// Reads a line: what is known behind it, or its first fault. `lines` are those of the open model behind its first.
 #[tactic(auto, using(mv_fault::proofs::Firsts::firsts), unfolding(crate::specs::Grammar::line_faults, crate::specs::Steps::stepped))]
 pub fn take_line(
@@ -168,15 +189,14 @@ pub fn take_line(
     ensures ok { OnOk result (known.new ≡ stepped command known.old lines.now line.now) }
 {
     check_read(known, command, line)?;
-    match known.inside.take() {
-        None => known.inside = Some(outside_line(alloc, command, line)?),
-        Some(model) if is_end(command) => {
-            known.models.push(end_line(alloc, model, lines, line)?)?;
-        }
-        Some(mut model) => {
-            inside_line(alloc, &mut model, command, line)?;
-            known.inside = Some(model);
-        }
+    if is_end(command) {
+        return end_open(alloc, known, command, lines, line);
     }
-    Ok(())
+    match &mut known.inside {
+        None => {
+            known.inside = Some(outside_line(alloc, command, line)?);
+            Ok(())
+        }
+        Some(model) => inside_line(alloc, model, command, line),
+    }
 }

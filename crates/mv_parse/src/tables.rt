@@ -1,4 +1,4 @@
-ghost use Rattle.std.specs.Prelude.{◌≡◌, [], All, IfOk};
+ghost use Rattle.std.specs.Prelude.{◌≡◌, All, IfOk};
 ghost use Rattle.mv_lex.specs.declared.lines.LexLine.{LexLine};
 ghost use Rattle.mv_fault.specs.Tells.{Tells};
 ghost use Rattle.mv_parse.specs.Known.{front_rows, tables_of, file_model};
@@ -7,7 +7,7 @@ ghost use Rattle.mv_parse.specs.Steps.{Narrow};
 
 use crate::command::{command_at, is_table, keeps_table};
 use crate::known::OpenModel;
-use mv_base::{Items, Name, NameSet};
+use mv_base::Items;
 use mv_decl::Decls;
 use mv_design::{FileModel, FileTable};
 use mv_fault::ParseFault;
@@ -47,18 +47,6 @@ fn tables(alloc: Global, decls: &Decls, lines: &[LexLine]) -> Result<Items<FileT
     Ok(tables)
 }
 
-/// The names of a set in a list of their own.
-fn copied(alloc: Global, names: &NameSet) -> Result<Items<Name>, ParseFault>
-    ensures fault { Tells result [] }
-    ensures ok { IfOk result (λ copies. copies ≡ names.now) }
-{
-    let mut copies = Items::new(alloc);
-    for name in names.as_slice() {
-        copies.push(name.copy()?)?;
-    }
-    Ok(copies)
-}
-
 /// The model that these lines, behind its first, have been read into.
 pub fn end_model(
     alloc: Global,
@@ -71,8 +59,8 @@ pub fn end_model(
 {
     let tables = tables(alloc, &model.decls, lines)?;
     Ok(FileModel {
-        inputs: copied(alloc, &model.inputs)?,
-        outputs: copied(alloc, &model.outputs)?,
+        inputs: Items::of_names(alloc, model.inputs.as_slice())?,
+        outputs: Items::of_names(alloc, model.outputs.as_slice())?,
         name: model.name,
         decls: model.decls.finish(),
         tables,

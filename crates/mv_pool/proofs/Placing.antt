@@ -1,5 +1,5 @@
 -- Places as they are filled.
-use Rattle.std.proofs.Common.{◌≡◌, ℕ, zero, suc, ◌+◌, ◌<◌, ◌≤◌, ◌≢◌, true, false, List, [], ◌∷◌, ◌++◌, Option, None, Some, length, get_or, is_none, is_some, refl, sym, inl, inr, arith}
+use Rattle.std.proofs.Common.{◌≡◌, ℕ, zero, suc, ◌+◌, ◌<◌, ◌≤◌, ◌≢◌, true, false, List, [], ◌∷◌, ◌++◌, Option, None, Some, length, is_none, is_some, refl, sym, inl, inr, arith}
 use Rattle.std.proofs.Math.ListN.{set}
 use Rattle.std.proofs.lemmas.Grind.{common_steps}
 use Rattle.std.proofs.lemmas.Bool.{cases_lt}
@@ -56,12 +56,6 @@ module _ {T : Type 0} where
     where
       both : n ≡ least_free ps → ⊥
       both same = let free = free_there ps in let held : is_some (item_at ps (least_free ps)) ≡ true = rw same at e in grind arith
-
-  -- an element that is read is the item there
-  pub read_there : (ps : List (Option T)) (n : ℕ) (o : Option T) → n < length ps → o ≡ get_or ps n o → item_at ps n ≡ o
-  read_there [] n o h e = absurd (omega arith)
-  read_there (x ∷ ps) zero o h e = sym e
-  read_there (x ∷ ps) (suc n) o h e = read_there ps n o (omega arith) e
 
   -- what isn't an item is nothing
   pub none_from : (o : Option T) → is_some o ≡ false → o ≡ None

@@ -4,7 +4,7 @@ use Rattle.std.proofs.Math.ListN.{set}
 use Rattle.std.proofs.lemmas.Bool.{cases_lt, cases_order}
 use Rattle.std.proofs.lemmas.List.{get_or-set_same, get_or-set_other, length-set, get_or_past, get_or_append_left, length-append}
 use Rattle.std.proofs.lemmas.List.Sums.{sum_by-set, count_by-le-length}
-use Rattle.std.proofs.lemmas.Option.{same_Some, none-some}
+use Rattle.std.proofs.lemmas.Option.{same_Some}
 use Rattle.mv_pool.specs.declared.pool.Id.{Id}
 use Rattle.mv_pool.specs.Places.{item_at}
 use Rattle.mv_pool.specs.Reached.{IsClosed, LinksAreHeld, IsReached, IsReclaimed}
@@ -29,18 +29,6 @@ count-less m n h e =
     let most = count_by-le-length (λ (b : Bool). b) (set m n true) in
     let same = length-set m n true in
     omega arith
-
--- nothing new
-pub reached_same : (m : List Bool) (q : List ℕ) (link : Option Id) → IsWalk m q → ((id : Id) → link ≡ Some id → mark m id.0 ≡ true) → HasReached m q link m q
-reached_same m q link walk there = record {
-  walk = walk;
-  size = refl;
-  there = there;
-  stays = λ n h. h;
-  only = λ set old new n h. old n h;
-  first = λ k h. refl;
-  longer = omega arith;
-}
 
 -- the last element
 at_end : (q : List ℕ) (x : ℕ) → get_or (q ++ x ∷ []) (length q) 0 ≡ x
@@ -116,10 +104,6 @@ module _ (m : List Bool) (q : List ℕ) (at : ℕ) (walk : IsWalk m q) (within :
 pub reached_new : (m : List Bool) (q : List ℕ) (link : Option Id) (id : Id) → IsWalk m q → id.0 < length m → mark m id.0 ≡ false → link ≡ Some id → HasReached m q link (set m id.0 true) (q ++ id.0 ∷ [])
 reached_new m q link id walk within unmarked is = reached_at m q id.0 walk within unmarked link id is refl
 
--- the roots stay marked
-pub rooted_reached : (roots : List Id) (m : List Bool) (q : List ℕ) (l : Option Id) (m' : List Bool) (q' : List ℕ) (c : ℕ) → AreRooted m roots c → HasReached m q l m' q' → AreRooted m' roots c
-rooted_reached roots m q l m' q' c are r = record { each = λ k d h. r.stays (get_or roots k d).0 (are.each k d h) }
-
 -- a root more is marked
 pub rooted_next : (roots : List Id) (m : List Bool) (q : List ℕ) (root : Id) (m' : List Bool) (q' : List ℕ) (i : ℕ) → AreRooted m roots i → HasReached m q (Some root) m' q' → i < length roots → root ≡ get_or roots i root → AreRooted m' roots (i + 1)
 rooted_next roots m q root m' q' i are r less is = record { each = λ k d h. elim (cases_lt k i) [ inl low ↦ r.stays (get_or roots k d).0 (are.each k d low) | inr high ↦ here k d (omega arith) ] }
@@ -150,6 +134,17 @@ module _ {T : Type 0} (link : T → ℕ → Option Id) (ps : List (Option T)) (r
     where
       at : (set : ℕ → Bool) → All (λ (id : Id). set id.0 ≡ true) roots → (id : Id) → Some root ≡ Some id → set id.0 ≡ true
       at set all id e = rw (← same_Some root id e) (rw is (all i root less))
+
+  -- a place that is read from the queue is one of the places
+  pub queue_within : (m : List Bool) (q : List ℕ) (done at place : ℕ) → IsWalking link ps roots m q done → at < length q → place ≡ get_or q at place → place < length ps
+  queue_within m q done at place w inside is =
+      let here = read_any q at place 0 inside is in
+      let within = passes_within is_some refl ps (get_or q at 0) (w.held (get_or q at 0) (w.walk.marked at inside)) in
+      omega (arith, here, within)
+
+  -- what is read there is its item
+  pub queue_item : (m : List Bool) (q : List ℕ) (done at place : ℕ) (o : Option T) → IsWalking link ps roots m q done → at < length q → place ≡ get_or q at place → o ≡ get_or ps place o → item_at ps (get_or q at 0) ≡ o
+  queue_item m q done at place o w inside is read = ap (item_at ps) (read_any q at place 0 inside is) ∙ read_any ps place o None (queue_within m q done at place w inside is) read
 
   module _ (links : LinksAreHeld link ps) (at : ℕ) (item : T) where
     -- a link of the place in the queue that is next

@@ -5,10 +5,10 @@ use Rattle.std.proofs.lemmas.Bool.{cases_Bool, false_from_ne_true, or_cases}
 use Rattle.mv_base.specs.Names.{same_word, begins_with}
 use Rattle.mv_base.proofs.NameLemmas.{same_word_is}
 use Rattle.mv_lex.specs.declared.lines.LexLine.{LexLine}
-use Rattle.mv_table.specs.Tables.{default_words, is_default}
+use Rattle.mv_table.specs.Tables.{is_default_word, default_words, is_default}
 use Rattle.mv_parse.specs.declared.command.Command.{Command}
 use Rattle.mv_parse.specs.declared.command.Command.TheVariants.{Model, Inputs, Outputs, Mv, Table, Default, Row, End, Unbuilt, Unknown}
-use Rattle.mv_parse.specs.Commands.{first_of, is_unbuilt, is_table_word, is_default_word, command_of, command_at}
+use Rattle.mv_parse.specs.Commands.{first_of, is_unbuilt, is_table_word, command_of, command_at}
 
 -- a word for a default
 word-default : (w : List ℕ) → is_default_word w ≡ true → command_of w ≡ Default

@@ -38,9 +38,6 @@ pub ruleset networks = (proper, parse-told, flat-told, net-told)
 
 -- ---- refused lines have no network
 
-pub HasForm-from_net : (lines : List LexLine) (net : NetParts) → IsNetOf lines net → HasForm lines
-HasForm-from_net lines net h = record { design = h.design; is = h.is; within = h.within; sound = h.flat.sound; nets = h.flat.nets }
-
 parse-excludes : (lines : List LexLine) (f : ParseFault) → FirstFault lines f → HasForm lines → ⊥
 parse-excludes lines f told h =
     let none : faults_of lines ≡ [] = no-faults lines h.design h.is h.within in

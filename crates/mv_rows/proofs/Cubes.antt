@@ -2,7 +2,8 @@
 use Rattle.std.proofs.Common.{◌≡◌, ◌≢◌, ℕ, ◌+◌, ◌<◌, ◌≤◌, Bool, true, false, not, ◌&&◌, Option, Some, None, Result, Ok, Err, IfOk, MatchOption, List, [], ◌∷◌, ◌++◌, get_or, nat_eq, refl, sym, ◌∙◌, ap, subst, arith, inl, inr, All}
 use Rattle.std.specs.Prelude.{◌==◌, nat_le, nat_lt}
 use Rattle.std.specs.List.{list_all}
-use Rattle.std.proofs.lemmas.Bool.{cases_Bool, cond_both, false≢true, and_parts, and_from, leb-true, le-leb, eqb-true, eqb-false, ltb-true, lt-ltb}
+use Rattle.std.proofs.Math.Bool.{and-true}
+use Rattle.std.proofs.lemmas.Bool.{cases_Bool, cond_both, false≢true, not-true, and_parts, and_from, and_right, leb-true, le-leb, eqb-true, eqb-false, ltb-true, lt-ltb}
 use Rattle.std.proofs.lemmas.List.Elements.{All-head, All-tail, All-weaker}
 use Rattle.mv_base.specs.Set.{has, empty, full, meet, Within}
 use Rattle.mv_base.specs.declared.limits.TheConstants.{MAX_VALUES}
@@ -22,6 +23,7 @@ use Rattle.mv_rows.specs.Tables.{row_matches}
 use Rattle.mv_rows.specs.Columns.{rises_after, IsOrder, set_at}
 use Rattle.mv_rows.specs.Cubes.{values_at, in_range, CountBy, IsColumn, AreColumns, FitRow, AreParts, HasNoPoint, IsRowCube}
 use Rattle.mv_rows.specs.Meeting.{opened, closed, literals_from, literals_of, all_possible, ArePossible}
+use Rattle.mv_rows.proofs.Values.{within_meet}
 use Rattle.mv_rows.proofs.Orders.{SetFits, column_in, column_holds, all_ordered, sets_fit, ordered_in, ordered_hold}
 
 -- ---- the nets ascend
@@ -78,10 +80,6 @@ matches-closed at o range =
     rw member refl)
     (λ _. refl)
 
-and_true : (b : Bool) → (b && true) ≡ b
-and_true true = refl
-and_true false = refl
-
 met_and : (x a b c : Bool) → x ≡ (a && b) → (x && c) ≡ (a && (b && c))
 met_and x true b c e = ap (λ y. y && c) e
 met_and x false b c e = ap (λ y. y && c) e
@@ -102,7 +100,7 @@ matches-literals_from at sets o (p ∷ ps) range all =
           let new : Group = record { column = p.column; set = set_at sets p } in
           rw f
           (matches-append at (closed o) (literals_from sets new ps)
-          ∙ (ap (λ x. x && matches at (literals_from sets new ps)) (matches-closed at o range ∙ and_true _)
+          ∙ (ap (λ x. x && matches at (literals_from sets new ps)) (matches-closed at o range ∙ and-true _)
           ∙ ap (λ x. has o.set (at o.column.net.0) && x) (matches-literals_from at sets new ps q.0 q.1)))
     ]
 
@@ -138,9 +136,6 @@ AreLess-closed count o e within =
     let Q : ℕ → Type 0 = λ k. Within o.set (full k) in
     (record { within = subst Q e within; not_full = λ f. eqb-false _ _ n (f ∙ ap full (sym e)) }, tt))
 
-Within-meet : (a b s : ℕ) → Within a s → Within (meet a b) s
-Within-meet a b s w v h = w v ((and_parts (has a v) (has b v) (sym (has-meet a b v) ∙ h)).0)
-
 -- a column of a net of so many values, whose set is some of them
 record Fits (count : ℕ → ℕ) (sets : List ℕ) (p : Placed) : Type 0 where
   counted : p.column.count ≡ count p.column.net.0
@@ -152,7 +147,7 @@ AreLess-literals_from count sets o (p ∷ ps) e within all =
     let here : Fits count sets p = All-head (Fits count sets) p ps all in
     let rest = All-tail (Fits count sets) p ps all in
     elim (cases_Bool (nat_eq p.column.net.0 o.column.net.0)) [
-      | inl t ↦ rw t (AreLess-literals_from count sets (record { column = o.column; set = meet o.set (set_at sets p) }) ps e (Within-meet o.set (set_at sets p) _ within) rest)
+      | inl t ↦ rw t (AreLess-literals_from count sets (record { column = o.column; set = meet o.set (set_at sets p) }) ps e (within_meet o.set (set_at sets p) _ within) rest)
       | inr f ↦
           rw f
           (AreLess-append count (closed o) _ (AreLess-closed count o e within)
@@ -168,15 +163,11 @@ AreLess-literals_of count sets (p ∷ ps) all =
 abbrev nonempty : Lit → Bool
 nonempty l = not (nat_eq l.set empty)
 
-isnt : (b : Bool) → not b ≡ true → b ≡ false
-isnt true h = sym h
-isnt false h = refl
-
 parts : (count : ℕ → ℕ) (ls : List Lit) → AreLess count ls → all_possible ls ≡ true → AreParts count ls
 parts count [] less some = tt
 parts count (l ∷ ls) less some =
     let p = and_parts (nonempty l) (list_all nonempty ls) some in
-    (record { some = eqb-false _ _ (isnt (nat_eq l.set empty) p.0); within = less.0.within; not_full = less.0.not_full }, parts count ls less.1 p.1)
+    (record { some = eqb-false _ _ (not-true (nat_eq l.set empty) p.0); within = less.0.within; not_full = less.0.not_full }, parts count ls less.1 p.1)
 
 -- ---- the cube
 
@@ -248,12 +239,8 @@ some_empty at [] h = absurd (false≢true (sym h))
 some_empty at (l ∷ ls) h =
     elim (cases_Bool (nat_eq l.set empty)) [
       | inl t ↦ ap (λ b. b && matches at ls) (ap (λ s. has s (at l.net.0)) (same_number _ _ t) ∙ has-empty (at l.net.0))
-      | inr f ↦ falls (holds at l) (matches at ls) (some_empty at ls (rw f at h))
+      | inr f ↦ and_right (holds at l) (matches at ls) (some_empty at ls (rw f at h))
     ]
-  where
-    falls : (a b : Bool) → b ≡ false → (a && b) ≡ false
-    falls true b e = e
-    falls false b e = refl
 
 pub HasNoPoint-literals : (cs : List Column) (order : List Placed) (sets : List ℕ) → FitRow cs sets → IsOrder cs order → all_possible (literals_of sets order) ≡ false → HasNoPoint cs sets
 HasNoPoint-literals cs order sets fit o none = record { nowhere = λ at range. sym (points cs order sets o fit at range) ∙ some_empty at (literals_of sets order) none }

@@ -2,7 +2,8 @@
 use Rattle.std.proofs.Common.{◌≡◌, ℕ, ◌<◌, ◌≤◌, Bool, true, false, not, ◌&&◌, ◌||◌, nat_eq, cond, Option, Some, None, List, [], ◌∷◌, ◌++◌, filter, length, get_or, map, refl, sym, ◌∙◌, ap, subst, arith, inl, inr, All}
 use Rattle.std.specs.Prelude.{nat_lt}
 use Rattle.std.specs.List.{list_any}
-use Rattle.std.proofs.lemmas.Bool.{cases_Bool, false≢true, and_from, or_cases, or_parts, eqb-false, eq-eqb, lt-ltb}
+use Rattle.std.proofs.Math.Bool.{and-true, and-false, or-false}
+use Rattle.std.proofs.lemmas.Bool.{cases_Bool, false≢true, and_parts, and_from, or_cases, or_parts, eqb-false, eq-eqb, lt-ltb}
 use Rattle.std.proofs.lemmas.List.{map-append, get_or_append_left, length-append}
 use Rattle.std.proofs.lemmas.List.Elements.{All-nil, All-cons, All-head, All-tail, All-append, All-weaker, All-map}
 use Rattle.std.proofs.lemmas.List.Folds.{list_all-append}
@@ -31,23 +32,11 @@ use Rattle.mv_rows.proofs.Rows.{fit_marked}
 use Rattle.mv_rows.proofs.Kept.{gives-kept, matches-kept, gives-marked, matches-marked, bare-kept, bare-marked, bare-matches, all-kept, all-distinct, differ-distinct}
 use Rattle.mv_rows.proofs.Over.{IsOver, RowSays, entry-over, rows-over, says_any, says_within}
 
-and_true : (b : Bool) → (b && true) ≡ b
-and_true true = refl
-and_true false = refl
-
-and_none : (b : Bool) → (b && false) ≡ false
-and_none true = refl
-and_none false = refl
-
-or_none : (b : Bool) → (b || false) ≡ b
-or_none true = refl
-or_none false = refl
-
 -- ---- a single output
 
 single_holds : (values : List ℕ) (v : ℕ) (es : List Entry) → length es ≡ 1 → entries_hold values es (v ∷ []) ≡ entry_holds values (entry_of es) v
 single_holds values v [] h = absurd (omega (arith, h))
-single_holds values v (e ∷ []) h = and_true (entry_holds values e v)
+single_holds values v (e ∷ []) h = and-true (entry_holds values e v)
 single_holds values v (e ∷ f ∷ es) h = absurd (omega (arith, h))
 
 -- ---- the lines of the rows
@@ -78,12 +67,12 @@ nothing_holds values v (Same k) h = absurd (false≢true h)
 
 -- no default is left: it holds nothing where no row matches
 none_left : (d : Option (List Entry)) (ls : List Line) (values : List ℕ) (v : ℕ) (m : Bool) → ((es : List Entry) → d ≡ Some es → length es ≡ 1) → default_left d ls ≡ None → (some_bare ls ≡ true → m ≡ true) → (not m && default_holds d values (v ∷ [])) ≡ false
-none_left None ls values v m one_entry e bare = and_none (not m)
+none_left None ls values v m one_entry e bare = and-false (not m)
 none_left (Some es) ls values v m one_entry e bare =
     elim (cases_Bool (says_nothing (entry_of es) || some_bare ls)) [
       | inl gone ↦
           elim (or_cases (says_nothing (entry_of es)) (some_bare ls) gone) [
-            | inl nothing ↦ ap (λ b. not m && b) (single_holds values v es (one_entry es refl) ∙ nothing_holds values v (entry_of es) nothing) ∙ and_none (not m)
+            | inl nothing ↦ ap (λ b. not m && b) (single_holds values v es (one_entry es refl) ∙ nothing_holds values v (entry_of es) nothing) ∙ and-false (not m)
             | inr there ↦ ap (λ b. not b && entries_hold values es (v ∷ [])) (bare there)
           ]
       | inr stays ↦ let gone_too : Some (entry_of es) ≡ None = rw stays at e in absurd (cc)
@@ -141,11 +130,11 @@ allows_none cs t ls table are left at range v =
     let gone : (not (some_row_matches t.rows values) && default_holds t.default values (v ∷ [])) ≡ false =
     none_left t.default ls values v (some_row_matches t.rows values) (λ es e. (table.default es e).single) left
     (λ b. sym (rows-match at cs t.rows ls table.rows are range) ∙ bare-matches at ls b) in
-    ap (λ b. some_gives at v (kept ls) || b) (and_none (not (some_matches at (kept ls))))
-    ∙ (or_none _
+    ap (λ b. some_gives at v (kept ls) || b) (and-false (not (some_matches at (kept ls))))
+    ∙ (or-false _
     ∙ (gives-kept at v ls
     ∙ (rows-give at v cs t.rows ls table.rows are range
-    ∙ (sym (or_none _) ∙ ap (λ b. some_row_holds t.rows values (v ∷ []) || b) (sym gone)))))
+    ∙ (sym (or-false _) ∙ ap (λ b. some_row_holds t.rows values (v ∷ []) || b) (sym gone)))))
 
 allows_some : (cs : List Column) (t : FileTable) (ls : List Line) (e : Entry) (s : ℕ) → IsTable cs t → RowsLines cs t.rows ls → IsLeft t.default ls e → IsPlain e ls s → (at : ℕ → ℕ) → in_range at cs ≡ true → (v : ℕ) → allowed (unmarked ls (Some s)).cover at v ≡ table_allows t.rows t.default (values_at at cs) (v ∷ [])
 unfolding allowed table_allows
@@ -159,7 +148,7 @@ allows_some cs t ls e s table are left plain at range v =
 -- ---- the mark
 
 mark_is : (m : Bool) (v : ℕ) → ((m && has (one 0) v) || (not m && has (one 1) v)) ≡ nat_eq v (cond m 0 1)
-mark_is true v = or_none _ ∙ has-one 0 v
+mark_is true v = or-false _ ∙ has-one 0 v
 mark_is false v = has-one 1 v
 
 allows_mark : (cs : List Column) (t : FileTable) (ls : List Line) → IsTable cs t → RowsLines cs t.rows ls → (at : ℕ → ℕ) → in_range at cs ≡ true → (v : ℕ) → allowed (mark_cover ls) at v ≡ nat_eq v (mark_value t.rows (values_at at cs))
@@ -176,14 +165,10 @@ values_marked : (at : ℕ → ℕ) (cs : List Column) (mark : NetId) → values_
 values_marked at cs mark = map-append (λ (c : Column). at c.net.0) cs (record { net = mark; count = 2 } ∷ [])
 
 marked_matches : (at : ℕ → ℕ) (cs : List Column) (mark : NetId) → in_range at cs ≡ true → row_matches (marked_sets cs) (values_at at (with_mark cs mark)) ≡ nat_eq (at mark.0) 1
-marked_matches at [] mark range = and_true _ ∙ has-one 1 (at mark.0)
+marked_matches at [] mark range = and-true _ ∙ has-one 1 (at mark.0)
 marked_matches at (c ∷ cs) mark range =
-    let p = parts (nat_lt (at c.net.0) c.count) (in_range at cs) range in
+    let p = and_parts (nat_lt (at c.net.0) c.count) (in_range at cs) range in
     ap (λ b. b && row_matches (marked_sets cs) (values_at at (with_mark cs mark))) (has-full c.count (at c.net.0) ∙ p.0) ∙ marked_matches at cs mark p.1
-  where
-    parts : (a b : Bool) → (a && b) ≡ true → (a ≡ true) × (b ≡ true)
-    parts true b h = (refl, h)
-    parts false b h = absurd (false≢true h)
 
 fit_with_mark : (cs : List Column) (mark : NetId) (e : Entry) → FitEntry cs e → FitEntry (with_mark cs mark) e
 fit_with_mark cs mark (Set s) fit = tt
@@ -201,7 +186,7 @@ marked_holds at cs mark (Same k) v fit =
 range_marked : (at : ℕ → ℕ) (cs : List Column) (mark : NetId) → in_range at cs ≡ true → at mark.0 < 2 → in_range at (with_mark cs mark) ≡ true
 range_marked at cs mark range low =
     list_all-append (λ (c : Column). nat_lt (at c.net.0) c.count) cs (record { net = mark; count = 2 } ∷ [])
-    ∙ and_from _ _ range (and_true _ ∙ lt-ltb (at mark.0) 2 low)
+    ∙ and_from _ _ range (and-true _ ∙ lt-ltb (at mark.0) 2 low)
 
 mark_below : (m : Bool) (x : ℕ) → x ≡ cond m 0 1 → x < 2
 mark_below true x e = omega arith
@@ -222,8 +207,8 @@ allows_marked cs t mark ls e flat table are left fit is at range value v =
     ∙ (λ i. (marked_matches at cs mark range ∙ mark_one m (at mark.0) value) i && (marked_holds at cs mark e v fit ∙ sym (left_holds cs t ls e values v table left)) i) in
     let lines = rows-give at v cs t.rows ls table.rows are range in
     ap (λ (c : Cover). some_gives at v c.lines || (not (some_matches at c.lines) && default_gives c.default v)) is.cover_is
-    ∙ (ap (λ b. some_gives at v (kept (ls ++ is.added)) || b) (and_none (not (some_matches at (kept (ls ++ is.added)))))
-    ∙ (or_none _
+    ∙ (ap (λ b. some_gives at v (kept (ls ++ is.added)) || b) (and-false (not (some_matches at (kept (ls ++ is.added)))))
+    ∙ (or-false _
     ∙ (gives-kept at v (ls ++ is.added)
     ∙ (some_gives-append at v ls is.added ∙ λ i. lines i || added i))))
 

@@ -1,7 +1,8 @@
 -- Lines without equal ones: what some line does is done by one that is kept, and the kept ones differ.
 use Rattle.std.proofs.Common.{◌≡◌, ℕ, Bool, true, false, not, ◌&&◌, ◌||◌, nat_eq, filter, List, [], ◌∷◌, ◌++◌, length, map, refl, sym, ◌∙◌, ap, arith, inl, inr, All}
 use Rattle.std.specs.List.{list_any}
-use Rattle.std.proofs.lemmas.Bool.{cases_Bool, cond_both, false≢true, and_parts, and_from, or_parts, or_cases, or_right, or_left, not_from_false, false_from_ne_true}
+use Rattle.std.proofs.Math.Bool.{and-false, or-false, or_assoc}
+use Rattle.std.proofs.lemmas.Bool.{cases_Bool, cond_both, false≢true, not-true, and_parts, and_from, or_parts, or_cases, or_right, or_left, not_from_false, false_from_ne_true}
 use Rattle.std.proofs.lemmas.List.Folds.{list_any-append}
 use Rattle.std.proofs.lemmas.List.Elements.{All-nil, All-cons, All-head, All-tail, All-push}
 use Rattle.indexmap.specs.IndexSet.{insert_key, insert_all}
@@ -38,23 +39,15 @@ any-among p l (k ∷ ks) h =
     regroup true b c = refl
     regroup false b c = refl
 
-or_none : (a : Bool) → (a || false) ≡ a
-or_none true = refl
-or_none false = refl
-
-or_assoc : (a b c : Bool) → ((a || b) || c) ≡ (a || (b || c))
-or_assoc true b c = refl
-or_assoc false b c = refl
-
 any-insert : (p : Line → Bool) (ks : List Line) (l : Line) → list_any p (insert_key line_eq ks l) ≡ (list_any p ks || p l)
 any-insert p ks l =
     let P : List Line → Type 0 = λ x. list_any p x ≡ (list_any p ks || p l) in
     cond_both (list_any (line_eq l) ks) ks (ks ++ l ∷ []) P
     (λ y. any-among p l ks y)
-    (λ n. list_any-append p ks (l ∷ []) ∙ ap (λ b. list_any p ks || b) (or_none (p l)))
+    (λ n. list_any-append p ks (l ∷ []) ∙ ap (λ b. list_any p ks || b) (or-false (p l)))
 
 any-all : (p : Line → Bool) (ks ls : List Line) → list_any p (insert_all line_eq ks ls) ≡ (list_any p ks || list_any p ls)
-any-all p ks [] = sym (or_none (list_any p ks))
+any-all p ks [] = sym (or-false (list_any p ks))
 any-all p ks (l ∷ ls) =
     any-all p (insert_key line_eq ks l) ls
     ∙ (ap (λ b. b || list_any p ls) (any-insert p ks l) ∙ or_assoc (list_any p ks) (p l) (list_any p ls))
@@ -80,13 +73,9 @@ gives-filter at v (l ∷ ls) =
       | inl none ↦
           rw none
           (gives-filter at v ls
-          ∙ sym (ap (λ b. b || some_gives at v ls) (ap (λ s. matches at l.cube && has s v) (same_number l.out empty none) ∙ (ap (λ b. matches at l.cube && b) (has-empty v) ∙ and_none (matches at l.cube)))))
+          ∙ sym (ap (λ b. b || some_gives at v ls) (ap (λ s. matches at l.cube && has s v) (same_number l.out empty none) ∙ (ap (λ b. matches at l.cube && b) (has-empty v) ∙ and-false (matches at l.cube)))))
       | inr some ↦ rw some (ap (λ b. gives at v l || b) (gives-filter at v ls))
     ]
-  where
-    and_none : (b : Bool) → (b && false) ≡ false
-    and_none true = refl
-    and_none false = refl
 
 pub gives-kept : (at : ℕ → ℕ) (v : ℕ) (ls : List Line) → some_gives at v (kept ls) ≡ some_gives at v ls
 gives-kept at v ls =
@@ -210,12 +199,8 @@ differ-push (k ∷ ks) l d new =
     let q = or_parts (line_eq l k) (list_any (line_eq l) ks) new in
     let other : line_eq k l ≡ false = false_from_ne_true (line_eq k l) (λ y. false≢true (sym q.0 ∙ eq-sym k l y)) in
     let none : list_any (line_eq k) (ks ++ l ∷ []) ≡ false =
-    list_any-append (line_eq k) ks (l ∷ []) ∙ (ap (λ b. list_any (line_eq k) ks || (b || false)) other ∙ (or_none _ ∙ isnt _ p.0)) in
+    list_any-append (line_eq k) ks (l ∷ []) ∙ (ap (λ b. list_any (line_eq k) ks || (b || false)) other ∙ (or-false _ ∙ not-true _ p.0)) in
     and_from _ _ (not_from_false _ none) (differ-push ks l p.1 q.1)
-  where
-    isnt : (b : Bool) → not b ≡ true → b ≡ false
-    isnt true h = sym h
-    isnt false h = refl
 
 differ-insert : (ks ls : List Line) → lines_differ ks ≡ true → lines_differ (insert_all line_eq ks ls) ≡ true
 differ-insert ks [] d = d

@@ -1,6 +1,8 @@
 -- The lines of a row allow what the row holds.
 use Rattle.std.proofs.Common.{◌≡◌, ℕ, zero, suc, ◌<◌, Bool, true, false, ◌&&◌, ◌||◌, nat_eq, List, [], ◌∷◌, length, get_or, refl, sym, ◌∙◌, ap, arith, inl, inr}
 use Rattle.std.specs.Prelude.{nat_lt}
+use Rattle.std.proofs.Math.Bool.{and-true, and-false, or-false, or-true}
+use Rattle.std.proofs.lemmas.Cmp.{nat_eq_equiv}
 use Rattle.std.proofs.lemmas.Bool.{cases_order, and_parts, lt-ltb, le-ltb, eq-eqb, ne_eqb}
 use Rattle.mv_base.specs.Set.{has, one, meet}
 use Rattle.mv_base.proofs.Sets.{has-one, has-meet}
@@ -43,20 +45,12 @@ matches-narrowed (s ∷ sets) (x ∷ values) (suc k) v low = and_assoc (has s x)
 gives-one : (at : ℕ → ℕ) (v : ℕ) (cs : List Column) (sets : List ℕ) (out : ℕ) (ls : List Line) → OneLine cs sets out ls → in_range at cs ≡ true → some_gives at v ls ≡ (row_matches sets (values_at at cs) && has out v)
 gives-one at v cs sets out [] none range = ap (λ b. b && has out v) (sym (none.nowhere at range))
 gives-one at v cs sets out (l ∷ []) is range =
-    or_none _ ∙ λ i. is.cube.points at range i && has (is.out_is i) v
-  where
-    or_none : (b : Bool) → (b || false) ≡ b
-    or_none true = refl
-    or_none false = refl
+    or-false _ ∙ λ i. is.cube.points at range i && has (is.out_is i) v
 gives-one at v cs sets out (l ∷ m ∷ ls) is range = absurd is
 
 matches-one : (at : ℕ → ℕ) (cs : List Column) (sets : List ℕ) (out : ℕ) (ls : List Line) → OneLine cs sets out ls → in_range at cs ≡ true → some_matches at ls ≡ row_matches sets (values_at at cs)
 matches-one at cs sets out [] none range = sym (none.nowhere at range)
-matches-one at cs sets out (l ∷ []) is range = or_none _ ∙ is.cube.points at range
-  where
-    or_none : (b : Bool) → (b || false) ≡ b
-    or_none true = refl
-    or_none false = refl
+matches-one at cs sets out (l ∷ []) is range = or-false _ ∙ is.cube.points at range
 matches-one at cs sets out (l ∷ m ∷ ls) is range = absurd is
 
 -- ---- a line for each value
@@ -68,7 +62,7 @@ below_none x = le-ltb x 0 (omega arith)
 below_next : (x v : ℕ) → nat_lt x (suc v) ≡ (nat_lt x v || nat_eq x v)
 below_next x v =
     elim (cases_order x v) [
-      | inl same ↦ lt-ltb x (suc v) (omega arith) ∙ sym (ap (λ b. nat_lt x v || b) (eq-eqb x v same) ∙ or_true _)
+      | inl same ↦ lt-ltb x (suc v) (omega arith) ∙ sym (ap (λ b. nat_lt x v || b) (eq-eqb x v same) ∙ or-true _)
       | inr apart ↦
           elim apart [
             | inl low ↦ lt-ltb x (suc v) (omega arith) ∙ sym (ap (λ b. b || nat_eq x v) (lt-ltb x v low))
@@ -77,10 +71,6 @@ below_next x v =
                 ∙ sym (ap (λ b. b || nat_eq x v) (le-ltb x v (omega arith)) ∙ ne_eqb x v (λ e. absurd (omega arith)))
           ]
     ]
-  where
-    or_true : (b : Bool) → (b || true) ≡ true
-    or_true true = refl
-    or_true false = refl
 
 -- the value asked for is the column's, where the column has the value v
 joined_gives : (r low here out want : Bool) → (here ≡ true → out ≡ want) → ((r && (low && want)) || ((r && here) && out)) ≡ (r && ((low || here) && want))
@@ -100,17 +90,6 @@ nothing : (r w : Bool) (x : ℕ) → (r && (nat_lt x 0 && w)) ≡ false
 nothing true w x = ap (λ b. b && w) (below_none x)
 nothing false w x = refl
 
-nat_eq-sym : (a b : ℕ) → nat_eq a b ≡ nat_eq b a
-nat_eq-sym a b =
-    elim (cases_order a b) [
-      | inl same ↦ eq-eqb a b same ∙ sym (eq-eqb b a (sym same))
-      | inr apart ↦
-          elim apart [
-            | inl low ↦ ne_eqb a b (λ e. absurd (omega arith)) ∙ sym (ne_eqb b a (λ e. absurd (omega arith)))
-            | inr high ↦ ne_eqb a b (λ e. absurd (omega arith)) ∙ sym (ne_eqb b a (λ e. absurd (omega arith)))
-          ]
-    ]
-
 gives-values : (at : ℕ → ℕ) (out : ℕ) (cs : List Column) (sets : List ℕ) (k n : ℕ) (ls : List Line) → k < length sets → EachValue cs sets k n ls → in_range at cs ≡ true → some_gives at out ls ≡ (row_matches sets (values_at at cs) && (nat_lt (get_or (values_at at cs) k 0) n && nat_eq (get_or (values_at at cs) k 0) out))
 gives-values at out cs sets k zero ls low are range = ap (some_gives at out) are ∙ sym (nothing (row_matches sets (values_at at cs)) (nat_eq (get_or (values_at at cs) k 0) out) (get_or (values_at at cs) k 0))
 gives-values at out cs sets k (suc v) ls low are range =
@@ -120,7 +99,7 @@ gives-values at out cs sets k (suc v) ls low are range =
     let next : some_gives at out are.here ≡ ((r && nat_eq x v) && nat_eq out v) =
     gives-one at out cs (narrowed sets k v) (one v) are.here are.are_here range
     ∙ λ i. matches-narrowed sets (values_at at cs) k v low i && has-one v out i in
-    let same : nat_eq x v ≡ true → nat_eq out v ≡ nat_eq x out = λ e. nat_eq-sym out v ∙ ap (λ (y : ℕ). nat_eq y out) (sym (same_number x v e)) in
+    let same : nat_eq x v ≡ true → nat_eq out v ≡ nat_eq x out = λ e. nat_eq_equiv.symm out v ∙ ap (λ (y : ℕ). nat_eq y out) (sym (same_number x v e)) in
     ap (some_gives at out) are.joined
     ∙ (some_gives-append at out are.before are.here
     ∙ ((λ i. first i || next i)
@@ -128,11 +107,7 @@ gives-values at out cs sets k (suc v) ls low are range =
     ∙ ap (λ b. r && (b && nat_eq x out)) (sym (below_next x v)))))
 
 matches-values : (at : ℕ → ℕ) (cs : List Column) (sets : List ℕ) (k n : ℕ) (ls : List Line) → k < length sets → EachValue cs sets k n ls → in_range at cs ≡ true → some_matches at ls ≡ (row_matches sets (values_at at cs) && nat_lt (get_or (values_at at cs) k 0) n)
-matches-values at cs sets k zero ls low are range = ap (some_matches at) are ∙ sym (ap (λ b. row_matches sets (values_at at cs) && b) (below_none (get_or (values_at at cs) k 0)) ∙ and_none _)
-  where
-    and_none : (b : Bool) → (b && false) ≡ false
-    and_none true = refl
-    and_none false = refl
+matches-values at cs sets k zero ls low are range = ap (some_matches at) are ∙ sym (ap (λ b. row_matches sets (values_at at cs) && b) (below_none (get_or (values_at at cs) k 0)) ∙ and-false _)
 matches-values at cs sets k (suc v) ls low are range =
     let x = get_or (values_at at cs) k 0 in
     let r = row_matches sets (values_at at cs) in
@@ -173,8 +148,4 @@ matches-entry at cs sets (Same k) ls fit entry are range =
     let place : k < length cs = entry in
     let low : k < length sets = omega (arith, fit_length cs sets fit) in
     matches-values at cs sets k (count_at cs k) ls low are range
-    ∙ (ap (λ b. row_matches sets (values_at at cs) && b) (value_in at cs k place range) ∙ and_true _)
-  where
-    and_true : (b : Bool) → (b && true) ≡ b
-    and_true true = refl
-    and_true false = refl
+    ∙ (ap (λ b. row_matches sets (values_at at cs) && b) (value_in at cs k place range) ∙ and-true _)

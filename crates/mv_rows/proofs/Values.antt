@@ -1,6 +1,6 @@
 -- A row with one value alone in a column, and the lines of such rows.
-use Rattle.std.proofs.Common.{◌≡◌, ℕ, zero, suc, ◌+◌, ◌<◌, Bool, true, false, ◌&&◌, List, [], ◌∷◌, ◌++◌, length, get_or, set, add-one, append-nil, append_assoc, refl, sym, ◌∙◌, ap, subst, arith}
-use Rattle.std.proofs.lemmas.Bool.{and_parts}
+use Rattle.std.proofs.Common.{◌≡◌, ℕ, zero, suc, ◌+◌, ◌<◌, false, ◌&&◌, List, [], ◌∷◌, ◌++◌, length, get_or, set, add-one, append-nil, append_assoc, refl, sym, ◌∙◌, ap, subst, arith}
+use Rattle.std.proofs.lemmas.Bool.{and_parts, and_right}
 use Rattle.mv_base.specs.Set.{has, empty, one, full, meet, Within}
 use Rattle.mv_base.proofs.Sets.{has-empty, has-meet}
 use Rattle.mv_cover.specs.declared.line.Line.{Line}
@@ -15,17 +15,13 @@ empty_matches [] values k low = absurd (omega arith)
 empty_matches (s ∷ sets) [] zero low = refl
 empty_matches (s ∷ sets) [] (suc k) low = refl
 empty_matches (s ∷ sets) (v ∷ values) zero low = ap (λ b. b && row_matches sets values) (has-empty v)
-empty_matches (s ∷ sets) (v ∷ values) (suc k) low = falls (has s v) _ (empty_matches sets values k (omega arith))
-  where
-    falls : (a b : Bool) → b ≡ false → (a && b) ≡ false
-    falls true b e = e
-    falls false b e = refl
+empty_matches (s ∷ sets) (v ∷ values) (suc k) low = and_right (has s v) _ (empty_matches sets values k (omega arith))
 
 pub no_value : (cs : List Column) (sets : List ℕ) (k v : ℕ) → k < length sets → meet (get_or sets k 0) (one v) ≡ empty → HasNoPoint cs (narrowed sets k v)
 no_value cs sets k v low e = record { nowhere = λ at range. ap (λ s. row_matches (set sets k s) (values_at at cs)) e ∙ empty_matches sets (values_at at cs) k low }
 
 -- fewer values are still values of the nets
-within_meet : (a b s : ℕ) → Within a s → Within (meet a b) s
+pub within_meet : (a b s : ℕ) → Within a s → Within (meet a b) s
 within_meet a b s w v h = w v ((and_parts (has a v) (has b v) (sym (has-meet a b v) ∙ h)).0)
 
 pub fit_narrowed : (cs : List Column) (sets : List ℕ) (k v : ℕ) → FitRow cs sets → FitRow cs (narrowed sets k v)
@@ -39,9 +35,6 @@ fit_narrowed (c ∷ cs) (s ∷ sets) (suc k) v fit = (fit.0, fit_narrowed cs set
 
 pub Adds-none : (P : List Line → Type 0) (ls : List Line) → P [] → Adds P ls ls
 Adds-none P ls h = record { here = []; are = h; joined = sym (append-nil ls) }
-
-pub Adds-one : (P : List Line → Type 0) (ls ms : List Line) (l : Line) → P (l ∷ []) → ms ≡ ls ++ l ∷ [] → Adds P ls ms
-Adds-one P ls ms l h e = record { here = l ∷ []; are = h; joined = e }
 
 -- one value more
 pub values_more : (cs : List Column) (sets : List ℕ) (k v : ℕ) (a b d : List Line) → Adds (EachValue cs sets k v) a b → Adds (OneLine cs (narrowed sets k v) (one v)) b d → Adds (EachValue cs sets k (v + 1)) a d

@@ -48,6 +48,7 @@ abbrev pub FitOutput : List Column → ℕ → Entry → Type 0
 FitOutput columns values (Set s) = Within s (full values)
 FitOutput columns values (Same k) = count_at columns k ≤ values
 
+-- so do the entry of each row and that of the default
 pub record FitOutputs (columns : List Column) (values : ℕ) (t : FileTable) : Type 0 where
   pub rows : All (λ (r : Row). FitOutput columns values (entry_of r.outs)) t.rows
   pub default : (entries : List Entry) → t.default ≡ Some entries → FitOutput columns values (entry_of entries)

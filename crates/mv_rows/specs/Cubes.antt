@@ -22,17 +22,18 @@ in_range at columns = list_all (λ (c : Column). nat_lt (at c.net.0) c.count) co
 abbrev pub CountBy : (ℕ → ℕ) → List Column → Type 0
 CountBy count columns = All (λ (c : Column). c.count ≡ count c.net.0) columns
 
+-- a column of a net with some values, and no more than a net may have
 pub record IsColumn (c : Column) : Type 0 where
   pub some : 0 < c.count
   pub few : c.count ≤ MAX_VALUES
 
--- columns of nets with some values and no more than a net may have; columns of one net say the same of it
+-- columns of which each is such, and those of one net say the same of it
 pub record AreColumns (columns : List Column) : Type 0 where
   pub each : All IsColumn columns
   pub count : ℕ → ℕ
   pub counts : CountBy count columns
 
--- the columns are some, and the order is theirs
+-- columns of a table, with an order that is theirs
 pub record IsFrame (f : Frame) : Type 0 where
   pub columns : AreColumns f.columns
   pub ordered : IsOrder f.columns f.order

@@ -43,10 +43,11 @@ abbrev pub RowsLines : List Column → List Row → List Line → Type 0
 RowsLines columns [] lines = lines ≡ []
 RowsLines columns (r ∷ rows) lines = AreJoined (EntryLines columns r.ins (entry_of r.outs)) (RowsLines columns rows) lines
 
--- the lines that have an output, without those that are equal to an earlier one
+-- the line has an output
 abbrev pub has_output : Line → Bool
 has_output l = not (nat_eq l.out empty)
 
+-- the lines that have an output, without those that are equal to an earlier one
 abbrev pub kept : List Line → List Line
 kept lines = insert_all line_eq [] (filter has_output lines)
 
@@ -69,34 +70,39 @@ abbrev pub plain_default : Entry → List Line → Option ℕ
 plain_default (Set s) lines = if list_any (λ (l : Line). nat_eq l.out empty) lines then None else Some s
 plain_default (Same k) lines = None
 
--- the mark's cover: 0 where some line's cube holds, and 1 elsewhere
+-- the line that gives 0 where this one's cube holds
 abbrev pub mark_line : Line → Line
 mark_line l = record { cube = l.cube; out = one 0 }
 
+-- the mark's cover: 0 where some line's cube holds, and 1 elsewhere
 abbrev pub mark_cover : List Line → Cover
 mark_cover lines = record { lines = insert_all line_eq [] (map mark_line lines); default = Some (one 1) }
 
--- the columns with the mark behind them, and the sets of a row of all inputs with the mark at 1
+-- the columns with the mark behind them
 abbrev pub with_mark : List Column → NetId → List Column
 with_mark columns mark = columns ++ record { net = mark; count = 2 } ∷ []
 
+-- the sets of a row of all inputs with the mark at 1
 abbrev pub marked_sets : List Column → List ℕ
 marked_sets columns = map (λ (c : Column). full c.count) columns ++ one 1 ∷ []
 
--- the table with the lines and a default, or with the default as lines that read the mark
+-- the table with the lines and, if there is one, a default that is a set
 abbrev pub unmarked : List Line → Option ℕ → FlatTable
 unmarked lines default = record { cover = record { lines = kept lines; default = default }; mark = None }
 
+-- the table with the lines, and with the default as lines that read the mark
 pub record IsMarked (columns : List Column) (mark : NetId) (lines : List Line) (entry : Entry) (flat : FlatTable) : Type 0 where
   pub added : List Line
   pub are : EntryLines (with_mark columns mark) (marked_sets columns) entry added
   pub cover_is : flat.cover ≡ record { lines = kept (lines ++ added); default = None }
   pub mark_is : flat.mark ≡ Some (mark_cover lines)
 
+-- the table with a default that is left: as a set, if a cover can have it, and else by the mark
 abbrev pub FlatBy : List Column → NetId → List Line → Entry → Option ℕ → FlatTable → Type 0
 FlatBy columns mark lines entry None flat = IsMarked columns mark lines entry flat
 FlatBy columns mark lines entry (Some s) flat = flat ≡ unmarked lines (Some s)
 
+-- the table with the default that is left, if one is
 abbrev pub FlatOf : List Column → NetId → List Line → Option Entry → FlatTable → Type 0
 FlatOf columns mark lines None flat = flat ≡ unmarked lines None
 FlatOf columns mark lines (Some entry) flat = FlatBy columns mark lines entry (plain_default entry lines) flat

@@ -29,9 +29,11 @@ entries_hold values (e ∷ entries) (out ∷ outs) = entry_holds values e out &&
 abbrev pub row_holds : Row → List ℕ → List ℕ → Bool
 row_holds r values outs = row_matches r.ins values && entries_hold values r.outs outs
 
+-- some row matches the input values
 abbrev pub some_row_matches : List Row → List ℕ → Bool
 some_row_matches rows values = list_any (λ (r : Row). row_matches r.ins values) rows
 
+-- some row holds the choice
 abbrev pub some_row_holds : List Row → List ℕ → List ℕ → Bool
 some_row_holds rows values outs = list_any (λ (r : Row). row_holds r values outs) rows
 

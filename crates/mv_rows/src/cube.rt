@@ -7,7 +7,11 @@ ghost use Rattle.mv_rows.specs.Meeting.{opened, ended, closed, continued, litera
 use crate::column::{Column, Frame, Placed};
 use mv_base::{Memory, ValueSet};
 use mv_cover::{Cube, Lit};
+use smallvec::SmallVec;
 use std::alloc::Global;
+
+/// The literals of a row while it is made: those of few columns take no memory.
+type Lits = SmallVec<Lit, 8>;
 
 impl Frame {
     /// The cube of a row with these sets in the columns: the sets of columns of one net are met, and a full set is no
@@ -50,12 +54,12 @@ struct Group {
 }
 
 /// A literal for each net whose columns leave a value out, by ascending net.
-fn literals(alloc: Global, order: &[Placed], sets: &[ValueSet]) -> Result<Vec<Lit>, Memory>
+fn literals(alloc: Global, order: &[Placed], sets: &[ValueSet]) -> Result<Lits, Memory>
     requires places { All (λ p. p.place < length sets.now) order.now }
     requires counts { All (λ p. p.column.count ≤ MAX_VALUES) order.now }
     ensures { IfOk result (λ lits. lits.items ≡ literals_of sets.now order.now) }
 {
-    let mut lits = Vec::new(alloc);
+    let mut lits = SmallVec::new(alloc);
     let Some(first) = order.first() else {
         return Ok(lits);
     };
@@ -96,7 +100,7 @@ fn continued(group: &Group, column: &Column, set: ValueSet) -> Group
 }
 
 /// Adds the literal of the net, if the column is of another net.
-fn put_ended(lits: &mut Vec<Lit>, group: &Group, column: &Column) -> Result<(), Memory>
+fn put_ended(lits: &mut Lits, group: &Group, column: &Column) -> Result<(), Memory>
     requires { group.now.column.count ≤ MAX_VALUES }
     ensures { OnOk result (lits.new.items ≡ lits.old.items ++ ended group.now column.now) }
 {
@@ -107,7 +111,7 @@ fn put_ended(lits: &mut Vec<Lit>, group: &Group, column: &Column) -> Result<(), 
 }
 
 /// Adds the literal of the net, if a value is left out.
-fn put_closed(lits: &mut Vec<Lit>, group: &Group) -> Result<(), Memory>
+fn put_closed(lits: &mut Lits, group: &Group) -> Result<(), Memory>
     requires { group.now.column.count ≤ MAX_VALUES }
     ensures { OnOk result (lits.new.items ≡ lits.old.items ++ closed group.now) }
 {

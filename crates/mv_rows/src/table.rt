@@ -72,7 +72,7 @@ fn row_lines(alloc: Global, frame: &Frame, rows: &[Row]) -> Result<Vec<Line>, Me
     requires rows { All (IsRow frame.now.columns) rows.now }
     ensures { IfOk result (λ lines. RowsLines frame.now.columns rows.now lines.items) }
 {
-    let mut lines = Vec::new(alloc);
+    let mut lines = Vec::with_capacity(alloc, rows.len())?;
     for row in rows {
         let entry = only(&row.outs);
         frame.put_row(&mut lines, alloc, row.ins.as_slice(), entry)?;
@@ -237,7 +237,7 @@ fn default_sets(alloc: Global, columns: &[Column]) -> Result<Vec<ValueSet>, Memo
 fn kept(alloc: Global, lines: Vec<Line>) -> Result<Items<Line>, Memory>
     ensures { IfOk result (λ list. list ≡ kept lines.items) }
 {
-    let mut distinct = IndexSet::new(alloc);
+    let mut distinct = IndexSet::with_capacity(alloc, lines.len())?;
     for line in lines {
         put_kept(&mut distinct, line)?;
     }

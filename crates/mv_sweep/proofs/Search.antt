@@ -18,12 +18,6 @@ use Rattle.mv_net.proofs.Removal.{removable-later}
 
 -- ---- one net
 
-pub unheld_stays : (net : NetParts) (n : ℕ) → is_held net.nets n ≡ false → IsRemovable net n → ⊥
-unheld_stays net n e r = false≢true (sym e ∙ ap is_some r.total.held)
-
-pub seen_stays : (net : NetParts) (n : ℕ) → is_seen net n ≡ true → IsRemovable net n → ⊥
-seen_stays net n e r = false≢true (sym r.unseen ∙ e)
-
 pub read_stays : (net : NetParts) (n : ℕ) (ms : List NetId) → IsAscending (λ k. net_reads (slot net.nets k) n) ms → nat_eq (length ms) 0 ≡ false → IsRemovable net n → ⊥
 read_stays net n [] a some r = false≢true (sym some)
 read_stays net n (m ∷ ms) a some r =
@@ -42,9 +36,6 @@ total_goes net n ms false unseen a none t = λ r. t r.total
 pub goes_as_total : {E : Type 0} (net : NetParts) (n : ℕ) (ms : List NetId) (result : Result Bool E) → is_seen net n ≡ false → IsAscending (λ k. net_reads (slot net.nets k) n) ms → nat_eq (length ms) 0 ≡ true → IfOk result (λ total. MatchBool total (IsTotalNet net.nets n) (IsTotalNet net.nets n → ⊥)) → IfOk result (λ goes. MatchBool goes (IsRemovable net n) (IsRemovable net n → ⊥))
 goes_as_total net n ms (Ok total) unseen a none t = total_goes net n ms total unseen a none t
 goes_as_total net n ms (Err e) unseen a none t = tt
-
-pub removable_held : (net : NetParts) (n : ℕ) → IsRemovable net n → IsTrue (is_held net.nets n)
-removable_held net n r = ap is_some r.total.held
 
 -- ---- the numbers one after the other
 
@@ -78,9 +69,6 @@ between_end net from to h past = record {
 }
 
 -- ---- where the search goes on
-
-pub none_at_first : (net : NetParts) → NoneBelow net 0
-none_at_first net = record { none = λ n below r. omega arith }
 
 pub first_of_all : (net : NetParts) (from n : ℕ) → NoneBelow net from → IsFirstFrom net from n → IsFirst net n
 first_of_all net from n below first = record {

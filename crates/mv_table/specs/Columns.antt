@@ -8,6 +8,7 @@ use Rattle.mv_fault.specs.declared.fault.ParseFault.{ParseFault}
 use Rattle.mv_fault.specs.declared.fault.ParseFault.TheVariants.{Missing, Limit, BadName}
 use Rattle.mv_fault.specs.Tells.{when}
 
+-- the word between the inputs and the outputs
 abbrev pub is_arrow : List ℕ → Bool
 is_arrow w = same_word w (codes "->")
 
@@ -15,17 +16,19 @@ is_arrow w = same_word w (codes "->")
 abbrev pub arrow_at : List (List ℕ) → ℕ
 arrow_at words = position_or_len is_arrow words
 
+-- such a word stands there
 abbrev pub has_arrow : List (List ℕ) → Bool
 has_arrow words = nat_lt (arrow_at words) (length words)
 
--- the input columns: the names before the first `->`, or all but the last where there is none
+-- how many input columns there are: all names before the first `->`, or all but the last where there is none
 abbrev pub ins_count : List (List ℕ) → ℕ
 ins_count words = if has_arrow words then arrow_at words else length words - 1
 
+-- the input columns
 unfoldable pub ins_of : List (List ℕ) → List (List ℕ)
 ins_of words = take (ins_count words) words
 
--- the output columns: the names behind it, or the last
+-- the output columns: the names behind the first `->`, or the last
 unfoldable pub outs_of : List (List ℕ) → List (List ℕ)
 outs_of words = drop (if has_arrow words then arrow_at words + 1 else length words - 1) words
 

@@ -1,5 +1,5 @@
 -- What the words of a row and of a default say of their columns.
-use Rattle.std.specs.Prelude.{ℕ, ◌==◌, List, [], ◌∷◌, ◌++◌, length, drop, Option, Some, None, Result, Ok, Err, if◌then◌else◌}
+use Rattle.std.specs.Prelude.{ℕ, ◌==◌, List, [], ◌∷◌, ◌++◌, length, map, drop, Option, Some, None, Result, Ok, Err, if◌then◌else◌}
 use Rattle.mv_base.specs.Names.{begins_with, place_of}
 use Rattle.mv_base.specs.Set.{empty}
 use Rattle.mv_word.specs.declared.fault.EntryFault.{EntryFault}
@@ -8,9 +8,13 @@ use Rattle.mv_word.specs.Entries.{word_set}
 use Rattle.mv_design.specs.declared.table.Entry.{Entry}
 use Rattle.mv_design.specs.declared.table.Entry.TheVariants.{Set, Same}
 use Rattle.mv_design.specs.declared.design.Decl.{Decl}
-use Rattle.mv_decl.specs.Nets.{values_of}
+use Rattle.mv_decl.specs.Nets.{values_of, nets_of}
 use Rattle.mv_fault.specs.declared.fault.ParseFault.{ParseFault}
 use Rattle.mv_fault.specs.declared.fault.ParseFault.TheVariants.{UnknownValue, BadEqual}
+
+-- where the nets of columns are declared
+abbrev pub places_of : List Decl → List (List ℕ) → List (Option ℕ)
+places_of ds nets = map (λ net. place_of net (nets_of ds)) nets
 
 -- an input entry is a set of the values of its column's net
 unfoldable pub in_said : List Decl → List ℕ → List ℕ → Result ℕ EntryFault
@@ -22,10 +26,12 @@ same_at ds net name None = Err (Equal name)
 same_at ds net name (Some place) =
     if length (values_of ds name) == length (values_of ds net) then Ok (Same place) else Err (Equal name)
 
+-- a set of values as an output entry
 abbrev pub set_entry : Result ℕ EntryFault → Result Entry EntryFault
 set_entry (Ok set) = Ok (Set set)
 set_entry (Err fault) = Err fault
 
+-- what the word of an output entry says: `=` begins the name of a column
 unfoldable pub out_said : List Decl → List (List ℕ) → List ℕ → List ℕ → Result Entry EntryFault
 out_said ds ins net word =
     if begins_with 61 word then same_at ds net (drop 1 word) (place_of (drop 1 word) ins) else set_entry (in_said ds net word)
@@ -48,16 +54,19 @@ ins_faults n ds [] words = []
 ins_faults n ds (net ∷ nets) [] = []
 ins_faults n ds (net ∷ nets) (w ∷ words) = entry_faults n (in_said ds net w) ++ ins_faults n ds nets words
 
+-- the sets that input entries say
 abbrev pub ins_said : List Decl → List (List ℕ) → List (List ℕ) → List ℕ
 ins_said ds [] words = []
 ins_said ds (net ∷ nets) [] = []
 ins_said ds (net ∷ nets) (w ∷ words) = said_or empty (in_said ds net w) ∷ ins_said ds nets words
 
+-- the faults of output entries
 abbrev pub outs_faults : ℕ → List Decl → List (List ℕ) → List (List ℕ) → List (List ℕ) → List ParseFault
 outs_faults n ds ins [] words = []
 outs_faults n ds ins (net ∷ nets) [] = []
 outs_faults n ds ins (net ∷ nets) (w ∷ words) = entry_faults n (out_said ds ins net w) ++ outs_faults n ds ins nets words
 
+-- the entries that they say
 abbrev pub outs_said : List Decl → List (List ℕ) → List (List ℕ) → List (List ℕ) → List Entry
 outs_said ds ins [] words = []
 outs_said ds ins (net ∷ nets) [] = []

@@ -16,11 +16,16 @@ use Rattle.mv_table.specs.Entries.{ins_faults, ins_said, outs_faults, outs_said}
 abbrev pub behind_first : LexLine → List (List ℕ)
 behind_first l = drop 1 l.words
 
--- a line whose first word says that it is a default
+-- the words that say that a line is a default
+abbrev pub is_default_word : List ℕ → Bool
+is_default_word w = same_word w (codes ".default") || same_word w (codes ".def")
+
+-- the words of a line whose first says so
 abbrev pub default_words : List (List ℕ) → Bool
 default_words [] = false
-default_words (w ∷ words) = same_word w (codes ".default") || same_word w (codes ".def")
+default_words (w ∷ words) = is_default_word w
 
+-- the line is a default
 unfoldable pub is_default : LexLine → Bool
 is_default l = default_words l.words
 
@@ -28,33 +33,37 @@ is_default l = default_words l.words
 abbrev pub row_of : List Decl → List (List ℕ) → List (List ℕ) → List (List ℕ) → Row
 row_of ds ins outs words = record { ins = ins_said ds ins words; outs = outs_said ds ins outs (drop (length ins) words) }
 
+-- the faults of its entries
 abbrev pub row_faults : ℕ → List Decl → List (List ℕ) → List (List ℕ) → List (List ℕ) → List ParseFault
 row_faults n ds ins outs words = ins_faults n ds ins words ++ outs_faults n ds ins outs (drop (length ins) words)
 
--- the rows of these lines, all of which are rows or defaults
+-- the row of a line that is a row or a default
 abbrev pub rows_at : List Decl → List (List ℕ) → List (List ℕ) → LexLine → List Row
 rows_at ds ins outs l = if is_default l then [] else row_of ds ins outs l.words ∷ []
 
+-- the rows of these lines, all of which are rows or defaults
 abbrev pub rows_of : List Decl → List (List ℕ) → List (List ℕ) → List LexLine → List Row
 rows_of ds ins outs lines = flat_map (rows_at ds ins outs) lines
 
--- their default, if one of them says one
+-- its default
 abbrev pub default_at : List Decl → List (List ℕ) → List (List ℕ) → LexLine → Option (List Entry)
 default_at ds ins outs l = if is_default l then Some (outs_said ds ins outs (behind_first l)) else None
 
+-- the last default of these lines, if there is one
 abbrev pub default_of : List Decl → List (List ℕ) → List (List ℕ) → List LexLine → Option (List Entry)
 default_of ds ins outs [] = None
 default_of ds ins outs (l ∷ lines) = option_or (default_of ds ins outs lines) (default_at ds ins outs l)
 
--- the faults of their values, line by line and in each from left to right
+-- the faults of its values, from left to right
 abbrev pub line_faults : List Decl → List (List ℕ) → List (List ℕ) → LexLine → List ParseFault
 line_faults ds ins outs l =
     if is_default l then outs_faults l.number ds ins outs (behind_first l) else row_faults l.number ds ins outs l.words
 
+-- and of these lines, line by line
 abbrev pub lines_faults : List Decl → List (List ℕ) → List (List ℕ) → List LexLine → List ParseFault
 lines_faults ds ins outs lines = flat_map (line_faults ds ins outs) lines
 
--- the whole table, and the faults of its values
+-- the whole table
 unfoldable pub table_of : List Decl → LexLine → List LexLine → FileTable
 table_of ds head lines = record {
   line = head.number;
@@ -64,5 +73,6 @@ table_of ds head lines = record {
   default = default_of ds (ins_of (behind_first head)) (outs_of (behind_first head)) lines;
 }
 
+-- the faults of its values
 unfoldable pub table_faults : List Decl → LexLine → List LexLine → List ParseFault
 table_faults ds head lines = lines_faults ds (ins_of (behind_first head)) (outs_of (behind_first head)) lines

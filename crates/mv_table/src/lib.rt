@@ -6,4 +6,4 @@ mod entries;
 mod table;
 
 pub use columns::{check_columns, ins, outs};
-pub use table::{behind_first, is_default, read_table};
+pub use table::{behind_first, is_default_word, read_table};

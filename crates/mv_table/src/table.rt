@@ -1,11 +1,12 @@
-ghost use Rattle.std.specs.Prelude.{◌≡◌, ◌<◌, ◌^◌, ◌++◌, [], length, IfOk, OnOk};
+ghost use Rattle.std.specs.Prelude.{◌≡◌, ◌<◌, ◌^◌, ◌++◌, length, IfOk, OnOk};
 ghost use Rattle.std.specs.Option.{option_or};
 ghost use Rattle.mv_fault.specs.Tells.{Tells};
 ghost use Rattle.mv_table.specs.Columns.{ins_of};
-ghost use Rattle.mv_table.specs.Tables.{behind_first, is_default, default_words, row_of, row_faults, rows_at, default_at, line_faults, table_of, table_faults};
+ghost use Rattle.mv_table.specs.Entries.{places_of};
+ghost use Rattle.mv_table.specs.Tables.{behind_first, is_default_word, default_words, is_default, row_of, row_faults, rows_at, default_at, line_faults, table_of, table_faults};
 
 use crate::columns::{ins, outs};
-use crate::entries::{in_entries, out_entries};
+use crate::entries::{in_entries, out_entries, places};
 use mv_base::{Items, Name};
 use mv_decl::Decls;
 use mv_design::{Entry, FileTable, Row};
@@ -24,19 +25,26 @@ pub fn behind_first(line: &LexLine) -> &[Name]
     }
 }
 
+/// Whether the word says that its line is a default.
+pub fn is_default_word(word: &[u8]) -> bool
+    ensures { result ≡ is_default_word word.now }
+{
+    is_text(word, b".default") || is_text(word, b".def")
+}
+
 /// Whether these are the words of a default.
 fn begins_default(words: &[Name]) -> bool
     ensures { result ≡ default_words words.now }
 {
     match words {
-        [first, ..] => is_text(first.bytes(), b".default") || is_text(first.bytes(), b".def"),
+        [first, ..] => is_default_word(first.bytes()),
         [] => false,
     }
 }
 
 /// Whether the line is the default of a table, and not a row.
 #[tactic(auto, unfolding(crate::specs::Tables::is_default))]
-pub fn is_default(line: &LexLine) -> bool
+fn is_default(line: &LexLine) -> bool
     ensures { result ≡ is_default line.now }
 {
     begins_default(line.words.as_slice())
@@ -49,14 +57,16 @@ fn row(
     number: u32,
     decls: &Decls,
     ins: &[Name],
+    places: &[Option<usize>],
     outs: &[Name],
     words: &[Name],
 ) -> Result<Row, ParseFault>
-    requires { length ins.now < 2 ^ 32 }
+    requires few { length ins.now < 2 ^ 32 }
+    requires places { places.now ≡ places_of decls.now ins.now }
     ensures fault { Tells result (row_faults number decls.now ins.now outs.now words.now) }
     ensures ok { IfOk result (λ row. row ≡ row_of decls.now ins.now outs.now words.now) }
 {
-    let sets = in_entries(alloc, number, decls, ins, words)?;
+    let sets = in_entries(alloc, number, decls, ins, places, words)?;
     let (_inputs, behind) = words.split_at(ins.len().min(words.len()));
     let entries = out_entries(alloc, number, decls, ins, outs, behind)?;
     Ok(Row {
@@ -71,12 +81,14 @@ fn read_line(
     alloc: Global,
     decls: &Decls,
     ins: &[Name],
+    places: &[Option<usize>],
     outs: &[Name],
     line: &LexLine,
     rows: &mut Items<Row>,
     default: &mut Option<Items<Entry>>,
 ) -> Result<(), ParseFault>
-    requires { length ins.now < 2 ^ 32 }
+    requires few { length ins.now < 2 ^ 32 }
+    requires places { places.now ≡ places_of decls.now ins.now }
     ensures fault { Tells result (line_faults decls.now ins.now outs.now line.now) }
     ensures rows { OnOk result (rows.new ≡ rows.old ++ rows_at decls.now ins.now outs.now line.now) }
     ensures default { OnOk result (default.new ≡ option_or (default_at decls.now ins.now outs.now line.now) default.old) }
@@ -86,7 +98,7 @@ fn read_line(
         *default = Some(entries);
     } else {
         let words = line.words.as_slice();
-        rows.push(row(alloc, line.number, decls, ins, outs, words)?)?;
+        rows.push(row(alloc, line.number, decls, ins, places, outs, words)?)?;
     }
     Ok(())
 }
@@ -105,28 +117,26 @@ pub fn read_table(
 {
     let ins = ins(behind_first(head));
     let outs = outs(behind_first(head));
-    let mut rows = Items::new(alloc);
+    let places = places(alloc, decls, ins)?;
+    let mut rows = Items::with_room(alloc, lines.len())?;
     let mut default = None;
     for line in lines {
-        read_line(alloc, decls, ins, outs, line, &mut rows, &mut default)?;
+        read_line(
+            alloc,
+            decls,
+            ins,
+            &places,
+            outs,
+            line,
+            &mut rows,
+            &mut default,
+        )?;
     }
     Ok(FileTable {
         line: head.number,
-        inputs: copied(alloc, ins)?,
-        outputs: copied(alloc, outs)?,
+        inputs: Items::of_names(alloc, ins)?,
+        outputs: Items::of_names(alloc, outs)?,
         rows,
         default,
     })
-}
-
-/// The same names in a list of their own.
-fn copied(alloc: Global, names: &[Name]) -> Result<Items<Name>, ParseFault>
-    ensures fault { Tells result [] }
-    ensures ok { IfOk result (λ copies. copies ≡ names.now) }
-{
-    let mut copies = Items::new(alloc);
-    for name in names {
-        copies.push(name.copy()?)?;
-    }
-    Ok(copies)
 }

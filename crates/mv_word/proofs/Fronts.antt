@@ -11,9 +11,6 @@ pub record IsPassed (p : ℕ → Bool) (xs : List ℕ) (at : ℕ) : Type 0 where
   pub count : length (front p xs) ≡ at + length (front p (drop at xs))
   pub rest : behind p xs ≡ behind p (drop at xs)
 
-pub passed_none : (p : ℕ → Bool) (xs : List ℕ) → IsPassed p xs 0
-passed_none p xs = record { count = omega arith; rest = refl }
-
 -- one more that passes
 pub passed_more : (p : ℕ → Bool) (xs : List ℕ) (at : ℕ) → IsPassed p xs at → at < length xs → p (get_or xs at 0) ≡ true → IsPassed p xs (at + 1)
 passed_more p xs at h low pass =
@@ -24,21 +21,6 @@ passed_more p xs at h low pass =
       count = omega (arith, h.count, ap length f);
       rest = h.rest ∙ b;
     }
-
--- the first that doesn't ends the front
-pub passed_end : (p : ℕ → Bool) (xs : List ℕ) (at : ℕ) → IsPassed p xs at → at < length xs → p (get_or xs at 0) ≡ false → (at ≡ length (front p xs)) × (drop at xs ≡ behind p xs)
-passed_end p xs at h low stop =
-    let here : drop at xs ≡ get_or xs at 0 ∷ drop (at + 1) xs = rw add-one (drop-cons xs at 0 low) in
-    let f : front p (drop at xs) ≡ [] = ap (front p) here ∙ cond-false (p (get_or xs at 0)) _ _ stop in
-    let b : behind p (drop at xs) ≡ get_or xs at 0 ∷ drop (at + 1) xs = ap (behind p) here ∙ cond-false (p (get_or xs at 0)) _ _ stop in
-    (omega (arith, h.count, ap length f), here ∙ (sym b ∙ sym h.rest))
-
--- and so does the end of the list
-pub passed_all : (p : ℕ → Bool) (xs : List ℕ) (at : ℕ) → IsPassed p xs at → length xs ≤ at → at ≤ length xs → (length xs ≡ length (front p xs)) × (drop (length xs) xs ≡ behind p xs)
-passed_all p xs at h end within =
-    let none : drop at xs ≡ [] = drop_all at xs end in
-    let same : at ≡ length xs = omega arith in
-    (omega (arith, h.count, ap (λ l. length (front p l)) none), drop_all (length xs) xs (omega arith) ∙ sym (h.rest ∙ ap (behind p) none))
 
 -- ---- a list cut at commas
 

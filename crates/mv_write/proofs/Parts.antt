@@ -32,14 +32,6 @@ unheld-text each (Some f) none h = absurd (false≢true (sym h))
 
 -- ---- declarations
 
-pub declared-text : (f : Option FlatNet) → IsTrue (is_some f) → (nat_eq (values_in f) 2 && nat_eq (length (value_names_in f)) 0) ≡ false → flat_map line_text (decl_words f) ≡ line_text (codes ".mv" ∷ name_in f ∷ decimal (values_in f) ∷ value_names_in f)
-declared-text None held e = absurd (false≢true held)
-declared-text (Some f) held e = rw e (append-nil (line_text (codes ".mv" ∷ f.name ∷ decimal f.values ∷ f.value_names)))
-
-pub plain-text : (f : Option FlatNet) → IsTrue (is_some f) → (nat_eq (values_in f) 2 && nat_eq (length (value_names_in f)) 0) ≡ true → flat_map line_text (decl_words f) ≡ []
-plain-text None held e = absurd (false≢true held)
-plain-text (Some f) held e = rw e refl
-
 -- ---- tables
 
 pub default-text : (values : List (List ℕ)) (default : Option ℕ) (set : ℕ) → default ≡ Some set → flat_map line_text (default_words values default) ≡ codes ".default " ++ (entry_word values set ++ 10 ∷ [])
@@ -47,9 +39,6 @@ unfolding line_text spaced
 default-text values default set e =
     let word = entry_word values set in
     ap (λ d. flat_map line_text (default_words values d)) e ∙ (append-nil (line_text (codes ".default" ∷ word ∷ [])) ∙ ap (λ t. codes ".default " ++ (t ++ 10 ∷ [])) (append-nil word))
-
-pub default-none : (values : List (List ℕ)) (default : Option ℕ) → default ≡ None → flat_map line_text (default_words values default) ≡ []
-default-none values default e = ap (λ d. flat_map line_text (default_words values d)) e
 
 names-numbers : (nets : List (Option FlatNet)) (ns : List NetId) → map (λ m. name_in (slot nets m)) (numbers ns) ≡ names_of nets ns
 names-numbers nets [] = refl

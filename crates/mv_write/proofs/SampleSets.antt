@@ -64,9 +64,6 @@ literal fs z m set ports low p =
       not_full = p.not_full;
     }
 
-pub is_possible : (values set : ℕ) → IsOutput values set → not (nat_eq set empty) ≡ true
-is_possible values set out = rw (ne_eqb set empty out.some) refl
-
 -- outputs that differ
 pub ones_differ : (v w : ℕ) → (w ≡ v → ⊥) → one v ≡ one w → ⊥
 ones_differ v w ne e = false≢true (sym (lacks_other v w ne) ∙ (ap (λ s. has s w) e ∙ has_same w))
@@ -79,9 +76,6 @@ pub join_some : (set s v : ℕ) → set ≡ join s (one v) → set ≡ empty →
 join_some set s v is e =
     let member : has (join s (one v)) v ≡ true = has-join s (one v) v ∙ or_right (has s v) (has (one v) v) (has_same v) in
     has_some (join s (one v)) v member (sym is ∙ e)
-
-pub one_set : (out v : ℕ) → Some out ≡ Some v → out ≡ v
-one_set out v e = cc
 
 -- cubes of such sets on the nets from 0
 pub some_cube : (set : ℕ) → (set ≡ empty → ⊥) → IsCube (record { net = record { 0 = 0 }; set = set } ∷ [])

@@ -8,7 +8,7 @@ ghost use Rattle.mv_write.specs.Text.{inner_lines, text_of};
 use crate::declarations::put_declarations;
 use crate::pieces::put_list;
 use crate::tables::put_tables;
-use mv_base::{Failed, Sink, put_both, put_piece};
+use mv_base::{Failed, Sink, flush, put_both, put_piece};
 use mv_net::Network;
 
 /// Appends the line of the root.
@@ -39,12 +39,21 @@ fn put_network<K: Sink>(net: &Network, out: &mut K) -> Result<(), Failed>
     put_piece(b".end\n", out)
 }
 
-/// Appends the text of a network without latches to the sink. At Failed some first part of it was taken. It takes no memory.
+/// Appends the lines of a network, and lets the sink hand them on.
+fn put_whole<K: Sink>(net: &Network, out: &mut K) -> Result<(), Failed>
+    ensures { Appends (K.told out.old) (K.told out.new) (K.faults out.old) (K.faults out.new) (text_of net.now) result }
+{
+    put_network(net, out)?;
+    flush(out)
+}
+
+/// Appends the text of a network without latches to the sink, and lets the sink hand it on. At Failed some first part of
+/// it was taken. It takes no memory.
 pub fn write<K: Sink>(net: &Network, out: &mut K) -> Result<(), Failed>
     requires latches { net.now.latches ≡ [] }
     ensures ok { OnOk result (Gained (K.told out.old) (K.told out.new) (text_of net.now)) }
     ensures part { OnErr result (GainedPart (K.told out.old) (K.told out.new) (text_of net.now)) }
     ensures cause { HasCause (K.faults out.old) (K.faults out.new) result }
 {
-    put_network(net, out)
+    put_whole(net, out)
 }

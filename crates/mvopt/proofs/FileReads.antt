@@ -33,21 +33,10 @@ stay_passed None b xs p = tt
 stay_passed (Some a) None xs p = absurd p
 stay_passed (Some a) (Some b) xs p = record { files = p.files; sound = p.sound }
 
-pub stay_more : (a b c : Option Held) → Stay a b → Stay b c → Stay a c
-stay_more None b c p q = tt
-stay_more (Some a) None c p q = absurd p
-stay_more (Some a) (Some b) None p q = absurd q
-stay_more (Some a) (Some b) (Some c) p q = record { files = q.files ∙ p.files; sound = λ s. q.sound (p.sound s) }
-
 pub stay_started : (old new : Option Held) (name : List ℕ) (result : Result (Unit {0}) Failed) → Starts old new name result → Stay old new
 stay_started None new name result s = tt
 stay_started (Some o) None name result s = absurd s
 stay_started (Some o) (Some n) name result s = record { files = s.files; sound = s.sound }
-
-pub stay_given : (old new : Option Held) (room : List ℕ) (result : Result ℕ Failed) → Gives old new room result → Stay old new
-stay_given None new room result s = tt
-stay_given (Some o) None room result s = absurd s
-stay_given (Some o) (Some n) room result s = record { files = s.files; sound = s.sound }
 
 -- ---- failures
 
@@ -55,11 +44,6 @@ pub unsound_earlier : (a b : Option Held) → Stay a b → Unsound b → Unsound
 unsound_earlier None b p u = tt
 unsound_earlier (Some a) None p u = absurd p
 unsound_earlier (Some a) (Some b) p u = λ s. u (p.sound s)
-
-pub unsound_given : (old new : Option Held) (room : List ℕ) (e : Failed) → Gives old new room (Err e) → Unsound old
-unsound_given None new room e s = tt
-unsound_given (Some o) None room e s = absurd s
-unsound_given (Some o) (Some n) room e s = λ t. false≢true (s.only t)
 
 pub lacks_started : (old new : Option Held) (name : List ℕ) (e : Failed) → Starts old new name (Err e) → Lacks old name
 lacks_started None new name e s = tt
@@ -132,36 +116,4 @@ come_more a b c limit turn most old new h g fits =
       passed = let P : List ℕ → Type 0 = λ x. Passed a c x in subst P (sym g.added) (passed_more a b c old g.piece h.passed g.passed);
       far = omega (arith, h.far);
       near = omega (arith, h.near, g.few);
-    }
-
--- the file ended
-pub read_ended : (a b c : Option Held) (limit turn most : ℕ) (old new : List ℕ) → HasCome a b limit turn old → GotPiece b c old new most false → ReadOn a c limit new
-read_ended a b c limit turn most old new h g =
-    record {
-      passed = let P : List ℕ → Type 0 = λ x. Passed a c x in subst P (sym g.added) (passed_more a b c old g.piece h.passed g.passed);
-      ended = λ _. ended_earlier a b c old h.passed (g.ended refl);
-    }
-
--- a byte past the limit was read
-pub read_past : (a b : Option Held) (limit turn : ℕ) (bytes : List ℕ) → HasCome a b limit turn bytes → limit < length bytes → ReadOn a b limit bytes
-read_past a b limit turn bytes h past =
-    record { passed = h.passed; ended = λ le. absurd (omega arith) }
-
--- what a run from the first byte on read is what was read of the file
-whole_content : (name : List ℕ) (files : List (List ℕ × List ℕ)) (rest bytes left : List ℕ) → file_named name files ≡ Some rest → rest ≡ bytes ++ left → file_named name files ≡ Some (bytes ++ left)
-whole_content name files rest bytes left e p = e ∙ ap Some p
-
-pub read_whole : (old begun last : Option Held) (name : List ℕ) (limit : ℕ) (bytes : List ℕ) → Starts old begun name (Ok tt) → ReadOn begun last limit bytes → Read old last name limit bytes
-read_whole None begun last name limit bytes s r = tt
-read_whole (Some o) None last name limit bytes s r = absurd s
-read_whole (Some o) (Some b) None name limit bytes s r = absurd r.passed
-read_whole (Some o) (Some b) (Some l) name limit bytes s r =
-    record {
-      read = record {
-        files = r.passed.files ∙ s.files;
-        sound = λ t. r.passed.sound (s.sound t);
-        current = r.passed.current ∙ s.begun.0;
-        content = whole_content name o.files b.rest bytes l.rest s.begun.1 r.passed.passed;
-      };
-      ended = r.ended;
     }

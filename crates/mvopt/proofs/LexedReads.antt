@@ -99,34 +99,6 @@ come_more a b c turn r s earlier later h g =
       limit = g.limit ∙ h.limit;
     }
 
--- the file ended
-pub fed_all : (a b c : Option Held) (turn : ℕ) (r s : Reading) (earlier later : List LexLine) → HasCome a b turn r earlier → FedPiece b c r s earlier later false → FedAll a c s later
-fed_all a b c turn r s earlier later h g =
-    record {
-      bytes = h.bytes ++ g.piece;
-      passed = passed_more a b c h.bytes g.piece h.passed g.passed;
-      ended = ended_earlier a b c h.bytes h.passed (g.ended refl);
-      stands = g.stands h.bytes h.stands;
-      lines_are = g.lines h.bytes h.stands h.lines_are;
-      limit = g.limit ∙ h.limit;
-    }
-
--- a fault of a piece is the first of all bytes read
-faulty_bytes : (a b c : Option Held) (turn : ℕ) (r : Reading) (lines : List LexLine) (f : LexFault) → HasCome a b turn r lines → FaultyPiece b c r f → FaultyBytes a c f
-faulty_bytes a b c turn r lines f h p =
-    let P : ℕ → Type 0 = λ n. first_fault n [] (h.bytes ++ p.piece) ≡ Some f in
-    record {
-      bytes = h.bytes ++ p.piece;
-      passed = passed_more a b c h.bytes p.piece h.passed p.passed;
-      told = subst P h.limit (p.told h.bytes h.stands);
-    }
-
-pub feed_cause : (a b c : Option Held) (turn w x y : ℕ) (r : Reading) (lines : List LexLine) (stop : LinesStop) → HasCome a b turn r lines → Stay a b → w ≤ x → PieceCause b c x y r stop → FeedCause a c w y stop
-feed_cause a b c turn w x y r lines Unread h s later cause =
-    (Rose-earlier w x y later cause.0, unsound_earlier a b s cause.1)
-feed_cause a b c turn w x y r lines (Lex f) h s later cause =
-    ⊎_elim (λ (e : f ≡ Memory). inl e) (λ (p : FaultyPiece b c r f). inr (faulty_bytes a b c turn r lines f h p)) cause
-
 -- the loop ends: each turn but the last brings a byte, and no more than the limit are accepted
 pub come_never : (a b : Option Held) (turn : ℕ) (r : Reading) (lines : List LexLine) → HasCome a b turn r lines → MAX_NETWORK_BYTES < turn → ⊥
 come_never a b turn r lines h past =
@@ -149,11 +121,6 @@ read_all (Some o) (Some b) (Some l) name bytes s p e =
       current = p.current ∙ s.begun.0;
       ended = e;
     }
-
-names_all : (old last : Option Held) (name bytes : List ℕ) → ReadAll old last name bytes → Names old name bytes
-names_all None last name bytes r = tt
-names_all (Some o) None name bytes r = absurd r
-names_all (Some o) (Some l) name bytes r = r.named
 
 pub was_lexed : (old begun last : Option Held) (name : List ℕ) (r : Reading) (before lines : List LexLine) → Starts old begun name (Ok tt) → (all : FedAll begun last r before) → lines ≡ lines_of all.bytes → end_fault all.bytes ≡ None → WasLexed old last name lines
 was_lexed old begun last name r before lines s all e none =
@@ -181,23 +148,8 @@ front_has_fault (Some o) (Some b) (Some l) name f s h =
       fault_is = fault_of_front h.bytes l.rest f h.told;
     }
 
-pub start_cause : (old begun : Option Held) (name : List ℕ) (e : Failed) (a b : ℕ) → Starts old begun name (Err e) → Rose a b → LinesCause old name a b Unread
-start_cause old begun name e a b s rose = (rose, lacks_started old begun name e s)
-
 pub lines_cause : (old begun last : Option Held) (name : List ℕ) (w x y : ℕ) (stop : LinesStop) → Starts old begun name (Ok tt) → w ≤ x → FeedCause begun last x y stop → LinesCause old name w y stop
 lines_cause old begun last name w x y Unread s later cause =
     (Rose-earlier w x y later cause.0, lacks_unsound old name (unsound_earlier old begun (stay_started old begun name (Ok tt) s) cause.1))
 lines_cause old begun last name w x y (Lex f) s later cause =
     ⊎_elim (λ (e : f ≡ Memory). inl e) (λ (h : FaultyBytes begun last f). inr (front_has_fault old begun last name f s h)) cause
-
--- a fault told at the end
-pub end_cause : (old begun last : Option Held) (name : List ℕ) (r : Reading) (before : List LexLine) (f : LexFault) → Starts old begun name (Ok tt) → (all : FedAll begun last r before) → (f ≡ Memory) ⊎ (end_fault all.bytes ≡ Some f) → (f ≡ Memory) ⊎ HasFault old name f
-end_cause old begun last name r before f s all told =
-    ⊎_elim
-    (λ (e : f ≡ Memory). inl e)
-    (λ (e : end_fault all.bytes ≡ Some f). inr (record {
-      content = all.bytes;
-      named = names_all old last name all.bytes (read_all old begun last name all.bytes s all.passed all.ended);
-      fault_is = ap (λ o. option_or o (end_fault all.bytes)) (lexed r all.bytes all.limit all.stands) ∙ e;
-    }))
-    told

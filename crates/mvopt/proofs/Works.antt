@@ -44,9 +44,6 @@ work_done commands first net before out now notes mid told e ran means back text
       means = means;
     }
 
-pub work_noted : (commands : List Command) (first net : NetParts) (out notes told : Option (List ℕ)) (a b c d : ℕ) → IsNoteCut commands first net notes told → Rose c d → IsCut commands first out out notes told a b c d
-work_noted commands first net out notes told a b c d cut rose = record { how = inr (refl, rose, inr (net, cut)) }
-
 pub work_cut : (commands : List Command) (first net : NetParts) (before : ℕ) (out now notes mid told : Option (List ℕ)) (a b c d e : ℕ) → before ≡ literals_in first.nets → HasRun commands first net notes mid → c ≤ d → IsEndCut out now mid told a b d e (done_line before (literals_in net.nets)) (text_of net) → IsCut commands first out now notes told a b c e
 work_cut commands first net before out now notes mid told a b c d e same ran later cut =
     record {

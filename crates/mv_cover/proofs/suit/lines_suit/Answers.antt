@@ -1,6 +1,6 @@
 -- Each line so far suits the counts, or one doesn't.
 use Rattle.std.proofs.Common.{refl}
-use Rattle.mv_cover.proofs.Suiting.{lines_more, lines_all, LinesSuit-get_or}
+use Rattle.mv_cover.proofs.Suiting.{lines_more, lines_all}
 use Rattle.mv_cover.proofs.suit.lines_suit.Goals as goal
 
 pub loop-line-preserved : goal.loop-line-preserved

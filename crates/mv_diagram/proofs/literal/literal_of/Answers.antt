@@ -1,10 +1,10 @@
-use Rattle.std.proofs.Common.{◌≡◌, ◌∙◌, ◌+◌, ◌-◌, ◌<◌, length, slice_index, sym, ap, subst, arith}
+use Rattle.std.proofs.Common.{◌≡◌, ◌∙◌, ◌-◌, ◌<◌, length, slice_index, sym, ap, subst, arith}
 use Rattle.mv_base.specs.Set.{has}
 use Rattle.mv_pool.proofs.Walking.{read_any}
-use Rattle.mv_diagram.proofs.Literals.{end_of, literal_last, literal_step, literal_from, lacking_literal, seen_all}
+use Rattle.mv_diagram.proofs.Literals.{end_of, literal_last, literal_from, lacking_literal, seen_all}
 use Rattle.mv_diagram.proofs.Lacking.{lacking_same}
 use Rattle.mv_diagram.specs.Parts.{AddsParts}
-use Rattle.mv_diagram.proofs.Adding.{parts_none, literal_parts, literal_whole, literal_down}
+use Rattle.mv_diagram.proofs.Adding.{parts_none, literal_whole, literal_down, made_parts, made_set}
 use Rattle.mv_diagram.proofs.Tables.{Adds-same, Adds-more}
 use Rattle.mv_diagram.proofs.literal.literal_of.Goals as goal
 
@@ -31,27 +31,18 @@ loop-value-init c =
 pub loop-value-preserved : goal.loop-value-preserved
 loop-value-preserved c =
     let old = c.loop-value.table in
-    let counts = old.counts.items in
-    let ns = old.pool.places in
-    let low = c.loop-value.value - 1 in
-    let same = ap (λ v. v.items) c.make.ensures.adds.counts in
-    let more = c.loop-value-test.true in
-    let below = c.loop-value.invariant.below in
-    let end = end_of counts ns c.has-in-loop-value.result c.end-yes.result.0 c.end-yes.ensures in
-    let next : low + 1 ≡ c.loop-value.value = omega arith in
-    let within : c.args.var < length counts = rw (ap (λ v. v.items) c.loop-value.invariant.adds.counts) c.requires.variable in
+    let new = c.make.new.table in
+    let is = c.loop-value.invariant in
+    let adds = c.make.ensures.adds in
+    let within : c.args.var < length old.counts.items = rw (ap (λ v. v.items) is.adds.counts) c.requires.variable in
+    let end = end_of old.counts.items old.pool.places c.has-in-loop-value.result c.end-yes.result.0 c.end-yes.ensures in
     record {
-      adds = Adds-more c.args.table.now old c.make.new.table c.loop-value.invariant.adds c.make.ensures.adds;
-      below = rw same (omega arith);
+      adds = Adds-more c.args.table.now old new is.adds adds;
+      below = rw (ap (λ v. v.items) adds.counts) (omega (arith, is.below, c.loop-value-test.true));
       held = c.in-Ok.ensures.held;
       later = c.in-Ok.ensures.later;
-      set = λ p. c.in-Ok.ensures.set p
-          ∙ literal_step counts ns c.loop-value.invariant.adds.sound c.args.var c.args.set within low p _ _ (omega arith) (end.all p ∙ c.has-in-loop-value.ensures) (c.loop-value.invariant.set p ∙ ap (λ x. literal_from counts c.args.var c.args.set x p) (sym next))
-          ∙ ap (λ v. literal_from v c.args.var c.args.set low p) (sym same);
-      parts = literal_parts c.args.table.now.pool.places old c.make.new.table c.loop-value.invariant.adds.sound c.make.ensures.adds c.args.var c.args.set low _ within (omega arith)
-          (subst (λ x. AddsParts counts c.args.table.now.pool.places ns (literal_from counts c.args.var c.args.set x)) (sym next) c.loop-value.invariant.parts) c.make.ensures.added
-          (λ p. literal_step counts ns c.loop-value.invariant.adds.sound c.args.var c.args.set within low p _ _ (omega arith) (end.all p ∙ c.has-in-loop-value.ensures) (c.loop-value.invariant.set p ∙ ap (λ x. literal_from counts c.args.var c.args.set x p) (sym next))
-          ∙ ap (λ v. literal_from v c.args.var c.args.set low p) (sym same));
+      set = λ p. c.in-Ok.ensures.set p ∙ made_set old new is.adds.sound adds c.args.var c.args.set c.loop-value.value within is.below (omega (arith, c.loop-value-test.true)) c.end-yes.result.0 c.loop-value.rest.0 (λ p. end.all p ∙ c.has-in-loop-value.ensures) is.set p;
+      parts = made_parts old new is.adds.sound adds c.args.var c.args.set c.loop-value.value within is.below (omega (arith, c.loop-value-test.true)) c.end-yes.result.0 c.loop-value.rest.0 (λ p. end.all p ∙ c.has-in-loop-value.ensures) is.set c.args.table.now.pool.places is.parts c.make.ensures.added;
     }
 
 pub returns-in-Err-clause-adds : goal.returns-in-Err-clause-adds
@@ -60,20 +51,14 @@ returns-in-Err-clause-adds c = Adds-more c.args.table.now c.loop-value.table c.m
 pub returns-in-Err-clause-lacking : goal.returns-in-Err-clause-lacking
 returns-in-Err-clause-lacking c =
     let old = c.loop-value.table in
-    let counts = old.counts.items in
-    let ns = old.pool.places in
-    let low = c.loop-value.value - 1 in
-    let same = ap (λ v. v.items) c.make.ensures.adds.counts in
-    let more = c.loop-value-test.true in
-    let below = c.loop-value.invariant.below in
-    let end = end_of counts ns c.has-in-loop-value.result c.end-yes.result.0 c.end-yes.ensures in
-    let next : low + 1 ≡ c.loop-value.value = omega arith in
-    let within : c.args.var < length counts = rw (ap (λ v. v.items) c.loop-value.invariant.adds.counts) c.requires.variable in
-    lacking_literal c.make.new.table.counts.items c.make.new.table.pool.places c.make.ensures.adds.sound c.args.var c.args.set (rw same within) low (rw same (omega arith))
-    (lacking_same c.make.new.table.counts.items c.make.new.table.pool.places c.make.ensures.adds.sound _ _
-    (λ p. literal_step counts ns c.loop-value.invariant.adds.sound c.args.var c.args.set within low p _ _ (omega arith) (end.all p ∙ c.has-in-loop-value.ensures) (c.loop-value.invariant.set p ∙ ap (λ x. literal_from counts c.args.var c.args.set x p) (sym next))
-    ∙ ap (λ v. literal_from v c.args.var c.args.set low p) (sym same))
-    c.in-Err.ensures.lacking)
+    let new = c.make.new.table in
+    let is = c.loop-value.invariant in
+    let adds = c.make.ensures.adds in
+    let within : c.args.var < length old.counts.items = rw (ap (λ v. v.items) is.adds.counts) c.requires.variable in
+    let end = end_of old.counts.items old.pool.places c.has-in-loop-value.result c.end-yes.result.0 c.end-yes.ensures in
+    let counts = ap (λ v. v.items) adds.counts in
+    lacking_literal new.counts.items new.pool.places adds.sound c.args.var c.args.set (rw counts within) (c.loop-value.value - 1) (rw counts (omega (arith, is.below)))
+    (lacking_same new.counts.items new.pool.places adds.sound _ _ (made_set old new is.adds.sound adds c.args.var c.args.set c.loop-value.value within is.below (omega (arith, c.loop-value-test.true)) c.end-yes.result.0 c.loop-value.rest.0 (λ p. end.all p ∙ c.has-in-loop-value.ensures) is.set) c.in-Err.ensures.lacking)
 
 pub returns-clause-set : goal.returns-clause-set
 returns-clause-set c p range =
@@ -87,20 +72,14 @@ returns-clause-set c p range =
 pub returns-in-Err-clause-added : goal.returns-in-Err-clause-added
 returns-in-Err-clause-added c =
     let old = c.loop-value.table in
-    let counts = old.counts.items in
-    let ns = old.pool.places in
-    let low = c.loop-value.value - 1 in
-    let same = ap (λ v. v.items) c.make.ensures.adds.counts in
-    let more = c.loop-value-test.true in
-    let below = c.loop-value.invariant.below in
-    let end = end_of counts ns c.has-in-loop-value.result c.end-yes.result.0 c.end-yes.ensures in
-    let next : low + 1 ≡ c.loop-value.value = omega arith in
-    let within : c.args.var < length counts = rw (ap (λ v. v.items) c.loop-value.invariant.adds.counts) c.requires.variable in
-    literal_down c.make.new.table.counts.items c.args.table.now.pool.places c.make.new.table.pool.places c.make.ensures.adds.sound c.args.var c.args.set low (rw same within) (rw same (omega arith))
-    (literal_parts c.args.table.now.pool.places old c.make.new.table c.loop-value.invariant.adds.sound c.make.ensures.adds c.args.var c.args.set low _ within (omega arith)
-    (subst (λ x. AddsParts counts c.args.table.now.pool.places ns (literal_from counts c.args.var c.args.set x)) (sym next) c.loop-value.invariant.parts) c.make.ensures.added
-    (λ p. literal_step counts ns c.loop-value.invariant.adds.sound c.args.var c.args.set within low p _ _ (omega arith) (end.all p ∙ c.has-in-loop-value.ensures) (c.loop-value.invariant.set p ∙ ap (λ x. literal_from counts c.args.var c.args.set x p) (sym next))
-    ∙ ap (λ v. literal_from v c.args.var c.args.set low p) (sym same)))
+    let new = c.make.new.table in
+    let is = c.loop-value.invariant in
+    let adds = c.make.ensures.adds in
+    let within : c.args.var < length old.counts.items = rw (ap (λ v. v.items) is.adds.counts) c.requires.variable in
+    let end = end_of old.counts.items old.pool.places c.has-in-loop-value.result c.end-yes.result.0 c.end-yes.ensures in
+    let counts = ap (λ v. v.items) adds.counts in
+    literal_down new.counts.items c.args.table.now.pool.places new.pool.places adds.sound c.args.var c.args.set (c.loop-value.value - 1) (rw counts within) (rw counts (omega (arith, is.below)))
+    (made_parts old new is.adds.sound adds c.args.var c.args.set c.loop-value.value within is.below (omega (arith, c.loop-value-test.true)) c.end-yes.result.0 c.loop-value.rest.0 (λ p. end.all p ∙ c.has-in-loop-value.ensures) is.set c.args.table.now.pool.places is.parts c.make.ensures.added)
 
 pub returns-clause-added : goal.returns-clause-added
 returns-clause-added c =

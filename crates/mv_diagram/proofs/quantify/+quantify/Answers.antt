@@ -3,8 +3,8 @@ use Rattle.mv_base.specs.declared.limits.TheConstants.{MAX_VALUES}
 use Rattle.mv_pool.specs.Walks.{mark}
 use Rattle.mv_diagram.specs.Sound.{first}
 use Rattle.mv_diagram.proofs.Following.{node_is, first-le, yes-later, no-later}
-use Rattle.mv_diagram.proofs.Tables.{Adds-same, Adds-more, table_held, table_first, table_test, table_node}
-use Rattle.mv_diagram.proofs.Quantifying.{quantified_end, quantified_node, table_quantified, table_quantifies, quantifies_more}
+use Rattle.mv_diagram.proofs.Tables.{Adds-same, Adds-more, table_held, table_first, table_test}
+use Rattle.mv_diagram.proofs.Quantifying.{quantified_all, quantified_end, table_quantifies, quantifies_more}
 use Rattle.mv_diagram.proofs.Combining.{or_before, added_yes, added_no, added_all}
 use Rattle.mv_diagram.proofs.quantify.+quantify.Goals as goal
 
@@ -13,7 +13,7 @@ returns-in_default-clause-ok t c =
     quantified_end c.args.table.now.counts.items c.args.table.now.pool.places c.requires.sound (mark c.args.chosen.now) c.args.answer c.args.d.0 c.requires.held (cc)
 
 pub returns-in-Some-recall-clause-ok : goal.returns-in-Some-recall-clause-ok
-returns-in-Some-recall-clause-ok t c = c.requires.quantifies.each (record { operation = c.joining_of.result; left = c.args.d; right = c.args.d }) c.in-Some-recall.known c.in-Some-recall.ensures
+returns-in-Some-recall-clause-ok t c = c.requires.quantifies.each (record { operation = c.joining_of.result; left = c.args.d; right = c.args.d }) c.in-Some-recall.known (rw c.of-key.ensures at c.in-Some-recall.ensures)
 
 pub quantify-requires : goal.quantify-requires
 quantify-requires t c =
@@ -95,38 +95,17 @@ returns-in-Err-join-clause-quantifies t c =
     table_quantifies c.quantify-2.new.table c.join.new.table c.quantify-2.ensures.adds.sound c.join.ensures.adds (mark c.args.chosen.now) c.args.answer c.quantify-2.new.done.entries c.quantify-2.ensures.quantifies
 
 pub returns-in-Ok-join-clause-ok : goal.returns-in-Ok-join-clause-ok
-returns-in-Ok-join-clause-ok t c =
-    let old = c.args.table.now in
-    let one = c.quantify.new.table in
-    let two = c.quantify-2.new.table in
-    let new = c.join.new.table in
-    let s = c.requires.sound in
-    let both = Adds-more old one two c.quantify.ensures.adds c.quantify-2.ensures.adds in
-    let adds = Adds-more old two new both c.join.ensures.adds in
-    let e = sym c.in-Some.ensures in
-    quantified_node new.counts.items new.pool.places adds.sound (mark c.args.chosen.now) c.args.answer c.args.d.0 c.in-Ok-join.r.0 c.in-Ok.yes.0 c.in-Ok-quantify.no.0 c.in-Some.node _
-    (table_node old new adds c.args.d.0 c.in-Some.node e) (table_held old new s adds c.args.d.0 c.requires.held) refl
-    (table_quantified one new c.quantify.ensures.adds.sound (Adds-more one two new c.quantify-2.ensures.adds c.join.ensures.adds) (mark c.args.chosen.now) c.args.answer c.in-Some.node.yes.0 c.in-Ok.yes.0 c.in-Ok.ensures.ok)
-    (table_quantified two new c.quantify-2.ensures.adds.sound c.join.ensures.adds (mark c.args.chosen.now) c.args.answer c.in-Some.node.no.0 c.in-Ok-quantify.no.0 c.in-Ok-quantify.ensures.ok)
-    c.in-Ok-join.ensures.ok
+returns-in-Ok-join-clause-ok t c = quantified_all (mark c.args.chosen.now) c.args.answer c.args.table.now c.quantify.new.table c.quantify-2.new.table c.join.new.table c.requires.sound c.quantify.ensures.adds c.quantify-2.ensures.adds c.join.ensures.adds
+    c.args.d.0 c.in-Ok-join.r.0 c.in-Ok.yes.0 c.in-Ok-quantify.no.0 c.in-Some.node _ (sym c.in-Some.ensures) c.requires.held refl c.in-Ok.ensures.ok c.in-Ok-quantify.ensures.ok c.in-Ok-join.ensures.ok
 
 pub returns-in-Ok-join-clause-quantifies : goal.returns-in-Ok-join-clause-quantifies
 returns-in-Ok-join-clause-quantifies t c =
-    let old = c.args.table.now in
-    let one = c.quantify.new.table in
     let two = c.quantify-2.new.table in
     let new = c.join.new.table in
-    let s = c.requires.sound in
-    let both = Adds-more old one two c.quantify.ensures.adds c.quantify-2.ensures.adds in
-    let adds = Adds-more old two new both c.join.ensures.adds in
-    let e = sym c.in-Some.ensures in
-    let is = quantified_node new.counts.items new.pool.places adds.sound (mark c.args.chosen.now) c.args.answer c.args.d.0 c.in-Ok-join.r.0 c.in-Ok.yes.0 c.in-Ok-quantify.no.0 c.in-Some.node _
-    (table_node old new adds c.args.d.0 c.in-Some.node e) (table_held old new s adds c.args.d.0 c.requires.held) refl
-    (table_quantified one new c.quantify.ensures.adds.sound (Adds-more one two new c.quantify-2.ensures.adds c.join.ensures.adds) (mark c.args.chosen.now) c.args.answer c.in-Some.node.yes.0 c.in-Ok.yes.0 c.in-Ok.ensures.ok)
-    (table_quantified two new c.quantify-2.ensures.adds.sound c.join.ensures.adds (mark c.args.chosen.now) c.args.answer c.in-Some.node.no.0 c.in-Ok-quantify.no.0 c.in-Ok-quantify.ensures.ok)
-    c.in-Ok-join.ensures.ok in
+    let is = quantified_all (mark c.args.chosen.now) c.args.answer c.args.table.now c.quantify.new.table c.quantify-2.new.table c.join.new.table c.requires.sound c.quantify.ensures.adds c.quantify-2.ensures.adds c.join.ensures.adds
+    c.args.d.0 c.in-Ok-join.r.0 c.in-Ok.yes.0 c.in-Ok-quantify.no.0 c.in-Some.node _ (sym c.in-Some.ensures) c.requires.held refl c.in-Ok.ensures.ok c.in-Ok-quantify.ensures.ok c.in-Ok-join.ensures.ok in
     quantifies_more new.counts.items new.pool.places (mark c.args.chosen.now) c.args.answer c.quantify-2.new.done.entries c.keep.new.memo.entries (record { operation = c.joining_of.result; left = c.args.d; right = c.args.d }) c.in-Ok-join.r
-    (table_quantifies two new c.quantify-2.ensures.adds.sound c.join.ensures.adds (mark c.args.chosen.now) c.args.answer c.quantify-2.new.done.entries c.quantify-2.ensures.quantifies) c.keep.ensures is
+    (table_quantifies two new c.quantify-2.ensures.adds.sound c.join.ensures.adds (mark c.args.chosen.now) c.args.answer c.quantify-2.new.done.entries c.quantify-2.ensures.quantifies) (rw c.of-key.ensures at c.keep.ensures) is
 
 -- what is added
 

@@ -2,10 +2,10 @@
 use Rattle.std.proofs.Common.{◌∙◌, ℕ, ◌<◌, List, Option, All, sym, ap, subst, length, arith}
 use Rattle.std.specs.Prelude.{IfNone, IfSome}
 use Rattle.mv_base.specs.declared.number.NetId.{NetId}
-use Rattle.mv_net.specs.Ranks.{IsRanked}
 use Rattle.mv_model.specs.Numbers.{places}
-use Rattle.mv_model.specs.Cycles.{Covers, IsTurning}
-use Rattle.mv_model.proofs.Turns.{model_below, model_length, model_ranked, order_is, order_below, order_covers, on_cycle, place_below}
+use Rattle.mv_model.specs.Cycles.{IsTurning, NoneTurns}
+use Rattle.mv_model.proofs.Clear.{Covers, none_above, not_unranked}
+use Rattle.mv_model.proofs.Turns.{model_below, model_length, order_is, order_below, order_covers, first_on_cycle, place_below}
 use Rattle.mv_model.proofs.check.check_turning.Goals as goal
 
 pub first_turning-requires-clause-below : goal.first_turning-requires-clause-below
@@ -25,17 +25,16 @@ first_turning-requires-clause-few c =
     let e = ap length c.requires.numbers in
     omega (arith, l, e, c.requires.few)
 
-pub first_turning-requires-clause-covers : goal.first_turning-requires-clause-covers
-first_turning-requires-clause-covers c =
-    let m = c.args.model.now in
-    let P : List NetId → Type 0 = λ ns. Covers c.args.columns.now ns in
-    subst P (sym (order_is c.args.numbers.now (places m) c.as_slice-nets.result.now _ _ c.requires.numbers c.in_ok-order.ensures c.as_slice.ensures))
-    (order_covers m c.args.columns.now c.as_slice-nets.result.now c.requires.proper c.requires.once c.requires.columns (c.as_slice-nets.ensures ∙ c.requires.nets))
-
 pub returns-in-None-clause-ranked : goal.returns-in-None-clause-ranked
 returns-in-None-clause-ranked c =
-    let P : Option ℕ → Type 0 = λ o. IfNone o (IsRanked c.args.columns.now) in
-    model_ranked c.args.model.now c.args.columns.now c.requires.proper c.requires.once c.requires.columns (subst P c.in-None.is c.in_ok-first_turning.ensures.none)
+    let m = c.args.model.now in
+    let P : List NetId → Type 0 = λ ns. Covers c.args.columns.now ns in
+    let Q : Option ℕ → Type 0 = λ o. IfNone o (NoneTurns c.args.columns.now c.as_slice.result.now) in
+    let covers = subst P (sym (order_is c.args.numbers.now (places m) c.as_slice-nets.result.now _ _ c.requires.numbers c.in_ok-order.ensures c.as_slice.ensures))
+    (order_covers m c.args.columns.now c.as_slice-nets.result.now c.requires.proper c.requires.once c.requires.columns (c.as_slice-nets.ensures ∙ c.requires.nets)) in
+    absurd (not_unranked c.args.columns.now (model_below m c.args.columns.now c.requires.proper c.requires.once c.requires.columns)
+    (none_above c.args.columns.now c.as_slice.result.now covers (subst Q c.in-None.is c.in_ok-first_turning.ensures.none))
+    c.requires.unranked)
 
 pub offset_bounds-nets-place : goal.offset_bounds-nets-place
 offset_bounds-nets-place c =
@@ -62,4 +61,4 @@ returns-clause-fault c =
     let turning = subst P c.in-Some.is c.in_ok-first_turning.ensures.some in
     let low = place_below (places m) c.as_slice-nets.result.now c.args.columns.now c.as_slice.result.now c.in-Some.place order turning in
     rw c.in_ok-copy-in-Some.ensures
-    (on_cycle m c.args.columns.now c.as_slice-nets.result.now c.as_slice.result.now c.in-Some.place _ c.requires.proper c.requires.once c.requires.columns (c.as_slice-nets.ensures ∙ c.requires.nets) order turning low c.index-nets-place.is)
+    (first_on_cycle m c.args.columns.now c.as_slice-nets.result.now c.as_slice.result.now c.in-Some.place _ c.requires.proper c.requires.once c.requires.columns (c.as_slice-nets.ensures ∙ c.requires.nets) order turning low c.index-nets-place.is)
