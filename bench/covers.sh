@@ -5,12 +5,8 @@
 # covers: whether N and 2N lines over 20 nets of 4 values match every point
 # complement: that of N and of 2N lines whose complement has 4,096 cubes, the most that there may be, nearly all the time
 # absorb: the lines left of 4N and of 8N over 8 nets of 4 values
-set -euo pipefail
-cd "$(dirname "$0")/.."
-program=crates/mv_bench/out/mv_bench
-[ -x "$program" ] || { echo "build the program first: rt run in crates/mv_bench" >&2; exit 1; }
-took=$(mktemp)
-trap 'rm -f "$took"' EXIT
+. "$(dirname "$0")/setup" mv_bench
+took=$folder/took
 
 # TASK N: the user seconds of the task at five seeds
 seconds() {

@@ -3,12 +3,7 @@
 # and prints the user seconds of both, the least of five runs, and their ratio.
 #   bench/diagrams.sh [N]    N is 200 unless given; the program is crates/mv_bench/out/mv_bench (`rt run` there builds it)
 # Each set is the union of N, and then of 2N, drawn cubes that fix up to twelve of thirty variables of two values.
-set -euo pipefail
-cd "$(dirname "$0")/.."
-program=crates/mv_bench/out/mv_bench
-[ -x "$program" ] || { echo "build the program first: rt run in crates/mv_bench" >&2; exit 1; }
-folder=$(mktemp -d)
-trap 'rm -rf "$folder"' EXIT
+. "$(dirname "$0")/setup" mv_bench
 rustc -O -C target-cpu=x86-64-v2 -o "$folder/baseline" bench/diagrams_baseline.rs
 
 # PROGRAM..: the user seconds of a run, which has to find as many nodes as the other program

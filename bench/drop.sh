@@ -6,12 +6,7 @@
 # wide:  `drop` on N and on 2N tables on one input that nobody reads, which all go, the first first
 # kept:  `drop` on a chain of 100N - 1 tables and of twice as many that is seen at its end, so nothing goes
 # none:  the same chain with an empty script
-set -euo pipefail
-cd "$(dirname "$0")/.."
-program=crates/mvopt/out/mvopt
-[ -x "$program" ] || { echo "build the program first: make demo" >&2; exit 1; }
-folder=$(mktemp -d)
-trap 'rm -rf "$folder"' EXIT
+. "$(dirname "$0")/setup" mvopt
 
 # KIND N: the network
 network() {

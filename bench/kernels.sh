@@ -3,13 +3,9 @@
 # how many kernels a cover has and the user milliseconds that it takes, the least of three runs of a hundred seeds; and the
 # same of the milliseconds for a hundred kernels, to show how it grows.
 #   bench/kernels.sh [N]      N is 30 unless given; the program is crates/mv_bench/out/mv_bench (`rt run` there builds it)
-set -euo pipefail
-cd "$(dirname "$0")/.."
-program=crates/mv_bench/out/mv_bench
-[ -x "$program" ] || { echo "build the program first: rt run in crates/mv_bench" >&2; exit 1; }
-took=$(mktemp)
-found=$(mktemp)
-trap 'rm -f "$took" "$found"' EXIT
+. "$(dirname "$0")/setup" mv_bench
+took=$folder/took
+found=$folder/found
 
 # N: the user seconds of a hundred covers of N cubes, whose counts of kernels go to $found
 seconds() {

@@ -4,12 +4,7 @@
 #   bench/lines.sh [N]       N is 100000 unless given; the program is crates/mv_bench/out/mv_bench (`rt run` there builds it)
 # tables: networks of N and of 2N tables with four rows each, whose words have a few bytes
 # names:  N and 2N words of some thirty bytes
-set -euo pipefail
-cd "$(dirname "$0")/.."
-program=crates/mv_bench/out/mv_bench
-[ -x "$program" ] || { echo "build the program first: rt run in crates/mv_bench" >&2; exit 1; }
-folder=$(mktemp -d)
-trap 'rm -rf "$folder"' EXIT
+. "$(dirname "$0")/setup" mv_bench
 rustc -O -C target-cpu=x86-64-v2 -o "$folder/baseline" bench/lines_baseline.rs
 
 # KIND N: the file

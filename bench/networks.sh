@@ -1,16 +1,12 @@
 #!/usr/bin/env bash
-# Times whole runs with an empty script, from bytes to bytes, and prints the user seconds and the most memory of each, the
-# least of three runs, for networks of two sizes, one twice the other.
+# Times whole runs with an empty script, from bytes to bytes, and prints the user and the system seconds and the most memory
+# of each, the least of three runs, for networks of two sizes, one twice the other.
 #   bench/networks.sh [N]    N is 100000 unless given; the program is crates/mvopt/out/mvopt (`make demo` builds it)
 # rows:    N and 2N nets: two inputs, and tables of two columns with five rows, every fourth net of three named values
 # equal:   N/4 and N/2 nets of eight values, whose tables have a default that gives the value of a column and needs a mark
 # wide:    N/20 and N/10 nets, whose tables have twelve columns and ten rows
-set -euo pipefail
-cd "$(dirname "$0")/.."
-program=crates/mvopt/out/mvopt
-[ -x "$program" ] || { echo "build the program first: make demo" >&2; exit 1; }
-folder=$(mktemp -d)
-trap 'rm -rf "$folder"' EXIT
+# full:    198N/100 nets as those of rows, with eight rows to a table: at N = 100000 nearly as large as a file may be
+. "$(dirname "$0")/setup" mvopt
 : > "$folder/script"
 
 # KIND NETS: the network
@@ -20,11 +16,12 @@ network() {
         print ".model bench\n.inputs a b\n.outputs g" n
         if (kind == "equal") print ".mv a, b 8"
         for (i = 1; i <= n; i++) {
-            if (kind == "rows") {
+            if (kind == "rows" || kind == "full") {
                 if (i % 4 == 0) print ".mv g" i " 3 x y z"
                 printf ".table a %s -> g%d\n", i == 1 ? "b" : "g" int(rand() * (i - 1) / 4) * 4 + 1, i
                 v = i % 4 == 0 ? "x" : "0"; w = i % 4 == 0 ? "(y,z)" : "1"
                 print "0 0 " v "\n0 1 " w "\n1 0 " w "\n1 1 " v "\n- 1 " w
+                if (kind == "full") print "0 - " w "\n1 - " w "\n- 0 " v
             } else if (kind == "equal") {
                 print ".mv g" i " 8"
                 print ".table a " (i == 1 ? "b" : "g" int(rand() * (i - 1)) + 1) " -> g" i
@@ -48,17 +45,17 @@ network() {
 line() {
     network "$1" "$2" > "$folder/net"
     for _ in 1 2 3; do
-        /usr/bin/time -f '%U %M' -o "$folder/took" "$program" opt "$folder/net" "$folder/script" > "$folder/out" 2> "$folder/notes"
+        /usr/bin/time -f '%U %S %M' -o "$folder/took" "$program" opt "$folder/net" "$folder/script" > "$folder/out" 2> "$folder/notes"
         cat "$folder/took" >> "$folder/all"
     done
     grep -q '^# done ' "$folder/notes" || { echo "$1 $2: $(cat "$folder/notes")" >&2; exit 1; }
     sort -n "$folder/all" | head -n 1 | awk -v kind="$1" -v n="$2" -v bytes="$(stat -c %s "$folder/net")" -v lines="$(wc -l < "$folder/net")" \
-        '{ printf "%-6s %8d %10d %9d %8s %9.0f\n", kind, n, bytes, lines, $1, $2 / 1024 }'
+        '{ printf "%-6s %8d %10d %9d %8s %8s %9.0f\n", kind, n, bytes, lines, $1, $2, $3 / 1024 }'
     rm "$folder/all"
 }
 
 n=${1:-100000}
-printf '%-6s %8s %10s %9s %8s %9s\n' kind nets bytes lines seconds megabytes
+printf '%-6s %8s %10s %9s %8s %8s %9s\n' kind nets bytes lines user system megabytes
 for kind in rows equal wide; do
     size=$n
     if [ "$kind" = equal ]; then size=$((n / 4)); fi
@@ -66,3 +63,4 @@ for kind in rows equal wide; do
     line "$kind" "$size"
     line "$kind" $((2 * size))
 done
+line full $((2 * n * 99 / 100))

@@ -5,12 +5,7 @@
 # plain:   networks of N and of 2N tables of two columns with a default and two rows, every fifth net of three named values
 # wide:    N/10 and N/5 tables of twelve columns with six rows each
 # rows:    one table of N/2 and of N rows, at most 65,536
-set -euo pipefail
-cd "$(dirname "$0")/.."
-program=crates/mv_bench/out/mv_bench
-[ -x "$program" ] || { echo "build the program first: rt run in crates/mv_bench" >&2; exit 1; }
-folder=$(mktemp -d)
-trap 'rm -rf "$folder"' EXIT
+. "$(dirname "$0")/setup" mv_bench
 
 # KIND N: the file
 text() {
