@@ -1,11 +1,10 @@
 -- The model of a well-formed network without latches means what the network means.
-use Rattle.std.proofs.Common.{◌≡◌, ℕ, Bool, true, List, [], ◌∷◌, length, map, Option, Some, None, refl, sym, ◌∙◌, ap, subst, ⊎_elim}
+use Rattle.std.proofs.Common.{◌≡◌, ℕ, true, List, [], ◌∷◌, length, map, Option, Some, None, refl, sym, ◌∙◌, ap}
 use Rattle.std.specs.Prelude.{nat_lt}
 use Rattle.std.specs.List.{list_all}
-use Rattle.std.proofs.lemmas.Bool.{and_parts, and_from, or_cases, or_left, or_right}
+use Rattle.std.proofs.lemmas.Bool.{and_parts, and_from}
 use Rattle.mv_base.specs.Meaning.{SameMeaning}
-use Rattle.mv_base.specs.Names.{same_word, among}
-use Rattle.mv_base.proofs.NameLemmas.{same_word_is, same_word_refl}
+use Rattle.mv_base.specs.Names.{among}
 use Rattle.mv_base.specs.declared.number.NetId.{NetId}
 use Rattle.mv_cover.specs.declared.cover.Cover.{Cover}
 use Rattle.mv_cover.specs.Covers.{allowed}
@@ -13,15 +12,18 @@ use Rattle.mv_design.specs.declared.table.FileTable.{FileTable}
 use Rattle.mv_design.specs.declared.design.FileModel.{FileModel}
 use Rattle.mv_model.specs.Nets.{count_of, nets_named}
 use Rattle.mv_model.specs.Meaning.{in_values, table_holds, AllowsModel, of_model}
+use Rattle.mv_model.proofs.Names.{all_among, all_from_among}
 use Rattle.mv_net.specs.declared.parts.FlatNet.{FlatNet}
 use Rattle.mv_net.specs.declared.parts.FlatLatch.{FlatLatch}
 use Rattle.mv_net.specs.declared.parts.NetParts.{NetParts}
 use Rattle.mv_net.specs.Nets.{slot, name_in, values_in}
 use Rattle.mv_net.specs.Formed.{WellFormed}
-use Rattle.mv_net.specs.Allowed.{table_allows, net_allows, Agrees, resets_give, Allows, of_net}
+use Rattle.mv_net.specs.Allowed.{table_allows, net_allows, Agrees, Allows, of_net}
+use Rattle.mv_net.proofs.Latchless.{no_values, values_from, no_resets, resets_from}
 use Rattle.mv_write.specs.Text.{fanins_of, names_of}
+use Rattle.mv_write.specs.Walk.{numbers}
 use Rattle.mv_back.specs.Models.{fanin_names, IsModelOf}
-use Rattle.mv_back.proofs.Numbers.{numbers_of, IsHeldAt, AllHeld, number_of, number_of-held}
+use Rattle.mv_back.proofs.Numbers.{IsHeldAt, AllHeld, number_of, number_of-held}
 use Rattle.mv_back.proofs.CoverRows.{is_low}
 use Rattle.mv_back.proofs.ModelTables.{IsOfNet, AllOfNets, all_of_nets, table_at}
 use Rattle.mv_back.proofs.Driven.{IsLatchless, one_name, inputs_held, outputs_held, held_driver}
@@ -38,17 +40,11 @@ same_by_name : (net : NetParts) (value : List ℕ → ℕ) (ks : List ℕ) → S
 same_by_name net value [] = tt
 same_by_name net value (k ∷ ks) = (refl, same_by_name net value ks)
 
-all_at : (p : List ℕ → Bool) (w : List ℕ) (ws : List (List ℕ)) → list_all p ws ≡ true → among w ws ≡ true → p w ≡ true
-all_at p w [] all e = cc
-all_at p w (u ∷ us) all e =
-    let both = and_parts (p u) (list_all p us) all in
-    ⊎_elim (λ (y : same_word w u ≡ true). ap p (same_word_is w u y) ∙ both.0) (λ (y : among w us ≡ true). all_at p w us both.1 y) (or_cases (same_word w u) (among w us) e)
-
 low_name : (net : NetParts) (m : FileModel) → IsLatchless net → IsModelOf net m → (value : List ℕ → ℕ) → in_values m.decls value (nets_named m) ≡ true → (k : ℕ) → IsHeldAt net.nets k → is_low net.nets (by_name net value) k ≡ true
 low_name net m plain model value range k h =
     let w = name_in (slot net.nets k) in
     let named = driver_named m w (held_driver net m plain model k h) in
-    ap (λ n. nat_lt (value w) n) (sym (count_is net m plain.formed model k h)) ∙ all_at (λ u. nat_lt (value u) (count_of m.decls u)) w (nets_named m) range named
+    ap (λ n. nat_lt (value w) n) (sym (count_is net m plain.formed model k h)) ∙ all_among (λ u. nat_lt (value u) (count_of m.decls u)) (nets_named m) w range named
 
 low_names : (net : NetParts) (m : FileModel) → IsLatchless net → IsModelOf net m → (value : List ℕ → ℕ) → in_values m.decls value (nets_named m) ≡ true → (ks : List ℕ) → AllHeld net.nets ks → list_all (is_low net.nets (by_name net value)) ks ≡ true
 low_names net m plain model value range [] h = refl
@@ -73,22 +69,15 @@ map_names : (value : List ℕ → ℕ) (nets : List (Option FlatNet)) (ns : List
 map_names value nets [] = refl
 map_names value nets (n ∷ ns) = ap (λ vs. value (name_in (slot nets n.0)) ∷ vs) (map_names value nets ns)
 
-no_latches : {A : Type 0} (f : FlatLatch → A) (ls : List FlatLatch) (xs : List A) → ls ≡ [] → xs ≡ [] → map f ls ≡ xs
-no_latches f ls xs e g = ap (map f) e ∙ sym g
-
-no_resets : (nets : List (Option FlatNet)) (at : ℕ → ℕ) (ls : List FlatLatch) (r : List ℕ) → ls ≡ [] → r ≡ [] → resets_give nets at ls r
-no_resets nets at ls r e g =
-    subst (λ (ms : List FlatLatch). resets_give nets at ms r) (sym e) (subst (λ (vs : List ℕ). resets_give nets at [] vs) (sym g) tt)
-
 assigned : (net : NetParts) (m : FileModel) → IsLatchless net → IsModelOf net m → (i s o n r : List ℕ) → AllowsModel m i s o n r → Allows net i s o n r
 assigned net m plain model i s o n r a = record {
   at = by_name net a.value;
   agrees = record { each = λ k. agrees_net net m plain model a.value a.range a.tables k (slot net.nets k) refl };
   inputs = map_names a.value net.nets net.inputs ∙ (ap (map a.value) (sym model.inputs) ∙ a.inputs);
-  states = no_latches (λ (l : FlatLatch). a.value (name_in (slot net.nets l.output.0))) net.latches s plain.latches a.states;
+  states = values_from (λ (l : FlatLatch). a.value (name_in (slot net.nets l.output.0))) net.latches s plain.latches a.states;
   outputs = map_names a.value net.nets net.outputs ∙ (ap (map a.value) (sym model.outputs) ∙ a.outputs);
-  next = no_latches (λ (l : FlatLatch). a.value (name_in (slot net.nets l.input.0))) net.latches n plain.latches a.next;
-  resets = no_resets net.nets (by_name net a.value) net.latches r plain.latches a.resets;
+  next = values_from (λ (l : FlatLatch). a.value (name_in (slot net.nets l.input.0))) net.latches n plain.latches a.next;
+  resets = resets_from net.nets (by_name net a.value) net.latches r plain.latches a.resets;
 }
 
 -- ---- from an assignment to a valuation
@@ -112,11 +101,6 @@ low_ats : (nets : List (Option FlatNet)) (at : ℕ → ℕ) → Agrees nets at �
 low_ats nets at agrees [] h = refl
 low_ats nets at agrees (k ∷ ks) h = and_from _ _ (low_at nets at agrees k h.0) (low_ats nets at agrees ks h.1)
 
--- a test of each word of a list
-all_from : (p : List ℕ → Bool) (ws : List (List ℕ)) → ((w : List ℕ) → among w ws ≡ true → p w ≡ true) → list_all p ws ≡ true
-all_from p [] f = refl
-all_from p (w ∷ ws) f = and_from _ _ (f w (or_left _ _ (same_word_refl w))) (all_from p ws (λ u h. f u (or_right _ _ h)))
-
 in_range : (net : NetParts) (m : FileModel) → WellFormed net → IsModelOf net m → (at : ℕ → ℕ) → Agrees net.nets at → (w : List ℕ) → among w (nets_named m) ≡ true → nat_lt (by_number net at w) (count_of m.decls w) ≡ true
 in_range net m formed model at agrees w h =
     let n = named_held net m formed model w h in
@@ -137,30 +121,23 @@ tables_given : (net : NetParts) → WellFormed net → (at : ℕ → ℕ) → Ag
 tables_given net formed at agrees [] all = refl
 tables_given net formed at agrees (t ∷ ts) all = and_from _ _ (table_given net formed at agrees t all.0) (tables_given net formed at agrees ts all.1)
 
-map_numbers : (net : NetParts) → WellFormed net → (at : ℕ → ℕ) (ns : List NetId) → AllHeld net.nets (numbers_of ns) → map (by_number net at) (names_of net.nets ns) ≡ map (λ (n : NetId). at n.0) ns
+map_numbers : (net : NetParts) → WellFormed net → (at : ℕ → ℕ) (ns : List NetId) → AllHeld net.nets (numbers ns) → map (by_number net at) (names_of net.nets ns) ≡ map (λ (n : NetId). at n.0) ns
 map_numbers net formed at [] h = refl
 map_numbers net formed at (n ∷ ns) h =
     ap (λ v. v ∷ map (by_number net at) (names_of net.nets ns)) (value_of net formed at n.0 h.0) ∙ ap (λ vs. at n.0 ∷ vs) (map_numbers net formed at ns h.1)
-
-nothing_of : {A : Type 0} (f : FlatLatch → A) (ls : List FlatLatch) (xs : List A) → ls ≡ [] → map f ls ≡ xs → xs ≡ []
-nothing_of f ls xs e g = sym g ∙ ap (map f) e
-
-no_reset_values : (nets : List (Option FlatNet)) (at : ℕ → ℕ) (r : List ℕ) → resets_give nets at [] r → r ≡ []
-no_reset_values nets at [] h = refl
-no_reset_values nets at (v ∷ r) h = absurd h
 
 valued : (net : NetParts) (m : FileModel) → IsLatchless net → IsModelOf net m → (i s o n r : List ℕ) → Allows net i s o n r → AllowsModel m i s o n r
 valued net m plain model i s o n r a =
     let formed = plain.formed in
     record {
       value = by_number net a.at;
-      range = all_from (λ w. nat_lt (by_number net a.at w) (count_of m.decls w)) (nets_named m) (in_range net m formed model a.at a.agrees);
+      range = all_from_among (λ w. nat_lt (by_number net a.at w) (count_of m.decls w)) (nets_named m) (in_range net m formed model a.at a.agrees);
       tables = tables_given net formed a.at a.agrees m.tables (all_of_nets net.nets m.tables model.tables);
       inputs = ap (map (by_number net a.at)) model.inputs ∙ (map_numbers net formed a.at net.inputs (inputs_held net formed) ∙ a.inputs);
       outputs = ap (map (by_number net a.at)) model.outputs ∙ (map_numbers net formed a.at net.outputs (outputs_held net formed) ∙ a.outputs);
-      states = nothing_of (λ (l : FlatLatch). a.at l.output.0) net.latches s plain.latches a.states;
-      next = nothing_of (λ (l : FlatLatch). a.at l.input.0) net.latches n plain.latches a.next;
-      resets = no_reset_values net.nets a.at r (subst (λ (ls : List FlatLatch). resets_give net.nets a.at ls r) plain.latches a.resets);
+      states = no_values (λ (l : FlatLatch). a.at l.output.0) net.latches s plain.latches a.states;
+      next = no_values (λ (l : FlatLatch). a.at l.input.0) net.latches n plain.latches a.next;
+      resets = no_resets net.nets a.at net.latches r plain.latches a.resets;
     }
 
 -- the model of the network and the network mean the same

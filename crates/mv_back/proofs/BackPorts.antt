@@ -11,9 +11,10 @@ use Rattle.mv_net.specs.Nets.{slot, name_in, values_in, spelled_in, port_of, lat
 use Rattle.mv_net.specs.Formed.{WellFormed}
 use Rattle.mv_net.specs.Allowed.{of_net}
 use Rattle.mv_write.specs.Text.{names_of}
+use Rattle.mv_write.specs.Walk.{numbers}
 use Rattle.mv_back.specs.Models.{IsModelOf}
 use Rattle.mv_back.proofs.Spelled.{spelled-held}
-use Rattle.mv_back.proofs.Numbers.{numbers_of, IsHeldAt, AllHeld}
+use Rattle.mv_back.proofs.Numbers.{IsHeldAt, AllHeld}
 use Rattle.mv_back.proofs.Driven.{IsLatchless, inputs_held, outputs_held}
 
 -- ---- the values of a net as the model declares them
@@ -33,7 +34,7 @@ port_is net m model n h =
     let P : List (List ℕ) → Port = λ vs. record { name = name_in (slot net.nets n.0); values = vs } in
     ap P (values_are net m model n.0 h)
 
-ports_are : (net : NetParts) (m : FileModel) → IsModelOf net m → (ns : List NetId) → AllHeld net.nets (numbers_of ns) → map (port m) (names_of net.nets ns) ≡ map (port_of net.nets) ns
+ports_are : (net : NetParts) (m : FileModel) → IsModelOf net m → (ns : List NetId) → AllHeld net.nets (numbers ns) → map (port m) (names_of net.nets ns) ≡ map (port_of net.nets) ns
 ports_are net m model [] h = refl
 ports_are net m model (n ∷ ns) h =
     ap (λ p. p ∷ map (port m) (names_of net.nets ns)) (port_is net m model n h.0) ∙ ap (λ ps. port_of net.nets n ∷ ps) (ports_are net m model ns h.1)

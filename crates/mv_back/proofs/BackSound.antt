@@ -7,7 +7,7 @@ use Rattle.mv_base.specs.Names.{same_word, among, names_differ}
 use Rattle.mv_base.proofs.NameLemmas.{same_word_is}
 use Rattle.mv_design.specs.declared.design.FileModel.{FileModel}
 use Rattle.mv_model.specs.Nets.{nets_of, drivers}
-use Rattle.mv_model.specs.Sound.{table_reads, reads, IsRanked, IsSoundModel}
+use Rattle.mv_model.specs.Sound.{table_reads, reads, HasRank, IsSoundModel}
 use Rattle.mv_net.specs.declared.parts.NetParts.{NetParts}
 use Rattle.mv_net.specs.Nets.{slot, name_in}
 use Rattle.mv_net.specs.Formed.{WellFormed}
@@ -16,7 +16,8 @@ use Rattle.mv_back.specs.Models.{IsModelOf}
 use Rattle.mv_back.proofs.Numbers.{IsHeldAt, held_in, number_of, number_of-held}
 use Rattle.mv_back.proofs.ModelTables.{Passes, some_passes, all_of_nets}
 use Rattle.mv_back.proofs.Driven.{IsLatchless, one_name, drivers_differ, held_driver}
-use Rattle.mv_back.proofs.NamedNets.{named_of, named_held, name_in_list, fanin_read, fanins_held, output_is}
+use Rattle.mv_model.proofs.Named.{among-nets_of}
+use Rattle.mv_back.proofs.NamedNets.{named_held, name_in_list, fanin_read, fanins_held, output_is}
 
 -- ---- a word among different ones stands there once
 
@@ -45,7 +46,7 @@ counted_once w ws d e = sym (length-filter (same_word w) ws) ∙ one_stands w ws
 
 driven_once : (net : NetParts) (m : FileModel) → IsLatchless net → IsModelOf net m → (w : List ℕ) → among w (nets_of m) ≡ true → among w (drivers m) ≡ true
 driven_once net m plain model w h =
-    let n = named_held net m plain.formed model w (named_of m w h) in
+    let n = named_held net m plain.formed model w (sym (among-nets_of w m) ∙ h) in
     ap (λ v. among v (drivers m)) n.is ∙ held_driver net m plain model n.number n.held
 
 abbrev rank_of : (net : NetParts) → WellFormed net → List ℕ → ℕ
@@ -66,7 +67,7 @@ falls_at net formed w above t =
     let high = rank_at net formed o.number w (record { net = o.net; held = o.held }) (output_is net.nets t.table o w p.0) in
     rw (low, high) (formed.acyclic.falls o.number n.number (fanin_read net o.number o.net o.cover o.held o.table n.number n.among))
 
-ranked : (net : NetParts) (m : FileModel) → WellFormed net → IsModelOf net m → IsRanked m
+ranked : (net : NetParts) (m : FileModel) → WellFormed net → IsModelOf net m → HasRank m
 unfolding reads
 ranked net m formed model = record {
   rank = rank_of net formed;

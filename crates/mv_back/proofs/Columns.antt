@@ -10,7 +10,7 @@ use Rattle.mv_fault.specs.declared.fault.Which.TheVariants.{Columns}
 use Rattle.mv_fault.specs.declared.fault.ParseFault.TheVariants.{Limit, BadName}
 use Rattle.mv_fault.specs.Tells.{when}
 use Rattle.mv_table.specs.Columns.{arrow_at, ins_of, outs_of, names_faults, columns_faults}
-use Rattle.mv_back.proofs.Names.{net_name-has}
+use Rattle.mv_word.proofs.LawfulNames.{net_name-has}
 use Rattle.mv_back.proofs.Limits.{only_limits, limits-append, when-limit}
 
 -- fanins, an arrow, and the output

@@ -1,5 +1,5 @@
 -- A cover over its fanins, as the rows of a table.
-use Rattle.std.proofs.Common.{◌≡◌, ℕ, ◌<◌, Bool, true, false, not, ◌&&◌, ◌||◌, List, [], ◌∷◌, map, Option, Some, None, refl, sym, ◌∙◌, ap, arith}
+use Rattle.std.proofs.Common.{◌≡◌, ℕ, Bool, true, false, not, ◌&&◌, ◌||◌, List, [], ◌∷◌, map, Option, Some, None, refl, sym, ◌∙◌, ap, arith}
 use Rattle.std.specs.Prelude.{nat_eq, nat_lt, option_map}
 use Rattle.std.specs.List.{list_all}
 use Rattle.std.proofs.lemmas.Bool.{cond-true, cond-false, and_parts, and_from, or_left, or_right, eqb-true, eq-eqb, ne_eqb, cond_both, ltb-true}
@@ -11,6 +11,7 @@ use Rattle.mv_cover.specs.declared.line.Line.{Line}
 use Rattle.mv_cover.specs.declared.cover.Cover.{Cover}
 use Rattle.mv_cover.specs.Cubes.{holds, matches, nets_ascend}
 use Rattle.mv_cover.specs.Covers.{some_matches, some_gives, default_gives, allowed, cube_reads, lines_read}
+use Rattle.mv_cover.proofs.Meeting.{above, above_tail, ascend_tail}
 use Rattle.mv_rows.specs.Tables.{row_matches, some_row_matches, some_row_holds, default_holds, table_allows}
 use Rattle.mv_net.specs.declared.parts.FlatNet.{FlatNet}
 use Rattle.mv_net.specs.Nets.{slot, values_in}
@@ -37,43 +38,26 @@ sides sets values (m ∷ ms) = ap (λ b. has (sets m) (values m) && b) (sides se
 
 -- ---- the sets of a cube's nets
 
--- the net of each literal is above k
-abbrev above_all : ℕ → List Lit → Type 0
-above_all k [] = Unit {0}
-above_all k (l ∷ ls) = (k < l.net.0) × above_all k ls
-
-above_more : (k j : ℕ) (ls : List Lit) → k < j → above_all j ls → above_all k ls
-above_more k j [] h a = tt
-above_more k j (l ∷ ls) h a = (omega (arith, a.0), above_more k j ls h a.1)
-
-ascend_above : (l : Lit) (ls : List Lit) → nets_ascend (l ∷ ls) ≡ true → above_all l.net.0 ls
-ascend_above l [] e = tt
-ascend_above l (m ∷ ls) e =
-    let p = and_parts (nat_lt l.net.0 m.net.0) (nets_ascend (m ∷ ls)) e in
-    let h = ltb-true l.net.0 m.net.0 p.0 in
-    (h, above_more l.net.0 m.net.0 ls h (ascend_above m ls p.1))
-
-ascend_rest : (l : Lit) (ls : List Lit) → nets_ascend (l ∷ ls) ≡ true → nets_ascend ls ≡ true
-ascend_rest l [] e = refl
-ascend_rest l (m ∷ ls) e = (and_parts (nat_lt l.net.0 m.net.0) (nets_ascend (m ∷ ls)) e).1
-
 -- each literal's set is that of its net in the cube
 abbrev SetsIn : List (Option FlatNet) → List Lit → List Lit → Type 0
 SetsIn nets cube [] = Unit {0}
 SetsIn nets cube (l ∷ ls) = (set_in nets cube l.net.0 ≡ l.set) × SetsIn nets cube ls
 
-sets_more : (nets : List (Option FlatNet)) (l : Lit) (cube ls : List Lit) → above_all l.net.0 ls → SetsIn nets cube ls → SetsIn nets (l ∷ cube) ls
+sets_more : (nets : List (Option FlatNet)) (l : Lit) (cube ls : List Lit) → above l.net.0 ls ≡ true → SetsIn nets cube ls → SetsIn nets (l ∷ cube) ls
+unfolding above
 sets_more nets l cube [] a s = tt
-sets_more nets l cube (m ∷ ls) a s = (
-  cond-false (nat_eq l.net.0 m.net.0) l.set (set_in nets cube m.net.0) (ne_eqb l.net.0 m.net.0 (λ e. omega (arith, a.0))) ∙ s.0,
-  sets_more nets l cube ls a.1 s.1,
-)
+sets_more nets l cube (m ∷ ls) a s =
+    let p = and_parts (nat_lt l.net.0 m.net.0) (list_all (λ (o : Lit). nat_lt l.net.0 o.net.0) ls) a in
+    let low = ltb-true l.net.0 m.net.0 p.0 in (
+      cond-false (nat_eq l.net.0 m.net.0) l.set (set_in nets cube m.net.0) (ne_eqb l.net.0 m.net.0 (λ e. omega arith)) ∙ s.0,
+      sets_more nets l cube ls p.1 s.1,
+    )
 
 sets_in : (nets : List (Option FlatNet)) (cube : List Lit) → nets_ascend cube ≡ true → SetsIn nets cube cube
 sets_in nets [] e = tt
 sets_in nets (l ∷ ls) e = (
   cond-true (nat_eq l.net.0 l.net.0) l.set (set_in nets ls l.net.0) (eq-eqb l.net.0 l.net.0 refl),
-  sets_more nets l ls ls (ascend_above l ls e) (sets_in nets ls (ascend_rest l ls e)),
+  sets_more nets l ls ls (above_tail l.net.0 l ls e (omega arith)) (sets_in nets ls (ascend_tail l ls e)),
 )
 
 -- ---- a row matches where the cube does

@@ -1,65 +1,21 @@
 -- The line that declares one net: it says the net and its values, and has no fault where the net is new.
-use Rattle.std.proofs.Common.{◌≡◌, ◌∙◌, ℕ, ◌^◌, ◌<◌, ◌≤◌, Bool, true, false, ◌&&◌, List, [], ◌∷◌, ◌++◌, length, drop, decimal, refl, sym, ap, arith}
-use Rattle.std.specs.Prelude.{◌==◌, codes, nat_lt}
-use Rattle.std.specs.List.{list_all, list_any, flat_map}
-use Rattle.std.proofs.lemmas.Bool.{and_parts, and_from, false≢true, false_from_ne_true, le-ltb, lt-ltb, ne_eqb, eq-eqb, not-true, not_from_false}
-use Rattle.std.proofs.lemmas.List.Splits.{slice_split_none}
+use Rattle.std.proofs.Common.{◌≡◌, ℕ, ◌^◌, ◌<◌, ◌≤◌, true, false, List, [], ◌∷◌, length, decimal, refl, arith}
+use Rattle.std.specs.List.{list_all}
+use Rattle.std.proofs.lemmas.Bool.{and_from, le-ltb, ne_eqb, eq-eqb}
 use Rattle.mv_base.specs.Names.{among, is_net_name, is_value_name}
 use Rattle.mv_base.specs.declared.limits.TheConstants.{MAX_VALUES}
-use Rattle.mv_base.proofs.NameLemmas.{same_word_is}
 use Rattle.mv_design.specs.declared.design.Decl.{Decl}
-use Rattle.mv_decl.specs.Nets.{nets_of}
-use Rattle.mv_decl.specs.Line.{is_comma, comma_and, pieces_of, commas_apart, net_faults, head_faults, from_count, value_names, named_values, count_faults, length_faults, is_redeclared, redeclared_faults, nets_said, values_said, decls_said, decl_faults}
+use Rattle.mv_decl.specs.Nets.{declared_of}
+use Rattle.mv_decl.specs.Line.{commas_apart, net_faults, head_faults, from_count, value_names, named_values, count_faults, length_faults, is_redeclared, redeclared_faults, nets_said, values_said, decls_said, decl_faults}
 use Rattle.mv_net.specs.Nets.{spelled_values}
 use Rattle.mv_net.specs.Formed.{IsNamed}
 use Rattle.mv_model.proofs.Decimals.{decimal-value_name}
-use Rattle.mv_back.proofs.Passes.{all-weaker}
-use Rattle.mv_back.proofs.Names.{commaless, no_comma, net_name-has, value_name-has}
+use Rattle.mv_decl.proofs.Words.{all-weaker, is_piece, pieces, no_word, net_piece, value_piece, names_kept}
 use Rattle.mv_back.proofs.Counts.{decimal-digits, number-decimal}
 use Rattle.mv_back.proofs.NewNames.{names-none}
 
--- ---- words without commas aren't cut
-
-abbrev is_piece : List ℕ → Bool
-is_piece w = nat_lt 0 (length w) && commaless w
-
-one_piece : (w : List ℕ) → is_piece w ≡ true → pieces_of w ≡ w ∷ []
-unfolding pieces_of
-one_piece [] e = cc
-one_piece (b ∷ bs) e =
-    let p = and_parts (nat_lt 0 (length (b ∷ bs))) (commaless (b ∷ bs)) e in
-    ap (λ ps. drop 1 (flat_map comma_and ps)) (slice_split_none (λ c. c == 44) (b ∷ bs) (no_comma (b ∷ bs) (not-true _ p.1)))
-
-pieces : (ws : List (List ℕ)) → list_all is_piece ws ≡ true → commas_apart ws ≡ ws
-unfolding commas_apart
-pieces [] e = refl
-pieces (w ∷ ws) e =
-    let p = and_parts (is_piece w) (list_all is_piece ws) e in
-    ap (λ vs. vs ++ flat_map pieces_of ws) (one_piece w p.0) ∙ ap (λ vs. w ∷ vs) (pieces ws p.1)
-
-no_word : (w : List ℕ) → is_piece w ≡ true → is_comma w ≡ false
-no_word w e =
-    let none = not-true _ (and_parts (nat_lt 0 (length w)) (commaless w) e).1 in
-    false_from_ne_true _ (λ y. false≢true (sym none ∙ ap (list_any (λ b. b == 44)) (same_word_is w (codes ",") y)))
-
-net_piece : (w : List ℕ) → is_net_name w ≡ true → is_piece w ≡ true
-net_piece w e =
-    let name = net_name-has w e in
-    and_from (nat_lt 0 (length w)) (commaless w) (lt-ltb 0 (length w) name.some) (not_from_false _ name.comma)
-
-value_piece : (w : List ℕ) → is_value_name w ≡ true → is_piece w ≡ true
-value_piece w e =
-    let name = (value_name-has w e).net in
-    and_from (nat_lt 0 (length w)) (commaless w) (lt-ltb 0 (length w) name.some) (not_from_false _ name.comma)
-
 values_pieces : (ws : List (List ℕ)) → list_all is_value_name ws ≡ true → list_all is_piece ws ≡ true
 values_pieces ws e = all-weaker is_value_name is_piece value_piece ws e
-
-names_kept : (ws : List (List ℕ)) → list_all is_piece ws ≡ true → value_names ws ≡ ws
-names_kept [] e = refl
-names_kept (w ∷ ws) e =
-    let p = and_parts (is_piece w) (list_all is_piece ws) e in
-    rw (no_word w p.0) (ap (λ vs. w ∷ vs) (names_kept ws p.1))
 
 -- ---- the line
 
@@ -121,12 +77,12 @@ module _ (name : List ℕ) (values : ℕ) (names : List (List ℕ)) (is : IsSaid
   length_none n [] each = refl
   length_none n (w ∷ ws) each = rw (eq-eqb (length (w ∷ ws)) values (each (omega arith))) refl
 
-  new_none : (n : ℕ) (ds : List Decl) (said : List (List ℕ)) → among name (nets_of ds) ≡ false → redeclared_faults n ds said (name ∷ []) ≡ []
+  new_none : (n : ℕ) (ds : List Decl) (said : List (List ℕ)) → among name (declared_of ds) ≡ false → redeclared_faults n ds said (name ∷ []) ≡ []
   unfolding is_redeclared
   new_none n ds said new = rw new refl
 
   -- and has no fault behind other nets
-  pub declared-none : (n : ℕ) (word : List ℕ) (ds : List Decl) → among name (nets_of ds) ≡ false → decl_faults n word ds (mv_words name values names) ≡ []
+  pub declared-none : (n : ℕ) (word : List ℕ) (ds : List Decl) → among name (declared_of ds) ≡ false → decl_faults n word ds (mv_words name values names) ≡ []
   unfolding decl_faults
   declared-none n word ds new =
       rw (heads n word, one_net, counted, kept, number-decimal values small, count_none n, names-none n [] names is.named.lawful is.named.differ, length_none n names is.named.each, new_none n ds (named_values values names) new) refl

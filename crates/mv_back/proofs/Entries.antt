@@ -1,49 +1,29 @@
 -- The entry that is written for a set of values says the set.
-use Rattle.std.proofs.Common.{◌≡◌, ◌∙◌, ℕ, ◌-◌, ◌<◌, Bool, true, false, not, ◌&&◌, ◌||◌, List, [], ◌∷◌, ◌++◌, length, take, map, Some, Ok, refl, sym, ap, subst, arith, append-nil, length-append}
+use Rattle.std.proofs.Common.{◌≡◌, ◌∙◌, ℕ, ◌<◌, true, false, not, ◌&&◌, List, [], ◌∷◌, length, map, Some, Ok, refl, sym, ap, subst, append-nil}
 use Rattle.std.specs.Prelude.{◌==◌, codes, nat_lt}
-use Rattle.std.specs.List.{list_all, list_any, slice_split}
-use Rattle.std.proofs.Math.Seq.{take-append_seam}
-use Rattle.std.proofs.lemmas.Bool.{and_parts, or_parts, cond_both, eqb-true, ltb-true, not-true, not_from_false}
+use Rattle.std.specs.List.{list_all, slice_split}
+use Rattle.std.proofs.Math.Bool.{and-false}
+use Rattle.std.proofs.lemmas.Bool.{and_parts, cond_both, eqb-true, ltb-true, not-true, not_from_false}
 use Rattle.std.proofs.lemmas.List.Folds.{list_all-map}
 use Rattle.std.proofs.lemmas.List.Sums.{AllPass-from_list_all}
 use Rattle.std.proofs.lemmas.List.Splits.{slice_split_none, slice_split_at}
 use Rattle.std.proofs.lemmas.Option.{slice_get-get_or}
-use Rattle.mv_base.specs.Names.{begins_with, place_of, is_value_name}
+use Rattle.mv_base.specs.Names.{begins_with, is_value_name}
 use Rattle.mv_base.specs.Set.{empty, one, full, join, Within}
 use Rattle.mv_base.proofs.NameLemmas.{place_of-at, IsDistinct-from_differ}
 use Rattle.mv_base.proofs.Sets.{join_empty}
-use Rattle.mv_word.specs.Entries.{with_item, item_of, items_of, list_of, plain_of, word_set}
+use Rattle.mv_word.specs.Entries.{with_item, item_of, items_of, list_of, word_set}
+use Rattle.mv_word.proofs.LawfulNames.{ValueName, value_name-has}
+use Rattle.mv_word.proofs.Saying.{full-set, named-set, listed-set}
 use Rattle.mv_write.specs.Text.{value_at, names_in_set, comma_joined, one_or_list, entry_word}
 use Rattle.mv_back.proofs.Spelled.{AreSpelled}
-use Rattle.mv_back.proofs.Passes.{all-weaker}
 use Rattle.mv_back.proofs.Members.{members, joined, members-below, members-joined}
-use Rattle.mv_back.proofs.Names.{commaless, no_comma, first-other, is_bracket, ValueName, value_name-has}
+use Rattle.mv_decl.proofs.Words.{all-weaker, commaless, no_comma}
 
 pub lawful-at : {count : ℕ} (values : List (List ℕ)) (m : ℕ) → AreSpelled count values → m < length values → ValueName (value_at values m)
 lawful-at values m names low = value_name-has _ (AllPass-from_list_all is_value_name values names.lawful m [] low)
 
--- ---- one name
-
-named-set : (values : List (List ℕ)) (w : List ℕ) (v : ℕ) → ValueName w → place_of w values ≡ Some v → word_set values w ≡ Ok (one v)
-unfolding word_set plain_of
-named-set values [] v name e = absurd (let s = name.net.some in omega arith)
-named-set values (b ∷ bs) v name e =
-    let k = or_parts (is_bracket b) (list_any is_bracket bs) name.bracket in
-    let p = or_parts ((b == 40) || (b == 41) || (b == 123)) (b == 125) k.0 in
-    let q = or_parts ((b == 40) || (b == 41)) (b == 123) p.0 in
-    let r = or_parts (b == 40) (b == 41) q.0 in
-    rw (first-other 33 b bs name.bang, first-other 61 b bs name.equal, r.0, q.1, name.dash, e) refl
-
 -- ---- a list in brackets
-
-inner : (bytes : List ℕ) → take (length (bytes ++ 41 ∷ []) - 1) (bytes ++ 41 ∷ []) ≡ bytes
-inner bytes =
-    let size : length (bytes ++ 41 ∷ []) - 1 ≡ length bytes = omega (arith, length-append bytes (41 ∷ [])) in
-    rw size (take-append_seam bytes (41 ∷ []))
-
-listed-set : (values : List (List ℕ)) (bytes : List ℕ) → word_set values (40 ∷ (bytes ++ 41 ∷ [])) ≡ list_of values bytes
-unfolding word_set
-listed-set values bytes = ap (list_of values) (inner bytes)
 
 -- words without a comma, joined and cut at the commas
 split-joined : (w : List ℕ) (ws : List (List ℕ)) → list_all commaless (w ∷ ws) ≡ true → slice_split (λ b. b == 44) (comma_joined (w ∷ ws)) ≡ w ∷ ws
@@ -78,12 +58,8 @@ by_members values (m ∷ []) set names low e some =
 by_members values (m ∷ k ∷ ms) set names low e some =
     let spelled : List (List ℕ) = map (value_at values) (m ∷ k ∷ ms) in
     let commas : list_all commaless spelled ≡ true = list_all-map commaless (value_at values) (m ∷ k ∷ ms) ∙ all-weaker (λ n. nat_lt n (length values)) (λ n. commaless (value_at values n)) (λ n l. not_from_false _ (lawful-at values n names (ltb-true n (length values) l)).net.comma) (m ∷ k ∷ ms) low in
-    listed-set values (comma_joined spelled)
+    listed-set values 40 (comma_joined spelled) refl
     ∙ (ap (items_of values empty) (split-joined (value_at values m) (map (value_at values) (k ∷ ms)) commas) ∙ (items-joined values (m ∷ k ∷ ms) empty names low ∙ ap Ok e))
-
-full-set : (values : List (List ℕ)) → word_set values (codes "-") ≡ Ok (full (length values))
-unfolding word_set plain_of
-full-set values = refl
 
 pub entry-set : {count : ℕ} (values : List (List ℕ)) (set : ℕ) → AreSpelled count values → (set ≡ empty → ⊥) → Within set (full count) → word_set values (entry_word values set) ≡ Ok set
 unfolding entry_word
@@ -99,11 +75,7 @@ first-member : (c : ℕ) (values : List (List ℕ)) (ms : List ℕ) → (40 == c
 first-member c values [] bracket names low = bracket
 first-member c values (m ∷ []) bracket names low =
     not-true _ (AllPass-from_list_all (λ w. not (begins_with c w)) values names m [] (ltb-true m (length values) (and_parts (nat_lt m (length values)) true low).0))
-first-member c values (m ∷ k ∷ ms) bracket names low = ap (λ b. nat_lt 0 (length (one_or_list (map (value_at values) (m ∷ k ∷ ms)))) && b) bracket ∙ none (nat_lt 0 (length (one_or_list (map (value_at values) (m ∷ k ∷ ms)))))
-  where
-    none : (b : Bool) → (b && false) ≡ false
-    none true = refl
-    none false = refl
+first-member c values (m ∷ k ∷ ms) bracket names low = ap (λ b. nat_lt 0 (length (one_or_list (map (value_at values) (m ∷ k ∷ ms)))) && b) bracket ∙ and-false (nat_lt 0 (length (one_or_list (map (value_at values) (m ∷ k ∷ ms)))))
 
 -- it begins with a hyphen, a bracket, or as a name does
 pub entry-begins : (c : ℕ) (values : List (List ℕ)) (set : ℕ) → (45 == c) ≡ false → (40 == c) ≡ false → list_all (λ w. not (begins_with c w)) values ≡ true → begins_with c (entry_word values set) ≡ false

@@ -9,8 +9,8 @@ use Rattle.mv_parse.specs.declared.command.Command.{Command}
 use Rattle.mv_parse.specs.declared.command.Command.TheVariants.{Table, Default, Row}
 use Rattle.mv_parse.specs.Commands.{command_at, keeps_table, is_table, is_end}
 use Rattle.mv_parse.specs.Known.{front_rows, table_at, tables_of}
-use Rattle.mv_parse.specs.Grammar.{values_at, value_faults}
-use Rattle.mv_back.proofs.Passes.{all-weaker}
+use Rattle.mv_parse.specs.Grammar.{table_value_faults, value_faults}
+use Rattle.mv_decl.proofs.Words.{all-weaker}
 use Rattle.mv_back.proofs.Opened.{goes_on}
 
 -- ---- what leaves a table open, and what begins none
@@ -36,7 +36,7 @@ no_table : (c : Command) (ds : List Decl) (l : LexLine) (ls : List LexLine) → 
 no_table Table ds l ls e = cc
 no_table _ ds l ls e = refl
 
-no_values : (c : Command) (ds : List Decl) (l : LexLine) (ls : List LexLine) → is_table c ≡ false → values_at c ds l ls ≡ []
+no_values : (c : Command) (ds : List Decl) (l : LexLine) (ls : List LexLine) → is_table c ≡ false → table_value_faults c ds l ls ≡ []
 no_values Table ds l ls e = cc
 no_values _ ds l ls e = refl
 

@@ -6,7 +6,6 @@ pub mod Passes
 pub mod Lawful
 pub mod NetLines
 pub mod Members
-pub mod Names
 pub mod Entries
 pub mod Commands
 pub mod Opened
@@ -38,4 +37,3 @@ pub mod BackPorts
 pub mod TableMeaning
 pub mod BackMeaning
 pub mod Whole
-pub mod NoNets

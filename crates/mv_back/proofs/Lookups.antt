@@ -7,7 +7,7 @@ use Rattle.std.proofs.lemmas.Fmt.{decimal_digit}
 use Rattle.mv_base.specs.Names.{same_word, among, names_differ}
 use Rattle.mv_base.proofs.NameLemmas.{same_word_is, same_word_refl, place_of-none}
 use Rattle.mv_design.specs.declared.design.Decl.{Decl}
-use Rattle.mv_decl.specs.Nets.{two_values, values_of, nets_of}
+use Rattle.mv_decl.specs.Nets.{two_values, values_of, declared_of}
 use Rattle.mv_decl.proofs.Kept.{not_found}
 use Rattle.mv_net.specs.declared.parts.FlatNet.{FlatNet}
 use Rattle.mv_net.specs.Nets.{slot, spelled_values}
@@ -32,7 +32,7 @@ HasOther w fs = (m : ℕ) (g : FlatNet) → slot fs m ≡ Some g → w ≡ g.nam
 other_word : (w v : List ℕ) → (w ≡ v → ⊥) → same_word w v ≡ false
 other_word w v h = false_from_ne_true (same_word w v) (λ y. h (same_word_is w v y))
 
-absent : (w : List ℕ) (fs : List (Option FlatNet)) → HasOther w fs → among w (nets_of (declared fs)) ≡ false
+absent : (w : List ℕ) (fs : List (Option FlatNet)) → HasOther w fs → among w (declared_of (declared fs)) ≡ false
 absent w [] h = refl
 absent w (None ∷ fs) h = absent w fs (λ m g e. h (suc m) g e)
 absent w (Some f ∷ fs) h =
@@ -48,14 +48,14 @@ named-tail o fs named = record { apart = λ n m f g p q e. (let same = named.apa
 head_other : (f : FlatNet) (fs : List (Option FlatNet)) → AreNamed (Some f ∷ fs) → HasOther f.name fs
 head_other f fs named = λ m g held e. (let same = named.apart 0 (suc m) f g refl held e in omega arith)
 
-pub declared-differ : (fs : List (Option FlatNet)) → AreNamed fs → names_differ (nets_of (declared fs)) ≡ true
+pub declared-differ : (fs : List (Option FlatNet)) → AreNamed fs → names_differ (declared_of (declared fs)) ≡ true
 declared-differ [] named = refl
 declared-differ (None ∷ fs) named = declared-differ fs (named-tail None fs named)
 declared-differ (Some f ∷ fs) named =
     let rest = declared-differ fs (named-tail (Some f) fs named) in
     ⊎_elim
     (λ (y : is_plain_pair f ≡ true). rw y rest)
-    (λ (n : is_plain_pair f ≡ false). rw n (and_from (not (among f.name (nets_of (declared fs)))) _ (not_from_false _ (absent f.name fs (head_other f fs named))) rest))
+    (λ (n : is_plain_pair f ≡ false). rw n (and_from (not (among f.name (declared_of (declared fs)))) _ (not_from_false _ (absent f.name fs (head_other f fs named))) rest))
     (cases_Bool (is_plain_pair f))
 
 -- ---- values
@@ -73,7 +73,7 @@ plain-values f y =
 values-head : (f : FlatNet) (fs : List (Option FlatNet)) → AreNamed (Some f ∷ fs) → values_of (declared (Some f ∷ fs)) f.name ≡ spelled_values f.values f.value_names
 values-head f fs named =
     ⊎_elim
-    (λ (y : is_plain_pair f ≡ true). rw y (not_found (declared fs) f.name (place_of-none f.name (nets_of (declared fs)) (absent f.name fs (head_other f fs named))) ∙ plain-values f y))
+    (λ (y : is_plain_pair f ≡ true). rw y (not_found (declared fs) f.name (place_of-none f.name (declared_of (declared fs)) (absent f.name fs (head_other f fs named))) ∙ plain-values f y))
     (λ (n : is_plain_pair f ≡ false). rw n (cond-true _ _ _ (same_word_refl f.name)))
     (cases_Bool (is_plain_pair f))
 

@@ -2,6 +2,7 @@
 use Rattle.std.proofs.Common.{◌≡◌, ◌∙◌, ℕ, zero, suc, ◌+◌, Bool, true, false, ◌&&◌, ◌||◌, List, [], ◌∷◌, filter, refl, sym, ap, ⊎_elim, arith}
 use Rattle.std.specs.Prelude.{nat_eq, nat_lt, nat_le}
 use Rattle.std.specs.List.{list_all, list_any, range_with_len}
+use Rattle.std.proofs.Math.Bool.{or-false, or_assoc}
 use Rattle.std.proofs.lemmas.Bool.{cases_Bool, and_from, and_right, lt-ltb, ltb-true}
 use Rattle.std.proofs.lemmas.Bool.Decides.{nat_tests}
 use Rattle.mv_base.specs.Set.{has, empty, one, full, join, Within}
@@ -37,16 +38,8 @@ passing-any p a (suc k) v =
     (λ (f : p a ≡ false). rw f (passing-any p (a + 1) k v ∙ one_less (p v) a k v (λ e. ap p e ∙ f)))
     (cases_Bool (p a))
 
-or_assoc : (a b c : Bool) → ((a || b) || c) ≡ (a || (b || c))
-or_assoc true b c = refl
-or_assoc false b c = refl
-
 has-joined : (ms : List ℕ) (set v : ℕ) → has (joined set ms) v ≡ (has set v || list_any (λ m. nat_eq v m) ms)
-has-joined [] set v = sym (none (has set v))
-  where
-    none : (b : Bool) → (b || false) ≡ b
-    none true = refl
-    none false = refl
+has-joined [] set v = sym (or-false (has set v))
 has-joined (m ∷ ms) set v =
     has-joined ms (join set (one m)) v ∙ (ap (λ b. b || list_any (λ k. nat_eq v k) ms) (has-join set (one m) v ∙ ap (λ b. has set v || b) (has-one m v)) ∙ or_assoc (has set v) (nat_eq v m) (list_any (λ k. nat_eq v k) ms))
 

@@ -9,7 +9,7 @@ use Rattle.mv_lex.specs.declared.lines.LexLine.{LexLine}
 use Rattle.mv_design.specs.declared.design.Decl.{Decl}
 use Rattle.mv_design.specs.declared.design.FileModel.{FileModel}
 use Rattle.mv_design.specs.declared.table.FileTable.{FileTable}
-use Rattle.mv_decl.specs.Nets.{nets_of}
+use Rattle.mv_decl.specs.Nets.{declared_of}
 use Rattle.mv_parse.specs.declared.command.Command.TheVariants.{Inputs, Outputs, End}
 use Rattle.mv_parse.specs.Known.{outputs_of, decls_of, tables_of, open_model, file_model, known}
 use Rattle.mv_parse.specs.Grammar.{model_faults, port_faults, end_faults, value_faults, line_faults, faults_at, file_faults, faults_of, design_of, IsDesign}
@@ -65,7 +65,7 @@ module _ (net : NetParts) (formed : WellFormed net) (none : net.latches ≡ []) 
 
   decls : AreDecls first ports (decl_part net) (declared net.nets)
   decls =
-      let differ : names_differ (nets_of (decls_of ports) ++ nets_of (declared net.nets)) ≡ true = rw no_decls (declared-differ net.nets (are_named net formed)) in
+      let differ : names_differ (declared_of (decls_of ports) ++ declared_of (declared net.nets)) ≡ true = rw no_decls (declared-differ net.nets (are_named net formed)) in
       decl-lines first ports 4 net.nets ports_go (EachNet-from CanBeSaid net.nets (λ n f held. held-said net formed none n f held)) differ
 
   decls_are : decls_of (body net) ≡ declared net.nets

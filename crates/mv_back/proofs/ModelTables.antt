@@ -3,13 +3,14 @@ use Rattle.std.proofs.Common.{◌≡◌, ℕ, suc, zero, ◌+◌, Bool, true, fa
 use Rattle.std.specs.Prelude.{filter}
 use Rattle.std.specs.List.{list_all, list_any, flat_map, range_with_len}
 use Rattle.std.proofs.lemmas.Bool.{and_parts, or_cases}
+use Rattle.std.proofs.lemmas.Option.{same_Some}
 use Rattle.mv_cover.specs.declared.cover.Cover.{Cover}
 use Rattle.mv_design.specs.declared.table.FileTable.{FileTable}
 use Rattle.mv_model.specs.Nets.{outputs_of}
 use Rattle.mv_net.specs.declared.parts.FlatNet.{FlatNet}
 use Rattle.mv_net.specs.Nets.{slot, name_in, table_in}
 use Rattle.mv_back.specs.Models.{IsTableOf, TableOrNot, AreTablesOf}
-use Rattle.mv_back.proofs.Numbers.{names_at, some_same}
+use Rattle.mv_back.proofs.Numbers.{names_at}
 
 -- ---- each table is that of a held net
 
@@ -81,7 +82,7 @@ table_at nets (None ∷ fs) ts test (suc j) f c a all h t = table_at nets fs ts 
 table_at nets (Some g ∷ fs) ts test zero f c a all h t =
     let P : FlatNet → Type 0 = λ x. TableOrNot nets x x.table (AreTablesOf nets fs) ts in
     let Q : Option Cover → Type 0 = λ o. TableOrNot nets f o (AreTablesOf nets fs) ts in
-    first_table nets f c test (AreTablesOf nets fs) ts (subst Q t (subst P (some_same g f h) a)) all
+    first_table nets f c test (AreTablesOf nets fs) ts (subst Q t (subst P (same_Some g f h) a)) all
 table_at nets (Some g ∷ fs) ts test (suc j) f c a all h t =
     later_table nets g f g.table c test (AreTablesOf nets fs) ts a all (λ us b every. table_at nets fs us test j f c b every h t)
 

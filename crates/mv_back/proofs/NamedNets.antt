@@ -1,80 +1,36 @@
 -- The nets that a network's model names are held nets of the network.
-use Rattle.std.proofs.Common.{inl, inr, ◌⊎◌, ◌≡◌, ℕ, true, List, [], ◌∷◌, ◌++◌, length, Option, Some, refl, sym, ◌∙◌, ap, ⊎_elim}
+use Rattle.std.proofs.Common.{◌≡◌, ℕ, true, List, [], ◌∷◌, ◌++◌, length, Option, Some, refl, sym, ◌∙◌, ap, ⊎_elim}
 use Rattle.std.specs.List.{flat_map}
-use Rattle.std.proofs.lemmas.Bool.{or_cases, or_left, or_right, eq-eqb, cond_both}
+use Rattle.std.proofs.lemmas.Bool.{or_cases, or_left, or_right, eq-eqb}
 use Rattle.mv_base.specs.Names.{same_word, among}
-use Rattle.mv_base.proofs.NameLemmas.{same_word_is, among-append}
+use Rattle.mv_base.proofs.NameLemmas.{same_word_is}
 use Rattle.mv_cover.specs.declared.cover.Cover.{Cover}
 use Rattle.mv_cover.specs.Covers.{cover_reads}
 use Rattle.mv_design.specs.declared.table.FileTable.{FileTable}
 use Rattle.mv_design.specs.declared.design.FileModel.{FileModel}
-use Rattle.mv_model.specs.Nets.{columns_of, outputs_of, nets_named, with_name, with_names, nets_of, drivers}
+use Rattle.mv_model.specs.Nets.{columns_of, nets_named, nets_of, drivers}
+use Rattle.mv_model.proofs.Named.{among-nets_of}
+use Rattle.mv_model.proofs.Soundness.{in_either, driver_is_net}
 use Rattle.mv_net.specs.declared.parts.FlatNet.{FlatNet}
 use Rattle.mv_net.specs.declared.parts.NetParts.{NetParts}
 use Rattle.mv_net.specs.Nets.{slot, name_in, net_reads}
 use Rattle.mv_net.specs.Formed.{WellFormed}
 use Rattle.mv_net.proofs.Known.{reads_readable}
 use Rattle.mv_write.specs.Text.{fanins_of}
+use Rattle.mv_write.specs.Walk.{numbers}
 use Rattle.mv_back.specs.Models.{IsModelOf}
-use Rattle.mv_back.proofs.Numbers.{number_in, numbers_of, names_at, names_at-numbers, IsHeldAt, AllHeld, held_from, held_in, range-passes, passes-at}
+use Rattle.mv_back.proofs.Numbers.{number_in, names_at, names_at-numbers, IsHeldAt, AllHeld, held_from, held_in, range-passes, passes-at}
 use Rattle.mv_back.proofs.ModelTables.{IsOfNet, AllOfNets, all_of_nets}
 use Rattle.mv_back.proofs.Driven.{inputs_held, outputs_held}
 
--- ---- what is among several lists
-
--- a word of the second list is one of both
-pub among_right : (w : List ℕ) (us ws : List (List ℕ)) → among w ws ≡ true → among w (us ++ ws) ≡ true
-among_right w us ws h = among-append w us ws ∙ or_right _ _ h
-
-pub among_left : (w : List ℕ) (us ws : List (List ℕ)) → among w us ≡ true → among w (us ++ ws) ≡ true
-among_left w us ws h = among-append w us ws ∙ or_left _ _ h
-
-pub among_cases : (w : List ℕ) (us ws : List (List ℕ)) → among w (us ++ ws) ≡ true → (among w us ≡ true) ⊎ (among w ws ≡ true)
-among_cases w us ws h = or_cases _ _ (sym (among-append w us ws) ∙ h)
-
--- ---- names once
-
-one_more : (w u : List ℕ) (names : List (List ℕ)) → among w (with_name names u) ≡ true → among w (names ++ u ∷ []) ≡ true
-one_more w u names h =
-    let P : List (List ℕ) → Type 0 = λ ws. among w ws ≡ true → among w (names ++ u ∷ []) ≡ true in
-    cond_both (among u names) names (names ++ u ∷ []) P (λ _ g. among_left w names (u ∷ []) g) (λ _ g. g) h
-
-among_all : (w : List ℕ) (names ws : List (List ℕ)) → among w (with_names names ws) ≡ true → (among w names ≡ true) ⊎ (among w ws ≡ true)
-among_all w names [] h = inl h
-among_all w names (u ∷ us) h =
-    ⊎_elim (λ (y : among w (with_name names u) ≡ true). first y) (λ (y : among w us ≡ true). inr (or_right _ _ y)) (among_all w (with_name names u) us h)
-  where
-    only : (same_word w u ≡ true) ⊎ (among w [] ≡ true) → (among w names ≡ true) ⊎ (among w (u ∷ us) ≡ true)
-    only (inl e) = inr (or_left _ _ e)
-    only (inr e) = cc
-
-    first : among w (with_name names u) ≡ true → (among w names ≡ true) ⊎ (among w (u ∷ us) ≡ true)
-    first y =
-        ⊎_elim (λ (a : among w names ≡ true). inl a) (λ (b : among w (u ∷ []) ≡ true). only (or_cases _ _ b)) (among_cases w names (u ∷ []) (one_more w u names y))
-
 -- the nets of a model are nets that it names
 pub named_of : (m : FileModel) (w : List ℕ) → among w (nets_of m) ≡ true → among w (nets_named m) ≡ true
-unfolding nets_of
-named_of m w h = ⊎_elim (λ (y : among w [] ≡ true). cc) (λ (y : among w (nets_named m) ≡ true). y) (among_all w [] (nets_named m) h)
+named_of m w h = sym (among-nets_of w m) ∙ h
 
 -- ---- a driver is named
 
-output_column : (w : List ℕ) (ts : List FileTable) → among w (flat_map outputs_of ts) ≡ true → among w (flat_map columns_of ts) ≡ true
-output_column w [] h = h
-output_column w (t ∷ ts) h =
-    ⊎_elim
-    (λ (y : among w t.outputs ≡ true). among_left w (columns_of t) (flat_map columns_of ts) (among_right w t.inputs t.outputs y))
-    (λ (y : among w (flat_map outputs_of ts) ≡ true). among_right w (columns_of t) (flat_map columns_of ts) (output_column w ts y))
-    (among_cases w t.outputs (flat_map outputs_of ts) h)
-
 pub driver_named : (m : FileModel) (w : List ℕ) → among w (drivers m) ≡ true → among w (nets_named m) ≡ true
-unfolding drivers nets_named
-driver_named m w h =
-    let more = flat_map columns_of m.tables in
-    ⊎_elim
-    (λ (y : among w m.inputs ≡ true). among_left w m.inputs (m.outputs ++ more) y)
-    (λ (y : among w (flat_map outputs_of m.tables) ≡ true). among_right w m.inputs (m.outputs ++ more) (among_right w m.outputs more (output_column w m.tables y)))
-    (among_cases w m.inputs (flat_map outputs_of m.tables) h)
+driver_named m w h = named_of m w (driver_is_net m w h)
 
 -- ---- a named net is held
 
@@ -127,7 +83,7 @@ column_held net formed t o w h =
     ⊎_elim
     (λ (y : among w t.inputs ≡ true). name_of_held net.nets fanins w (fanins_held net formed o.number o.net o.cover o.held o.table) (ap (among w) (sym o.is.inputs) ∙ y))
     (λ (y : among w t.outputs ≡ true). record { number = o.number; held = record { net = o.net; held = o.held }; is = output_is net.nets t o w y })
-    (among_cases w t.inputs t.outputs h)
+    (in_either w t.inputs t.outputs h)
 
 columns_held : (net : NetParts) → WellFormed net → (ts : List FileTable) → AllOfNets net.nets ts → (w : List ℕ) → among w (flat_map columns_of ts) ≡ true → IsNameOf net.nets w
 columns_held net formed [] all w h = cc
@@ -135,16 +91,16 @@ columns_held net formed (t ∷ ts) all w h =
     ⊎_elim
     (λ (y : among w (columns_of t) ≡ true). column_held net formed t all.0 w y)
     (λ (y : among w (flat_map columns_of ts) ≡ true). columns_held net formed ts all.1 w y)
-    (among_cases w (columns_of t) (flat_map columns_of ts) h)
+    (in_either w (columns_of t) (flat_map columns_of ts) h)
 
 pub named_held : (net : NetParts) (m : FileModel) → WellFormed net → IsModelOf net m → (w : List ℕ) → among w (nets_named m) ≡ true → IsNameOf net.nets w
 unfolding nets_named
 named_held net m formed model w h =
     let more = flat_map columns_of m.tables in
     ⊎_elim
-    (λ (y : among w m.inputs ≡ true). name_of_held net.nets (numbers_of net.inputs) w (inputs_held net formed) (ap (among w) (sym (model.inputs ∙ names_at-numbers net.nets net.inputs)) ∙ y))
+    (λ (y : among w m.inputs ≡ true). name_of_held net.nets (numbers net.inputs) w (inputs_held net formed) (ap (among w) (sym (model.inputs ∙ names_at-numbers net.nets net.inputs)) ∙ y))
     (λ (y : among w (m.outputs ++ more) ≡ true). ⊎_elim
-    (λ (z : among w m.outputs ≡ true). name_of_held net.nets (numbers_of net.outputs) w (outputs_held net formed) (ap (among w) (sym (model.outputs ∙ names_at-numbers net.nets net.outputs)) ∙ z))
+    (λ (z : among w m.outputs ≡ true). name_of_held net.nets (numbers net.outputs) w (outputs_held net formed) (ap (among w) (sym (model.outputs ∙ names_at-numbers net.nets net.outputs)) ∙ z))
     (λ (z : among w more ≡ true). columns_held net formed m.tables (all_of_nets net.nets m.tables model.tables) w z)
-    (among_cases w m.outputs more y))
-    (among_cases w m.inputs (m.outputs ++ more) h)
+    (in_either w m.outputs more y))
+    (in_either w m.inputs (m.outputs ++ more) h)

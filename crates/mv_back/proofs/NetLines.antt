@@ -12,7 +12,8 @@ use Rattle.mv_net.specs.declared.parts.FlatNet.{FlatNet}
 use Rattle.mv_net.specs.declared.parts.NetParts.{NetParts}
 use Rattle.mv_net.specs.declared.parts.Kind.TheVariants.{Reset}
 use Rattle.mv_net.specs.Nets.{slot, name_in, spelled_in, spelled_values, table_reads, net_reads}
-use Rattle.mv_net.specs.Formed.{stands_in, latch_resets, WellFormed}
+use Rattle.mv_net.specs.Formed.{latch_resets, WellFormed}
+use Rattle.mv_net.specs.Index.{has_id}
 use Rattle.mv_net.proofs.Known.{reads_readable}
 use Rattle.mv_lex.specs.Lines.{lines_of, is_clean}
 use Rattle.mv_write.specs.Text.{fanins_of, fanin_word, set_in, entry_word, line_words, default_words, head_words, cover_words, table_words, net_words, is_plain_pair, decl_words, names_of, inner_lines, net_lines, text_of}
@@ -47,8 +48,8 @@ module _ (net : NetParts) (formed : WellFormed net) (none : net.latches ≡ []) 
   pub no_reset : (n : ℕ) (f : FlatNet) → slot net.nets n ≡ Some f → f.kind ≡ Reset → ⊥
   no_reset n f held is =
       let id : NetId = record { 0 = n } in
-      let stands : stands_in id (latch_resets net.latches) ≡ true = formed.resets.all id (record { net = f; held = held; is = is }) in
-      let empty : stands_in id [] ≡ true = subst (λ ls. stands_in id (latch_resets ls) ≡ true) none stands in
+      let stands : has_id (latch_resets net.latches) id.0 ≡ true = formed.resets.all id (record { net = f; held = held; is = is }) in
+      let empty : has_id [] id.0 ≡ true = subst (λ ls. has_id (latch_resets ls) id.0 ≡ true) none stands in
       absurd (false≢true empty)
 
   name_written : (n : ℕ) (f : FlatNet) → slot net.nets n ≡ Some f → is_written_word (name_in (slot net.nets n)) ≡ true
@@ -123,7 +124,7 @@ module _ (net : NetParts) (formed : WellFormed net) (none : net.latches ≡ []) 
       ∙ and_from (list_all is_written_line (flat_map decl_words net.nets)) _ (flat_map-pass is_written_line decl_words net.nets None decl_written) (flat_map-pass is_written_line (net_words net.nets) net.nets None table_written)
 
   -- the line of the inputs, and that of the outputs
-  names_written : (ns : List NetId) → ((n : NetId) → stands_in n ns ≡ true → is_written_word (name_in (slot net.nets n.0)) ≡ true) → list_all is_written_word (names_of net.nets ns) ≡ true
+  names_written : (ns : List NetId) → ((n : NetId) → has_id ns n.0 ≡ true → is_written_word (name_in (slot net.nets n.0)) ≡ true) → list_all is_written_word (names_of net.nets ns) ≡ true
   names_written ns each =
       list_all-map is_written_word (λ (n : NetId). name_in (slot net.nets n.0)) ns ∙ stands-pass (λ n. is_written_word (name_in (slot net.nets n.0))) ns each
 

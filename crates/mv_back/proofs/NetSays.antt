@@ -15,7 +15,7 @@ use Rattle.mv_parse.specs.Known.{inputs_at, inputs_of, outputs_at, outputs_of, d
 use Rattle.mv_net.specs.declared.parts.FlatNet.{FlatNet}
 use Rattle.mv_net.specs.declared.parts.NetParts.{NetParts}
 use Rattle.mv_write.specs.Text.{is_plain_pair, decl_words, net_words, names_of, inner_lines, net_lines}
-use Rattle.mv_back.proofs.Passes.{all-weaker}
+use Rattle.mv_decl.proofs.Words.{all-weaker}
 use Rattle.mv_back.proofs.Commands.{command-model, command-inputs, command-outputs, command-mv}
 use Rattle.mv_back.proofs.Opened.{goes_on}
 use Rattle.mv_back.proofs.LinesFrom.{lines_from-append}

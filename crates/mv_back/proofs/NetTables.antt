@@ -14,7 +14,7 @@ use Rattle.mv_net.specs.declared.parts.FlatNet.{FlatNet}
 use Rattle.mv_net.specs.Nets.{spelled_values}
 use Rattle.mv_write.specs.Text.{fanins_of, entry_word, default_words, line_words, table_words, net_words}
 use Rattle.mv_back.specs.Models.{fanin_names, TableOrNot, AreTablesOf}
-use Rattle.mv_back.proofs.Passes.{all-weaker}
+use Rattle.mv_decl.proofs.Words.{all-weaker}
 use Rattle.mv_back.proofs.Commands.{command-table}
 use Rattle.mv_back.proofs.Opened.{goes_on}
 use Rattle.mv_back.proofs.Limits.{AreFine, AreFine-append}

@@ -9,7 +9,9 @@ use Rattle.mv_base.proofs.NameLemmas.{same_word_is, same_word_refl}
 use Rattle.mv_base.specs.declared.number.NetId.{NetId}
 use Rattle.mv_net.specs.declared.parts.FlatNet.{FlatNet}
 use Rattle.mv_net.specs.Nets.{slot, name_in}
-use Rattle.mv_net.specs.Formed.{stands_in, all_differ}
+use Rattle.mv_net.specs.Formed.{all_differ}
+use Rattle.mv_net.specs.Index.{has_id}
+use Rattle.mv_write.specs.Walk.{numbers}
 
 -- ---- lists of numbers
 
@@ -20,29 +22,26 @@ abbrev pub numbers_differ : List ℕ → Bool
 numbers_differ [] = true
 numbers_differ (k ∷ ks) = not (number_in k ks) && numbers_differ ks
 
-abbrev pub numbers_of : List NetId → List ℕ
-numbers_of ns = map (λ (n : NetId). n.0) ns
-
 eqb_sym : (a b : ℕ) → nat_eq a b ≡ nat_eq b a
 eqb_sym a b =
     ⊎_elim (λ (e : a ≡ b). eq-eqb a b e ∙ sym (eq-eqb b a (sym e))) (λ (n : a ≡ b → ⊥). ne_eqb a b n ∙ sym (ne_eqb b a (λ e. n (sym e)))) (cases_eq a b)
 
-pub number_in-stands : (n : NetId) (ns : List NetId) → number_in n.0 (numbers_of ns) ≡ stands_in n ns
+pub number_in-stands : (n : NetId) (ns : List NetId) → number_in n.0 (numbers ns) ≡ has_id ns n.0
 number_in-stands n [] = refl
 number_in-stands n (m ∷ ns) =
-    ap (λ b. nat_eq n.0 m.0 || b) (number_in-stands n ns) ∙ ap (λ b. b || stands_in n ns) (eqb_sym n.0 m.0)
+    ap (λ b. nat_eq n.0 m.0 || b) (number_in-stands n ns) ∙ ap (λ b. b || has_id ns n.0) (eqb_sym n.0 m.0)
 
-pub numbers_differ-all : (ns : List NetId) → all_differ ns ≡ true → numbers_differ (numbers_of ns) ≡ true
+pub numbers_differ-all : (ns : List NetId) → all_differ ns ≡ true → numbers_differ (numbers ns) ≡ true
 numbers_differ-all [] e = refl
 numbers_differ-all (n ∷ ns) e =
-    let p = and_parts (not (stands_in n ns)) (all_differ ns) e in
+    let p = and_parts (not (has_id ns n.0)) (all_differ ns) e in
     and_from _ _ (ap not (number_in-stands n ns) ∙ p.0) (numbers_differ-all ns p.1)
 
 -- the names of numbers
 abbrev pub names_at : List (Option FlatNet) → List ℕ → List (List ℕ)
 names_at nets ks = map (λ k. name_in (slot nets k)) ks
 
-pub names_at-numbers : (nets : List (Option FlatNet)) (ns : List NetId) → map (λ (n : NetId). name_in (slot nets n.0)) ns ≡ names_at nets (numbers_of ns)
+pub names_at-numbers : (nets : List (Option FlatNet)) (ns : List NetId) → map (λ (n : NetId). name_in (slot nets n.0)) ns ≡ names_at nets (numbers ns)
 names_at-numbers nets [] = refl
 names_at-numbers nets (n ∷ ns) = ap (λ ws. name_in (slot nets n.0) ∷ ws) (names_at-numbers nets ns)
 
@@ -104,9 +103,6 @@ named_first w f fs e = rw e refl
 
 named_later : (w : List ℕ) (f : Option FlatNet) (fs : List (Option FlatNet)) → is_named w f ≡ false → number_of w (f ∷ fs) ≡ suc (number_of w fs)
 named_later w f fs e = rw e refl
-
-pub some_same : (f g : FlatNet) → Some f ≡ Some g → f ≡ g
-some_same f g e = cc
 
 named_some : (w : List ℕ) (f : Option FlatNet) → is_named w f ≡ true → (g : FlatNet) × (f ≡ Some g) × (w ≡ g.name)
 named_some w None e = cc

@@ -2,10 +2,10 @@
 use Rattle.std.proofs.Common.{◌≡◌, ℕ, zero, suc, ◌+◌, ◌<◌, ◌≤◌, Bool, true, false, List, [], ◌∷◌, get_or, refl, ◌∙◌, arith, ⊎_elim}
 use Rattle.std.specs.Prelude.{nat_eq, filter}
 use Rattle.std.specs.List.{list_all, flat_map, range_with_len}
-use Rattle.std.proofs.lemmas.Bool.{and_parts, cases_Bool, and_from, or_left, or_right, eq-eqb}
+use Rattle.std.proofs.lemmas.Bool.{cases_Bool, and_from, or_left, or_right, eq-eqb}
 use Rattle.std.proofs.lemmas.List.Folds.{list_all-append}
 use Rattle.mv_base.specs.declared.number.NetId.{NetId}
-use Rattle.mv_net.specs.Formed.{stands_in}
+use Rattle.mv_net.specs.Index.{has_id}
 
 -- a test that every value passes
 pub everywhere : {X : Type 0} (q : X → Bool) → ((x : X) → q x ≡ true) → (xs : List X) → list_all q xs ≡ true
@@ -19,10 +19,10 @@ flat_map-pass q f (x ∷ xs) d each =
     list_all-append q (f x) (flat_map f xs) ∙ and_from (list_all q (f x)) _ (each zero) (flat_map-pass q f xs d (λ i. each (suc i)))
 
 -- a test of nets that each net of the list passes
-pub stands-pass : (q : NetId → Bool) (ns : List NetId) → ((n : NetId) → stands_in n ns ≡ true → q n ≡ true) → list_all q ns ≡ true
+pub stands-pass : (q : NetId → Bool) (ns : List NetId) → ((n : NetId) → has_id ns n.0 ≡ true → q n ≡ true) → list_all q ns ≡ true
 stands-pass q [] each = refl
 stands-pass q (n ∷ ns) each =
-    and_from (q n) _ (each n (or_left (nat_eq n.0 n.0) (stands_in n ns) (eq-eqb n.0 n.0 refl))) (stands-pass q ns (λ m s. each m (or_right (nat_eq n.0 m.0) (stands_in m ns) s)))
+    and_from (q n) _ (each n (or_left (nat_eq n.0 n.0) (has_id ns n.0) (eq-eqb n.0 n.0 refl))) (stands-pass q ns (λ m s. each m (or_right (nat_eq n.0 m.0) (has_id ns m.0) s)))
 
 -- of the numbers of a range those that pass one test pass another, if each number below the range's end does
 pub picked-pass : (p q : ℕ → Bool) (a n end : ℕ) → a + n ≤ end → ((k : ℕ) → k < end → p k ≡ true → q k ≡ true) → list_all q (filter p (range_with_len a n)) ≡ true
@@ -33,10 +33,3 @@ picked-pass p q a (suc n) end low each =
     (λ (y : p a ≡ true). rw y (and_from (q a) _ (each a (omega (arith, low)) y) rest))
     (λ (f : p a ≡ false). rw f rest)
     (cases_Bool (p a))
-
--- what passes one test passes another that follows from it
-pub all-weaker : {X : Type 0} (p q : X → Bool) → ((x : X) → p x ≡ true → q x ≡ true) → (xs : List X) → list_all p xs ≡ true → list_all q xs ≡ true
-all-weaker p q h [] e = refl
-all-weaker p q h (x ∷ xs) e =
-    let r = and_parts (p x) (list_all p xs) e in
-    and_from (q x) (list_all q xs) (h x r.0) (all-weaker p q h xs r.1)

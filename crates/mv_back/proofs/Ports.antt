@@ -7,15 +7,17 @@ use Rattle.mv_base.specs.declared.number.NetId.{NetId}
 use Rattle.mv_net.specs.declared.parts.Kind.TheVariants.{Input, Reset}
 use Rattle.mv_net.specs.declared.parts.NetParts.{NetParts}
 use Rattle.mv_net.specs.Nets.{slot, name_in}
-use Rattle.mv_net.specs.Formed.{stands_in, all_differ, IsReadable, WellFormed}
+use Rattle.mv_net.specs.Formed.{all_differ, IsReadable, WellFormed}
+use Rattle.mv_net.specs.Index.{has_id}
 use Rattle.mv_write.specs.Text.{names_of}
-use Rattle.mv_back.proofs.Numbers.{numbers_of, number_in-stands, numbers_differ-all, names_at-numbers, AllHeld, held_from, names-differ as names-apart}
+use Rattle.mv_write.specs.Walk.{numbers}
+use Rattle.mv_back.proofs.Numbers.{number_in-stands, numbers_differ-all, names_at-numbers, AllHeld, held_from, names-differ as names-apart}
 use Rattle.mv_back.proofs.Passes.{stands-pass}
 
 module _ (net : NetParts) (formed : WellFormed net) where
   -- the nets of a list can be read
   abbrev CanRead : List NetId → Type 0
-  CanRead ns = (n : NetId) → stands_in n ns ≡ true → IsReadable net.nets n.0
+  CanRead ns = (n : NetId) → has_id ns n.0 ≡ true → IsReadable net.nets n.0
 
   lawful : (n : NetId) → IsReadable net.nets n.0 → is_net_name (name_in (slot net.nets n.0)) ≡ true
   lawful n r = ap (λ o. is_net_name (name_in o)) r.held ∙ (formed.nets n.0 r.net r.held).name r.plain
@@ -25,13 +27,13 @@ module _ (net : NetParts) (formed : WellFormed net) where
       list_all-map is_net_name (λ (n : NetId). name_in (slot net.nets n.0)) ns
       ∙ stands-pass (λ (n : NetId). is_net_name (name_in (slot net.nets n.0))) ns (λ n h. lawful n (read n h))
 
-  held : (ns : List NetId) → CanRead ns → AllHeld net.nets (numbers_of ns)
+  held : (ns : List NetId) → CanRead ns → AllHeld net.nets (numbers ns)
   held ns read =
-      held_from net.nets (numbers_of ns) (λ k h. let r = read (record { 0 = k }) (sym (number_in-stands (record { 0 = k }) ns) ∙ h) in record { net = r.net; held = r.held })
+      held_from net.nets (numbers ns) (λ k h. let r = read (record { 0 = k }) (sym (number_in-stands (record { 0 = k }) ns) ∙ h) in record { net = r.net; held = r.held })
 
   pub names-differ : (ns : List NetId) → CanRead ns → all_differ ns ≡ true → names_differ (names_of net.nets ns) ≡ true
   names-differ ns read e =
-      ap names_differ (names_at-numbers net.nets ns) ∙ names-apart net.nets (record { only = formed.names }) (numbers_of ns) (held ns read) (numbers_differ-all ns e)
+      ap names_differ (names_at-numbers net.nets ns) ∙ names-apart net.nets (record { only = formed.names }) (numbers ns) (held ns read) (numbers_differ-all ns e)
 
   pub read-inputs : CanRead net.inputs
   read-inputs n h =

@@ -3,33 +3,27 @@ use Rattle.std.proofs.Common.{◌≡◌, ◌∙◌, ℕ, ◌<◌, List, [], ◌�
 use Rattle.std.specs.Prelude.{Option, Ok, drop}
 use Rattle.std.specs.List.{AllByRecursion}
 use Rattle.std.proofs.Math.Seq.{drop-append_seam}
-use Rattle.std.proofs.lemmas.Bool.{false≢true, cond_both, eqb-true, lt-ltb}
+use Rattle.std.proofs.lemmas.Bool.{cond_both, eqb-true}
 use Rattle.std.proofs.lemmas.List.{length-map}
-use Rattle.mv_base.specs.Set.{has, full}
-use Rattle.mv_base.proofs.Sets.{has-empty, has-full}
 use Rattle.mv_design.specs.declared.table.Entry.TheVariants.{Set}
 use Rattle.mv_design.specs.declared.design.Decl.{Decl}
 use Rattle.mv_cover.specs.declared.cube.Lit.{Lit}
 use Rattle.mv_cover.specs.declared.line.Line.{Line}
+use Rattle.mv_cover.specs.Lines.{IsOutput}
 use Rattle.mv_word.specs.Entries.{word_set}
 use Rattle.mv_decl.specs.Nets.{values_of}
-use Rattle.mv_table.specs.Entries.{in_said, out_said, set_entry, ins_faults, ins_said, outs_faults, outs_said}
+use Rattle.mv_table.specs.Entries.{in_said, out_word, out_said, set_entry, ins_faults, ins_said, outs_faults, outs_said}
 use Rattle.mv_table.specs.Tables.{row_of, row_faults}
 use Rattle.mv_net.specs.declared.parts.FlatNet.{FlatNet}
 use Rattle.mv_net.specs.Nets.{slot, name_in, values_in, spelled_in}
-use Rattle.mv_net.specs.Formed.{IsOutput, AllLiterals}
+use Rattle.mv_net.specs.Formed.{AllLiterals}
 use Rattle.mv_write.specs.Text.{entry_word, set_in, fanin_word, line_words}
+use Rattle.mv_write.proofs.Literals.{full_output}
 use Rattle.mv_back.specs.Models.{set_entries, row_of as row_said}
 use Rattle.mv_back.proofs.Spelled.{AreSpelled}
 use Rattle.mv_back.proofs.Entries.{entry-set, entry-equal}
 
 -- ---- sets of a cube
-
-full_output : (values : ℕ) → 0 < values → IsOutput values (full values)
-full_output values some = record {
-  some = λ e. false≢true (sym (has-empty 0) ∙ (ap (λ s. has s 0) (sym e) ∙ (has-full values 0 ∙ lt-ltb 0 values some)));
-  within = λ v h. h;
-}
 
 set-output : (nets : List (Option FlatNet)) (cube : List Lit) (m : ℕ) → AllLiterals nets cube → 0 < values_in (slot nets m) → IsOutput (values_in (slot nets m)) (set_in nets cube m)
 set-output nets [] m all some = full_output (values_in (slot nets m)) some
@@ -51,7 +45,7 @@ in_says ds name values names set is out =
     ap (λ ws. word_set ws (entry_word names set)) is.found ∙ entry-set names set is.spelled out.some out.within
 
 out_says : (ds : List Decl) (ins : List (List ℕ)) (name : List ℕ) (values : ℕ) (names : List (List ℕ)) (set : ℕ) → IsColumn ds name values names → IsOutput values set → out_said ds ins name (entry_word names set) ≡ Ok (Set set)
-unfolding out_said
+unfolding out_said out_word in_said
 out_says ds ins name values names set is out =
     rw (entry-equal names set is.spelled) (ap set_entry (in_says ds name values names set is out))
 

@@ -13,11 +13,12 @@ use Rattle.mv_design.specs.declared.table.Row.{Row}
 use Rattle.mv_design.specs.declared.design.Decl.{Decl}
 use Rattle.mv_cover.specs.declared.line.Line.{Line}
 use Rattle.mv_cover.specs.declared.cover.Cover.{Cover}
+use Rattle.mv_cover.specs.Lines.{IsOutput}
 use Rattle.mv_table.specs.Tables.{is_default, default_of, rows_of, lines_faults, table_of, table_faults}
 use Rattle.mv_parse.specs.Commands.{first_of}
 use Rattle.mv_net.specs.declared.parts.FlatNet.{FlatNet}
 use Rattle.mv_net.specs.Nets.{slot, spelled_in, spelled_values}
-use Rattle.mv_net.specs.Formed.{IsOutput, AllLines}
+use Rattle.mv_net.specs.Formed.{AllLines}
 use Rattle.mv_write.specs.Text.{fanins_of, fanin_word, set_in, entry_word, line_words, default_words}
 use Rattle.mv_back.specs.Models.{set_entries, row_of as row_said, fanin_names, IsTableOf}
 use Rattle.mv_back.proofs.Passes.{everywhere}

@@ -7,7 +7,8 @@ use Rattle.std.proofs.lemmas.List.{append-nil}
 use Rattle.mv_base.specs.Names.{ends_with}
 use Rattle.mv_lex.specs.declared.parts.Kind.TheVariants.{Start}
 use Rattle.mv_lex.specs.Words.{Cut, cut_of, finished, waits}
-use Rattle.mv_lex.specs.Lines.{is_acceptable, is_line_feed, is_hash, joins, texts, all_joined, pieces, words_of, numbered, is_readable, is_closed, lines_of, is_clean}
+use Rattle.mv_lex.specs.Cuts.{pieces}
+use Rattle.mv_lex.specs.Lines.{is_acceptable, is_line_feed, is_hash, joins, texts, all_joined, words_of, numbered, is_readable, is_closed, lines_of, is_clean}
 use Rattle.mv_lex.specs.Reading.{with_bytes}
 use Rattle.mv_lex.specs.Text.{spaced, line_text}
 use Rattle.mv_lex.proofs.Cuts.{pieces-first}

@@ -32,12 +32,13 @@ pub record IsTableOf (nets : List (Option FlatNet)) (f : FlatNet) (c : Cover) (t
   pub rows : t.rows ≡ map (row_of nets (fanins_of (length nets) c)) c.lines
   pub default : t.default ≡ option_map set_entries c.default
 
--- one for each net that has a table, by ascending number
+-- a net's table is the first of these, if the net has one, and `Rest` holds of the tables behind it
 abbrev pub TableOrNot : List (Option FlatNet) → FlatNet → Option Cover → (List FileTable → Type 0) → List FileTable → Type 0
 TableOrNot nets f None Rest ts = Rest ts
 TableOrNot nets f (Some c) Rest [] = ⊥
 TableOrNot nets f (Some c) Rest (t ∷ ts) = IsTableOf nets f c t × Rest ts
 
+-- one table for each net that has one, by ascending number
 abbrev pub AreTablesOf : List (Option FlatNet) → List (Option FlatNet) → List FileTable → Type 0
 AreTablesOf nets [] ts = ts ≡ []
 AreTablesOf nets (None ∷ fs) ts = AreTablesOf nets fs ts

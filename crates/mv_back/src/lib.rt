@@ -4,6 +4,3 @@
 mod back;
 
 pub use back::reads_back;
-
-#[cfg(test)]
-mod tests;

@@ -4,3 +4,4 @@ pub mod FileLemmas
 pub mod OutsideLemmas
 pub mod Gains
 pub mod Meanings
+pub mod Firsts

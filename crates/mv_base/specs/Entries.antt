@@ -18,12 +18,12 @@ abbrev pub name_at : List (List ℕ × List ℕ) → Option ℕ → Option (List
 name_at files None = None
 name_at files (Some place) = Some (file_at files place).0
 
--- what is left of it, where it is read up to `at`
+-- what is left of the current file, where it is read up to `at`
 abbrev pub rest_at : List (List ℕ × List ℕ) → Option ℕ → ℕ → List ℕ
 rest_at files None at = []
 rest_at files (Some place) at = drop at (file_at files place).1
 
--- the current file is one of them, and read no further than its end
+-- the current file is one of these files, and read no further than its end
 abbrev pub IsPlace : List (List ℕ × List ℕ) → Option ℕ → ℕ → Type 0
 IsPlace files None at = Unit {0}
 IsPlace files (Some place) at = (place < length files) × (at ≤ length (file_at files place).1)

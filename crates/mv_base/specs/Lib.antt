@@ -5,3 +5,4 @@ pub mod Outside
 pub mod Memory
 pub mod Entries
 pub mod Appends
+pub mod Firsts

@@ -7,8 +7,10 @@ use Rattle.mv_base.specs.Outside.{Held, file_named}
 abbrev pub counted : ℕ → ℕ
 counted n = min (n + 1) (2 ^ 64 - 1)
 
--- ---- a sink: the bytes that it took, how many it takes in all, the puts that fail, each by its number and how
--- many bytes it takes at most, and how many puts and faults there were
+-- ---- a sink
+
+-- a sink in memory: the bytes that it took, how many it takes in all, the puts that fail, each by its number and how many
+-- bytes it takes at most, and how many puts and faults there were
 pub record Taken : Type 0 where
   pub bytes : List ℕ
   pub room : ℕ
@@ -37,8 +39,10 @@ after_put s piece = record s {
   faults = if takes_all s (length piece) then s.faults else counted s.faults;
 }
 
--- ---- files: their contents by name, the current one and what is left of it, the calls that fail, and how many
--- calls and faults there were
+-- ---- files
+
+-- files in memory: their contents by name, the current one and what is left of it, the calls that fail, and how many calls
+-- and faults there were
 pub record Kept : Type 0 where
   pub files : List (List ℕ × List ℕ)
   pub current : Option (List ℕ)
@@ -47,7 +51,7 @@ pub record Kept : Type 0 where
   pub calls : ℕ
   pub faults : ℕ
 
--- what they tell: they are sound where every listed call is behind them
+-- what the files tell: they are sound where every listed call is behind them
 abbrev pub told_of : Kept → Held
 told_of k = record { files = k.files; current = k.current; rest = k.rest; sound = list_all (λ n. nat_lt n k.calls) k.fails }
 
@@ -55,7 +59,7 @@ told_of k = record { files = k.files; current = k.current; rest = k.rest; sound 
 abbrev pub is_listed : Kept → Bool
 is_listed k = list_any (λ n. n == k.calls) k.fails
 
--- behind a call that failed
+-- the files behind a call that failed
 abbrev pub after_fault : Kept → Kept
 after_fault k = record k { calls = counted k.calls; faults = counted k.faults }
 
@@ -63,7 +67,7 @@ after_fault k = record k { calls = counted k.calls; faults = counted k.faults }
 abbrev pub starts : Kept → List ℕ → Bool
 starts k name = not (is_listed k) && is_some (file_named name k.files)
 
--- behind a start that works
+-- the files behind a start that works
 abbrev pub after_start : Kept → List ℕ → Kept
 after_start k name = record k {
   current = Some name;
@@ -71,6 +75,6 @@ after_start k name = record k {
   calls = counted k.calls;
 }
 
--- behind a `next` that gives n bytes
+-- the files behind a `next` that gives n bytes
 abbrev pub after_next : Kept → ℕ → Kept
 after_next k n = record k { rest = drop n k.rest; calls = counted k.calls }

@@ -2,7 +2,6 @@
 use Rattle.std.specs.Prelude.{◌≡◌, ℕ, Bool, true, false, not, Option, position, slice_index, ◌-◌, ◌&&◌, ◌||◌, ◌==◌, nat_le, nat_eq, nat_lt, List, [], ◌∷◌, length, codes}
 use Rattle.std.specs.List.{list_all, list_any}
 use Rattle.std.specs.Cmp.Lexicographic.{pointwise}
-use Rattle.mv_base.specs.declared.limits.TheConstants.{MAX_WORD_BYTES}
 
 -- two words with the same bytes
 abbrev pub same_word : List ℕ → List ℕ → Bool
@@ -25,9 +24,10 @@ begins_with b w = nat_lt 0 (length w) && (slice_index w 0 == b)
 abbrev pub ends_with : ℕ → List ℕ → Bool
 ends_with b w = nat_lt 0 (length w) && (slice_index w (length w - 1) == b)
 
--- one single word of a file: visible bytes within the limit, no comment, no bracketed word
+-- one single word of a file: visible bytes without a `#`, and no bracketed word. How long it may be is no matter of the
+-- format
 unfoldable pub is_word : List ℕ → Bool
-is_word w = nat_lt 0 (length w) && nat_le (length w) MAX_WORD_BYTES && list_all (λ b. is_visible b && not (b == 35)) w && not (is_bracketed w)
+is_word w = nat_lt 0 (length w) && list_all (λ b. is_visible b && not (b == 35)) w && not (is_bracketed w)
 
 -- a lawful name of a net: a word that isn't `->`, doesn't begin with `.`, has no comma and doesn't end in `\`
 unfoldable pub is_net_name : List ℕ → Bool
@@ -58,7 +58,7 @@ AreApart (w ∷ ws) = (among w ws ≡ false) × AreApart ws
 pub record IsDistinct (ws : List (List ℕ)) : Type 0 where
   pub apart : AreApart ws
 
--- the same as a test
+-- no word stands twice, as a test
 abbrev pub names_differ : List (List ℕ) → Bool
 names_differ [] = true
 names_differ (w ∷ ws) = not (among w ws) && names_differ ws

@@ -43,12 +43,13 @@ pub record Continues (old new : Held) (room : List ℕ) (result : Result ℕ Fai
   pub only : IsTrue old.sound → IsOk result
   pub sound : IsTrue old.sound → IsTrue new.sound
 
--- the same of files that may tell nothing; what tells before a call tells after it
+-- a file is begun, of files that may tell nothing: what tells before a call tells after it
 abbrev pub Starts : Option Held → Option Held → List ℕ → Result (Unit {0}) Failed → Type 0
 Starts None new name result = Unit {0}
 Starts (Some old) None name result = ⊥
 Starts (Some old) (Some new) name result = Begins old new name result
 
+-- the next bytes are given, of files that may tell nothing: what tells before a call tells after it
 abbrev pub Gives : Option Held → Option Held → List ℕ → Result ℕ Failed → Type 0
 Gives None new room result = Unit {0}
 Gives (Some old) None room result = ⊥
@@ -59,13 +60,14 @@ abbrev pub Gained : Option (List ℕ) → Option (List ℕ) → List ℕ → Typ
 Gained None new bytes = Unit {0}
 Gained (Some old) new bytes = new ≡ Some (old ++ bytes)
 
--- it has gained some first of these
+-- a sink that had the old bytes has gained some first part of these
 pub record GainedFront (old : List ℕ) (new : Option (List ℕ)) (bytes : List ℕ) : Type 0 where
   pub front : List ℕ
   pub back : List ℕ
   pub whole : bytes ≡ front ++ back
   pub gained : new ≡ Some (old ++ front)
 
+-- a sink that tells its bytes has gained some first part of these
 abbrev pub GainedPart : Option (List ℕ) → Option (List ℕ) → List ℕ → Type 0
 GainedPart None new bytes = Unit {0}
 GainedPart (Some old) new bytes = GainedFront old new bytes

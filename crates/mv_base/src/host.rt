@@ -9,7 +9,7 @@ use std::marker::Model;
 use std::rt::Files as Disk;
 use std::{fs, io};
 
-// Counts a fault.
+/// Counts a fault.
 fn counted(faults: &mut u64) -> Failed
     ensures rose { Rose faults.old faults.new }
     ensures later { faults.old ≤ faults.new }
@@ -18,7 +18,7 @@ fn counted(faults: &mut u64) -> Failed
     Failed
 }
 
-// What is being read.
+/// What is being read.
 #[derive(Drop)]
 enum Source<F, I> {
     Nothing,
@@ -27,7 +27,7 @@ enum Source<F, I> {
 }
 
 impl<F: Read + Drop, I: Read + Drop> Source<F, I> {
-    // The next bytes, none at the end.
+    /// The next bytes, none at the end.
     fn read(&mut self, room: &mut [u8]) -> io::Result<usize>
         ensures { IfOk result (λ n. n ≤ length room.new) }
     {
@@ -38,7 +38,7 @@ impl<F: Read + Drop, I: Read + Drop> Source<F, I> {
         }
     }
 
-    // Fills the room as far as there are bytes, and answers how many came.
+    /// Fills the room as far as there are bytes, and answers how many came.
     fn fill(&mut self, room: &mut [u8]) -> io::Result<usize>
         ensures { IfOk result (λ n. n ≤ length room.new) }
     {
@@ -111,7 +111,7 @@ impl<R: Disk + Input> Files for HostFiles<R> {
     }
 }
 
-// Writes the whole piece, piece by piece. False where a write fails or takes nothing.
+/// Writes the whole piece, piece by piece. False where a write fails or takes nothing.
 fn write_whole(out: &impl Print, piece: &[u8]) -> bool {
     let mut done = 0;
     for _turn in 0..u64::MAX {
@@ -132,7 +132,7 @@ fn write_whole(out: &impl Print, piece: &[u8]) -> bool {
 /// How many bytes standard output holds back before it writes them.
 const ROOM: usize = 16_384;
 
-// Bytes that are held back.
+/// Bytes that are held back.
 #[derive(Drop)]
 struct Held {
     bytes: [u8; ROOM],
@@ -141,14 +141,14 @@ struct Held {
 }
 
 impl Held {
-    // How many bytes more there is room for.
+    /// How many bytes more there is room for.
     fn room(&self) -> usize
         ensures { result + self.now.len ≡ ROOM }
     {
         ROOM - self.len
     }
 
-    // Puts the piece behind the bytes.
+    /// Puts the piece behind the bytes.
     fn add(&mut self, piece: &[u8])
         requires { length piece.now + self.old.len ≤ ROOM }
         ensures { take self.new.len self.new.bytes ≡ take self.old.len self.old.bytes ++ piece.now }
@@ -193,7 +193,7 @@ impl<P: Print> HostOut<P> {
         }
     }
 
-    // Writes what is held back.
+    /// Writes what is held back.
     fn write_held(&mut self) -> Result<(), Failed>
         ensures { HasCause self.old self.new result }
     {

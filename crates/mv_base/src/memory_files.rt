@@ -31,7 +31,7 @@ impl Model for MemoryFiles {
     ghost invariant = { λ k. IsPlace (map entry_of k.files.items) k.current k.at };
 }
 
-// The place of the first file with this name.
+/// The place of the first file with this name.
 fn place_of(files: &[(String, Vec<u8>)], name: &str) -> Option<usize>
     ensures none { IfNone result (file_named name.now (map entry_of files.now) ≡ None) }
     ensures some { IfSome result (IsNamed name.now (map entry_of files.now)) }
@@ -44,14 +44,14 @@ fn place_of(files: &[(String, Vec<u8>)], name: &str) -> Option<usize>
     None
 }
 
-// Whether this call is listed.
+/// Whether this call is listed.
 fn is_listed(fails: &[u64], call: u64) -> bool
     ensures { result ≡ list_any (λ n. n == call) fails.now }
 {
     fails.iter().any(|n| *n == call)
 }
 
-// Puts what of the content stands from `at` on into the room, as far as it goes, and answers how many bytes.
+/// Puts what of the content stands from `at` on into the room, as far as it goes, and answers how many bytes.
 fn give(content: &[u8], at: usize, room: &mut [u8]) -> usize
     requires { at ≤ length content.now }
     ensures count { result ≡ min (length room.old) (length content.now - at) }

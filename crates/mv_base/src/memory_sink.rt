@@ -27,7 +27,7 @@ impl Model for MemorySink {
     ghost invariant = { λ s. (vec_len s.bytes ≤ s.room) × (s.room ≤ vec_capacity s.bytes) };
 }
 
-// What the first entry for this call allows, if there is one.
+/// What the first entry for this call allows, if there is one.
 fn allowed_at(fails: &[(u64, usize)], call: u64) -> Option<usize>
     ensures { result ≡ allowed_at fails.now call }
 {

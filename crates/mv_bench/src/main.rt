@@ -1,8 +1,8 @@
 //! mv_bench runs single calls on drawn input, so that their time can be taken alone.
 //!
-//! Its words come by threes, a task, a size and a seed, and each task prints one line: `mv_bench covers 500 1 absorb 4000 1`.
-//! The one word `lex` cuts standard input into lines of words, and prints how many there are; the one word `parse` reads it as
-//! a network file, and prints how many models, tables and rows its design has.
+//! Its words come by threes, a task, a size and a seed, and each task prints one line: `mv_bench covers 500 1 absorb
+//! 4000 1`. The one word `lex` cuts standard input into lines of words, and prints how many there are; the one word `parse`
+//! reads it as a network file, and prints how many models, tables and rows its design has.
 #![tactic(auto)]
 
 mod draw;

@@ -1,12 +1,13 @@
 -- Absorbing: what goes was said by what stays.
-use Rattle.std.proofs.Common.{◌≡◌, ◌∙◌, ℕ, suc, zero, ◌+◌, ◌<◌, ◌≤◌, Bool, true, false, not, ◌&&◌, ◌||◌, List, [], ◌∷◌, ◌++◌, length, filter, nat_eq, inl, inr, refl, sym, ap, arith, Option, Some, None, All, add-one, get_or, append_assoc, drop, drop-cons}
-use Rattle.indexmap.specs.IndexSet.{insert_key}
+use Rattle.std.proofs.Common.{◌≡◌, ◌∙◌, ℕ, suc, zero, ◌+◌, ◌<◌, ◌≤◌, Bool, true, false, not, ◌&&◌, ◌||◌, List, [], ◌∷◌, length, filter, nat_eq, inl, inr, refl, sym, ap, arith, Option, Some, None, All, add-one}
+use Rattle.indexmap.specs.IndexSet.{insert_all}
 use Rattle.std.specs.List.{list_any, Contains}
 use Rattle.std.proofs.lemmas.Bool.{cases_Bool, false≢true, and_parts, and_from, or_left, or_right, not-true, not_from_false, eq-eqb, false_from_ne_true}
 use Rattle.std.proofs.lemmas.List.Elements.{All-contains, All-filter, All-cons, All-head, All-tail}
-use Rattle.std.proofs.lemmas.List.Folds.{list_any_at, list_any-append}
+use Rattle.std.proofs.lemmas.List.Folds.{list_any_at}
 use Rattle.std.proofs.lemmas.Map.Views.{any-filter_same}
 use Rattle.mv_base.specs.Set.{has, meet}
+use Rattle.mv_base.proofs.Firsts.{keys-firsts}
 use Rattle.mv_base.proofs.Sets.{meet_of_Within, Within-from_meet}
 use Rattle.mv_cover.specs.declared.cube.Lit.{Lit}
 use Rattle.mv_cover.specs.declared.line.Line.{Line}
@@ -183,7 +184,7 @@ passing_less p q (x ∷ xs) weaker more =
 -- ---- lines that stay
 
 -- equal lines say nothing twice
-any-firsts : (p : Line → Bool) (ls : List Line) → list_any p (firsts ls) ≡ list_any p ls
+pub any-firsts : (p : Line → Bool) (ls : List Line) → list_any p (firsts ls) ≡ list_any p ls
 any-firsts p [] = refl
 any-firsts p (l ∷ ls) =
     elim (cases_Bool (p l)) [
@@ -195,11 +196,12 @@ any-firsts p (l ∷ ls) =
           ∙ any-firsts p ls)
     ]
 
-firsts-formed : (ls : List Line) → All (λ (l : Line). IsCube l.cube) ls → All (λ (l : Line). IsCube l.cube) (firsts ls)
-firsts-formed [] all = all
-firsts-formed (l ∷ ls) all =
-    All-cons (λ (m : Line). IsCube m.cube) l (filter (λ (m : Line). not (line_eq m l)) (firsts ls)) (All-head (λ (m : Line). IsCube m.cube) l ls all)
-    (All-filter (λ (m : Line). not (line_eq m l)) (λ (m : Line). IsCube m.cube) (firsts ls) (firsts-formed ls (All-tail (λ (m : Line). IsCube m.cube) l ls all)))
+-- what holds of each line holds of the first of each
+pub all-firsts : (P : Line → Type 0) (ls : List Line) → All P ls → All P (firsts ls)
+all-firsts P [] all = all
+all-firsts P (l ∷ ls) all =
+    All-cons P l (filter (λ (m : Line). not (line_eq m l)) (firsts ls)) (All-head P l ls all)
+    (All-filter (λ (m : Line). not (line_eq m l)) P (firsts ls) (all-firsts P ls (All-tail P l ls all)))
 
 -- a test that a line's swallower passes too
 record Climbs (p : Line → Bool) : Type 0 where
@@ -243,15 +245,15 @@ any-unswallowed p climbs ls formed =
     ]
 
 any-left : (p : Line → Bool) → Climbs p → (ls : List Line) → All (λ (l : Line). IsCube l.cube) ls → list_any p (unswallowed (firsts ls)) ≡ list_any p ls
-any-left p climbs ls formed = any-unswallowed p climbs (firsts ls) (firsts-formed ls formed) ∙ any-firsts p ls
+any-left p climbs ls formed = any-unswallowed p climbs (firsts ls) (all-firsts (λ (l : Line). IsCube l.cube) ls formed) ∙ any-firsts p ls
 
 -- ---- the relation
 
-matches-any : (at : ℕ → ℕ) (ls : List Line) → some_matches at ls ≡ list_any (λ (l : Line). matches at l.cube) ls
+pub matches-any : (at : ℕ → ℕ) (ls : List Line) → some_matches at ls ≡ list_any (λ (l : Line). matches at l.cube) ls
 matches-any at [] = refl
 matches-any at (l ∷ ls) = ap (λ b. matches at l.cube || b) (matches-any at ls)
 
-gives-any : (at : ℕ → ℕ) (v : ℕ) (ls : List Line) → some_gives at v ls ≡ list_any (λ (l : Line). matches at l.cube && has l.out v) ls
+pub gives-any : (at : ℕ → ℕ) (v : ℕ) (ls : List Line) → some_gives at v ls ≡ list_any (λ (l : Line). matches at l.cube && has l.out v) ls
 gives-any at v [] = refl
 gives-any at v (l ∷ ls) = ap (λ b. (matches at l.cube && has l.out v) || b) (gives-any at v ls)
 
@@ -279,7 +281,7 @@ none-matches at [] e = refl
 none-matches at (l ∷ c) e = absurd (omega arith)
 
 -- a line without literals matches everywhere
-bare-matches : (at : ℕ → ℕ) (ls : List Line) → some_bare ls ≡ true → some_matches at ls ≡ true
+pub bare-matches : (at : ℕ → ℕ) (ls : List Line) → some_bare ls ≡ true → some_matches at ls ≡ true
 bare-matches at [] h = absurd (false≢true h)
 bare-matches at (l ∷ ls) h =
     elim (cases_Bool (nat_eq (length l.cube) 0)) [
@@ -306,72 +308,9 @@ allowed-absorbed c formed at v =
 
 -- ---- distinct lines, one by one
 
--- the line is equal to none of these
-abbrev pub is_new : List Line → Line → Bool
-is_new keys m = not (list_any (line_eq m) keys)
-
--- what is equal to a line that is there isn't new
-new-there : (keys : List Line) (l : Line) (ls : List Line) → list_any (line_eq l) keys ≡ true → filter (is_new keys) (filter (λ (m : Line). not (line_eq m l)) ls) ≡ filter (is_new keys) ls
-new-there keys l [] there = refl
-new-there keys l (m ∷ ls) there =
-    let ih = new-there keys l ls there in
-    elim (cases_Bool (line_eq m l)) [
-      | inl t ↦
-          let known : list_any (line_eq m) keys ≡ true = ap (λ (x : Line). list_any (line_eq x) keys) ((line_eq-Decides m l).0 t) ∙ there in
-          rw t (rw known ih)
-      | inr f ↦
-          elim (cases_Bool (list_any (line_eq m) keys)) [
-            | inl t ↦ rw f (rw t ih)
-            | inr g ↦ rw f (rw g (ap (λ (xs : List Line). m ∷ xs) ih))
-          ]
-    ]
-
-or_false : (x y : Bool) → y ≡ false → (x || y) ≡ x
-or_false true y e = refl
-or_false false y e = e
-
--- a line that comes to the keys takes its equals out
-new-more : (keys : List Line) (l : Line) (ls : List Line) → filter (is_new (keys ++ l ∷ [])) ls ≡ filter (is_new keys) (filter (λ (m : Line). not (line_eq m l)) ls)
-new-more keys l [] = refl
-new-more keys l (m ∷ ls) =
-    let ih = new-more keys l ls in
-    let both = list_any-append (line_eq m) keys (l ∷ []) in
-    elim (cases_Bool (line_eq m l)) [
-      | inl t ↦
-          let known : list_any (line_eq m) (keys ++ l ∷ []) ≡ true = both ∙ or_right (list_any (line_eq m) keys) (list_any (line_eq m) (l ∷ [])) (or_left (line_eq m l) false t) in
-          rw t (rw known ih)
-      | inr f ↦
-          let same : list_any (line_eq m) (keys ++ l ∷ []) ≡ list_any (line_eq m) keys = both ∙ or_false (list_any (line_eq m) keys) (line_eq m l || false) (rw f refl) in
-          elim (cases_Bool (list_any (line_eq m) keys)) [
-            | inl t ↦ rw f (rw same (rw t ih))
-            | inr g ↦ rw f (rw same (rw g (ap (λ (xs : List Line). m ∷ xs) ih)))
-          ]
-    ]
-
--- the keys with one line more, and the new ones of the rest
-insert-new : (keys : List Line) (l : Line) (rest : List Line) → insert_key line_eq keys l ++ filter (is_new (insert_key line_eq keys l)) (firsts rest) ≡ keys ++ filter (is_new keys) (firsts (l ∷ rest))
-insert-new keys l rest =
-    elim (cases_Bool (list_any (line_eq l) keys)) [
-      | inl t ↦ rw t (ap (λ (xs : List Line). keys ++ xs) (sym (new-there keys l (firsts rest) t)))
-      | inr f ↦
-          rw f (append_assoc keys (l ∷ []) (filter (is_new (keys ++ l ∷ [])) (firsts rest))
-          ∙ ap (λ (xs : List Line). keys ++ (l ∷ xs)) (new-more keys l (firsts rest)))
-    ]
-
--- all is new to no keys
-all-new : (ls : List Line) → filter (is_new []) ls ≡ ls
-all-new [] = refl
-all-new (l ∷ ls) = ap (λ (xs : List Line). l ∷ xs) (all-new ls)
-
-pub distinct_none : (keys ls : List Line) → keys ≡ [] → keys ++ filter (is_new keys) (firsts ls) ≡ firsts ls
-distinct_none keys ls e = ap (λ (ks : List Line). ks ++ filter (is_new ks) (firsts ls)) e ∙ all-new (firsts ls)
-
-pub distinct_more : (keys more ls : List Line) (i : ℕ) (l k : Line) → i < length ls → l ≡ get_or ls i l → k ≡ l → more ≡ insert_key line_eq keys k → keys ++ filter (is_new keys) (firsts (drop i ls)) ≡ firsts ls → more ++ filter (is_new more) (firsts (drop (i + 1) ls)) ≡ firsts ls
-distinct_more keys more ls i l k low here same added before =
-    let rest : drop i ls ≡ l ∷ drop (i + 1) ls = rw add-one (drop-cons ls i l low ∙ ap (λ (x : Line). x ∷ drop (suc i) ls) (sym here)) in
-    let told : more ≡ insert_key line_eq keys l = added ∙ ap (insert_key line_eq keys) same in
-    ap (λ (ks : List Line). ks ++ filter (is_new ks) (firsts (drop (i + 1) ls))) told
-    ∙ (insert-new keys l (drop (i + 1) ls) ∙ (ap (λ (xs : List Line). keys ++ filter (is_new keys) (firsts xs)) (sym rest) ∙ before))
+-- the keys of a set are the first of each of the lines put in it
+pub inserted_firsts : (ls : List Line) → insert_all line_eq [] ls ≡ firsts ls
+inserted_firsts ls = keys-firsts line_eq (λ l m. (line_eq-Decides l m).0) ls
 
 -- the lines left and the default beside them are the absorbed cover
 pub absorbed_is : (c : Cover) (left seen : List Line) (default : Option ℕ) → left ≡ unswallowed (firsts c.lines) → seen ≡ left → default ≡ default_beside seen c.default → record { lines = left; default = default } ≡ absorbed c

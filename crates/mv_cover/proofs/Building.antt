@@ -1,14 +1,11 @@
 -- Cubes made literal by literal, over the nets below a number.
-use Rattle.std.proofs.Common.{◌≡◌, ◌∙◌, ℕ, zero, suc, ◌+◌, ◌<◌, true, false, not, ◌&&◌, List, [], ◌∷◌, ◌++◌, nat_eq, nat_lt, refl, sym, subst, arith, get_or}
+use Rattle.std.proofs.Common.{◌≡◌, ◌∙◌, ℕ, ◌+◌, ◌<◌, true, false, not, ◌&&◌, List, [], ◌∷◌, ◌++◌, nat_eq, nat_lt, refl, sym, subst, arith}
 use Rattle.std.specs.List.{list_all}
 use Rattle.std.proofs.lemmas.Bool.{and_parts, and_from, ltb-true, lt-ltb, not_from_false}
 use Rattle.std.proofs.lemmas.List.Folds.{list_all-append}
 use Rattle.mv_base.specs.Set.{empty}
 use Rattle.mv_cover.specs.declared.cube.Lit.{Lit}
-use Rattle.mv_cover.specs.declared.line.Line.{Line}
 use Rattle.mv_cover.specs.Cubes.{nets_ascend, IsCube}
-use Rattle.mv_cover.specs.Covering.{AreWithin}
-use Rattle.mv_cover.proofs.Covering.{below-read, within-more}
 
 -- a literal on a net behind those of a cube
 ascend-push : (c : List Lit) (l : Lit) → nets_ascend c ≡ true → list_all (λ (m : Lit). nat_lt m.net.0 l.net.0) c ≡ true → nets_ascend (c ++ l ∷ []) ≡ true
@@ -58,17 +55,3 @@ built_more c k l here some b =
     }
 
 pub ruleset built = (built_none, built_skip, built_more)
-
--- a line more over the nets below k, which have values
-pub within-below : (counts : List ℕ) (k : ℕ) → ((n : ℕ) → n < k → 0 < get_or counts n 0) → (ls : List Line) (l : Line) → list_all (λ (m : Lit). nat_lt m.net.0 k) l.cube ≡ true → AreWithin counts ls → AreWithin counts (ls ++ l ∷ [])
-within-below counts k valued ls l low w = within-more counts ls l (λ n h. valued n (below-read k l.cube n low h)) w
-
--- the nets 0 to 2 have two, three and two values
-three_values : (n : ℕ) → n < 3 → 0 < get_or (2 ∷ 3 ∷ 2 ∷ []) n 0
-three_values zero h = omega arith
-three_values (suc zero) h = omega arith
-three_values (suc (suc zero)) h = omega arith
-three_values (suc (suc (suc n))) h = absurd (omega arith)
-
-pub within-three : (ls : List Line) (l : Line) → list_all (λ (m : Lit). nat_lt m.net.0 3) l.cube ≡ true → AreWithin (2 ∷ 3 ∷ 2 ∷ []) ls → AreWithin (2 ∷ 3 ∷ 2 ∷ []) (ls ++ l ∷ [])
-within-three ls l low w = within-below (2 ∷ 3 ∷ 2 ∷ []) 3 three_values ls l low w

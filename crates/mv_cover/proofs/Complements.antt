@@ -15,7 +15,7 @@ use Rattle.mv_cover.specs.Covering.{IsPoint}
 use Rattle.mv_cover.specs.Cofactors.{cubes_match}
 use Rattle.mv_cover.specs.Containing.{FitsCube}
 use Rattle.mv_cover.specs.Sharp.{Suits, IsCubeOver, AreApart, sharp_of}
-use Rattle.mv_cover.specs.Complement.{sharps_of, complement_of, IsWide, IsNarrow}
+use Rattle.mv_cover.specs.Complement.{sharps_of, complement_of, IsWide, StaysWithin}
 use Rattle.mv_cover.proofs.Points.{some_matches-append}
 use Rattle.mv_cover.proofs.Meets.{Rises-cube, order}
 use Rattle.mv_cover.proofs.Sharps.{one_if, one_if-most, held, held-append, held-sharp_of, suits-sharp_of, match-from_held, apart-from_HoldOnce}
@@ -158,7 +158,7 @@ left_wide counts lines i cubes line low e many so_far = record {
 -- what the list after all lines is
 pub record IsComplement (counts : List ℕ) (lines : List Line) (cubes : List (List Lit)) : Type 0 where
   pub list : cubes ≡ complement_of counts lines
-  pub narrow : IsNarrow counts lines
+  pub narrow : StaysWithin counts lines
   pub points : (at : ℕ → ℕ) → IsPoint counts at → cubes_match at cubes ≡ not (some_matches at lines)
   pub apart : AllPairs (AreApart counts) cubes
   pub suited : All (IsCubeOver counts) cubes

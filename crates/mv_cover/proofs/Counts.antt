@@ -1,6 +1,6 @@
 -- How many literals a cube and a list of lines can have.
-use Rattle.std.proofs.Common.{◌≡◌, ◌∙◌, ℕ, ◌+◌, ◌-◌, ◌≤◌, ◌<◌, true, List, [], ◌∷◌, ◌++◌, length, get_or, nat_lt, refl, ap, arith}
-use Rattle.std.specs.List.{list_all, sum_by}
+use Rattle.std.proofs.Common.{◌≡◌, ◌∙◌, ℕ, ◌+◌, ◌-◌, ◌≤◌, ◌<◌, true, List, [], ◌∷◌, length, get_or, nat_lt, refl, ap, arith}
+use Rattle.std.specs.List.{sum_by}
 use Rattle.std.proofs.lemmas.Bool.{and_parts, ltb-true}
 use Rattle.std.proofs.lemmas.List.Recursion.{is_sum_by}
 use Rattle.mv_cover.specs.declared.cube.Lit.{Lit}
@@ -17,26 +17,9 @@ ascend_last l (m ∷ ls) d h =
     let rest : m.net.0 + length ls ≤ (get_or (m ∷ ls) (length ls) d).net.0 = ascend_last m ls d p.1 in
     omega arith
 
--- ascending nets below k, which are at most k
-pub ascend_below : (k : ℕ) (l : Lit) (ls : List Lit) → nets_ascend (l ∷ ls) ≡ true → list_all (λ (m : Lit). nat_lt m.net.0 k) (l ∷ ls) ≡ true → l.net.0 + length (l ∷ ls) ≤ k
-ascend_below k l [] h b =
-    let p = and_parts (nat_lt l.net.0 k) true b in
-    let below : l.net.0 < k = ltb-true l.net.0 k p.0 in
-    omega arith
-ascend_below k l (m ∷ ls) h b =
-    let p = and_parts (nat_lt l.net.0 m.net.0) (nets_ascend (m ∷ ls)) h in
-    let q = and_parts (nat_lt l.net.0 k) (list_all (λ (m : Lit). nat_lt m.net.0 k) (m ∷ ls)) b in
-    let below : l.net.0 < m.net.0 = ltb-true l.net.0 m.net.0 p.0 in
-    let rest : m.net.0 + length (m ∷ ls) ≤ k = ascend_below k m ls p.1 q.1 in
-    omega arith
-
 -- the literals are a sum over the lines
 pub literals-sum : (ls : List Line) → literals_of ls ≡ sum_by (λ (l : Line). length l.cube) ls
 literals-sum = is_sum_by literals_of (λ (l : Line). length l.cube) refl (λ _ _. refl)
-
-pub literals-append : (xs ys : List Line) → literals_of (xs ++ ys) ≡ literals_of xs + literals_of ys
-literals-append [] ys = omega arith
-literals-append (x ∷ xs) ys = omega (arith, literals-append xs ys)
 
 -- a cube whose last net is below k has at most k literals
 pub cube_ends : (k : ℕ) (cube : List Lit) (last : Lit) → IsCube cube → last ≡ get_or cube (length cube - 1) last → last.net.0 < k → length cube ≤ k

@@ -1,5 +1,5 @@
 -- Cofactors of cubes: they match as the cubes do where the net has the value, and they are smaller.
-use Rattle.std.proofs.Common.{◌≡◌, ◌∙◌, ℕ, ◌+◌, ◌≤◌, ◌<◌, Bool, true, false, ◌&&◌, ◌||◌, List, [], ◌∷◌, length, ◌++◌, nat_eq, nat_lt, inl, inr, refl, sym, ap, arith, get_or, cond, MatchBool, subst, zero, suc, Result, Ok, Err, IfOk}
+use Rattle.std.proofs.Common.{◌≡◌, ◌∙◌, ℕ, ◌+◌, ◌≤◌, ◌<◌, Bool, true, false, ◌&&◌, ◌||◌, List, [], ◌∷◌, length, nat_eq, nat_lt, inl, inr, refl, sym, ap, arith, get_or, cond, MatchBool, subst, zero, suc, Result, Ok, Err, IfOk}
 use Rattle.std.specs.List.{list_all, list_any}
 use Rattle.std.proofs.lemmas.Bool.{cases_Bool, false≢true, and_parts, or_left, or_right, ltb-true, eq-eqb, ne_eqb}
 use Rattle.std.specs.Cmp.{unsigned_Decides}
@@ -10,7 +10,6 @@ use Rattle.mv_cover.specs.Cubes.{matches}
 use Rattle.mv_cover.specs.Covers.{some_matches, cube_reads, lines_read}
 use Rattle.mv_cover.specs.Covering.{IsPoint, AreWithin, CoversAll, MissesSome}
 use Rattle.mv_cover.specs.Cofactors.{MatchEach, cubes_match, cubes_read, AreCubesWithin, CubesCover, CubesMiss, CoverBelow, cube_allows, cube_without, cofactor_of, cubes_of, literals_in}
-use Rattle.mv_cover.proofs.Points.{lines_read-append}
 
 pub same_number : (a b : ℕ) → nat_eq a b ≡ true → a ≡ b
 same_number a b h = (unsigned_Decides a b).0 h
@@ -250,29 +249,6 @@ read_more cs i c n m h here before same =
       | inr f ↦ ap (cubes_read cs) (same f) ∙ before
     ]
 
--- one line more whose nets have values
-pub within-none : (counts : List ℕ) → AreWithin counts []
-within-none counts = record { valued = λ n h. absurd (false≢true h) }
-
-pub within-more : (counts : List ℕ) (ls : List Line) (l : Line) → ((n : ℕ) → cube_reads l.cube n ≡ true → 0 < get_or counts n 0) → AreWithin counts ls → AreWithin counts (ls ++ l ∷ [])
-within-more counts ls l here w = record {
-  valued = λ n h.
-      elim (cases_Bool (lines_read ls n)) [
-        | inl t ↦ w.valued n t
-        | inr f ↦
-            elim (cases_Bool (cube_reads l.cube n)) [
-              | inl t ↦ here n t
-              | inr g ↦ absurd (false≢true (rw g at (rw f at (sym (lines_read-append ls (l ∷ []) n) ∙ h))))
-            ]
-      ];
-}
-
--- a cube of nets 0 and 1 reads nets of two values
-two_values : (n : ℕ) → n < 2 → 0 < get_or (2 ∷ 2 ∷ []) n 0
-two_values zero h = omega arith
-two_values (suc zero) h = omega arith
-two_values (suc (suc n)) h = absurd (omega arith)
-
 -- a cube over the nets below k reads nets below k
 pub below-read : (k : ℕ) (c : List Lit) (n : ℕ) → list_all (λ (l : Lit). nat_lt l.net.0 k) c ≡ true → cube_reads c n ≡ true → n < k
 below-read k [] n low h = absurd (false≢true h)
@@ -282,14 +258,3 @@ below-read k (l ∷ ls) n low h =
       | inl t ↦ let e : l.net.0 ≡ n = same_number l.net.0 n t in let j : l.net.0 < k = ltb-true l.net.0 k p.0 in omega arith
       | inr f ↦ below-read k ls n p.1 (rw f at h)
     ]
-
-pub within-binary : (ls : List Line) (l : Line) → list_all (λ (m : Lit). nat_lt m.net.0 2) l.cube ≡ true → AreWithin (2 ∷ 2 ∷ []) ls → AreWithin (2 ∷ 2 ∷ []) (ls ++ l ∷ [])
-within-binary ls l low w = within-more (2 ∷ 2 ∷ []) ls l (λ n h. two_values n (below-read 2 l.cube n low h)) w
-
-pub ruleset added = (within-none, within-binary)
-
--- what is above nothing at a place stands within the list
-inside : (counts : List ℕ) (n : ℕ) → 0 < get_or counts n 0 → n < length counts
-inside [] n h = absurd (omega arith)
-inside (c ∷ cs) zero h = omega arith
-inside (c ∷ cs) (suc n) h = omega (arith, inside cs n h)

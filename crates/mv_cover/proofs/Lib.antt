@@ -1,6 +1,5 @@
 pub mod Meeting
 pub mod Single
-pub mod Equal
 pub mod Counts
 pub mod Points
 pub mod Local

@@ -29,10 +29,10 @@ ascend_tail l [] h = refl
 ascend_tail l (m ∷ ls) h = (and_parts (nat_lt l.net.0 m.net.0) (nets_ascend (m ∷ ls)) h).1
 
 -- behind a net the literals are on later ones
-above : ℕ → List Lit → Bool
+unfoldable pub above : ℕ → List Lit → Bool
 above n ls = list_all (λ (l : Lit). nat_lt n l.net.0) ls
 
-above_tail : (n : ℕ) (l : Lit) (ls : List Lit) → nets_ascend (l ∷ ls) ≡ true → n ≤ l.net.0 → above n ls ≡ true
+pub above_tail : (n : ℕ) (l : Lit) (ls : List Lit) → nets_ascend (l ∷ ls) ≡ true → n ≤ l.net.0 → above n ls ≡ true
 unfolding above
 above_tail n l [] h low = refl
 above_tail n l (m ∷ ls) h low =

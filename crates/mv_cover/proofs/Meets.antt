@@ -1,15 +1,15 @@
 -- Lists of literals that ascend: what is on a net, and what two of them have once merged.
-use Rattle.std.proofs.Common.{◌≡◌, ◌∙◌, ℕ, suc, ◌+◌, ◌≤◌, ◌<◌, ◌≢◌, Bool, true, false, not, ◌&&◌, ◌⊎◌, List, [], ◌∷◌, ◌++◌, length, drop, nat_eq, nat_lt, inl, inr, refl, sym, ap, subst, arith, get_or, drop-cons, drop-drop, append_assoc, append-nil, length-drop, take, ◌-◌, Some, None}
+use Rattle.std.proofs.Common.{◌≡◌, ◌∙◌, ℕ, suc, ◌+◌, ◌≤◌, ◌<◌, ◌≢◌, Bool, true, false, not, ◌&&◌, ◌⊎◌, List, [], ◌∷◌, ◌++◌, length, drop, nat_eq, nat_lt, inl, inr, refl, sym, ap, subst, arith, get_or, drop-cons, drop-drop, append_assoc, append-nil, take, ◌-◌, Some, None}
 use Rattle.std.specs.List.{list_all}
+use Rattle.std.proofs.Math.Bool.{and-false}
 use Rattle.std.proofs.lemmas.Bool.{cases_Bool, false≢true, and_parts, and_from, ltb-true, eq-eqb, ne_eqb}
 use Rattle.std.proofs.lemmas.Bool.Decides.{leb_tells, Decides-ltb}
-use Rattle.std.proofs.lemmas.List.{drop_all, take_all}
+use Rattle.std.proofs.lemmas.List.{drop_all, take_rest}
 use Rattle.mv_base.specs.Set.{has, meet, empty}
 use Rattle.mv_base.proofs.Sets.{has-meet, has-empty}
 use Rattle.mv_cover.specs.declared.cube.Lit.{Lit}
 use Rattle.mv_cover.specs.declared.meet.Step.{Step}
 use Rattle.mv_cover.specs.Cubes.{holds, matches, nets_ascend, IsCube}
-use Rattle.mv_cover.specs.Keys.{same_lit}
 use Rattle.mv_cover.specs.Meets.{literal_at, both, IsMet, next_of, put_in, merged}
 use Rattle.mv_cover.proofs.Covering.{regroup, swap, same_number}
 
@@ -175,10 +175,6 @@ IsMet-merged a b c e p q some = record {
   sets = λ n. ap (λ x. literal_at x n) e ∙ sets-merged n 0 a b (Rises-cube a p.ascending) (Rises-cube b q.ascending);
 }
 
-and_no : (b : Bool) → (b && false) ≡ false
-and_no true = refl
-and_no false = refl
-
 -- a literal without values holds nowhere
 pub impossible : (at : ℕ → ℕ) (c : List Lit) → list_all (λ l. not (nat_eq l.set empty)) c ≡ false → matches at c ≡ false
 impossible at [] h = absurd (false≢true (sym h))
@@ -187,7 +183,7 @@ impossible at (l ∷ ls) h =
       | inl t ↦
           let none : has l.set (at l.net.0) ≡ false = ap (λ s. has s (at l.net.0)) (same_number l.set empty t) ∙ has-empty (at l.net.0) in
           rw none refl
-      | inr f ↦ rw (impossible at ls (rw f at h)) (and_no (holds at l))
+      | inr f ↦ rw (impossible at ls (rw f at h)) (and-false (holds at l))
     ]
 
 -- where the merged list has a literal without values, no point is in both
@@ -206,48 +202,6 @@ matches-from k (l ∷ ls) x y r same =
 -- the first literal's set is on its net
 pub first_set : (l : Lit) (ls : List Lit) → literal_at (l ∷ ls) l.net.0 ≡ Some l.set
 first_set l ls = rw (eq-eqb l.net.0 l.net.0 refl) refl
-
--- ascending lists with the same set on each net are equal
-pub same_lits : (j k : ℕ) (a b : List Lit) → Rises j a → Rises k b → ((n : ℕ) → literal_at a n ≡ literal_at b n) → a ≡ b
-same_lits j k [] [] p q same = refl
-same_lits j k [] (m ∷ ms) p q same =
-    let e : None ≡ Some m.set = same m.net.0 ∙ first_set m ms in
-    cc
-same_lits j k (l ∷ ls) [] p q same =
-    let e : Some l.set ≡ None = sym (first_set l ls) ∙ same l.net.0 in
-    cc
-same_lits j k (l ∷ ls) (m ∷ ms) p q same =
-    elim (order l.net.0 m.net.0) [
-      | inl y ↦
-          let right : Rises m.net.0 (m ∷ ms) = (omega arith, q.1) in
-          let e : Some l.set ≡ None = sym (first_set l ls) ∙ (same l.net.0 ∙ nothing_below m.net.0 l.net.0 (m ∷ ms) right y.1) in
-          cc
-      | inr g ↦
-          elim (order m.net.0 l.net.0) [
-            | inl y ↦
-                let left : Rises l.net.0 (l ∷ ls) = (omega arith, p.1) in
-                let e : Some m.set ≡ None = sym (first_set m ms) ∙ (sym (same m.net.0) ∙ nothing_below l.net.0 m.net.0 (l ∷ ls) left y.1) in
-                cc
-            | inr o ↦
-                let above : m.net.0 ≤ l.net.0 = g.1 in
-                let below : l.net.0 ≤ m.net.0 = o.1 in
-                let here : l.net.0 ≡ m.net.0 = omega arith in
-                let there : literal_at (m ∷ ms) l.net.0 ≡ Some m.set = ap (literal_at (m ∷ ms)) here ∙ first_set m ms in
-                let rest : (n : ℕ) → literal_at ls n ≡ literal_at ms n = λ n.
-                elim (cases_Bool (nat_eq l.net.0 n)) [
-                  | inl t ↦
-                      let e : l.net.0 ≡ n = same_number l.net.0 n t in
-                      nothing_below (l.net.0 + 1) n ls p.1 (omega arith) ∙ sym (nothing_below (m.net.0 + 1) n ms q.1 (omega arith))
-                  | inr f ↦
-                      let f' : nat_eq m.net.0 n ≡ false = ap (λ k. nat_eq k n) (sym here) ∙ f in
-                      rw f' at (rw f at (same n))
-                ] in
-                let sets : Some l.set ≡ Some m.set = sym (first_set l ls) ∙ (same l.net.0 ∙ there) in
-                let first : l ≡ m = same_lit l m here (cc) in
-                let others : ls ≡ ms = same_lits (l.net.0 + 1) (m.net.0 + 1) ls ms p.1 q.1 rest in
-                λ i. first i ∷ others i
-          ]
-    ]
 
 -- ---- the walk along both lists
 
@@ -303,11 +257,7 @@ merge_end a b met i j (inl e) so_far =
 merge_end a b met i j (inr e) so_far =
     ap (λ h. (met ++ drop i a) ++ h) (drop_all j b e) ∙ (append-nil (met ++ drop i a) ∙ (ap (λ h. met ++ h) (sym (merged_none (drop i a))) ∙ (ap (λ h. met ++ merged (drop i a) h) (sym (drop_all j b e)) ∙ so_far)))
 
--- what is left of a list is the list from there on
-rest_all : {X : Type 0} (i : ℕ) (xs : List X) → take (length xs - i) (drop i xs) ≡ drop i xs
-rest_all i xs = take_all (length xs - i) (drop i xs) (omega (arith, length-drop i xs))
-
 -- the same of lists that were pushed
 pub merge_ends : (a b met first now : List Lit) (i j : ℕ) → (length a ≤ i) ⊎ (length b ≤ j) → met ++ merged (drop i a) (drop j b) ≡ merged a b → first ≡ met ++ take (length a - i) (drop i a) → now ≡ first ++ take (length b - j) (drop j b) → now ≡ merged a b
 merge_ends a b met first now i j end so_far e f =
-    f ∙ ((λ k. e k ++ rest_all j b k) ∙ (ap (λ h. (met ++ h) ++ drop j b) (rest_all i a) ∙ merge_end a b met i j end so_far))
+    f ∙ ((λ k. e k ++ take_rest b j k) ∙ (ap (λ h. (met ++ h) ++ drop j b) (take_rest a i) ∙ merge_end a b met i j end so_far))

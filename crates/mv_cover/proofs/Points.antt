@@ -1,14 +1,14 @@
 -- What cubes and lines say of a point, over lists that are joined or reordered.
-use Rattle.std.proofs.Common.{◌≡◌, ◌∙◌, ℕ, Bool, true, false, not, ◌&&◌, ◌||◌, List, [], ◌∷◌, ◌++◌, ◌+◌, nat_eq, refl, sym, ap, add-one, arith}
-use Rattle.std.specs.List.{list_all, list_any, Contains}
-use Rattle.std.proofs.lemmas.Bool.{false≢true, and_from, or_left, ne_eqb, eq-eqb}
+use Rattle.std.proofs.Common.{◌≡◌, ◌∙◌, ℕ, Bool, true, false, not, ◌&&◌, ◌||◌, List, [], ◌∷◌, ◌++◌, nat_eq, refl, sym, ap}
+use Rattle.std.specs.List.{list_all, list_any}
+use Rattle.std.proofs.lemmas.Bool.{false≢true, ne_eqb, eq-eqb}
 use Rattle.std.proofs.lemmas.List.Folds.{list_all-append}
-use Rattle.mv_base.specs.Set.{has, empty, one, join}
-use Rattle.mv_base.proofs.Sets.{has-one, has-empty, has-join}
+use Rattle.mv_base.specs.Set.{has, empty, one}
+use Rattle.mv_base.proofs.Sets.{has-one, has-empty}
 use Rattle.mv_cover.specs.declared.cube.Lit.{Lit}
 use Rattle.mv_cover.specs.declared.line.Line.{Line}
 use Rattle.mv_cover.specs.Cubes.{holds, matches}
-use Rattle.mv_cover.specs.Covers.{some_matches, some_gives, lines_read}
+use Rattle.mv_cover.specs.Covers.{some_matches, some_gives}
 
 -- a test of each element, as a test that fails of none
 none_fails : (b a c : Bool) → a ≡ not c → (b && a) ≡ not (not b || c)
@@ -21,12 +21,6 @@ list_all-none p (x ∷ xs) = none_fails (p x) (list_all p xs) (list_any (λ y. n
 
 pub matches-append : (at : ℕ → ℕ) (xs ys : List Lit) → matches at (xs ++ ys) ≡ (matches at xs && matches at ys)
 matches-append at xs ys = list_all-append (holds at) xs ys
-
--- a cube each of whose literals holds holds
-pub holds-matches : (at : ℕ → ℕ) (xs : List Lit) → ((l : Lit) → Contains xs l → holds at l ≡ true) → matches at xs ≡ true
-holds-matches at [] each = refl
-holds-matches at (x ∷ xs) each =
-    and_from (holds at x) (matches at xs) (each x (0, omega arith, refl)) (holds-matches at xs (λ l c. each l (c.0 + 1, omega arith, rw add-one c.2)))
 
 -- either of two, further down a list
 or_more : (m a b c : Bool) → c ≡ (a || b) → (m || c) ≡ ((m || a) || b)
@@ -41,17 +35,7 @@ pub some_gives-append : (at : ℕ → ℕ) (v : ℕ) (xs ys : List Line) → som
 some_gives-append at v [] ys = refl
 some_gives-append at v (x ∷ xs) ys = or_more (matches at x.cube && has x.out v) (some_gives at v xs) (some_gives at v ys) (some_gives at v (xs ++ ys)) (some_gives-append at v xs ys)
 
-pub lines_read-append : (xs ys : List Line) (n : ℕ) → lines_read (xs ++ ys) n ≡ (lines_read xs n || lines_read ys n)
-lines_read-append [] ys n = refl
-lines_read-append (x ∷ xs) ys n = or_more (list_any (λ l. nat_eq l.net.0 n) x.cube) (lines_read xs n) (lines_read ys n) (lines_read (xs ++ ys) n) (lines_read-append xs ys n)
-
 -- the set of one value isn't empty
 pub one_some : (v : ℕ) → nat_eq (one v) empty ≡ false
 one_some v =
     ne_eqb (one v) empty (λ e. false≢true (sym (has-empty v) ∙ (ap (λ s. has s v) (sym e) ∙ (has-one v v ∙ eq-eqb v v refl))))
-
--- the set of either of two values isn't empty
-pub either_some : (u v : ℕ) → nat_eq (join (one u) (one v)) empty ≡ false
-either_some u v =
-    let first : has (join (one u) (one v)) u ≡ true = has-join (one u) (one v) u ∙ or_left (has (one u) u) (has (one v) u) (has-one u u ∙ eq-eqb u u refl) in
-    ne_eqb (join (one u) (one v)) empty (λ e. false≢true (sym (has-empty u) ∙ (ap (λ s. has s u) (sym e) ∙ first)))

@@ -1,6 +1,7 @@
 -- Lines that a cover can do without, by the rule: equal lines, then lines within others, then a default that never counts.
-use Rattle.std.specs.Prelude.{ℕ, Bool, ◌&&◌, not, nat_eq, Option, None, List, [], ◌∷◌, length, filter, if◌then◌else◌}
+use Rattle.std.specs.Prelude.{ℕ, Bool, ◌&&◌, not, nat_eq, Option, None, List, length, filter, if◌then◌else◌}
 use Rattle.std.specs.List.{list_any}
+use Rattle.mv_base.specs.Firsts.{firsts_by}
 use Rattle.mv_cover.specs.declared.line.Line.{Line}
 use Rattle.mv_cover.specs.declared.cover.Cover.{Cover}
 use Rattle.mv_cover.specs.Containing.{set_within, lies_in}
@@ -8,8 +9,7 @@ use Rattle.mv_cover.specs.Equal.{line_eq}
 
 -- the lines without those that are equal to an earlier one
 abbrev pub firsts : List Line → List Line
-firsts [] = []
-firsts (l ∷ ls) = l ∷ filter (λ m. not (line_eq m l)) (firsts ls)
+firsts ls = firsts_by line_eq ls
 
 -- the output lies in the other's output, and the cube in its cube
 abbrev pub line_lies : Line → Line → Bool

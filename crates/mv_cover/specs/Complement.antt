@@ -27,7 +27,7 @@ pub record IsWide (counts : List ℕ) (lines : List Line) : Type 0 where
   pub many : MAX_COMPLEMENT_CUBES < length (complement_of counts (take passed lines))
 
 -- after no line the list has more cubes than the limit
-pub record IsNarrow (counts : List ℕ) (lines : List Line) : Type 0 where
+pub record StaysWithin (counts : List ℕ) (lines : List Line) : Type 0 where
   pub each : (k : ℕ) → length (complement_of counts (take k lines)) ≤ MAX_COMPLEMENT_CUBES
 
 -- a line for each of the cubes, in order, with one output

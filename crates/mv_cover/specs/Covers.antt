@@ -35,11 +35,11 @@ literals_of (l ∷ ls) = length l.cube + literals_of ls
 abbrev pub cube_reads : List Lit → ℕ → Bool
 cube_reads cube n = list_any (λ l. nat_eq l.net.0 n) cube
 
--- some line's cube has one
+-- some line's cube has a literal on this net
 abbrev pub lines_read : List Line → ℕ → Bool
 lines_read [] n = false
 lines_read (l ∷ ls) n = cube_reads l.cube n || lines_read ls n
 
--- some line of the cover has one
+-- some line of the cover has a literal on this net
 abbrev pub cover_reads : Cover → ℕ → Bool
 cover_reads c n = lines_read c.lines n

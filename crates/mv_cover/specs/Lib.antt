@@ -11,3 +11,4 @@ pub mod Containing
 pub mod Sharp
 pub mod Complement
 pub mod Absorb
+pub mod Lines

@@ -15,7 +15,7 @@ pub record SuitsNet (counts : List ℕ) (l : Lit) : Type 0 where
   pub fits : FitsNet counts l.net.0 l.set
   pub few : slice_index counts l.net.0 ≤ MAX_VALUES
 
--- each literal's set is so
+-- each literal's set is some of the values that its net has, but not all, and no net has more than a net may have
 pub record Suits (counts : List ℕ) (c : List Lit) : Type 0 where
   pub fits : FitsCube counts c
   pub few : (n : ℕ) → cube_reads c n ≡ true → slice_index counts n ≤ MAX_VALUES

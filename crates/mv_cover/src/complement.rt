@@ -5,7 +5,7 @@ ghost use Rattle.mv_cover.specs.Covers.{some_matches};
 ghost use Rattle.mv_cover.specs.Covering.{IsPoint};
 ghost use Rattle.mv_cover.specs.Cofactors.{cubes_match};
 ghost use Rattle.mv_cover.specs.Sharp.{Suits, IsCubeOver, AreApart};
-ghost use Rattle.mv_cover.specs.Complement.{LinesSuit, IsWide, IsNarrow, sharps_of, complement_of};
+ghost use Rattle.mv_cover.specs.Complement.{LinesSuit, IsWide, StaysWithin, sharps_of, complement_of};
 
 use crate::sharp::put_sharp;
 use crate::{Cover, CoverStop, Cube, Lit};
@@ -20,7 +20,7 @@ impl Cover {
         requires { LinesSuit counts.now self.now.lines }
 
         ensures list { IfOk result (λ cubes. cubes.items ≡ complement_of counts.now self.now.lines) }
-        ensures narrow { IfOk result (λ _. IsNarrow counts.now self.now.lines) }
+        ensures narrow { IfOk result (λ _. StaysWithin counts.now self.now.lines) }
         ensures wide { IfErr result (λ stop. stop ≡ CoverStop.Wide → IsWide counts.now self.now.lines) }
 
         ensures points { IfOk result (λ cubes. (at : ℕ → ℕ) → IsPoint counts.now at → cubes_match at cubes.items ≡ not (some_matches at self.now.lines)) }

@@ -23,6 +23,3 @@ pub use cover::Cover;
 pub use cube::{Cube, Lit};
 pub use line::Line;
 pub use stop::CoverStop;
-
-#[cfg(test)]
-mod tests;

@@ -1,5 +1,5 @@
 ghost use Rattle.std.specs.Prelude.{◌≡◌, ◌++◌, IfOk, IfErr, OnOk, IsSome};
-ghost use Rattle.mv_cover.specs.Complement.{LinesSuit, IsWide, IsNarrow, AllowSame, lines_for, spelled_of};
+ghost use Rattle.mv_cover.specs.Complement.{LinesSuit, IsWide, StaysWithin, AllowSame, lines_for, spelled_of};
 
 use crate::{Cover, CoverStop, Cube, Line};
 use mv_base::{Items, Memory, ValueSet};
@@ -13,7 +13,7 @@ impl Cover {
         requires { LinesSuit counts.now self.now.lines }
 
         ensures cover { IfOk result (λ cover. cover ≡ spelled_of counts.now self.now) }
-        ensures narrow { IfOk result (λ _. IsSome self.now.default → IsNarrow counts.now self.now.lines) }
+        ensures narrow { IfOk result (λ _. IsSome self.now.default → StaysWithin counts.now self.now.lines) }
         ensures wide { IfErr result (λ stop. stop ≡ CoverStop.Wide → IsWide counts.now self.now.lines) }
         ensures wide_default { IfErr result (λ stop. stop ≡ CoverStop.Wide → IsSome self.now.default) }
 

@@ -3,13 +3,13 @@ use Rattle.std.proofs.Common.{◌≡◌, ℕ, suc, zero, ◌<◌, ◌≤◌, tru
 use Rattle.std.specs.List.{slice_get, AllByRecursion}
 use Rattle.std.specs.Option.{option_map, IfSome}
 use Rattle.std.specs.Prelude.{Result, OnOk, OnErr}
-use Rattle.std.proofs.lemmas.Bool.{cases_Bool, cond-true, cond-false, cond_both}
-use Rattle.mv_base.specs.Names.{same_word, among, place_of}
+use Rattle.std.proofs.lemmas.Bool.{cases_Bool, cond-true, cond-false}
+use Rattle.mv_base.specs.Names.{same_word, place_of}
 use Rattle.mv_base.proofs.NameLemmas.{place_of-cons}
 use Rattle.mv_base.specs.declared.limits.TheConstants.{MAX_VALUES}
 use Rattle.mv_base.specs.declared.memory.Memory.{Memory}
 use Rattle.mv_design.specs.declared.design.Decl.{Decl}
-use Rattle.mv_decl.specs.Nets.{values_of, nets_of, two_values, with_decl, HasValues}
+use Rattle.mv_decl.specs.Nets.{values_of, declared_of, two_values, HasValues}
 
 -- the declaration at the place is the net's
 pub record IsFound (ds : List Decl) (net : List ℕ) (k : ℕ) : Type 0 where
@@ -30,34 +30,34 @@ behind : (o : Option ℕ) (k : ℕ) → option_map suc o ≡ Some k → IsBehind
 behind None k e = cc
 behind (Some j) k e = record { at = j; next = cc; place = refl }
 
-pub found : (ds : List Decl) (net : List ℕ) (k : ℕ) → place_of net (nets_of ds) ≡ Some k → IsFound ds net k
+pub found : (ds : List Decl) (net : List ℕ) (k : ℕ) → place_of net (declared_of ds) ≡ Some k → IsFound ds net k
 found [] net k e = cc
 found (d ∷ ds) net k e =
     ⊎_elim
     (λ (here : same_word net d.net ≡ true). (
-    let first : Some 0 ≡ Some k = sym (place_of-cons net d.net (nets_of ds) ∙ cond-true _ _ _ here) ∙ e in
+    let first : Some 0 ≡ Some k = sym (place_of-cons net d.net (declared_of ds) ∙ cond-true _ _ _ here) ∙ e in
     let at : 0 ≡ k = cc in
     subst (λ n. IsFound (d ∷ ds) net n) at (record { decl = d; get = refl; values = cond-true _ _ _ here })
     ))
     (λ (other : same_word net d.net ≡ false). (
-    let next : option_map suc (place_of net (nets_of ds)) ≡ Some k = sym (place_of-cons net d.net (nets_of ds) ∙ cond-false _ _ _ other) ∙ e in
-    let b = behind (place_of net (nets_of ds)) k next in
+    let next : option_map suc (place_of net (declared_of ds)) ≡ Some k = sym (place_of-cons net d.net (declared_of ds) ∙ cond-false _ _ _ other) ∙ e in
+    let b = behind (place_of net (declared_of ds)) k next in
     subst (λ n. IsFound (d ∷ ds) net n) b.next (found_behind d ds net b.at other (found ds net b.at b.place))
     ))
     (cases_Bool (same_word net d.net))
 
 -- a net without a place has the two values
-pub not_found : (ds : List Decl) (net : List ℕ) → place_of net (nets_of ds) ≡ None → values_of ds net ≡ two_values
+pub not_found : (ds : List Decl) (net : List ℕ) → place_of net (declared_of ds) ≡ None → values_of ds net ≡ two_values
 not_found [] net e = refl
 not_found (d ∷ ds) net e =
     ⊎_elim
     (λ (here : same_word net d.net ≡ true). (
-    let some : Some 0 ≡ None = sym (place_of-cons net d.net (nets_of ds) ∙ cond-true _ _ _ here) ∙ e in
+    let some : Some 0 ≡ None = sym (place_of-cons net d.net (declared_of ds) ∙ cond-true _ _ _ here) ∙ e in
     cc
     ))
     (λ (other : same_word net d.net ≡ false). (
-    let next : option_map suc (place_of net (nets_of ds)) ≡ None = sym (place_of-cons net d.net (nets_of ds) ∙ cond-false _ _ _ other) ∙ e in
-    cond-false _ _ _ other ∙ not_found ds net (none_behind (place_of net (nets_of ds)) next)
+    let next : option_map suc (place_of net (declared_of ds)) ≡ None = sym (place_of-cons net d.net (declared_of ds) ∙ cond-false _ _ _ other) ∙ e in
+    cond-false _ _ _ other ∙ not_found ds net (none_behind (place_of net (declared_of ds)) next)
     ))
     (cases_Bool (same_word net d.net))
   where
@@ -77,17 +77,13 @@ counts_push : (ds : List Decl) (d : Decl) → AllByRecursion HasValues ds → Ha
 counts_push [] d all has = (has, tt)
 counts_push (x ∷ ds) d all has = (all.0, counts_push ds d all.1 has)
 
-pub counts_with : (ds : List Decl) (d : Decl) → AllByRecursion HasValues ds → HasValues d → AllByRecursion HasValues (with_decl ds d)
-unfolding with_decl
-counts_with ds d all has = cond_both (among d.net (nets_of ds)) _ _ (AllByRecursion HasValues) (λ _. all) (λ _. counts_push ds d all has)
-
 -- the values of the net, and how many they may be
 pub record AreValues (ds : List Decl) (net : List ℕ) (values : List (List ℕ)) : Type 0 where
   pub value : values ≡ values_of ds net
   pub some : 0 < length values
   pub within : length values ≤ MAX_VALUES
 
-pub values_found : (ds : List Decl) (net : List ℕ) (k : ℕ) (values : List (List ℕ)) → AllByRecursion HasValues ds → place_of net (nets_of ds) ≡ Some k → IfSome (slice_get ds k) (λ d. values ≡ d.values) → AreValues ds net values
+pub values_found : (ds : List Decl) (net : List ℕ) (k : ℕ) (values : List (List ℕ)) → AllByRecursion HasValues ds → place_of net (declared_of ds) ≡ Some k → IfSome (slice_get ds k) (λ d. values ≡ d.values) → AreValues ds net values
 values_found ds net k values all e h =
     let f = found ds net k e in
     let same : values ≡ f.decl.values = rw f.get at h in
@@ -98,7 +94,7 @@ values_found ds net k values all e h =
       within = rw same has.1;
     }
 
-pub values_two : (ds : List Decl) (net : List ℕ) (values : List (List ℕ)) → place_of net (nets_of ds) ≡ None → values ≡ two_values → AreValues ds net values
+pub values_two : (ds : List Decl) (net : List ℕ) (values : List (List ℕ)) → place_of net (declared_of ds) ≡ None → values ≡ two_values → AreValues ds net values
 values_two ds net values e h = record {
   value = h ∙ sym (not_found ds net e);
   some = rw h (omega arith);
@@ -110,10 +106,10 @@ pub values_few : (ds : List Decl) (k : ℕ) (d : Decl) (values : List (List ℕ)
 values_few ds k d values all e h = rw h (counts_at ds k d all e).1
 
 -- a place of a net is one of a declaration
-pub place_taken : (ds : List Decl) (net : List ℕ) (k : ℕ) → place_of net (nets_of ds) ≡ Some k → slice_get ds k ≡ None → ⊥
+pub place_taken : (ds : List Decl) (net : List ℕ) (k : ℕ) → place_of net (declared_of ds) ≡ Some k → slice_get ds k ≡ None → ⊥
 place_taken ds net k e none = let f = found ds net k e in let both : Some f.decl ≡ None = sym f.get ∙ none in cc
 
--- a call that declares one more net, or fails and leaves them, keeps it so
-pub counts_after : (result : Result (Unit {0}) Memory) (old new : List Decl) (d : Decl) → OnOk result (new ≡ with_decl old d) → OnErr result (new ≡ old) → AllByRecursion HasValues old → HasValues d → AllByRecursion HasValues new
-counts_after (Ok u) old new d ok err all has = subst (λ ds. AllByRecursion HasValues ds) (sym ok) (counts_with old d all has)
+-- a call that puts one more declaration behind the others, or fails and leaves them, keeps it so
+pub counts_after : (result : Result (Unit {0}) Memory) (old new : List Decl) (d : Decl) → OnOk result (new ≡ old ++ d ∷ []) → OnErr result (new ≡ old) → AllByRecursion HasValues old → HasValues d → AllByRecursion HasValues new
+counts_after (Ok u) old new d ok err all has = subst (λ ds. AllByRecursion HasValues ds) (sym ok) (counts_push old d all has)
 counts_after (Err e) old new d ok err all has = subst (λ ds. AllByRecursion HasValues ds) (sym err) all

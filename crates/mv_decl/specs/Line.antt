@@ -10,7 +10,7 @@ use Rattle.mv_fault.specs.declared.fault.Which.TheVariants.{Values}
 use Rattle.mv_fault.specs.declared.fault.ParseFault.{ParseFault}
 use Rattle.mv_fault.specs.declared.fault.ParseFault.TheVariants.{Missing, BadCount, ValueNames, Redeclared, Repeated, Limit, BadName}
 use Rattle.mv_fault.specs.Tells.{when}
-use Rattle.mv_decl.specs.Nets.{nets_of, values_of}
+use Rattle.mv_decl.specs.Nets.{declared_of, values_of}
 
 -- ---- commas: each is a word of its own
 
@@ -122,7 +122,7 @@ same_values a b = pointwise (pointwise nat_eq) a b
 
 -- the net is declared, with other values than these
 unfoldable pub is_redeclared : List Decl → List (List ℕ) → List ℕ → Bool
-is_redeclared ds values net = among net (nets_of ds) && not (same_values (values_of ds net) values)
+is_redeclared ds values net = among net (declared_of ds) && not (same_values (values_of ds net) values)
 
 -- nets that were declared before with other values than the line says
 abbrev pub redeclared_faults : ℕ → List Decl → List (List ℕ) → List (List ℕ) → List ParseFault

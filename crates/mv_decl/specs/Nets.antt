@@ -1,7 +1,9 @@
 -- Declared nets and the names of their values.
-use Rattle.std.specs.Prelude.{◌≡◌, ℕ, ◌<◌, ◌≤◌, List, [], ◌∷◌, ◌++◌, length, map, codes, if◌then◌else◌}
+use Rattle.std.specs.Prelude.{◌≡◌, ℕ, ◌<◌, ◌≤◌, nat_eq, List, [], ◌∷◌, ◌++◌, length, map, codes, if◌then◌else◌}
 use Rattle.std.specs.List.{AllByRecursion}
-use Rattle.mv_base.specs.Names.{same_word, among}
+use Rattle.std.specs.Cmp.Lexicographic.{pointwise}
+use Rattle.indexmap.specs.IndexMap.{IndexMap, get}
+use Rattle.mv_base.specs.Names.{same_word, among, place_of}
 use Rattle.mv_base.specs.declared.limits.TheConstants.{MAX_VALUES}
 use Rattle.mv_design.specs.declared.design.Decl.{Decl}
 
@@ -15,12 +17,12 @@ values_of [] net = two_values
 values_of (d ∷ ds) net = if same_word net d.net then d.values else values_of ds net
 
 -- the nets that are declared
-abbrev pub nets_of : List Decl → List (List ℕ)
-nets_of ds = map (λ d. d.net) ds
+abbrev pub declared_of : List Decl → List (List ℕ)
+declared_of ds = map (λ d. d.net) ds
 
 -- the declarations with one more, unless its net is declared already
 unfoldable pub with_decl : List Decl → Decl → List Decl
-with_decl ds d = if among d.net (nets_of ds) then ds else ds ++ d ∷ []
+with_decl ds d = if among d.net (declared_of ds) then ds else ds ++ d ∷ []
 
 -- the same with more of them: each net keeps its first declaration
 abbrev pub with_decls : List Decl → List Decl → List Decl
@@ -31,8 +33,12 @@ with_decls ds (d ∷ more) = with_decls (with_decl ds d) more
 abbrev pub HasValues : Decl → Type 0
 HasValues d = (0 < length d.values) × (length d.values ≤ MAX_VALUES)
 
--- the names of the declared nets, in the order of their declarations, and the values of a net without one
-pub record IsKept (nets : List (List ℕ)) (list : List Decl) (two : List (List ℕ)) : Type 0 where
-  pub named : nets ≡ nets_of list
+-- what is found for each net is the place of its first declaration
+pub record AreFirst {S : Type 0} (places : IndexMap (List ℕ) ℕ S) (list : List Decl) : Type 0 where
+  pub place : (net : List ℕ) → get (pointwise nat_eq) places net ≡ place_of net (declared_of list)
+
+-- the places of the declared nets, their declarations, and the values of a net without one
+pub record IsKept {S : Type 0} (places : IndexMap (List ℕ) ℕ S) (list : List Decl) (two : List (List ℕ)) : Type 0 where
+  pub first : AreFirst places list
   pub plain : two ≡ two_values
   pub counts : AllByRecursion HasValues list

@@ -1,21 +1,22 @@
-ghost use Rattle.std.specs.Prelude.{◌≡◌, ◌<◌, ◌≤◌, ℕ, List, [], length, slice_get, IfOk, IfSome, OnOk, OnErr};
+ghost use Rattle.std.specs.Prelude.{◌≡◌, ◌<◌, ◌≤◌, ℕ, List, [], ◌∷◌, ◌++◌, length, slice_get, IfOk, IfSome, OnOk, OnErr, All};
 ghost use Rattle.mv_base.specs.declared.limits.TheConstants.{MAX_VALUES as most_values};
-ghost use Rattle.mv_base.specs.Names.{place_of};
-ghost use Rattle.mv_decl.specs.Nets.{values_of, with_decl, nets_of, two_values, IsKept};
+ghost use Rattle.mv_base.specs.Names.{among, place_of};
+ghost use Rattle.mv_decl.specs.Nets.{values_of, with_decl, declared_of, two_values, HasValues, AreFirst};
 ghost use Rattle.mv_decl.specs.Line.{same_values, is_redeclared};
 ghost use Rattle.mv_design.specs.declared.design.Decl.{Decl};
 
-use mv_base::{Items, Memory, Name, NameSet};
+use indexmap::IndexMap;
+use mv_base::{Items, Memory, Name};
 use mv_design::Decl;
 use std::alloc::Global;
 use std::marker::Model;
 
-/// Declared nets in the order of their declarations, each once, with the names of its values. A net is found by its name
-/// without a walk along the others.
+/// Declared nets in the order of their declarations, with the names of their values. The first declaration of a net counts,
+/// and is found by the net's name without a walk along the others.
 #[derive(Drop)]
 pub struct Decls {
-    /// The names of the nets, in the order of the list.
-    nets: NameSet,
+    /// The place of the first declaration of each net.
+    places: IndexMap<Name, usize>,
     list: Items<Decl>,
     /// The values of a net without a declaration.
     two: Items<Name>,
@@ -30,7 +31,7 @@ impl Model for Decls {
 
     ghost view = { λ d. d.list };
 
-    ghost invariant = { λ d. IsKept d.nets d.list d.two };
+    ghost invariant = { λ d. IsKept d.places d.list d.two };
 }
 
 impl Decls {
@@ -39,10 +40,22 @@ impl Decls {
         ensures { IfOk result (λ decls. decls ≡ []) }
     {
         Ok(Decls {
-            nets: NameSet::new(alloc),
+            places: IndexMap::new(alloc),
             list: Items::new(alloc),
             two: zero_and_one(alloc)?,
         })
+    }
+
+    /// These declarations, among which a net may stand more than once.
+    pub fn of(alloc: Global, decls: &[Decl]) -> Result<Decls, Memory>
+        requires { All (λ d. HasValues d) decls.now }
+        ensures { IfOk result (λ made. made ≡ decls.now) }
+    {
+        let mut made = Decls::new(alloc)?;
+        for decl in decls {
+            made.push(decl.copy()?)?;
+        }
+        Ok(made)
     }
 
     /// The names of the net's values in declared order: `0` and `1`, if it isn't declared.
@@ -51,23 +64,30 @@ impl Decls {
         ensures some { 0 < length result.now }
         ensures within { length result.now ≤ most_values }
     {
-        match self.nets.place(net) {
+        match self.place(net) {
             Some(at) => declared_at(&self.list, at),
             None => self.two.as_slice(),
         }
     }
 
-    /// The place of the net's declaration, if it has one.
-    pub fn place(&self, net: &Name) -> Option<usize>
-        ensures { result ≡ place_of net.now (nets_of self.now) }
+    /// Whether the net is declared.
+    fn contains(&self, net: &Name) -> bool
+        ensures { result ≡ among net.now (declared_of self.now) }
     {
-        self.nets.place(net)
+        self.place(net).is_some()
+    }
+
+    /// The place of the net's first declaration, if it has one.
+    pub fn place(&self, net: &Name) -> Option<usize>
+        ensures { result ≡ place_of net.now (declared_of self.now) }
+    {
+        self.places.get(net).copied()
     }
 
     /// The names of the values of the nets with a declaration at this place: for many questions after one net, whose place
     /// is looked up once.
     pub fn values_at(&self, place: Option<usize>) -> &[Name]
-        ensures value { (net : List ℕ) → place ≡ place_of net (nets_of self.now) → result.now ≡ values_of self.now net }
+        ensures value { (net : List ℕ) → place ≡ place_of net (declared_of self.now) → result.now ≡ values_of self.now net }
         ensures within { length result.now ≤ most_values }
     {
         let Some(at) = place else {
@@ -84,17 +104,33 @@ impl Decls {
     pub fn is_redeclared(&self, net: &Name, values: &[Name]) -> bool
         ensures { result ≡ is_redeclared self.now values.now net.now }
     {
-        self.nets.contains(net) && !same_values(self.values_of(net), values)
+        self.contains(net) && !same_values(self.values_of(net), values)
     }
 
     /// Declares the net with these values, unless it is declared already. On an error nothing has changed.
+    #[tactic(auto, unfolding(crate::specs::Nets::with_decl))]
     pub(crate) fn add(&mut self, net: &Name, values: &Items<Name>) -> Result<(), Memory>
         requires some { 0 < length values.now }
         requires within { length values.now ≤ most_values }
         ensures ok { OnOk result (self.new ≡ with_decl self.old (record { net = net.now; values = values.now })) }
         ensures err { OnErr result (self.new ≡ self.old) }
     {
-        add_to(&mut self.nets, &mut self.list, net, values)
+        if self.contains(net) {
+            return Ok(());
+        }
+        self.push(Decl {
+            net: net.copy()?,
+            values: values.copy_names()?,
+        })
+    }
+
+    /// Puts a declaration behind the others. On an error nothing has changed.
+    fn push(&mut self, decl: Decl) -> Result<(), Memory>
+        requires { HasValues decl }
+        ensures ok { OnOk result (self.new ≡ self.old ++ decl ∷ []) }
+        ensures err { OnErr result (self.new ≡ self.old) }
+    {
+        push_to(&mut self.places, &mut self.list, decl)
     }
 
     /// The declarations in order.
@@ -130,32 +166,30 @@ fn same_values(a: &[Name], b: &[Name]) -> bool
     a == b
 }
 
-/// Adds a declaration to both lists of the declared nets, unless the net is among them. On an error both are as before.
-#[tactic(auto, unfolding(crate::specs::Nets::with_decl))]
-fn add_to(
-    nets: &mut NameSet,
+/// Puts a declaration behind the others, and its place to those of first declarations, if it is its net's first. On an error
+/// both are as before.
+#[tactic(auto, using(crate::proofs::Firsts::firsts))]
+fn push_to(
+    places: &mut IndexMap<Name, usize>,
     list: &mut Items<Decl>,
-    net: &Name,
-    values: &Items<Name>,
+    decl: Decl,
 ) -> Result<(), Memory>
-    requires { nets.old ≡ nets_of list.old }
-    ensures list { OnOk result (list.new ≡ with_decl list.old (record { net = net.now; values = values.now })) }
-    ensures nets { nets.new ≡ nets_of list.new }
+    requires { AreFirst places.old list.old }
+    ensures list { OnOk result (list.new ≡ list.old ++ decl ∷ []) }
+    ensures places { AreFirst places.new list.new }
     ensures err { OnErr result (list.new ≡ list.old) }
 {
-    if nets.contains(net) {
+    let net = decl.net.copy()?;
+    let place = list.len();
+    list.push(decl)?;
+    if places.contains_key(&net) {
         return Ok(());
     }
-    let name = net.copy()?;
-    list.push(Decl {
-        net: net.copy()?,
-        values: values.copy_names()?,
-    })?;
-    match nets.add(name) {
-        Ok(_new) => Ok(()),
-        Err(memory) => {
+    match places.insert(net, place) {
+        Ok(_before) => Ok(()),
+        Err(_failed) => {
             list.pop();
-            Err(memory)
+            Err(Memory)
         }
     }
 }

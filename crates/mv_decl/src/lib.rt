@@ -4,9 +4,11 @@
 mod commas;
 mod count;
 mod decls;
+mod laws;
 mod line;
 #[cfg(test)]
 mod tests;
 
 pub use decls::Decls;
+pub use laws::line_laws;
 pub use line::declare;

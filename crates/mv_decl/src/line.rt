@@ -3,7 +3,7 @@ ghost use Rattle.mv_base.specs.declared.limits.TheConstants.{MAX_VALUES as most_
 ghost use Rattle.mv_base.specs.Names.{among};
 ghost use Rattle.mv_fault.specs.declared.fault.ParseFault.{ParseFault};
 ghost use Rattle.mv_fault.specs.Tells.{Tells};
-ghost use Rattle.mv_decl.specs.Nets.{values_of, nets_of, with_decls};
+ghost use Rattle.mv_decl.specs.Nets.{values_of, declared_of, with_decls};
 ghost use Rattle.mv_decl.specs.Line.{net_faults, head_faults, head_nets, from_count, redeclared_faults, decls_for, decl_faults, decls_said, nets_said, values_said};
 
 use crate::Decls;
@@ -31,7 +31,7 @@ pub fn declare(
     ensures ok { OnOk result (decls.new ≡ with_decls decls.old (decls_said words.now)) }
     ensures err { IfErr result (λ f. (f ≡ ParseFault.Memory) ⊎ (decls.new ≡ decls.old)) }
     ensures said { OnOk result ((net : List ℕ) → among net (nets_said words.now) ≡ true → values_of decls.new net ≡ values_said words.now) }
-    ensures kept { OnOk result ((net : List ℕ) → (among net (nets_of decls.old) || not (among net (nets_said words.now))) ≡ true → values_of decls.new net ≡ values_of decls.old net) }
+    ensures kept { OnOk result ((net : List ℕ) → (among net (declared_of decls.old) || not (among net (nets_said words.now))) ≡ true → values_of decls.new net ≡ values_of decls.old net) }
 {
     let words = apart(alloc, words)?;
     let head = read_head(alloc, number, word, words.as_slice())?;
@@ -107,7 +107,7 @@ fn declare_nets(
     ensures ok { OnOk result (decls.new ≡ with_decls decls.old (decls_for values.now nets.now)) }
     ensures err { IfErr result (λ f. (f ≡ ParseFault.Memory) ⊎ (decls.new ≡ decls.old)) }
     ensures said { OnOk result ((net : List ℕ) → among net nets.now ≡ true → values_of decls.new net ≡ values.now) }
-    ensures kept { OnOk result ((net : List ℕ) → (among net (nets_of decls.old) || not (among net nets.now)) ≡ true → values_of decls.new net ≡ values_of decls.old net) }
+    ensures kept { OnOk result ((net : List ℕ) → (among net (declared_of decls.old) || not (among net nets.now)) ≡ true → values_of decls.new net ≡ values_of decls.old net) }
 {
     check_known(decls, line, nets, values.as_slice())?;
     declare_all(decls, nets, values)?;

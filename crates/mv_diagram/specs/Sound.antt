@@ -35,6 +35,7 @@ pub record AreCounts (counts : List ℕ) : Type 0 where
   pub some : (v : ℕ) → v < length counts → 0 < slice_index counts v
   pub few : (v : ℕ) → v < length counts → slice_index counts v ≤ MAX_VALUES
 
+-- the nodes are ordered, reduced and distinct, and each variable has as many values as a net may have
 pub record IsSound (counts : List ℕ) (ns : List (Option Node)) : Type 0 where
   pub values : AreCounts counts
   pub nodes : (place : ℕ) (n : Node) → item_at ns place ≡ Some n → IsNode counts ns n

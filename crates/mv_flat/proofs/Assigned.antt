@@ -1,5 +1,5 @@
--- From a valuation to an assignment: each net has its value at its number, and each mark the value that tells whether some row
--- of its table matches.
+-- From a valuation to an assignment: each net has its value at its number, and each mark the value that tells whether some
+-- row of its table matches.
 use Rattle.std.proofs.Common.{◌≡◌, ℕ, zero, suc, ◌<◌, ◌≤◌, Bool, true, false, List, [], ◌∷◌, ◌++◌, length, map, get_or, Option, Some, None, refl, sym, ◌∙◌, ap, subst, ⊎_elim}
 use Rattle.std.specs.Prelude.{if◌then◌else◌, nat_lt, ◌==◌}
 use Rattle.std.specs.List.{flat_map, list_all, slice_get}
@@ -19,10 +19,12 @@ use Rattle.mv_model.specs.Numbers.{places, may_mark, mark_name, number_in}
 use Rattle.mv_model.specs.Meaning.{in_values, table_holds}
 use Rattle.mv_flat.specs.Numbers.{output_of, mark_at}
 use Rattle.mv_model.proofs.Listed.{name_at}
+use Rattle.mv_model.proofs.Distinct.{is_dotted, lawful_undotted}
+use Rattle.mv_model.proofs.Names.{all_among}
 use Rattle.mv_flat.proofs.Numbered.{mark_number}
 use Rattle.mv_flat.proofs.Slots.{IsTableAt, mark_net}
 use Rattle.mv_flat.proofs.Places.{IsModelNet, table_of, single_tables, input_slot, InputPlace, OutputPlace, MarkPlace, place_at, no_slot, named_file}
-use Rattle.mv_flat.proofs.Naming.{all_among, in_tables, input_named, is_stopped, lawful_named, lawful_unstopped, output_of_among}
+use Rattle.mv_flat.proofs.Naming.{in_tables, input_named, lawful_named, output_of_among}
 use Rattle.mv_flat.proofs.Valuations.{Follows, values_follow, range_follows, mark_at_columns, output_allows, marked_may, mark_up}
 
 -- the value of the mark of the table with this output
@@ -38,9 +40,9 @@ named_value m value (b ∷ bs) = if b == 46 then marked_in value m.tables bs els
 abbrev pub by_number : FileModel → (List ℕ → ℕ) → ℕ → ℕ
 by_number m value n = named_value m value (get_or (places m) n [])
 
-unstopped_value : (m : FileModel) (value : List ℕ → ℕ) (w : List ℕ) → is_stopped w ≡ false → named_value m value w ≡ value w
-unstopped_value m value [] h = refl
-unstopped_value m value (b ∷ bs) h = cond-false (b == 46) _ _ h
+undotted_value : (m : FileModel) (value : List ℕ → ℕ) (w : List ℕ) → is_dotted w ≡ false → named_value m value w ≡ value w
+undotted_value m value [] h = refl
+undotted_value m value (b ∷ bs) h = cond-false (b == 46) _ _ h
 
 -- ---- outputs are apart
 
@@ -74,7 +76,7 @@ found_mark value (u ∷ us) (suc k) t w a e h =
 
 number_value : (m : FileModel) (net : NetParts) → IsModelNet m net → (value : List ℕ → ℕ) (w : List ℕ) → among w (nets_named m) ≡ true → value w ≡ by_number m value (number_in (places m) w)
 number_value m net is value w h =
-    sym (ap (named_value m value) (name_at (places m) w (named_file m net is w h).listed) ∙ unstopped_value m value w (lawful_unstopped w (lawful_named m net is w h)))
+    sym (ap (named_value m value) (name_at (places m) w (named_file m net is w h).listed) ∙ undotted_value m value w (lawful_undotted w (lawful_named m net is w h)))
 
 pub number_follows : (m : FileModel) (net : NetParts) → IsModelNet m net → (value : List ℕ → ℕ) → in_values m.decls value (nets_named m) ≡ true → Follows m (by_number m value) value
 number_follows m net is value range = record {

@@ -1,9 +1,9 @@
 -- The nets of tables, one table after the other behind the nets of the inputs.
-use Rattle.std.proofs.Common.{◌≡◌, ◌⊎◌, ℕ, zero, suc, ◌+◌, ◌*◌, ◌<◌, ◌≤◌, ◌^◌, Bool, true, false, ◌||◌, List, [], ◌∷◌, ◌++◌, length, take, drop, get_or, map, Option, Some, None, refl, sym, ◌∙◌, ap, subst, arith, ⊎_elim, append_assoc, All}
+use Rattle.std.proofs.Common.{◌≡◌, ℕ, ◌+◌, ◌*◌, ◌<◌, ◌≤◌, ◌^◌, Bool, true, false, ◌||◌, List, [], ◌∷◌, ◌++◌, length, drop, get_or, map, Option, Some, refl, sym, ◌∙◌, ap, subst, arith, append_assoc, All}
 use Rattle.std.specs.Prelude.{if◌then◌else◌}
 use Rattle.std.specs.List.{flat_map}
-use Rattle.std.proofs.lemmas.Bool.{false≢true, and_from, or_left, or_right}
-use Rattle.std.proofs.lemmas.List.{append-nil, length-append, length-map, drop_more, drop_all}
+use Rattle.std.proofs.lemmas.Bool.{and_from, or_left, or_right}
+use Rattle.std.proofs.lemmas.List.{append-nil, length-append, drop_more, drop_all}
 use Rattle.std.proofs.lemmas.List.Elements.{All-nil, All-cons, All-head, All-tail, All-get_or}
 use Rattle.mv_base.specs.Names.{same_word, among}
 use Rattle.mv_base.specs.declared.limits.TheConstants.{MAX_NETS}
@@ -17,16 +17,16 @@ use Rattle.mv_rows.specs.Flat.{IsMade}
 use Rattle.mv_rows.specs.Covers.{IsFlatTable}
 use Rattle.mv_net.specs.declared.parts.FlatNet.{FlatNet}
 use Rattle.mv_net.specs.declared.parts.Kind.TheVariants.{Table}
-use Rattle.mv_model.specs.Nets.{outputs_of, columns_of, nets_of, nets_named, drivers}
+use Rattle.mv_model.specs.Nets.{outputs_of, columns_of, nets_named, drivers}
 use Rattle.mv_model.specs.Numbers.{may_mark, mark_name, table_places, places}
 use Rattle.mv_model.specs.Proper.{IsFileTable, IsProperModel}
 use Rattle.mv_model.specs.Sound.{IsDrivenOnce, IsSoundModel}
 use Rattle.mv_model.proofs.Distinct.{net_is_place}
-use Rattle.mv_model.proofs.Names.{among-with_names}
+use Rattle.mv_model.proofs.Named.{among-nets_of}
 use Rattle.mv_model.proofs.Soundness.{in_left, in_right}
-use Rattle.mv_flat.specs.Numbers.{columns_at, output_of, mark_at, made_name}
-use Rattle.mv_flat.specs.Built.{file_net, IsMark, AreTableNets, AreTables}
-use Rattle.mv_flat.specs.Marks.{IsLast, Behind, AddsNets, MarkNets, TableNets}
+use Rattle.mv_flat.specs.Numbers.{columns_at, mark_at, made_name}
+use Rattle.mv_flat.specs.Built.{file_net, IsMark, AreTables}
+use Rattle.mv_flat.specs.Marks.{IsLast, AddsNets, MarkNets, TableNets}
 use Rattle.mv_flat.specs.Placed.{are_known, IsPlacedTable, ArePlaced, AddsTables}
 use Rattle.mv_flat.proofs.MadeNames.{last_few}
 
@@ -154,9 +154,9 @@ pub ruleset tabled = (tables_first, tables_more, tables_last, tables_room, table
 -- ---- a sound model's nets have numbers
 
 column_known : (m : FileModel) (w : List ℕ) → IsDrivenOnce m → among w (flat_map columns_of m.tables) ≡ true → among w (places m) ≡ true
-unfolding nets_of nets_named
+unfolding nets_named
 column_known m w once h =
-    net_is_place m w once (among-with_names w [] (nets_named m) ∙ in_right w m.inputs _ (in_right w m.outputs _ h))
+    net_is_place m w once (among-nets_of w m ∙ in_right w m.inputs _ (in_right w m.outputs _ h))
 
 known : (names ws : List (List ℕ)) → ((w : List ℕ) → among w ws ≡ true → among w names ≡ true) → are_known names ws ≡ true
 known names [] h = refl

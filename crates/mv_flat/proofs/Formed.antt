@@ -7,7 +7,7 @@ use Rattle.mv_net.specs.declared.parts.FlatLatch.{FlatLatch}
 use Rattle.mv_net.specs.declared.parts.NetParts.{NetParts}
 use Rattle.mv_net.specs.declared.parts.Kind.TheVariants.{Latch, Reset}
 use Rattle.mv_net.specs.Formed.{AllLatches, latch_outputs, latch_resets, ResetsStandAlone, WellFormed}
-use Rattle.mv_model.specs.Sound.{IsRanked}
+use Rattle.mv_model.specs.Sound.{HasRank}
 use Rattle.mv_flat.proofs.Places.{IsModelNet}
 use Rattle.mv_flat.proofs.FormedNames.{nets_differ}
 use Rattle.mv_flat.proofs.FormedNets.{nets_formed}
@@ -25,7 +25,7 @@ alone m net is =
       resets = λ n k. refl;
     }
 
-pub net_formed : (m : FileModel) (net : NetParts) → IsModelNet m net → IsRanked m → WellFormed net
+pub net_formed : (m : FileModel) (net : NetParts) → IsModelNet m net → HasRank m → WellFormed net
 net_formed m net is ranked = record {
   root = ap is_model_name is.built.root ∙ is.proper.name;
   nets = nets_formed m net is;

@@ -1,25 +1,22 @@
 -- The covers of a table are covers over the nets: each literal is on the net of a column, or on the mark's.
-use Rattle.std.proofs.Common.{◌≡◌, ℕ, Bool, true, false, not, ◌||◌, List, [], ◌∷◌, length, Option, Some, None, refl, sym, ◌∙◌, ap, arith, ⊎_elim, All}
+use Rattle.std.proofs.Common.{◌≡◌, ℕ, Bool, true, false, ◌||◌, List, [], ◌∷◌, Option, Some, None, refl, sym, ◌∙◌, ap, arith, ⊎_elim, All}
 use Rattle.std.specs.Prelude.{if◌then◌else◌, nat_eq}
 use Rattle.std.specs.List.{list_any}
-use Rattle.std.proofs.lemmas.Bool.{false≢true, and_parts, eqb-true, false_from_ne_true, le-ltb, not-true, or_cases, or_left, or_right}
+use Rattle.std.proofs.lemmas.Bool.{false≢true, eqb-true, false_from_ne_true, le-ltb, or_cases}
 use Rattle.std.proofs.lemmas.List.Elements.{All-head, All-tail}
 use Rattle.mv_base.specs.Set.{has, empty, full, Within}
 use Rattle.mv_base.specs.declared.number.NetId.{NetId}
 use Rattle.mv_base.proofs.Sets.{has-empty, has-full, same_set}
-use Rattle.mv_cover.specs.Absorb.{some_bare}
 use Rattle.mv_cover.specs.Covers.{cube_reads, lines_read, cover_reads}
-use Rattle.mv_cover.specs.Equal.{line_eq}
 use Rattle.mv_cover.specs.declared.cube.Lit.{Lit}
 use Rattle.mv_cover.specs.declared.line.Line.{Line}
 use Rattle.mv_cover.specs.declared.cover.Cover.{Cover}
-use Rattle.mv_cover.proofs.Equal.{line_eq-refl}
 use Rattle.mv_rows.specs.declared.column.Column.{Column}
 use Rattle.mv_rows.specs.Cubes.{IsPart, AreParts}
-use Rattle.mv_rows.specs.Covers.{IsTableLine, IsTableCover, lines_differ}
+use Rattle.mv_rows.specs.Covers.{IsTableLine, IsTableCover}
 use Rattle.mv_net.specs.declared.parts.FlatNet.{FlatNet}
 use Rattle.mv_net.specs.Nets.{slot, values_in}
-use Rattle.mv_net.specs.Formed.{IsReadable, AllLiterals, AllLines, AllCubes, IsLineAmong, LinesDiffer, has_empty_cube, IsCover}
+use Rattle.mv_net.specs.Formed.{IsReadable, AllLiterals, AllLines, AllCubes, IsCover}
 
 -- ---- the nets that a table's covers may read
 
@@ -49,7 +46,7 @@ none_within s within =
 -- some values, but not all, of a net that has some
 part_above : (b : Bool) (k s : ℕ) → IsPart (if b then k else 0) s → (b ≡ true) × IsPart k s
 part_above true k s p = (refl, p)
-part_above false k s p = absurd (p.some (none_within s p.within))
+part_above false k s p = absurd (p.values.some (none_within s p.values.within))
 
 -- a literal of the cube is on one of these nets
 parts_read : (nets : List (Option FlatNet)) (columns : List Column) (o : Option Cover) (mark : NetId) (cube : List Lit) (n : ℕ) → AreParts (count_above nets columns o mark) cube → cube_reads cube n ≡ true → is_above columns o mark n ≡ true
@@ -64,7 +61,7 @@ literals_from : (nets : List (Option FlatNet)) (columns : List Column) (o : Opti
 literals_from nets columns o mark [] readable parts = tt
 literals_from nets columns o mark (l ∷ ls) readable parts =
     let p = part_above (is_above columns o mark l.net.0) (values_in (slot nets l.net.0)) l.set parts.0 in (
-      record { readable = readable l.net.0 p.0; set = record { some = p.1.some; within = p.1.within }; not_full = p.1.not_full },
+      record { readable = readable l.net.0 p.0; set = p.1.values; not_full = p.1.not_full },
       literals_from nets columns o mark ls readable parts.1,
     )
 
@@ -80,7 +77,7 @@ lines_from nets columns o mark values (l ∷ ls) readable all =
     let P : Line → Type 0 = IsTableLine (count_above nets columns o mark) values in
     let here = All-head P l ls all in (
       literals_from nets columns o mark l.cube readable here.parts,
-      record { some = here.out.some; within = here.out.within },
+      here.out,
       lines_from nets columns o mark values ls readable (All-tail P l ls all),
     )
 
@@ -92,30 +89,15 @@ lines_above nets columns o mark values (l ∷ ls) n all h =
     (λ (y : lines_read ls n ≡ true). lines_above nets columns o mark values ls n (All-tail P l ls all) y)
     (or_cases (cube_reads l.cube n) (lines_read ls n) h)
 
-among_lines : (l : Line) (ls : List Line) → IsLineAmong l ls → list_any (line_eq l) ls ≡ true
-among_lines l [] h = absurd h
-among_lines l (m ∷ ms) h =
-    ⊎_elim (λ (e : l ≡ m). or_left (line_eq l m) _ (ap (line_eq l) (sym e) ∙ line_eq-refl l)) (λ (r : IsLineAmong l ms). or_right (line_eq l m) _ (among_lines l ms r)) h
-
-differ_from : (ls : List Line) → lines_differ ls ≡ true → LinesDiffer ls
-differ_from [] h = tt
-differ_from (l ∷ ls) h =
-    let p = and_parts (not (list_any (line_eq l) ls)) (lines_differ ls) h in
-    (λ (there : IsLineAmong l ls). false≢true (sym (not-true (list_any (line_eq l) ls) p.0) ∙ among_lines l ls there), differ_from ls p.1)
-
-bare_cubes : (ls : List Line) → has_empty_cube ls ≡ some_bare ls
-bare_cubes [] = refl
-bare_cubes (l ∷ ls) = ap (λ b. nat_eq (length l.cube) 0 || b) (bare_cubes ls)
-
 -- ---- covers
 
 pub cover_from : (nets : List (Option FlatNet)) (columns : List Column) (o : Option Cover) (mark : NetId) (values : ℕ) (c : Cover) → ((n : ℕ) → is_above columns o mark n ≡ true → IsReadable nets n) → IsTableCover (count_above nets columns o mark) values c → IsCover nets values c
 cover_from nets columns o mark values c readable is = record {
   cubes = cubes_from (count_above nets columns o mark) values c.lines is.lines;
   lines = lines_from nets columns o mark values c.lines readable is.lines;
-  differ = differ_from c.lines is.differ;
-  default = λ out e. let d = is.default out e in record { some = d.some; within = d.within };
-  met = λ h. is.met (sym (bare_cubes c.lines) ∙ h);
+  differ = is.differ;
+  default = is.default;
+  met = is.met;
 }
 
 pub cover_above : (nets : List (Option FlatNet)) (columns : List Column) (o : Option Cover) (mark : NetId) (values : ℕ) (c : Cover) (n : ℕ) → IsTableCover (count_above nets columns o mark) values c → cover_reads c n ≡ true → is_above columns o mark n ≡ true

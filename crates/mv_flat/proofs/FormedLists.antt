@@ -10,7 +10,8 @@ use Rattle.mv_net.specs.declared.parts.NetParts.{NetParts}
 use Rattle.mv_net.specs.declared.parts.Kind.{Kind}
 use Rattle.mv_net.specs.declared.parts.Kind.TheVariants.{Input, Table}
 use Rattle.mv_net.specs.Nets.{slot}
-use Rattle.mv_net.specs.Formed.{stands_in, all_differ, IsKind, IsReadable, AreKind}
+use Rattle.mv_net.specs.Formed.{all_differ, IsKind, IsReadable, AreKind}
+use Rattle.mv_net.specs.Index.{has_id}
 use Rattle.mv_model.specs.Nets.{nets_named}
 use Rattle.mv_model.specs.Numbers.{places, net_in, number_in}
 use Rattle.mv_flat.proofs.Numbered.{same_number}
@@ -77,7 +78,7 @@ numbers_differ m net is (w ∷ ws) named h =
     let listed : (u : List ℕ) → among u (w ∷ ws) ≡ true → among u (places m) ≡ true = λ u y. (named_file m net is u (named u y)).listed in
     and_from _ _
     (not_from_false _
-    (false_from_ne_true (stands_in (net_in (places m) w) (map (net_in (places m)) ws)) (λ y.
+    (false_from_ne_true (has_id (map (net_in (places m)) ws) (number_in (places m) w)) (λ y.
     let c = number_listed (λ (n : NetId). n.0) (net_in (places m)) (places m) ws (number_in (places m) w) (λ u. refl) y in
     let same : c.name ≡ w = same_number (places m) c.name w (listed c.name (among_later c.name w ws c.listed)) (listed w (among_first w ws)) c.number in
     false≢true (sym (not-true (among w ws) p.0) ∙ (ap (λ u. among u ws) (sym same) ∙ c.listed)))))
@@ -102,9 +103,9 @@ inputs_formed m net is =
       once = numbers_differ m net is m.inputs (λ w h. input_named m w h) is.proper.inputs_differ;
     })
 
-pub outputs_formed : (m : FileModel) (net : NetParts) → IsModelNet m net → (n : NetId) → stands_in n net.outputs ≡ true → IsReadable net.nets n.0
+pub outputs_formed : (m : FileModel) (net : NetParts) → IsModelNet m net → (n : NetId) → has_id net.outputs n.0 ≡ true → IsReadable net.nets n.0
 outputs_formed m net is n h =
-    let c = number_listed (λ (i : NetId). i.0) (net_in (places m)) (places m) m.outputs n.0 (λ u. refl) (ap (stands_in n) (sym is.built.outputs) ∙ h) in
+    let c = number_listed (λ (i : NetId). i.0) (net_in (places m)) (places m) m.outputs n.0 (λ u. refl) (ap (λ ns. has_id ns n.0) (sym is.built.outputs) ∙ h) in
     let Q : ℕ → Type 0 = IsReadable net.nets in
     subst Q c.number (file_readable m net.nets c.name (named_file m net is c.name (output_named m c.name c.listed)))
 

@@ -68,7 +68,7 @@ output_formed m net is n p =
 -- ---- nets of marks
 
 lawful_made : (n : ℕ) → n < 2 ^ 32 → is_net_name (made_name n) ≡ true
-lawful_made n small = numbered-net_name (codes "_m") n (omega arith) (omega arith) refl
+lawful_made n small = numbered-net_name (codes "_m") n (omega arith) refl
 
 made_formed : (nets : List (Option FlatNet)) (name : List ℕ) (c : Cover) → is_net_name name ≡ true → IsCover nets 2 c → IsFormed nets (made_net name c)
 made_formed nets name c lawful cover =

@@ -3,6 +3,7 @@ use Rattle.std.proofs.Common.{◌≡◌, ℕ, ◌+◌, ◌*◌, ◌<◌, ◌≤�
 use Rattle.std.specs.Prelude.{if◌then◌else◌, ◌==◌}
 use Rattle.std.specs.List.{slice_get}
 use Rattle.std.proofs.lemmas.Bool.{false≢true, and_from, cases_lt, cond-false}
+use Rattle.std.proofs.lemmas.Map.Keys.{any_passes_from_place}
 use Rattle.mv_base.specs.Names.{among}
 use Rattle.mv_cover.specs.declared.cover.Cover.{Cover}
 use Rattle.mv_design.specs.declared.design.FileModel.{FileModel}
@@ -13,13 +14,14 @@ use Rattle.mv_net.specs.Nets.{slot, net_reads}
 use Rattle.mv_net.specs.Formed.{Acyclic}
 use Rattle.mv_model.specs.Nets.{nets_named}
 use Rattle.mv_model.specs.Numbers.{places, may_mark, mark_name, number_in}
-use Rattle.mv_model.specs.Sound.{table_reads, reads, IsRanked}
+use Rattle.mv_model.specs.Sound.{table_reads, reads, HasRank}
 use Rattle.mv_flat.specs.Numbers.{output_of, mark_at}
-use Rattle.mv_model.proofs.Listed.{name_at, any_at}
+use Rattle.mv_model.proofs.Listed.{name_at}
+use Rattle.mv_model.proofs.Distinct.{is_dotted, lawful_undotted}
 use Rattle.mv_flat.proofs.Numbered.{mark_number}
 use Rattle.mv_flat.proofs.Slots.{IsTableAt, mark_net}
 use Rattle.mv_flat.proofs.Places.{IsModelNet, table_of, single_tables, input_slot, InputPlace, OutputPlace, MarkPlace, place_at, no_slot, named_file}
-use Rattle.mv_flat.proofs.Naming.{IsNumberOf, is_stopped, lawful_named, lawful_unstopped, output_of_among, table_input_named, table_output_named}
+use Rattle.mv_flat.proofs.Naming.{IsNumberOf, lawful_named, output_of_among, table_input_named, table_output_named}
 use Rattle.mv_flat.proofs.Valuations.{marked_may}
 use Rattle.mv_flat.proofs.FormedTables.{IsMarkOf, output_above, mark_above}
 
@@ -31,13 +33,13 @@ named_rank rank (b ∷ bs) = if b == 46 then 2 * rank bs else 2 * rank (b ∷ bs
 abbrev rank_by_number : FileModel → (List ℕ → ℕ) → ℕ → ℕ
 rank_by_number m rank n = named_rank rank (get_or (places m) n [])
 
-unstopped_rank : (rank : List ℕ → ℕ) (w : List ℕ) → is_stopped w ≡ false → named_rank rank w ≡ 2 * rank w + 1
-unstopped_rank rank [] h = refl
-unstopped_rank rank (b ∷ bs) h = cond-false (b == 46) _ _ h
+undotted_rank : (rank : List ℕ → ℕ) (w : List ℕ) → is_dotted w ≡ false → named_rank rank w ≡ 2 * rank w + 1
+undotted_rank rank [] h = refl
+undotted_rank rank (b ∷ bs) h = cond-false (b == 46) _ _ h
 
 net_rank : (m : FileModel) (net : NetParts) → IsModelNet m net → (rank : List ℕ → ℕ) (w : List ℕ) → among w (nets_named m) ≡ true → rank_by_number m rank (number_in (places m) w) ≡ 2 * rank w + 1
 net_rank m net is rank w h =
-    ap (named_rank rank) (name_at (places m) w (named_file m net is w h).listed) ∙ unstopped_rank rank w (lawful_unstopped w (lawful_named m net is w h))
+    ap (named_rank rank) (name_at (places m) w (named_file m net is w h).listed) ∙ undotted_rank rank w (lawful_undotted w (lawful_named m net is w h))
 
 output_rank : (m : FileModel) (net : NetParts) → IsModelNet m net → (rank : List ℕ → ℕ) (k : ℕ) (t : FileTable) → slice_get m.tables k ≡ Some t → rank_by_number m rank (number_in (places m) (output_of t)) ≡ 2 * rank (output_of t) + 1
 output_rank m net is rank k t e = net_rank m net is rank (output_of t) (table_output_named m k t (output_of t) e (output_of_among t (single_tables m net is k t e)))
@@ -51,7 +53,7 @@ mark_rank m net is rank k t e may =
 
 reads_column : (m : FileModel) (k : ℕ) (t : FileTable) (w : List ℕ) → slice_get m.tables k ≡ Some t → length t.outputs ≡ 1 → among w t.inputs ≡ true → reads m (output_of t) w ≡ true
 unfolding reads
-reads_column m k t w e one h = any_at (table_reads (output_of t) w) m.tables k t e (and_from _ _ (output_of_among t one) h)
+reads_column m k t w e one h = any_passes_from_place (table_reads (output_of t) w) m.tables k t e (and_from _ _ (output_of_among t one) h)
 
 -- a column is below its table's output, by the rank
 record IsColumnBelow (m : FileModel) (rank : List ℕ → ℕ) (t : FileTable) (n : ℕ) : Type 0 where
@@ -59,7 +61,7 @@ record IsColumnBelow (m : FileModel) (rank : List ℕ → ℕ) (t : FileTable) (
   is : rank_by_number m rank n ≡ 2 * rank name + 1
   below : rank name < rank (output_of t)
 
-column_below : (m : FileModel) (net : NetParts) → IsModelNet m net → (r : IsRanked m) (k : ℕ) (t : FileTable) → slice_get m.tables k ≡ Some t → (n : ℕ) → IsNumberOf (places m) t.inputs n → IsColumnBelow m r.rank t n
+column_below : (m : FileModel) (net : NetParts) → IsModelNet m net → (r : HasRank m) (k : ℕ) (t : FileTable) → slice_get m.tables k ≡ Some t → (n : ℕ) → IsNumberOf (places m) t.inputs n → IsColumnBelow m r.rank t n
 column_below m net is r k t e n c = record {
   name = c.name;
   is = ap (rank_by_number m r.rank) (sym c.number) ∙ net_rank m net is r.rank c.name (table_input_named m k t c.name e c.listed);
@@ -71,7 +73,7 @@ column_below m net is r k t e n c = record {
 abbrev Falls : FileModel → (List ℕ → ℕ) → Option FlatNet → ℕ → Type 0
 Falls m rank s n = (k : ℕ) → net_reads s k ≡ true → rank_by_number m rank k < rank_by_number m rank n
 
-output_falls : (m : FileModel) (net : NetParts) → IsModelNet m net → (r : IsRanked m) (n : ℕ) → OutputPlace m n → Falls m r.rank (slot net.nets n) n
+output_falls : (m : FileModel) (net : NetParts) → IsModelNet m net → (r : HasRank m) (n : ℕ) → OutputPlace m n → Falls m r.rank (slot net.nets n) n
 output_falls m net is r n p k h =
     let here = table_of m net is p.place p.table p.listed in
     let there = ap (rank_by_number m r.rank) p.number ∙ output_rank m net is r.rank p.place p.table p.listed in
@@ -87,7 +89,7 @@ output_falls m net is r n p k h =
     omega arith)
     (output_above m net is p.place p.table p.listed k (sym (ap (λ s. net_reads s k) (ap (slot net.nets) p.number ∙ here.output)) ∙ h))
 
-mark_falls : (m : FileModel) (net : NetParts) → IsModelNet m net → (r : IsRanked m) (n : ℕ) → MarkPlace m n → Falls m r.rank (slot net.nets n) n
+mark_falls : (m : FileModel) (net : NetParts) → IsModelNet m net → (r : HasRank m) (n : ℕ) → MarkPlace m n → Falls m r.rank (slot net.nets n) n
 mark_falls m net is r n p k h = by_mark here.flat.mark refl (sym (ap (λ s. net_reads s k) (ap (slot net.nets) p.number ∙ here.mark p.may)) ∙ h)
   where
     here : IsTableAt m.decls (places m) net.nets p.table
@@ -102,11 +104,11 @@ mark_falls m net is r n p k h = by_mark here.flat.mark refl (sym (ap (λ s. net_
         let l = b.below in
         omega arith
 
-input_falls : (m : FileModel) (net : NetParts) → IsModelNet m net → (r : IsRanked m) (n : ℕ) → InputPlace m n → Falls m r.rank (slot net.nets n) n
+input_falls : (m : FileModel) (net : NetParts) → IsModelNet m net → (r : HasRank m) (n : ℕ) → InputPlace m n → Falls m r.rank (slot net.nets n) n
 input_falls m net is r n p k h =
     absurd (false≢true (sym (ap (λ s. net_reads s k) (ap (slot net.nets) p.number ∙ input_slot m net is p.name p.listed)) ∙ h))
 
-falls_at : (m : FileModel) (net : NetParts) → IsModelNet m net → (r : IsRanked m) (n : ℕ) → Falls m r.rank (slot net.nets n) n
+falls_at : (m : FileModel) (net : NetParts) → IsModelNet m net → (r : HasRank m) (n : ℕ) → Falls m r.rank (slot net.nets n) n
 falls_at m net is r n =
     ⊎_elim
     (λ (low : n < length (places m)).
@@ -115,5 +117,5 @@ falls_at m net is r n =
     (λ (high : length (places m) ≤ n) (k : ℕ) h. absurd (false≢true (sym (ap (λ s. net_reads s k) (no_slot m net is n high)) ∙ h)))
     (cases_lt n (length (places m)))
 
-pub acyclic_nets : (m : FileModel) (net : NetParts) → IsModelNet m net → IsRanked m → Acyclic net.nets
+pub acyclic_nets : (m : FileModel) (net : NetParts) → IsModelNet m net → HasRank m → Acyclic net.nets
 acyclic_nets m net is r = record { rank = rank_by_number m r.rank; falls = λ n k h. falls_at m net is r n k h }

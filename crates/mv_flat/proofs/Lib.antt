@@ -1,9 +1,8 @@
-pub mod Indexed
+pub mod Counts
 pub mod MadeNames
 pub mod Shapes
 pub mod Needs
 pub mod Behinds
-pub mod Fits
 pub mod Numbered
 pub mod Blocks
 pub mod Slots

@@ -1,7 +1,8 @@
 -- Names of made nets: different numbers give different names, and the least number whose name is free is found.
-use Rattle.std.proofs.Common.{◌≡◌, ◌⊎◌, ℕ, zero, suc, ◌+◌, ◌*◌, ◌-◌, ◌<◌, ◌≤◌, ◌^◌, Bool, true, false, ◌||◌, List, [], ◌∷◌, ◌++◌, length, drop, map, Option, Some, None, is_some, is_none, refl, sym, ◌∙◌, ap, subst, arith, ⊎_elim, decimal, append_assoc}
+use Rattle.std.proofs.Common.{◌≡◌, ℕ, zero, suc, ◌+◌, ◌-◌, ◌<◌, ◌≤◌, ◌^◌, Bool, true, false, ◌||◌, List, [], ◌∷◌, ◌++◌, length, drop, map, Option, Some, None, is_some, is_none, refl, sym, ◌∙◌, ap, subst, arith, ⊎_elim}
 use Rattle.std.specs.List.{range_with_len}
-use Rattle.std.proofs.lemmas.Bool.{false≢true, cases_Bool, cases_lt, cases_order, or_from, or_cases, or_left, or_right, false_from_ne_true}
+use Rattle.std.proofs.Math.Bool.{or-false}
+use Rattle.std.proofs.lemmas.Bool.{false≢true, cases_lt, or_from, or_cases, or_left, false_from_ne_true}
 use Rattle.std.proofs.lemmas.Fmt.{decimal_injective}
 use Rattle.std.proofs.lemmas.List.{append-nil, length-append}
 use Rattle.std.proofs.lemmas.List.FromFn.{length-map-range_with_len}
@@ -13,7 +14,7 @@ use Rattle.mv_model.proofs.Distinct.{apart_length}
 use Rattle.mv_model.proofs.Soundness.{in_left, in_right}
 use Rattle.mv_flat.specs.Numbers.{made_name}
 use Rattle.mv_flat.specs.Built.{made_net}
-use Rattle.mv_flat.specs.Marks.{IsLast, IsNext, Behind, AddsNets, MarkNets}
+use Rattle.mv_flat.specs.Marks.{IsLast, IsNext, AddsNets, MarkNets}
 
 -- ---- different numbers
 
@@ -106,13 +107,9 @@ last_more names held before number name h n = record {
       let later = n.later in
       let m = n.small in
       let other : same_word (made_name k) name ≡ false = ap (same_word (made_name k)) n.is ∙ made_differ k number (omega arith) (omega arith) (λ e. omega (arith, e)) in
-      among-append (made_name k) held (name ∷ []) ∙ (ap (λ b. among (made_name k) held || (b || false)) other ∙ (or_none (among (made_name k) held) ∙ h.behind k (omega arith) small));
+      among-append (made_name k) held (name ∷ []) ∙ (ap (λ b. among (made_name k) held || (b || false)) other ∙ (or-false (among (made_name k) held) ∙ h.behind k (omega arith) small));
 }
   where
-    or_none : (b : Bool) → (b || false) ≡ b
-    or_none true = refl
-    or_none false = refl
-
     least : (k : ℕ) → 0 < k → k < number → among (made_name k) held ≡ true
     least k low l =
         ⊎_elim

@@ -1,8 +1,8 @@
 -- The nets that a model names: its inputs and outputs, and the columns of its tables. Their names are lawful.
-use Rattle.std.proofs.Common.{◌≡◌, ℕ, zero, suc, Bool, true, false, List, [], ◌∷◌, ◌++◌, length, map, Some, refl, sym, ◌∙◌, ap, ⊎_elim}
-use Rattle.std.specs.Prelude.{◌==◌, nat_eq}
+use Rattle.std.proofs.Common.{◌≡◌, ℕ, zero, suc, Bool, true, List, [], ◌∷◌, ◌++◌, length, map, Some, refl, sym, ◌∙◌, ap, ⊎_elim}
+use Rattle.std.specs.Prelude.{nat_eq}
 use Rattle.std.specs.List.{flat_map, list_all, list_any, slice_get}
-use Rattle.std.proofs.lemmas.Bool.{false≢true, and_from, and_parts, eq-eqb, eqb-true, or_cases, or_left, or_right}
+use Rattle.std.proofs.lemmas.Bool.{false≢true, and_from, eq-eqb, eqb-true, or_cases, or_left, or_right}
 use Rattle.std.proofs.lemmas.Option.{none-some, same_Some}
 use Rattle.mv_base.specs.Names.{same_word, among, is_net_name}
 use Rattle.mv_base.proofs.NameLemmas.{same_word_is, same_word_refl}
@@ -11,7 +11,7 @@ use Rattle.mv_design.specs.declared.table.FileTable.{FileTable}
 use Rattle.mv_net.specs.declared.parts.NetParts.{NetParts}
 use Rattle.mv_model.specs.Nets.{columns_of, nets_named}
 use Rattle.mv_model.specs.Numbers.{number_in}
-use Rattle.mv_model.proofs.Distinct.{lawful_undotted}
+use Rattle.mv_model.proofs.Names.{all_among}
 use Rattle.mv_model.proofs.Soundness.{in_left, in_right, in_either}
 use Rattle.mv_flat.specs.Numbers.{output_of}
 use Rattle.mv_flat.proofs.Places.{IsModelNet, file_table, outputs_are}
@@ -24,18 +24,7 @@ among_first w ws = or_left (same_word w w) (among w ws) (same_word_refl w)
 pub among_later : (w u : List ℕ) (ws : List (List ℕ)) → among w ws ≡ true → among w (u ∷ ws) ≡ true
 among_later w u ws h = or_right (same_word w u) (among w ws) h
 
--- what holds of each holds of those among them
-pub all_among : (p : List ℕ → Bool) (ws : List (List ℕ)) (w : List ℕ) → list_all p ws ≡ true → among w ws ≡ true → p w ≡ true
-all_among p [] w all h = absurd (false≢true h)
-all_among p (u ∷ us) w all h =
-    let q = and_parts (p u) (list_all p us) all in
-    ⊎_elim (λ (y : same_word w u ≡ true). ap p (same_word_is w u y) ∙ q.0) (λ (y : among w us ≡ true). all_among p us w q.1 y) (or_cases (same_word w u) (among w us) h)
-
-pub all_from_among : (p : List ℕ → Bool) (ws : List (List ℕ)) → ((w : List ℕ) → among w ws ≡ true → p w ≡ true) → list_all p ws ≡ true
-all_from_among p [] h = refl
-all_from_among p (w ∷ ws) h = and_from (p w) (list_all p ws) (h w (among_first w ws)) (all_from_among p ws (λ u y. h u (among_later u w ws y)))
-
--- the same of what is made of them
+-- what a test finds of what is made of each name it finds of all of it
 pub all_map : {X : Type 0} (p : X → Bool) (f : List ℕ → X) (ws : List (List ℕ)) → ((w : List ℕ) → among w ws ≡ true → p (f w) ≡ true) → list_all p (map f ws) ≡ true
 all_map p f [] h = refl
 all_map p f (w ∷ ws) h = and_from (p (f w)) (list_all p (map f ws)) (h w (among_first w ws)) (all_map p f ws (λ u y. h u (among_later u w ws y)))
@@ -131,12 +120,3 @@ lawful_named m net is w h =
     (in_either w o.table.inputs o.table.outputs o.there))
     (in_either w m.outputs (flat_map columns_of m.tables) y))
     (in_either w m.inputs (m.outputs ++ flat_map columns_of m.tables) h)
-
--- a name that begins with a full stop, as the names of marks by number do
-abbrev pub is_stopped : List ℕ → Bool
-is_stopped [] = false
-is_stopped (b ∷ bs) = b == 46
-
--- no lawful name does
-pub lawful_unstopped : (w : List ℕ) → is_net_name w ≡ true → is_stopped w ≡ false
-lawful_unstopped w h = lawful_undotted w h

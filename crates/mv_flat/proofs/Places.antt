@@ -21,7 +21,7 @@ use Rattle.mv_model.specs.Numbers.{places, table_places, may_mark, mark_name, nu
 use Rattle.mv_model.specs.Proper.{IsProperModel, IsFileTable}
 use Rattle.mv_flat.specs.Numbers.{output_of, mark_at}
 use Rattle.mv_flat.specs.Built.{file_net, IsBuilt}
-use Rattle.mv_model.proofs.Listed.{number_at}
+use Rattle.mv_model.proofs.Listed.{get_front, number_at}
 use Rattle.mv_flat.proofs.Numbered.{number_of_name, mark_number}
 use Rattle.mv_flat.proofs.Blocks.{AreSingle, marks_of, places_of, blocks_size, block_at}
 use Rattle.mv_flat.proofs.Slots.{IsTableAt, table_at}
@@ -63,11 +63,6 @@ nets_size m net is =
 
 -- ---- the inputs
 
-get_left : {X : Type 0} (xs ys : List X) (k : ℕ) (x : X) → slice_get xs k ≡ Some x → slice_get (xs ++ ys) k ≡ Some x
-get_left [] ys k x h = absurd (none-some x h)
-get_left (y ∷ xs) ys zero x h = h
-get_left (y ∷ xs) ys (suc k) x h = get_left xs ys k x h
-
 slot_left : (f : List ℕ → Option FlatNet) (ws : List (List ℕ)) (fs : List (Option FlatNet)) (k : ℕ) (w : List ℕ) → slice_get ws k ≡ Some w → slot (map f ws ++ fs) k ≡ f w
 slot_left f [] fs k w e = absurd (none-some w e)
 slot_left f (u ∷ us) fs zero w e = ap f (same_Some u w e)
@@ -77,13 +72,13 @@ pub input_slot : (m : FileModel) (net : NetParts) → IsModelNet m net → (w : 
 unfolding places
 input_slot m net is w h =
     let p = IsPlace-from_among w m.inputs h in
-    ap (slot net.nets) (number_at (places m) p.0 w is.distinct (get_left m.inputs (flat_map table_places m.tables) p.0 w p.1.found))
+    ap (slot net.nets) (number_at (places m) p.0 w is.distinct (get_front m.inputs (flat_map table_places m.tables) p.0 p.1.within ∙ p.1.found))
     ∙ (ap (λ ns. slot ns p.0) is.built.nets_are ∙ slot_left (file_net m.decls Input None) m.inputs is.built.of_tables p.0 w p.1.found)
 
 -- ---- names of tables' nets
 
 -- the name is that of a table's output
-pub record IsOutput (ts : List FileTable) (w : List ℕ) : Type 0 where
+pub record IsTableOutput (ts : List FileTable) (w : List ℕ) : Type 0 where
   pub place : ℕ
   pub table : FileTable
   pub listed : slice_get ts place ≡ Some table
@@ -97,7 +92,7 @@ pub record IsMarked (ts : List FileTable) (w : List ℕ) : Type 0 where
   pub may : may_mark table ≡ true
   pub is : w ≡ mark_name (output_of table)
 
-output_later : (t : FileTable) (ts : List FileTable) (w : List ℕ) → IsOutput ts w → IsOutput (t ∷ ts) w
+output_later : (t : FileTable) (ts : List FileTable) (w : List ℕ) → IsTableOutput ts w → IsTableOutput (t ∷ ts) w
 output_later t ts w o = record { place = suc o.place; table = o.table; listed = o.listed; is = o.is }
 
 mark_later : (t : FileTable) (ts : List FileTable) (w : List ℕ) → IsMarked ts w → IsMarked (t ∷ ts) w
@@ -115,13 +110,13 @@ single_list (w ∷ u ∷ ws) one = absurd (omega arith)
 pub outputs_are : (t : FileTable) → length t.outputs ≡ 1 → t.outputs ≡ output_of t ∷ []
 outputs_are t one = single_list t.outputs one
 
-pub outputs_in : (ts : List FileTable) (w : List ℕ) → AreSingle ts → among w (flat_map outputs_of ts) ≡ true → IsOutput ts w
+pub outputs_in : (ts : List FileTable) (w : List ℕ) → AreSingle ts → among w (flat_map outputs_of ts) ≡ true → IsTableOutput ts w
 outputs_in [] w single h = absurd (false≢true h)
 outputs_in (t ∷ ts) w single h =
     ⊎_elim
     (λ (y : among w t.outputs ≡ true).
     let e : among w (output_of t ∷ []) ≡ true = ap (among w) (sym (outputs_are t (single 0 t refl))) ∙ y in
-    let o : IsOutput (t ∷ ts) w = record { place = 0; table = t; listed = refl; is = only_one w (output_of t) e } in
+    let o : IsTableOutput (t ∷ ts) w = record { place = 0; table = t; listed = refl; is = only_one w (output_of t) e } in
     o)
     (λ (y : among w (flat_map outputs_of ts) ≡ true). output_later t ts w (outputs_in ts w (λ k. single (suc k)) y))
     (or_cases (among w t.outputs) (among w (flat_map outputs_of ts)) (sym (among-append w t.outputs (flat_map outputs_of ts)) ∙ h))
@@ -130,7 +125,7 @@ marks_in : (b : Bool) (w u : List ℕ) → among w (if b then u ∷ [] else []) 
 marks_in true w u h = (refl, only_one w u h)
 marks_in false w u h = absurd (false≢true h)
 
-places_in : (ts : List FileTable) (w : List ℕ) → AreSingle ts → among w (flat_map table_places ts) ≡ true → IsOutput ts w ⊎ IsMarked ts w
+places_in : (ts : List FileTable) (w : List ℕ) → AreSingle ts → among w (flat_map table_places ts) ≡ true → IsTableOutput ts w ⊎ IsMarked ts w
 places_in [] w single h = absurd (false≢true h)
 places_in (t ∷ ts) w single h =
     ⊎_elim
@@ -141,11 +136,11 @@ places_in (t ∷ ts) w single h =
     let o : IsMarked (t ∷ ts) w = record { place = 0; table = t; listed = refl; may = q.0; is = q.1 } in
     inr o)
     (λ (z : among w (output_of t ∷ []) ≡ true).
-    let o : IsOutput (t ∷ ts) w = record { place = 0; table = t; listed = refl; is = only_one w (output_of t) z } in
+    let o : IsTableOutput (t ∷ ts) w = record { place = 0; table = t; listed = refl; is = only_one w (output_of t) z } in
     inl o)
     (or_cases (among w (marks_of t)) (among w (output_of t ∷ [])) (sym (among-append w (marks_of t) (output_of t ∷ [])) ∙ (ap (among w) (sym (places_of t (single 0 t refl))) ∙ y))))
     (λ (y : among w (flat_map table_places ts) ≡ true).
-    ⊎_elim (λ (o : IsOutput ts w). inl (output_later t ts w o)) (λ (o : IsMarked ts w). inr (mark_later t ts w o)) (places_in ts w (λ k. single (suc k)) y))
+    ⊎_elim (λ (o : IsTableOutput ts w). inl (output_later t ts w o)) (λ (o : IsMarked ts w). inr (mark_later t ts w o)) (places_in ts w (λ k. single (suc k)) y))
     (or_cases (among w (table_places t)) (among w (flat_map table_places ts)) (sym (among-append w (table_places t) (flat_map table_places ts)) ∙ h))
 
 -- ---- what stands at a number
@@ -168,7 +163,7 @@ pub record MarkPlace (m : FileModel) (n : ℕ) : Type 0 where
   pub may : may_mark table ≡ true
   pub number : n ≡ (mark_at (places m) table).0
 
-output_place : (m : FileModel) (w : List ℕ) → IsOutput m.tables w → OutputPlace m (number_in (places m) w)
+output_place : (m : FileModel) (w : List ℕ) → IsTableOutput m.tables w → OutputPlace m (number_in (places m) w)
 output_place m w o = record { place = o.place; table = o.table; listed = o.listed; number = ap (number_in (places m)) o.is }
 
 mark_place : (m : FileModel) (net : NetParts) → IsModelNet m net → (w : List ℕ) → IsMarked m.tables w → MarkPlace m (number_in (places m) w)
@@ -188,7 +183,7 @@ named_place m net is w h =
     let p : InputPlace m (number_in (places m) w) = record { name = w; listed = y; number = refl } in
     inl p)
     (λ (y : among w (flat_map table_places m.tables) ≡ true).
-    ⊎_elim (λ (o : IsOutput m.tables w). inr (inl (output_place m w o))) (λ (o : IsMarked m.tables w). inr (inr (mark_place m net is w o)))
+    ⊎_elim (λ (o : IsTableOutput m.tables w). inr (inl (output_place m w o))) (λ (o : IsMarked m.tables w). inr (inr (mark_place m net is w o)))
     (places_in m.tables w (single_tables m net is) y))
     (or_cases (among w m.inputs) (among w (flat_map table_places m.tables)) (sym (among-append w m.inputs (flat_map table_places m.tables)) ∙ h))
 
@@ -206,7 +201,7 @@ no_slot m net is n high = get_or_past net.nets n None (let size = nets_size m ne
 -- ---- driven nets
 
 -- a driven net is an input or the output of a table
-pub driven_by : (m : FileModel) (net : NetParts) → IsModelNet m net → (w : List ℕ) → among w (drivers m) ≡ true → (among w m.inputs ≡ true) ⊎ IsOutput m.tables w
+pub driven_by : (m : FileModel) (net : NetParts) → IsModelNet m net → (w : List ℕ) → among w (drivers m) ≡ true → (among w m.inputs ≡ true) ⊎ IsTableOutput m.tables w
 unfolding drivers
 driven_by m net is w h =
     ⊎_elim (λ (y : among w m.inputs ≡ true). inl y) (λ (y : among w (flat_map outputs_of m.tables) ≡ true). inr (outputs_in m.tables w (single_tables m net is) y))
@@ -235,7 +230,7 @@ output_file m net is k t e =
 pub driven_file : (m : FileModel) (net : NetParts) → IsModelNet m net → (w : List ℕ) → among w (drivers m) ≡ true → IsFileNet m net.nets w
 driven_file m net is w h =
     ⊎_elim (λ (y : among w m.inputs ≡ true). input_file m net is w y)
-    (λ (o : IsOutput m.tables w). let P : List ℕ → Type 0 = IsFileNet m net.nets in subst P (sym o.is) (output_file m net is o.place o.table o.listed))
+    (λ (o : IsTableOutput m.tables w). let P : List ℕ → Type 0 = IsFileNet m net.nets in subst P (sym o.is) (output_file m net is o.place o.table o.listed))
     (driven_by m net is w h)
 
 -- so is each net that the model names

@@ -1,22 +1,25 @@
 -- The network of a model means the same as the model.
-use Rattle.std.proofs.Common.{◌≡◌, ℕ, suc, Bool, true, List, [], ◌∷◌, map, Option, Some, refl, sym, ◌∙◌, ap, subst}
+use Rattle.std.proofs.Common.{◌≡◌, ℕ, true, List, map, refl, sym, ◌∙◌, ap}
 use Rattle.std.specs.Prelude.{nat_lt}
-use Rattle.std.specs.List.{list_all, slice_get}
-use Rattle.std.proofs.lemmas.Bool.{and_from, and_parts}
+use Rattle.std.specs.List.{list_all}
+use Rattle.std.proofs.lemmas.Bool.{and_parts}
+use Rattle.std.proofs.lemmas.List.Sums.{list_all-from_AllPass}
 use Rattle.mv_base.specs.Meaning.{SameMeaning}
 use Rattle.mv_base.specs.Names.{among}
 use Rattle.mv_base.specs.declared.number.NetId.{NetId}
 use Rattle.mv_design.specs.declared.design.FileModel.{FileModel}
-use Rattle.mv_net.specs.declared.parts.FlatNet.{FlatNet}
-use Rattle.mv_net.specs.declared.parts.FlatLatch.{FlatLatch}
+use Rattle.mv_design.specs.declared.table.FileTable.{FileTable}
 use Rattle.mv_net.specs.declared.parts.NetParts.{NetParts}
-use Rattle.mv_net.specs.Allowed.{net_allows, Agrees, resets_give, Allows, of_net}
+use Rattle.mv_net.specs.Allowed.{net_allows, Agrees, Allows, of_net}
+use Rattle.mv_net.proofs.Latchless.{no_values, values_from, no_resets, resets_from}
 use Rattle.mv_model.specs.Nets.{count_of, nets_named}
 use Rattle.mv_model.specs.Numbers.{places, net_in, number_in}
 use Rattle.mv_model.specs.Meaning.{table_holds, AllowsModel, of_model}
+use Rattle.mv_model.proofs.Listed.{all_from}
+use Rattle.mv_model.proofs.Names.{all_from_among}
 use Rattle.mv_flat.specs.Numbers.{output_of}
 use Rattle.mv_flat.proofs.Places.{IsModelNet, table_of, named_file}
-use Rattle.mv_flat.proofs.Naming.{all_from_among, map_same, input_named, output_named}
+use Rattle.mv_flat.proofs.Naming.{map_same, input_named, output_named}
 use Rattle.mv_flat.proofs.Valuations.{Follows, range_follows, output_allows, mark_down}
 use Rattle.mv_flat.proofs.Assigned.{by_number, number_follows, number_agrees}
 use Rattle.mv_flat.proofs.Ports.{looks_alike}
@@ -27,30 +30,7 @@ ports_follow : (m : FileModel) (at : ℕ → ℕ) (value : List ℕ → ℕ) (ns
 ports_follow m at value ns ws f e named =
     ap (map (λ (n : NetId). at n.0)) e ∙ map_same (net_in (places m)) (λ (n : NetId). at n.0) value ws (λ w h. sym (f.each w (named w h)))
 
-no_latch_values : (ls : List FlatLatch) (f : FlatLatch → ℕ) (s : List ℕ) → ls ≡ [] → map f ls ≡ s → s ≡ []
-no_latch_values ls f s e h = sym h ∙ ap (map f) e
-
-latch_values : (ls : List FlatLatch) (f : FlatLatch → ℕ) (s : List ℕ) → ls ≡ [] → s ≡ [] → map f ls ≡ s
-latch_values ls f s e h = ap (map f) e ∙ sym h
-
-resets_none : (nets : List (Option FlatNet)) (at : ℕ → ℕ) (r : List ℕ) → resets_give nets at [] r → r ≡ []
-resets_none nets at [] h = refl
-resets_none nets at (v ∷ vs) h = absurd h
-
-no_resets : (nets : List (Option FlatNet)) (at : ℕ → ℕ) (ls : List FlatLatch) (r : List ℕ) → ls ≡ [] → resets_give nets at ls r → r ≡ []
-no_resets nets at ls r e h = let P : List FlatLatch → Type 0 = λ ms. resets_give nets at ms r in resets_none nets at r (subst P e h)
-
-resets_up : (nets : List (Option FlatNet)) (at : ℕ → ℕ) (ls : List FlatLatch) (r : List ℕ) → ls ≡ [] → r ≡ [] → resets_give nets at ls r
-resets_up nets at ls r e h =
-    let P : List FlatLatch → Type 0 = λ ms. resets_give nets at ms r in
-    let Q : List ℕ → Type 0 = resets_give nets at [] in
-    subst P (sym e) (subst Q (sym h) tt)
-
 -- ---- from the network to the model
-
-all_from : {X : Type 0} (p : X → Bool) (xs : List X) → ((k : ℕ) (x : X) → slice_get xs k ≡ Some x → p x ≡ true) → list_all p xs ≡ true
-all_from p [] h = refl
-all_from p (x ∷ xs) h = and_from _ _ (h 0 x refl) (all_from p xs (λ k y e. h (suc k) y e))
 
 abbrev by_name : FileModel → (ℕ → ℕ) → List ℕ → ℕ
 by_name m at w = at (number_in (places m) w)
@@ -67,11 +47,12 @@ name_follows m net is at agrees = record {
 tables_hold : (m : FileModel) (net : NetParts) → IsModelNet m net → (at : ℕ → ℕ) → Agrees net.nets at → list_all (table_holds (by_name m at)) m.tables ≡ true
 tables_hold m net is at agrees =
     let f = name_follows m net is at agrees in
-    all_from (table_holds (by_name m at)) m.tables (λ k t e.
+    list_all-from_AllPass (table_holds (by_name m at)) m.tables
+    (all_from (λ (t : FileTable). table_holds (by_name m at) t ≡ true) m.tables (λ k t e.
     sym
     (output_allows m net is at (by_name m at) k t e f
     (mark_down m.decls (places m) net.nets t (table_of m net is k t e) at agrees (range_follows m at (by_name m at) k t f e)))
-    ∙ agrees.each (number_in (places m) (output_of t)))
+    ∙ agrees.each (number_in (places m) (output_of t))))
 
 down : (m : FileModel) (net : NetParts) → IsModelNet m net → (i s o n r : List ℕ) → Allows net i s o n r → AllowsModel m i s o n r
 down m net is i s o n r a =
@@ -82,8 +63,8 @@ down m net is i s o n r a =
       tables = tables_hold m net is a.at a.agrees;
       inputs = sym (ports_follow m a.at (by_name m a.at) net.inputs m.inputs f is.built.inputs (λ w h. input_named m w h)) ∙ a.inputs;
       outputs = sym (ports_follow m a.at (by_name m a.at) net.outputs m.outputs f is.built.outputs (λ w h. output_named m w h)) ∙ a.outputs;
-      states = no_latch_values net.latches _ s is.built.latches a.states;
-      next = no_latch_values net.latches _ n is.built.latches a.next;
+      states = no_values _ net.latches s is.built.latches a.states;
+      next = no_values _ net.latches n is.built.latches a.next;
       resets = no_resets net.nets a.at net.latches r is.built.latches a.resets;
     }
 
@@ -96,10 +77,10 @@ up m net is i s o n r a =
       at = by_number m a.value;
       agrees = number_agrees m net is a.value f a.tables;
       inputs = ports_follow m (by_number m a.value) a.value net.inputs m.inputs f is.built.inputs (λ w h. input_named m w h) ∙ a.inputs;
-      states = latch_values net.latches _ s is.built.latches a.states;
+      states = values_from _ net.latches s is.built.latches a.states;
       outputs = ports_follow m (by_number m a.value) a.value net.outputs m.outputs f is.built.outputs (λ w h. output_named m w h) ∙ a.outputs;
-      next = latch_values net.latches _ n is.built.latches a.next;
-      resets = resets_up net.nets (by_number m a.value) net.latches r is.built.latches a.resets;
+      next = values_from _ net.latches n is.built.latches a.next;
+      resets = resets_from net.nets (by_number m a.value) net.latches r is.built.latches a.resets;
     }
 
 -- a model's network means the same as the model

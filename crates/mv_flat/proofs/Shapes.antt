@@ -1,14 +1,11 @@
 -- The columns of a file's table by number: they fit its rows, and the mark's number is none of theirs.
-use Rattle.std.proofs.Common.{◌≡◌, ℕ, zero, suc, ◌+◌, ◌<◌, ◌≤◌, Bool, true, false, cond, unwrap_or, List, [], ◌∷◌, ◌++◌, length, get_or, map, Option, Some, None, refl, sym, ◌∙◌, ap, subst, arith, nat_eq, ◌==◌, All}
+use Rattle.std.proofs.Common.{◌≡◌, ℕ, true, false, cond, unwrap_or, List, [], ◌∷◌, length, get_or, map, Option, Some, None, refl, sym, ◌∙◌, ap, subst, arith, ◌==◌, All}
 use Rattle.std.specs.List.{list_all, slice_get}
 use Rattle.std.proofs.lemmas.Bool.{false≢true, and_parts, cond-true, cond-false, false_from_ne_true}
 use Rattle.std.proofs.lemmas.Bool.Decides.{nat_tests}
 use Rattle.std.proofs.lemmas.List.{length-map}
 use Rattle.std.proofs.lemmas.List.Elements.{All-nil, All-cons, All-append, All-weaker}
 use Rattle.mv_base.specs.Names.{among, place_of, is_net_name}
-use Rattle.mv_base.specs.Set.{full, Within}
-use Rattle.mv_base.specs.declared.number.NetId.{NetId}
-use Rattle.mv_base.specs.declared.limits.TheConstants.{MAX_VALUES}
 use Rattle.mv_base.proofs.NameLemmas.{IsPlace-from_place}
 use Rattle.mv_design.specs.declared.design.Decl.{Decl}
 use Rattle.mv_design.specs.declared.table.Entry.{Entry}
@@ -18,15 +15,15 @@ use Rattle.mv_design.specs.declared.table.FileTable.{FileTable}
 use Rattle.mv_rows.specs.declared.column.Column.{Column}
 use Rattle.mv_rows.specs.Cubes.{IsColumn, AreColumns, CountBy, FitRow}
 use Rattle.mv_rows.specs.Lines.{FitEntry}
-use Rattle.mv_rows.specs.Flat.{entry_of, with_mark, IsRow, IsDefault, IsTable}
+use Rattle.mv_rows.specs.Flat.{entry_of, with_mark, IsRow, IsTable}
 use Rattle.mv_model.specs.Nets.{count_of}
-use Rattle.mv_model.specs.Numbers.{net_in, number_in}
+use Rattle.mv_model.specs.Numbers.{number_in}
 use Rattle.mv_model.specs.Proper.{FitSets, FitOutput, FitOutputs, IsFileDecl, IsFileRow, IsFileTable}
 use Rattle.mv_model.proofs.Listed.{IsNumber-among, name_at}
 use Rattle.mv_model.proofs.Distinct.{lawful_undotted}
 use Rattle.mv_flat.specs.Numbers.{column_of, columns_at, output_of, mark_at}
 use Rattle.mv_flat.specs.Placed.{are_known, IsPlacedTable}
-use Rattle.mv_flat.proofs.Indexed.{values_few}
+use Rattle.mv_flat.proofs.Counts.{values_few}
 
 -- ---- numbers of values
 

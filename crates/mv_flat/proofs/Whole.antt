@@ -1,10 +1,7 @@
 -- The network of a sound model: it is well formed, has few enough nets, and means what the model means.
-use Rattle.std.proofs.Common.{◌≡◌, ℕ, ◌≤◌, true, false, List, [], length, sym, ◌∙◌, ap, arith, ⊎_elim}
-use Rattle.std.specs.Prelude.{nat_lt, count_by}
-use Rattle.std.proofs.lemmas.Bool.{cases_Bool}
-use Rattle.std.proofs.lemmas.Bool.Decides.{nat_tests}
+use Rattle.std.proofs.Common.{◌≡◌, ℕ, ◌≤◌, true, List, length, ◌∙◌, arith}
 use Rattle.mv_base.specs.Meaning.{SameMeaning}
-use Rattle.mv_base.specs.Names.{same_word, among}
+use Rattle.mv_base.specs.Names.{among}
 use Rattle.mv_base.specs.declared.limits.TheConstants.{MAX_FLAT_NETS, MAX_NETS}
 use Rattle.mv_base.proofs.NameLemmas.{IsDistinct-from_differ}
 use Rattle.mv_design.specs.declared.design.Design.{Design}
@@ -17,9 +14,8 @@ use Rattle.mv_model.specs.Nets.{root_of, nets_named, nets_of, drivers}
 use Rattle.mv_model.specs.Numbers.{places}
 use Rattle.mv_model.specs.Proper.{IsProperModel}
 use Rattle.mv_model.specs.Sound.{IsDrivenOnce, IsSoundModel}
-use Rattle.mv_model.proofs.Distinct.{differ_counted, places_differ, few_places}
-use Rattle.mv_model.proofs.Names.{among-with_names, among_counted}
-use Rattle.mv_model.proofs.Soundness.{driver_is_net}
+use Rattle.mv_model.proofs.Distinct.{differ_counted, drivers_counted, net_is_driven, places_differ, few_places}
+use Rattle.mv_model.proofs.Named.{among-nets_of}
 use Rattle.mv_flat.specs.Built.{IsBuilt}
 use Rattle.mv_flat.specs.Flat.{IsFlat}
 use Rattle.mv_flat.proofs.Places.{IsModelNet, nets_size}
@@ -28,29 +24,14 @@ use Rattle.mv_flat.proofs.Formed.{net_formed}
 
 -- ---- each net is driven once
 
-none_below : (n : ℕ) → nat_lt 0 n ≡ false → n ≤ 1
-none_below n h = grind (arith, nat_tests)
-
-one_above : (n : ℕ) → n ≡ 1 → nat_lt 0 n ≡ true
-one_above n e = ap (nat_lt 0) e
-
-drivers_once : (m : FileModel) → IsDrivenOnce m → (w : List ℕ) → count_by (same_word w) (drivers m) ≤ 1
-drivers_once m d w =
-    ⊎_elim
-    (λ (y : among w (drivers m) ≡ true). let e = d.once w (driver_is_net m w y) in let few : count_by (same_word w) (drivers m) ≤ 1 = omega arith in few)
-    (λ (n : among w (drivers m) ≡ false). none_below (count_by (same_word w) (drivers m)) (sym (among_counted w (drivers m)) ∙ n))
-    (cases_Bool (among w (drivers m)))
-
 named_driven : (m : FileModel) → IsDrivenOnce m → (w : List ℕ) → among w (nets_named m) ≡ true → among w (drivers m) ≡ true
-unfolding nets_of
-named_driven m d w h =
-    among_counted w (drivers m) ∙ one_above (count_by (same_word w) (drivers m)) (d.once w (among-with_names w [] (nets_named m) ∙ h))
+named_driven m d w h = net_is_driven m w d (among-nets_of w m ∙ h)
 
 pub model_net : (m : FileModel) (net : NetParts) → IsProperModel m → IsSoundModel m → IsBuilt m net → IsModelNet m net
 model_net m net proper sound built = record {
   proper = proper;
   distinct = IsDistinct-from_differ (places m) (places_differ m proper sound.driven);
-  once = IsDistinct-from_differ (drivers m) (differ_counted (drivers m) (drivers_once m sound.driven));
+  once = IsDistinct-from_differ (drivers m) (differ_counted (drivers m) (drivers_counted m sound.driven));
   driven = named_driven m sound.driven;
   built = built;
 }

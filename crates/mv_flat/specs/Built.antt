@@ -35,18 +35,20 @@ pub record IsFreshName (held : List (List ℕ)) (name : List ℕ) : Type 0 where
   pub fresh : among name held ≡ false
   pub least : (k : ℕ) → 0 < k → k < number → among (made_name k) held ≡ true
 
--- what the mark of a table becomes, behind the names that are held: a net with a fresh name, or a number that isn't held
--- where a mark might have been needed and isn't
+-- the mark of a table becomes a net with this cover and a fresh name, which is held from then on
 pub record IsMadeMark (held : List (List ℕ)) (cover : Cover) (nets : List (Option FlatNet)) (after : List (List ℕ)) : Type 0 where
   pub name : List ℕ
   pub fresh : IsFreshName held name
   pub nets_are : nets ≡ made_net name cover ∷ []
   pub after_is : after ≡ held ++ name ∷ []
 
+-- no net is made: `place` stands there, and the same names are held
 pub record IsNoMark (held : List (List ℕ)) (place nets : List (Option FlatNet)) (after : List (List ℕ)) : Type 0 where
   pub nets_are : nets ≡ place
   pub after_is : after ≡ held
 
+-- what the mark of a table becomes: a net where it has a cover, a number that isn't held where it might have been needed and
+-- isn't, and otherwise nothing
 abbrev pub IsMark : List (List ℕ) → Bool → Option Cover → List (Option FlatNet) → List (List ℕ) → Type 0
 IsMark held true (Some cover) nets after = IsMadeMark held cover nets after
 IsMark held true None nets after = IsNoMark held (None ∷ []) nets after

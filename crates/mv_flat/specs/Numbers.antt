@@ -26,10 +26,11 @@ output_of t = slice_index_or t.outputs 0 []
 abbrev pub mark_at : List (List ℕ) → FileTable → NetId
 mark_at names t = record { 0 = unwrap_or (place_of (46 ∷ output_of t) names) (length names) }
 
--- the names of a net's values as a network keeps them: none where they are the numbers from 0
+-- the names of a net's values are the numbers from 0
 abbrev pub are_numbers : List (List ℕ) → Bool
 are_numbers values = pointwise (pointwise nat_eq) values (map decimal (range_with_len 0 (length values)))
 
+-- the names of a net's values as a network keeps them: none where they are the numbers from 0
 abbrev pub kept_names : List (List ℕ) → List (List ℕ)
 kept_names values = if are_numbers values then [] else values
 

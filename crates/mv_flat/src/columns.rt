@@ -1,13 +1,12 @@
 //! The columns of tables by number.
-ghost use Rattle.std.specs.Prelude.{◌≡◌, ◌≤◌, length, IfOk, All};
+ghost use Rattle.std.specs.Prelude.{◌≡◌, ◌≤◌, length, IfOk};
 ghost use Rattle.mv_base.specs.declared.limits.TheConstants.{MAX_NETS};
-ghost use Rattle.mv_model.specs.Proper.{IsFileDecl};
 ghost use Rattle.mv_flat.specs.Numbers.{columns_at, mark_at};
-ghost use Rattle.mv_flat.specs.Values.{IsDeclared};
 
-use crate::values::Declared;
+use crate::values::count_of;
 use mv_base::{Memory, NetId};
-use mv_design::{Decl, FileTable};
+use mv_decl::Decls;
+use mv_design::FileTable;
 use mv_model::{Numbers, mark_name};
 use mv_rows::Column;
 use std::alloc::Global;
@@ -15,21 +14,18 @@ use std::alloc::Global;
 /// The input columns of the table.
 pub fn columns(
     alloc: Global,
-    decls: &[Decl],
-    declared: &Declared,
+    decls: &Decls,
     names: &Numbers,
     table: &FileTable,
 ) -> Result<Vec<Column>, Memory>
-    requires declared { IsDeclared decls.now declared.now }
-    requires proper { All IsFileDecl decls.now }
-    requires few { length names.now ≤ MAX_NETS }
+    requires { length names.now ≤ MAX_NETS }
     ensures { IfOk result (λ columns. columns.items ≡ columns_at decls.now names.now table.now) }
 {
     let mut columns = Vec::new(alloc);
     for net in table.inputs.as_slice() {
         columns.push(Column {
             net: names.of(net),
-            count: declared.count_of(decls, net),
+            count: count_of(decls, net),
         })?;
     }
     Ok(columns)

@@ -7,8 +7,6 @@ mod fresh;
 mod marks;
 mod nets;
 mod tables;
-#[cfg(test)]
-mod tests;
 mod values;
 
 pub use flat::flatten;

@@ -6,15 +6,14 @@ ghost use Rattle.mv_rows.specs.Flat.{IsMade};
 ghost use Rattle.mv_rows.specs.Covers.{IsFlatTable};
 ghost use Rattle.mv_flat.specs.Numbers.{columns_at, mark_at};
 ghost use Rattle.mv_flat.specs.Marks.{AddsNets, TableNets};
-ghost use Rattle.mv_flat.specs.Values.{IsDeclared};
 ghost use Rattle.mv_flat.specs.Placed.{IsPlacedTable, ArePlaced, AddsTables};
 
 use crate::columns::{columns, mark_of};
 use crate::marks::put_mark;
 use crate::nets::file_net;
-use crate::values::Declared;
 use mv_base::{Items, Memory};
-use mv_design::{Decl, FileModel, FileTable};
+use mv_decl::Decls;
+use mv_design::{FileModel, FileTable};
 use mv_model::Numbers;
 use mv_net::{FlatNet, Kind};
 use mv_rows::{FlatTable, flat_table};
@@ -25,26 +24,18 @@ use std::alloc::Global;
 pub fn put_tables(
     nets: &mut Items<Option<FlatNet>>,
     alloc: Global,
-    declared: &Declared,
+    decls: &Decls,
     names: &Numbers,
     model: &FileModel,
 ) -> Result<(), Memory>
-    requires declared { IsDeclared model.now.decls declared.now }
+    requires declared { decls.now ≡ model.now.decls }
     requires proper { IsProperModel model.now }
     requires placed { ArePlaced model.now names.now }
     ensures { OnOk result (AddsTables model.now nets.old nets.new) }
 {
     let mut last = 0;
     for table in model.tables.as_slice() {
-        put_table(
-            nets,
-            &mut last,
-            alloc,
-            model.decls.as_slice(),
-            declared,
-            names,
-            table,
-        )?;
+        put_table(nets, &mut last, alloc, decls, names, table)?;
     }
     Ok(())
 }
@@ -55,22 +46,20 @@ fn put_table(
     nets: &mut Items<Option<FlatNet>>,
     last: &mut u32,
     alloc: Global,
-    decls: &[Decl],
-    declared: &Declared,
+    decls: &Decls,
     names: &Numbers,
     table: &FileTable,
 ) -> Result<(), Memory>
-    requires declared { IsDeclared decls.now declared.now }
     requires proper { All IsFileDecl decls.now }
     requires placed { IsPlacedTable decls.now names.now table.now }
     requires few { length names.now ≤ MAX_NETS }
     requires later { last.old + length names.now + 2 < 2 ^ 32 }
     ensures { OnOk result (AddsNets (TableNets decls.now names.now table.now) names.now last.old last.new nets.old nets.new) }
 {
-    let FlatTable { cover, mark } = covers(alloc, decls, declared, names, table)?;
+    let FlatTable { cover, mark } = covers(alloc, decls, names, table)?;
     put_mark(nets, last, alloc, names, table, mark)?;
     let output = &table.outputs.as_slice()[0];
-    let net = file_net(alloc, decls, declared, Kind::Table, Some(cover), output)?;
+    let net = file_net(alloc, decls, Kind::Table, Some(cover), output)?;
     nets.push(Some(net))?;
     Ok(())
 }
@@ -78,19 +67,17 @@ fn put_table(
 /// The covers of the table's output and of its mark.
 fn covers(
     alloc: Global,
-    decls: &[Decl],
-    declared: &Declared,
+    decls: &Decls,
     names: &Numbers,
     table: &FileTable,
 ) -> Result<FlatTable, Memory>
-    requires declared { IsDeclared decls.now declared.now }
     requires proper { All IsFileDecl decls.now }
     requires placed { IsPlacedTable decls.now names.now table.now }
     requires few { length names.now ≤ MAX_NETS }
     ensures made { IfOk result (λ flat. IsMade (columns_at decls.now names.now table.now) table.now (mark_at names.now table.now) flat) }
     ensures relation { IfOk result (λ flat. IsFlatTable (columns_at decls.now names.now table.now) table.now (mark_at names.now table.now) flat) }
 {
-    let columns = columns(alloc, decls, declared, names, table)?;
+    let columns = columns(alloc, decls, names, table)?;
     let mark = mark_of(alloc, names, table)?;
     flat_table(alloc, columns.as_slice(), table, mark)
 }

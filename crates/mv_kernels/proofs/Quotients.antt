@@ -1,8 +1,8 @@
 -- Symbols of cubes, cubes without symbols, and quotients.
-use Rattle.std.proofs.Common.{◌≡◌, ◌∙◌, ℕ, ◌<◌, Bool, true, false, not, ◌&&◌, ◌||◌, List, [], ◌∷◌, ◌++◌, filter, Contains, inl, inr, refl, sym, ap, subst, arith, nat_lt, nat_eq}
+use Rattle.std.proofs.Common.{◌≡◌, ◌∙◌, Bool, true, false, not, ◌&&◌, ◌||◌, List, [], ◌∷◌, ◌++◌, filter, Contains, inl, inr, refl, sym, ap, subst, arith, nat_lt, nat_eq}
 use Rattle.std.specs.Cmp.{IsEquivalence, decided}
 use Rattle.std.specs.List.{list_all}
-use Rattle.std.proofs.lemmas.Bool.{cases_Bool, false≢true, and_parts, and_from, or_cases, or_left, or_right, not-true, ltb-true, lt-ltb, cond_both}
+use Rattle.std.proofs.lemmas.Bool.{cases_Bool, false≢true, and_parts, and_from, or_cases, or_left, or_right, not-true, cond_both}
 use Rattle.std.proofs.lemmas.List.Elements.{All-contains, filter_agree}
 use Rattle.std.proofs.lemmas.List.Folds.{list_any-append, list_all-append}
 use Rattle.std.proofs.lemmas.Map.Views.{Contains-from_any, list_any-from_Contains, any-filter_same}
@@ -11,7 +11,7 @@ use Rattle.mv_cover.specs.declared.cube.Lit.{Lit}
 use Rattle.mv_cover.specs.Cubes.{nets_ascend, IsCube}
 use Rattle.mv_cover.specs.Equal.{lit_eq}
 use Rattle.mv_cover.specs.Keys.{lit_eq-Decides}
-use Rattle.mv_cover.proofs.Meeting.{ascend_tail}
+use Rattle.mv_cover.proofs.Meeting.{above, above_tail, ascend_tail}
 use Rattle.mv_kernels.specs.Symbols.{has_symbol, has_each, without, quotient, SameCubes}
 use Rattle.mv_kernels.specs.Order.{lit_cmp}
 use Rattle.mv_kernels.proofs.Lists.{Contains-map, Contains-from_map, Contains-filter, Contains-from_filter, All-Contains, filter_twice}
@@ -110,31 +110,12 @@ same_row c p q a b hp hq e =
 
 -- ---- a cube without symbols is a cube
 
-above : ℕ → List Lit → Bool
-above n ls = list_all (λ m. nat_lt n m.net.0) ls
-
 list_all-filter : {X : Type 0} (p q : X → Bool) (xs : List X) → list_all q xs ≡ true → list_all q (filter p xs) ≡ true
 list_all-filter p q [] h = refl
 list_all-filter p q (x ∷ xs) h =
     let r = and_parts (q x) (list_all q xs) h in
     let rest = list_all-filter p q xs r.1 in
     cond_both (p x) (x ∷ filter p xs) (filter p xs) (λ ys. list_all q ys ≡ true) (λ _. and_from (q x) (list_all q (filter p xs)) r.0 rest) (λ _. rest)
-
-above-wider : (m n : ℕ) (ls : List Lit) → m < n → above n ls ≡ true → above m ls ≡ true
-unfolding above
-above-wider m n [] low h = refl
-above-wider m n (l ∷ ls) low h =
-    let p = and_parts (nat_lt n l.net.0) (list_all (λ (o : Lit). nat_lt n o.net.0) ls) h in
-    let up : n < l.net.0 = ltb-true n l.net.0 p.0 in
-    and_from (nat_lt m l.net.0) (list_all (λ (o : Lit). nat_lt m o.net.0) ls) (lt-ltb m l.net.0 (omega arith)) (above-wider m n ls low p.1)
-
--- in an ascending list all nets are above the first
-rest_above : (l : Lit) (ls : List Lit) → nets_ascend (l ∷ ls) ≡ true → above l.net.0 ls ≡ true
-unfolding above
-rest_above l [] h = refl
-rest_above l (m ∷ ls) h =
-    let p = and_parts (nat_lt l.net.0 m.net.0) (nets_ascend (m ∷ ls)) h in
-    and_from (nat_lt l.net.0 m.net.0) (list_all (λ (o : Lit). nat_lt l.net.0 o.net.0) ls) p.0 (above-wider l.net.0 m.net.0 ls (ltb-true l.net.0 m.net.0 p.0) (rest_above m ls p.1))
 
 ascend-cons : (l : Lit) (ls : List Lit) → above l.net.0 ls ≡ true → nets_ascend ls ≡ true → nets_ascend (l ∷ ls) ≡ true
 unfolding above
@@ -148,7 +129,7 @@ ascend-filter p [] h = refl
 ascend-filter p (l ∷ ls) h =
     let rest = ascend-filter p ls (ascend_tail l ls h) in
     cond_both (p l) (l ∷ filter p ls) (filter p ls) (λ (ms : List Lit). nets_ascend ms ≡ true)
-    (λ _. ascend-cons l (filter p ls) (list_all-filter p (λ (m : Lit). nat_lt l.net.0 m.net.0) ls (rest_above l ls h)) rest) (λ _. rest)
+    (λ _. ascend-cons l (filter p ls) (list_all-filter p (λ (m : Lit). nat_lt l.net.0 m.net.0) ls (above_tail l.net.0 l ls h (omega arith))) rest) (λ _. rest)
 
 pub cube_without : (c q : List Lit) → IsCube q → IsCube (without c q)
 cube_without c q h = record {

@@ -10,8 +10,8 @@ use mv_base::{Items, Memory};
 use mv_cover::{Cube, Lit};
 use std::alloc::Global;
 
-/// The kernel that the quotient by these symbols becomes without the symbols that all of its cubes have, or None where it has
-/// fewer than two cubes.
+/// The kernel that the quotient by these symbols becomes without the symbols that all of its cubes have, or None where it
+/// has fewer than two cubes.
 pub fn kernel_by(alloc: Global, cubes: &[Cube], symbols: &[Lit]) -> Result<Option<Kernel>, Memory>
     requires { All IsCube cubes.now }
     ensures some { IfOk result (λ found. IfSome found (λ kernel. IsBelow cubes.now symbols.now kernel.cubes)) }

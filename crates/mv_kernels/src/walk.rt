@@ -16,10 +16,11 @@ use std::alloc::{AllocError, AllocFailed, Global};
 
 /// All kernels of the cover, each once, or TooMany where there are more than `MAX_KERNELS`. Equal cubes count as one.
 ///
-/// The kernels are those of Brayton and McMullen, "The decomposition and factorization of Boolean expressions" (1982). The walk
-/// goes down co-kernels: from each kernel by one of its symbols to the kernel below. Their recursive walk passes over the
-/// symbols that it went through above. This one keeps the kernels by their hashes and goes down from each once, however many
-/// co-kernels lead to it: it takes as many quotients as the kernels have symbols, and holds no kernel against all others.
+/// The kernels are those of Brayton and McMullen, "The decomposition and factorization of Boolean expressions" (1982). The
+/// walk goes down co-kernels: from each kernel by one of its symbols to the kernel below. Their recursive walk passes over
+/// the symbols that it went through above. This one keeps the kernels by their hashes and goes down from each once, however
+/// many co-kernels lead to it: it takes as many quotients as the kernels have symbols, and holds no kernel against all
+/// others.
 pub fn kernels(alloc: Global, cubes: &[Cube]) -> Result<Vec<Kernel>, KernelStop>
     ensures are { IfOk result (λ found. AreKernels cubes.now found.items) }
     ensures all { IfOk result (λ found. (k : Kernel) → IsKernelOf cubes.now k.cubes → Contains found.items k) }

@@ -13,7 +13,8 @@ use Rattle.mv_lex.specs.declared.fault.LexFault.TheVariants.{BadByte, LongWord, 
 use Rattle.mv_lex.specs.declared.parts.Place.{Place}
 use Rattle.mv_lex.specs.declared.parts.Place.TheVariants.{Text, Backslash, Return, Comment}
 use Rattle.mv_lex.specs.Words.{Cut, cut_of, finished, has_long}
-use Rattle.mv_lex.specs.Lines.{is_line_feed, is_hash, has_hash, is_empty, tail_of, certain, joins, text_of, texts, joined, unended, ended_lines, open_line, pieces, words_of, line_at, numbered, all_joined, lines_of, complete, is_acceptable, line_number, in_comment, text_before, text_with, ends_with_byte, words_fault, fault_at, first_fault, end_fault}
+use Rattle.mv_lex.specs.Cuts.{pieces}
+use Rattle.mv_lex.specs.Lines.{is_line_feed, is_hash, has_hash, is_empty, tail_of, certain, joins, text_of, texts, joined, unended, ended_lines, open_line, words_of, line_at, numbered, all_joined, lines_of, complete, is_acceptable, line_number, in_comment, text_before, text_with, ends_with_byte, words_fault, fault_at, first_fault, end_fault}
 use Rattle.mv_lex.specs.Reading.{Reading, IsAfter, HasRead, with_byte, with_bytes, long_with, long_with_bytes, held, is_backslash, settled, long_fault, end_fault_of, text_fault, place_fault, fault_now, text_step, new_line, next_line, place_step, stepped, ends_line, ended, place_end_fault, end_now, place_end_cut, end_cut, place_of_tail, text_behind}
 use Rattle.mv_lex.proofs.Cuts.{closed-end, closed-more, open_piece-end, open_piece-more}
 use Rattle.mv_lex.proofs.Cutting.{cut_of-append, with_bytes-append}

@@ -1,21 +1,16 @@
--- What bytes without a fault are like, and what every line has.
-use Rattle.std.proofs.Common.{◌≡◌, ℕ, ◌+◌, ◌<◌, ◌≤◌, Bool, true, false, not, ◌&&◌, ◌==◌, List, [], ◌∷◌, ◌++◌, length, Option, Some, None, refl, ap, sym, ◌∙◌, subst, arith, length-append, append_assoc, ⊎_elim}
+-- What bytes without a fault are like.
+use Rattle.std.proofs.Common.{◌≡◌, ℕ, ◌+◌, ◌≤◌, Bool, true, false, not, ◌&&◌, List, [], ◌∷◌, ◌++◌, length, Option, Some, None, refl, ap, sym, ◌∙◌, subst, arith, length-append, append_assoc, ⊎_elim}
 use Rattle.std.specs.Prelude.{nat_le}
-use Rattle.std.specs.List.{All, list_all}
+use Rattle.std.specs.List.{list_all}
 use Rattle.std.specs.Option.{option_or}
-use Rattle.std.proofs.lemmas.Bool.{cases_Bool, cond_both, cond-true, cond-false, leb-false, not-false, and_from, not-true, or_left, or_right, eqb-false, false≢true, not_from_false}
+use Rattle.std.proofs.lemmas.Bool.{cases_Bool, cond-true, cond-false, leb-false, not-false, and_from, or_left, or_right, false≢true, not_from_false}
 use Rattle.std.proofs.lemmas.List.{append-nil}
 use Rattle.std.proofs.lemmas.List.Folds.{list_all-append}
-use Rattle.std.proofs.lemmas.List.Elements.{All-nil, All-cons, All-append}
-use Rattle.mv_lex.specs.declared.lines.LexLine.{LexLine}
 use Rattle.mv_lex.specs.declared.fault.LexFault.TheVariants.{BadByte, LongWord, OpenBracket}
-use Rattle.mv_lex.specs.declared.parts.Kind.{Kind}
-use Rattle.mv_lex.specs.declared.parts.Kind.TheVariants.{Start, Plain, Bracketed}
-use Rattle.mv_lex.specs.Words.{is_blank, opens, Cut, no_words, cut_of, nonempty, has_long, waits}
-use Rattle.mv_lex.specs.Lines.{is_acceptable, is_line_feed, is_hash, has_hash, joins, text_of, texts, joined, unended, all_joined, ended_lines, open_line, pieces, words_of, line_at, numbered, lines_of, is_readable, is_closed, is_clean, line_number, in_comment, text_before, text_with, ends_with_byte, words_fault, fault_at, first_fault, end_fault}
-use Rattle.mv_lex.specs.Reading.{ended_word, kind_byte, with_byte, with_bytes, text_behind}
+use Rattle.mv_lex.specs.Words.{Cut, cut_of, has_long, waits}
+use Rattle.mv_lex.specs.Lines.{is_acceptable, is_line_feed, is_hash, has_hash, joins, text_of, joined, unended, ended_lines, open_line, is_readable, is_closed, is_clean, line_number, in_comment, text_before, text_with, ends_with_byte, words_fault, fault_at, first_fault, end_fault}
+use Rattle.mv_lex.specs.Reading.{text_behind}
 use Rattle.mv_lex.proofs.Cuts.{closed-end, closed-more, open_piece-end, open_piece-more}
-use Rattle.mv_lex.proofs.Cutting.{cut_of-bytes}
 use Rattle.mv_lex.proofs.Groups.{joined-more, unended-more, joined-end, unended-end}
 use Rattle.mv_lex.proofs.Tails.{has_hash-push, before_hash-behind, before_hash-begins, before_hash-clear, stands-commented}
 use Rattle.mv_lex.proofs.After.{none_else, joins-commented, texts-push, text-ends}
@@ -162,58 +157,3 @@ length-from_first_fault_behind limit seen (b ∷ bytes) h e =
 pub length-from_first_fault : (limit : ℕ) (bytes : List ℕ) → first_fault limit [] bytes ≡ None → length bytes ≤ limit
 length-from_first_fault limit bytes e =
     omega (arith, length-from_first_fault_behind limit [] bytes (omega arith) e)
-
--- ---- what every line has
-
-line_at-words : (number : ℕ) (words : List (List ℕ)) → All (λ (l : LexLine). 0 < length l.words) (line_at number words)
-line_at-words number [] = All-nil (λ (l : LexLine). 0 < length l.words)
-line_at-words number (w ∷ ws) =
-    All-cons (λ (l : LexLine). 0 < length l.words) _ [] (omega arith) (All-nil (λ (l : LexLine). 0 < length l.words))
-
-numbered-words : (number : ℕ) (groups : List (List (List ℕ))) → All (λ (l : LexLine). 0 < length l.words) (numbered number groups)
-numbered-words number [] = All-nil (λ (l : LexLine). 0 < length l.words)
-numbered-words number (group ∷ groups) =
-    All-append (λ (l : LexLine). 0 < length l.words) (line_at number (words_of (texts group))) (numbered (number + length group) groups) (line_at-words number (words_of (texts group))) (numbered-words (number + length group) groups)
-
-nonempty-each : (words : List (List ℕ)) → All (λ w. 0 < length w) (nonempty words)
-nonempty-each [] = All-nil (λ w. 0 < length w)
-nonempty-each (w ∷ words) =
-    cond_both (not (length w == 0)) (w ∷ nonempty words) (nonempty words) (All (λ w. 0 < length w))
-    (λ e. let some = eqb-false (length w) 0 (not-true (length w == 0) e) in All-cons (λ w. 0 < length w) w (nonempty words) (omega arith) (nonempty-each words))
-    (λ _. nonempty-each words)
-
--- each word of a cut that has ended has a byte
-ended_each : (words : List (List ℕ)) (word : List ℕ) → All (λ w. 0 < length w) words → All (λ w. 0 < length w) (ended_word words word).words
-ended_each words word all = All-append (λ w. 0 < length w) words (nonempty (word ∷ [])) all (nonempty-each (word ∷ []))
-
-each_byte : (words : List (List ℕ)) (word : List ℕ) (kind : Kind) (b : ℕ) → All (λ w. 0 < length w) words → All (λ w. 0 < length w) (kind_byte words word kind b).words
-each_byte words word Start b all =
-    let P : Cut → Type 0 = λ c. All (λ w. 0 < length w) c.words in
-    cond_both (is_blank b) _ _ P (λ _. ended_each words word all) (λ _. cond_both (opens b) _ _ P (λ _. all) (λ _. all))
-each_byte words word Plain b all =
-    let P : Cut → Type 0 = λ c. All (λ w. 0 < length w) c.words in
-    cond_both (is_blank b) _ _ P (λ _. ended_each words word all) (λ _. all)
-each_byte words word (Bracketed end) b all =
-    let P : Cut → Type 0 = λ c. All (λ w. 0 < length w) c.words in
-    cond_both (is_blank b) _ _ P (λ _. all) (λ _. cond_both (b == end) _ _ P (λ _. ended_each words (word ++ b ∷ []) all) (λ _. all))
-
-each_bytes : (cut : Cut) (bs : List ℕ) → All (λ w. 0 < length w) cut.words → All (λ w. 0 < length w) (with_bytes cut bs).words
-unfolding with_byte
-each_bytes cut [] all = all
-each_bytes cut (b ∷ bs) all = each_bytes (kind_byte cut.words cut.word cut.kind b) bs (each_byte cut.words cut.word cut.kind b all)
-
-words_of-each : (text : List ℕ) → All (λ w. 0 < length w) (words_of text)
-words_of-each text =
-    let P : Cut → Type 0 = λ c. All (λ w. 0 < length w) c.words in
-    let ended = subst P (sym (cut_of-bytes text)) (each_bytes no_words text (All-nil (λ w. 0 < length w))) in
-    ended_each (cut_of text).words (cut_of text).word ended
-
-line_at-each : (number : ℕ) (words : List (List ℕ)) → All (λ w. 0 < length w) words → All (λ (l : LexLine). All (λ w. 0 < length w) l.words) (line_at number words)
-line_at-each number [] h = All-nil (λ (l : LexLine). All (λ w. 0 < length w) l.words)
-line_at-each number (w ∷ ws) h =
-    All-cons (λ (l : LexLine). All (λ w. 0 < length w) l.words) _ [] h (All-nil (λ (l : LexLine). All (λ w. 0 < length w) l.words))
-
-numbered-each : (number : ℕ) (groups : List (List (List ℕ))) → All (λ (l : LexLine). All (λ w. 0 < length w) l.words) (numbered number groups)
-numbered-each number [] = All-nil (λ (l : LexLine). All (λ w. 0 < length w) l.words)
-numbered-each number (group ∷ groups) =
-    All-append (λ (l : LexLine). All (λ w. 0 < length w) l.words) (line_at number (words_of (texts group))) (numbered (number + length group) groups) (line_at-each number (words_of (texts group)) (words_of-each (texts group))) (numbered-each (number + length group) groups)

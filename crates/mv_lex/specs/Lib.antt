@@ -1,4 +1,5 @@
 pub mod Words
+pub mod Cuts
 pub mod Lines
 pub mod Text
 pub mod Reading

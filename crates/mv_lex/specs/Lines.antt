@@ -7,53 +7,34 @@ use Rattle.mv_base.specs.Names.{is_visible}
 use Rattle.mv_lex.specs.declared.lines.LexLine.{LexLine}
 use Rattle.mv_lex.specs.declared.fault.LexFault.{LexFault}
 use Rattle.mv_lex.specs.declared.fault.LexFault.TheVariants.{BadByte, LongWord, OpenBracket, TooLarge}
+use Rattle.mv_lex.specs.Cuts.{closed, open_piece, pieces}
 use Rattle.mv_lex.specs.Words.{is_blank, front, Cut, cut_of, finished, has_long, waits}
 
 -- ---- physical lines: the bytes are cut at each line feed, so n of them make n + 1 physical lines
 
+-- a line feed, which ends a physical line
 abbrev pub is_line_feed : ℕ → Bool
 is_line_feed b = b == 10
 
--- the byte put in front of the first piece, if there is one
-abbrev pub onto : ℕ → List (List ℕ) → List (List ℕ)
-onto b [] = []
-onto b (piece ∷ pieces) = (b ∷ piece) ∷ pieces
-
--- the pieces of the bytes that an end has closed, without their ends
-abbrev pub closed : (ℕ → Bool) → List ℕ → List (List ℕ)
-closed is_end [] = []
-closed is_end (b ∷ bytes) = if is_end b then [] ∷ closed is_end bytes else onto b (closed is_end bytes)
-
--- the byte put in front of the open piece, if no closed piece stands before it
-abbrev pub with_front : List (List ℕ) → ℕ → List ℕ → List ℕ
-with_front [] b piece = b ∷ piece
-with_front (_ ∷ _) b piece = piece
-
--- the piece behind the last end, which is still open
-abbrev pub open_piece : (ℕ → Bool) → List ℕ → List ℕ
-open_piece is_end [] = []
-open_piece is_end (b ∷ bytes) = if is_end b then open_piece is_end bytes else with_front (closed is_end bytes) b (open_piece is_end bytes)
-
--- all pieces: n ends make n + 1 of them
-abbrev pub pieces : (ℕ → Bool) → List ℕ → List (List ℕ)
-pieces is_end bytes = closed is_end bytes ++ open_piece is_end bytes ∷ []
-
--- the physical lines that have ended, and the one that is still open
+-- the physical lines that have ended
 abbrev pub ended_lines : List ℕ → List (List ℕ)
 ended_lines bytes = closed is_line_feed bytes
 
+-- the physical line that is still open: the bytes behind the last line feed
 abbrev pub open_line : List ℕ → List ℕ
 open_line bytes = open_piece is_line_feed bytes
 
 -- ---- comments and joined lines
 
--- a `#` begins a comment, wherever it stands, up to the end of the physical line
+-- a `#`, which begins a comment wherever it stands, up to the end of the physical line
 abbrev pub is_hash : ℕ → Bool
 is_hash b = b == 35
 
+-- the line has a comment
 abbrev pub has_hash : List ℕ → Bool
 has_hash line = list_any is_hash line
 
+-- the bytes before the comment of a line: all of them where it has none
 abbrev pub before_hash : List ℕ → List ℕ
 before_hash line = front (λ b. not (is_hash b)) line
 
@@ -63,16 +44,18 @@ is_end [] = true
 is_end (b ∷ []) = b == 13
 is_end (_ ∷ _ ∷ _) = false
 
--- the `\` at the end of the line, with the carriage return behind it if there is one; and the line before that.
+-- the `\` at the end of the line, with the carriage return behind it if there is one; nothing where there is no such `\`.
 -- (Any other carriage return at the end of a line would be dropped. Taken as a blank it gives the same words.)
 abbrev pub tail_of : List ℕ → List ℕ
 tail_of [] = []
 tail_of (b ∷ line) = if (b == 92) && is_end line then b ∷ line else tail_of line
 
+-- the bytes before that `\`: all of them where there is none
 abbrev pub before_tail : List ℕ → List ℕ
 before_tail [] = []
 before_tail (b ∷ line) = if (b == 92) && is_end line then [] else b ∷ before_tail line
 
+-- a list without bytes
 abbrev pub is_empty : List ℕ → Bool
 is_empty [] = true
 is_empty (_ ∷ _) = false
@@ -108,7 +91,7 @@ abbrev pub with_line : List (List (List ℕ)) → List ℕ → List (List ℕ) �
 with_line [] line lines = line ∷ lines
 with_line (_ ∷ _) line lines = lines
 
--- the physical lines behind those, which are joined to what comes
+-- the physical lines behind the joined lines that have ended: they are joined to what comes
 abbrev pub unended : List (List ℕ) → List (List ℕ)
 unended [] = []
 unended (line ∷ lines) = if joins line then with_line (joined lines) line (unended lines) else unended lines
@@ -137,7 +120,7 @@ all_joined lines = joined lines ++ unended lines ∷ []
 unfoldable pub lines_of : List ℕ → List LexLine
 lines_of bytes = numbered 1 (all_joined (pieces is_line_feed bytes))
 
--- those of them that a line feed has ended
+-- the lines of a file that a line feed has ended
 unfoldable pub complete : List ℕ → List LexLine
 complete bytes = numbered 1 (joined (ended_lines bytes))
 
@@ -155,6 +138,7 @@ is_readable line = list_all is_acceptable (before_hash line)
 abbrev pub is_closed : List (List ℕ) → Bool
 is_closed group = not (waits (cut_of (texts group)).kind)
 
+-- the bytes are accepted: each physical line is readable, and each joined line is closed
 unfoldable pub is_clean : List ℕ → Bool
 is_clean bytes = list_all is_readable (pieces is_line_feed bytes) && list_all is_closed (all_joined (pieces is_line_feed bytes))
 

@@ -30,21 +30,25 @@ pub record Reading : Type 0 where
 abbrev pub ended_word : List (List ℕ) → List ℕ → Cut
 ended_word words word = record { words = words ++ nonempty (word ∷ []); word = []; kind = Start }
 
+-- one more byte, where the word at the end has nothing but `!`, or no byte
 abbrev pub start_byte : List (List ℕ) → List ℕ → ℕ → Cut
 start_byte words word b =
     if is_blank b then ended_word words word
     else if opens b then record { words = words; word = word ++ b ∷ []; kind = Bracketed (closer b) }
     else record { words = words; word = word ++ b ∷ []; kind = if is_bang b then Start else Plain }
 
+-- one more byte, where the word at the end is a plain one
 abbrev pub plain_byte : List (List ℕ) → List ℕ → ℕ → Cut
 plain_byte words word b = if is_blank b then ended_word words word else record { words = words; word = word ++ b ∷ []; kind = Plain }
 
+-- one more byte, where the word at the end is a bracketed one: a blank is dropped, and the bracket `end` ends the word
 abbrev pub bracketed_byte : List (List ℕ) → List ℕ → ℕ → ℕ → Cut
 bracketed_byte words word end b =
     if is_blank b then record { words = words; word = word; kind = Bracketed end }
     else if b == end then ended_word words (word ++ b ∷ [])
     else record { words = words; word = word ++ b ∷ []; kind = Bracketed end }
 
+-- one more byte, by what the word at the end is
 abbrev pub kind_byte : List (List ℕ) → List ℕ → Kind → ℕ → Cut
 kind_byte words word Start b = start_byte words word b
 kind_byte words word Plain b = plain_byte words word b
@@ -54,11 +58,12 @@ kind_byte words word (Bracketed end) b = bracketed_byte words word end b
 unfoldable pub with_byte : Cut → ℕ → Cut
 with_byte cut b = kind_byte cut.words cut.word cut.kind b
 
+-- the cut of the text with these bytes more
 abbrev pub with_bytes : Cut → List ℕ → Cut
 with_bytes cut [] = cut
 with_bytes cut (b ∷ bs) = with_bytes (with_byte cut b) bs
 
--- that byte makes a word too long
+-- with one more byte a word of this size and kind is past its limit
 abbrev pub kind_long : ℕ → Kind → ℕ → Bool
 kind_long size Start b =
     if is_blank b then nat_lt MAX_WORD_BYTES size
@@ -66,31 +71,35 @@ kind_long size Start b =
 kind_long size Plain b = not (is_blank b) && nat_le MAX_WORD_BYTES size
 kind_long size (Bracketed _) b = not (is_blank b) && nat_le MAX_BRACKETED_BYTES size
 
+-- with one more byte the word at the end of the text is past its limit
 unfoldable pub long_with : Cut → ℕ → Bool
 long_with cut b = kind_long (length cut.word) cut.kind b
 
+-- with some of these bytes the word at the end of the text is past its limit
 abbrev pub long_with_bytes : Cut → List ℕ → Bool
 long_with_bytes cut [] = false
 long_with_bytes cut (b ∷ bs) = long_with cut b || long_with_bytes (with_byte cut b) bs
 
--- the fault at the end of a text whose words aren't too long while it goes on
+-- the fault where a text ends at a word of this size and kind, which isn't too long while the text goes on
 abbrev pub kind_end_fault : ℕ → ℕ → Kind → Option LexFault
 kind_end_fault line size Start = if nat_lt MAX_WORD_BYTES size then Some (LongWord line) else None
 kind_end_fault line size Plain = None
 kind_end_fault line size (Bracketed _) = Some (OpenBracket line)
 
+-- the fault at the end of a text whose words aren't too long while it goes on
 unfoldable pub end_fault_of : ℕ → Cut → Option LexFault
 end_fault_of line cut = kind_end_fault line (length cut.word) cut.kind
 
 -- ---- one more byte of a file
 
--- the bytes that were held back
+-- the bytes that are held back at this place: they are of the text only if no line feed comes next
 abbrev pub held : Place → List ℕ
 held Text = []
 held Backslash = 92 ∷ []
 held Return = 92 ∷ 13 ∷ []
 held Comment = []
 
+-- the next byte stands right behind a `\`
 abbrev pub is_backslash : Place → Bool
 is_backslash Text = false
 is_backslash Backslash = true
@@ -115,6 +124,7 @@ text_fault r b =
     else if b == 92 then None
     else long_fault r.here (long_with (settled r) b)
 
+-- the fault of a byte, by where it stands
 abbrev pub place_fault : Reading → Place → ℕ → Option LexFault
 place_fault r Text b = if is_line_feed b then end_fault_of r.here r.cut else text_fault r b
 place_fault r Backslash b = if is_line_feed b then long_fault r.here (long_with r.cut 32) else text_fault r b
@@ -133,13 +143,15 @@ text_step r b =
     else if b == 92 then record r { size = r.size + 1; place = Backslash; cut = settled r }
     else record r { size = r.size + 1; place = Text; cut = with_byte (settled r) b }
 
--- behind a line feed that ends the joined line, and behind one that joins the next line to it
+-- what is kept behind a line feed that ends the joined line
 abbrev pub new_line : Reading → Reading
 new_line r = record r { size = r.size + 1; here = r.here + 1; start = r.here + 1; place = Text; cut = no_words }
 
+-- what is kept behind a line feed that joins the next line to this one: it counts as a blank
 abbrev pub next_line : Reading → Reading
 next_line r = record r { size = r.size + 1; here = r.here + 1; place = Text; cut = with_byte r.cut 32 }
 
+-- what is kept behind a byte, by where it stands
 abbrev pub place_step : Reading → Place → ℕ → Reading
 place_step r Text b = if is_line_feed b then new_line r else text_step r b
 place_step r Backslash b = if is_line_feed b then next_line r else text_step r b
@@ -181,33 +193,37 @@ with_letters r letters = record r { size = r.size + length letters; cut = record
 
 -- ---- the end of the bytes
 
--- the fault told where the bytes end, and the words of the text that ends there: behind a `\` it has one more blank
+-- the fault told where the bytes end, by where that is: behind a `\` the text has one more blank
 abbrev pub place_end_fault : Reading → Place → Option LexFault
 place_end_fault r Text = end_fault_of r.here r.cut
 place_end_fault r Backslash = if long_with r.cut 32 then Some (LongWord r.here) else end_fault_of r.here (with_byte r.cut 32)
 place_end_fault r Return = if long_with r.cut 32 then Some (LongWord r.here) else end_fault_of r.here (with_byte r.cut 32)
 place_end_fault r Comment = None
 
+-- the fault told where the bytes end
 unfoldable pub end_now : Reading → Option LexFault
 end_now r = place_end_fault r r.place
 
+-- the words of the text where the bytes end, by where that is: behind a `\` the text has one more blank
 abbrev pub place_end_cut : Reading → Place → Cut
 place_end_cut r Text = r.cut
 place_end_cut r Backslash = with_byte r.cut 32
 place_end_cut r Return = with_byte r.cut 32
 place_end_cut r Comment = r.cut
 
+-- the words of the text where the bytes end
 unfoldable pub end_cut : Reading → Cut
 end_cut r = place_end_cut r r.place
 
 -- ---- the bytes behind which the lexer stands
 
--- where the next byte stands behind this line
+-- where the next byte stands behind a line without a comment, by the `\` at its end
 abbrev pub place_of_tail : List ℕ → Place
 place_of_tail [] = Text
 place_of_tail (_ ∷ []) = Backslash
 place_of_tail (_ ∷ _ ∷ _) = Return
 
+-- where the next byte stands behind this line
 abbrev pub place_of : List ℕ → Place
 place_of line = if has_hash line then Comment else place_of_tail (tail_of line)
 

@@ -10,24 +10,28 @@ use Rattle.mv_lex.specs.declared.parts.Kind.TheVariants.{Start, Plain, Bracketed
 abbrev pub is_blank : ℕ → Bool
 is_blank b = (b == 32) || (b == 9) || (b == 13)
 
+-- any other byte: it goes on with a word
 abbrev pub is_solid : ℕ → Bool
 is_solid b = not (is_blank b)
 
+-- a `!`
 abbrev pub is_bang : ℕ → Bool
 is_bang b = b == 33
 
--- the brackets that begin a bracketed word, `(` and `{`, and the one that ends it
+-- a bracket that begins a bracketed word: `(` or `{`
 abbrev pub opens : ℕ → Bool
 opens b = (b == 40) || (b == 123)
 
+-- the bracket that ends what this one begins: `)` for `(`, and `}` for `{`
 abbrev pub closer : ℕ → ℕ
 closer b = if b == 40 then 41 else 125
 
--- the bytes at the front that pass a test, and those from the first on that doesn't
+-- the bytes at the front that pass a test
 abbrev pub front : (ℕ → Bool) → List ℕ → List ℕ
 front p [] = []
 front p (b ∷ bs) = if p b then b ∷ front p bs else []
 
+-- the bytes from the first one on that doesn't pass a test
 abbrev pub behind : (ℕ → Bool) → List ℕ → List ℕ
 behind p [] = []
 behind p (b ∷ bs) = if p b then behind p bs else b ∷ bs
@@ -46,21 +50,23 @@ no_words = record { words = []; word = []; kind = Start }
 abbrev pub with_word : List ℕ → Cut → Cut
 with_word w cut = record cut { words = w ∷ cut.words }
 
--- a text that begins with a bracketed word: it runs to the first byte that ends it, its blanks are dropped, and the
--- next word begins right behind it. Here `word` is the word but for that end
+-- a bracketed word where `text` begins at the byte that ends it, or has no byte. `word` is the word but for that byte
 abbrev pub bracketed_behind : (List ℕ → Cut) → ℕ → List ℕ → List ℕ → Cut
 bracketed_behind rest end word [] = record { words = []; word = word; kind = Bracketed end }
 bracketed_behind rest end word (b ∷ text) = with_word (word ++ b ∷ []) (rest text)
 
+-- a text that begins with a bracketed word: it runs to the first byte that ends it, its blanks are dropped, and the
+-- next word begins right behind it
 abbrev pub bracketed : (List ℕ → Cut) → ℕ → List ℕ → List ℕ → Cut
 bracketed rest end head text =
     bracketed_behind rest end (head ++ filter is_solid (front (λ b. not (b == end)) text)) (behind (λ b. not (b == end)) text)
 
--- a text that begins with any other word: it runs to the next blank
+-- any other word, where `text` begins at the blank behind it, or has no byte
 abbrev pub plain_behind : (List ℕ → Cut) → List ℕ → List ℕ → Cut
 plain_behind rest word [] = record { words = []; word = word; kind = Plain }
 plain_behind rest word (b ∷ text) = with_word word (rest text)
 
+-- a text that begins with any other word: it runs to the next blank
 abbrev pub plain : (List ℕ → Cut) → List ℕ → List ℕ → Cut
 plain rest head text = plain_behind rest (head ++ front is_solid text) (behind is_solid text)
 

@@ -76,7 +76,7 @@ fn pieces_join(rt: HostRuntime) -> Result<(), Fail> {
 }
 
 /// Texts, and their lines as `shown` gives them.
-const TEXTS: [(&[u8], &[u8]); 29] = [
+const TEXTS: &[(&[u8], &[u8])] = &[
     // physical lines, blanks and carriage returns
     (b"", b""),
     (b"\n\n", b""),
@@ -117,12 +117,12 @@ fn lines_of_texts_however_cut(rt: HostRuntime) -> Result<(), Fail> {
     for (text, wanted) in TEXTS {
         let lines = cut_in_bytes(rt.alloc(), ROOM, text)?;
         let got = shown(rt.alloc(), &lines)?;
-        assert_eq!(rt; got.as_slice(), wanted);
+        assert_eq!(rt; got.as_slice(), *wanted);
         for at in 0..text.len() {
             let (front, back) = text.split_at(at);
             let lines = cut_in_two(rt.alloc(), ROOM, front, back)?;
             let got = shown(rt.alloc(), &lines)?;
-            assert_eq!(rt; got.as_slice(), wanted, "cut at {at}");
+            assert_eq!(rt; got.as_slice(), *wanted, "cut at {at}");
         }
     }
     Ok(())
@@ -154,9 +154,9 @@ fn faults_of_texts_however_cut(rt: HostRuntime) {
         (b"(a\\\n", ROOM, LexFault::OpenBracket { line: 2 }),
         (b"!!!{)\n}", ROOM, LexFault::OpenBracket { line: 1 }),
     ];
-    for (text, limit, wanted) in texts {
-        assert!(rt; limit <= ROOM);
-        assert_eq!(rt; fault(rt.alloc(), limit, text), Some(wanted));
+    for (text, limit, wanted) in texts.iter() {
+        assert!(rt; *limit <= ROOM);
+        assert_eq!(rt; fault(rt.alloc(), *limit, text), Some(*wanted));
     }
 }
 

@@ -1,5 +1,5 @@
--- Nets none of which is above itself have ranks: the number of nets above each. Which nets are above a net isn't computed here,
--- so it is only shown that it can't be that they have none.
+-- Nets none of which is above itself have ranks: the number of nets above each. Which nets are above a net isn't computed
+-- here, so it is only shown that it can't be that they have none.
 use Rattle.std.proofs.Common.{◌≡◌, ℕ, suc, zero, ◌+◌, ◌<◌, ◌≤◌, Bool, true, false, ◌⊎◌, ⊎_elim, inl, inr, List, [], ◌∷◌, length, refl, sym, subst, arith}
 use Rattle.std.specs.Prelude.{if◌then◌else◌}
 use Rattle.std.proofs.lemmas.Bool.{false≢true, cases_Bool, cases_lt}
@@ -8,7 +8,8 @@ use Rattle.mv_base.specs.declared.number.NetId.{NetId}
 use Rattle.mv_net.specs.Index.{has_id, row}
 use Rattle.mv_net.specs.Ranks.{IsRanked}
 use Rattle.mv_net.specs.Ranks.{AllBelow}
-use Rattle.mv_model.specs.Cycles.{GoesOn, IsAbove, AreAbove, NoneTurns, is_marked}
+use Rattle.mv_net.specs.Seen.{is_marked}
+use Rattle.mv_model.specs.Cycles.{GoesOn, IsAbove, AreAbove, NoneTurns}
 use Rattle.mv_model.proofs.Walks.{above_more, column_below, none_in}
 
 -- how many marks there are

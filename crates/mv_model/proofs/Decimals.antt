@@ -2,12 +2,11 @@
 use Rattle.std.proofs.Common.{◌≡◌, ℕ, zero, suc, ◌+◌, ◌-◌, ◌%◌, ◌^◌, ◌<◌, ◌≤◌, Bool, true, false, not, ◌||◌, ◌&&◌, List, [], ◌∷◌, ◌++◌, length, length-append, get_or, decimal, refl, sym, ◌∙◌, ap, arith}
 use Rattle.std.specs.Prelude.{nat_le, ◌==◌, codes}
 use Rattle.std.specs.List.{list_all, list_any}
-use Rattle.std.proofs.lemmas.Bool.{false≢true, false_from_ne_true, and_from, and_parts, and_right, or_from, not_from_false, eqb-true, lt-ltb, le-leb}
+use Rattle.std.proofs.lemmas.Bool.{false≢true, false_from_ne_true, and_from, and_parts, and_right, or_from, not_from_false, eqb-true, lt-ltb}
 use Rattle.std.proofs.lemmas.Bool.Decides.{nat_tests}
 use Rattle.std.proofs.lemmas.List.Folds.{list_all-append}
-use Rattle.std.proofs.lemmas.Fmt.{decimal_by_steps, decimal_nonempty, decimal_injective, length-decimal-le}
+use Rattle.std.proofs.lemmas.Fmt.{decimal_by_steps, decimal_nonempty, decimal_injective}
 use Rattle.mv_base.specs.Names.{same_word, begins_with, ends_with, is_visible, is_bracketed, is_word, is_net_name, is_value_name, among, names_differ}
-use Rattle.mv_base.specs.declared.limits.TheConstants.{MAX_WORD_BYTES}
 use Rattle.mv_base.proofs.NameLemmas.{same_word_is, among-append, differ-push}
 use Rattle.mv_decl.specs.Line.{numbers_below}
 use Rattle.mv_decl.proofs.Numbers.{numbers_more}
@@ -62,16 +61,15 @@ word_other u n w y =
 
 -- ---- lawful names
 
--- some plain bytes, within the limit
+-- some plain bytes
 pub record IsPlainName (w : List ℕ) : Type 0 where
   pub some : 0 < length w
-  pub short : length w ≤ MAX_WORD_BYTES
   pub plain : list_all is_plain w ≡ true
 
 pub word-from_plain : (w : List ℕ) → IsPlainName w → is_word w ≡ true
 unfolding is_word
 word-from_plain w h =
-    and_from _ _ (and_from _ _ (and_from _ _ (lt-ltb 0 (length w) h.some) (le-leb (length w) MAX_WORD_BYTES h.short)) (seen w h.plain)) (not_from_false _ (unbracketed w h.plain))
+    and_from _ _ (and_from _ _ (lt-ltb 0 (length w) h.some) (seen w h.plain)) (not_from_false _ (unbracketed w h.plain))
 
 pub net_name-from_plain : (w : List ℕ) → IsPlainName w → is_net_name w ≡ true
 unfolding is_net_name
@@ -97,26 +95,20 @@ decimal-plain =
     (λ m small. and_from _ _ (digit-plain m small) refl)
     (λ m ds large h. list_all-append is_plain ds ((48 + m % 10) ∷ []) ∙ and_from _ _ h (and_from _ _ (digit-plain (m % 10) (omega arith)) refl))
 
-decimal-short : (n : ℕ) → n < 2 ^ 64 → length (decimal n) ≤ 20
-decimal-short n small = length-decimal-le 20 n (omega arith) (omega arith) small
-
 pub IsPlainName-decimal : (n : ℕ) → n < 2 ^ 64 → IsPlainName (decimal n)
 IsPlainName-decimal n small =
     record {
       some = decimal_nonempty n small;
-      short = (let s = decimal-short n small in omega arith);
       plain = decimal-plain n small;
     }
 
 -- a number behind a few plain bytes
-pub IsPlainName-numbered : (front : List ℕ) (n : ℕ) → n < 2 ^ 64 → length front ≤ 1000 → list_all is_plain front ≡ true → IsPlainName (front ++ decimal n)
-IsPlainName-numbered front n small few plain =
+pub IsPlainName-numbered : (front : List ℕ) (n : ℕ) → n < 2 ^ 64 → list_all is_plain front ≡ true → IsPlainName (front ++ decimal n)
+IsPlainName-numbered front n small plain =
     let size = length-append front (decimal n) in
     let some = decimal_nonempty n small in
-    let short = decimal-short n small in
     record {
       some = omega arith;
-      short = omega arith;
       plain = list_all-append is_plain front (decimal n) ∙ and_from _ _ plain (decimal-plain n small);
     }
 
@@ -124,8 +116,8 @@ IsPlainName-numbered front n small few plain =
 pub decimal-value_name : (n : ℕ) → n < 2 ^ 64 → is_value_name (decimal n) ≡ true
 decimal-value_name n small = value_name-from_plain (decimal n) (IsPlainName-decimal n small)
 
-pub numbered-net_name : (front : List ℕ) (n : ℕ) → n < 2 ^ 64 → length front ≤ 1000 → list_all is_plain front ≡ true → is_net_name (front ++ decimal n) ≡ true
-numbered-net_name front n small few plain = net_name-from_plain (front ++ decimal n) (IsPlainName-numbered front n small few plain)
+pub numbered-net_name : (front : List ℕ) (n : ℕ) → n < 2 ^ 64 → list_all is_plain front ≡ true → is_net_name (front ++ decimal n) ≡ true
+numbered-net_name front n small plain = net_name-from_plain (front ++ decimal n) (IsPlainName-numbered front n small plain)
 
 -- ---- the numbers below a count, spelled
 

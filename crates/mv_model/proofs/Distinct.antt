@@ -175,12 +175,13 @@ driver_is_place m w h =
     (λ (y : among w (flat_map outputs_of m.tables) ≡ true). in_right w m.inputs _ (output_is_place w m.tables y))
     (in_either w m.inputs (flat_map outputs_of m.tables) h)
 
-is_driven : (n : ℕ) → n ≡ 1 → nat_lt 0 n ≡ true
-is_driven n e = rw e refl
+-- each net is driven
+pub net_is_driven : (m : FileModel) (w : List ℕ) → IsDrivenOnce m → among w (nets_of m) ≡ true → among w (drivers m) ≡ true
+net_is_driven m w d h = among_counted w (drivers m) ∙ ap (nat_lt 0) (d.once w h)
 
--- each net is driven, and so it has a place
+-- and so it has a place
 pub net_is_place : (m : FileModel) (w : List ℕ) → IsDrivenOnce m → among w (nets_of m) ≡ true → among w (places m) ≡ true
-net_is_place m w d h = driver_is_place m w (among_counted w (drivers m) ∙ is_driven (times w (drivers m)) (d.once w h))
+net_is_place m w d h = driver_is_place m w (net_is_driven m w d h)
 
 -- ---- how many places there are
 

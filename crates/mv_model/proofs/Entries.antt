@@ -1,9 +1,10 @@
 -- The nets of a model by number, each with the nets that its table has as columns.
-use Rattle.std.proofs.Common.{◌≡◌, ℕ, Bool, true, false, ◌||◌, ◌&&◌, List, [], ◌∷◌, ◌++◌, length, map, refl, ◌∙◌, ap, arith, All}
+use Rattle.std.proofs.Common.{◌≡◌, ℕ, Bool, true, false, ◌||◌, ◌&&◌, List, [], ◌∷◌, ◌++◌, length, map, refl, sym, ◌∙◌, ap, arith, All}
 use Rattle.std.specs.Prelude.{if◌then◌else◌}
 use Rattle.std.specs.List.{list_any, flat_map}
 use Rattle.std.proofs.lemmas.List.{map-append}
 use Rattle.std.proofs.lemmas.List.Elements.{All-head, All-tail}
+use Rattle.std.proofs.Math.Bool.{and-false, and-or_distrib_right}
 use Rattle.std.proofs.lemmas.List.Folds.{list_any-append}
 use Rattle.mv_base.specs.Names.{same_word, among}
 use Rattle.mv_base.specs.declared.number.NetId.{NetId}
@@ -83,30 +84,19 @@ names_are m =
 
 -- ---- they read what the tables read
 
-reads_nothing : (b : Bool) → (b && false) ≡ false
-reads_nothing true = refl
-reads_nothing false = refl
-
 reads_bare : (net above : List ℕ) (ws : List (List ℕ)) → list_any (entry_reads net above) (map bare ws) ≡ false
 reads_bare net above [] = refl
-reads_bare net above (w ∷ ws) = rw (reads_nothing (same_word net w)) (reads_bare net above ws)
+reads_bare net above (w ∷ ws) = rw (and-false (same_word net w)) (reads_bare net above ws)
 
 reads_marks : (net above : List ℕ) (ws : List (List ℕ)) → list_any (entry_reads net above) (map mark_of ws) ≡ false
 reads_marks net above [] = refl
-reads_marks net above (w ∷ ws) = rw (reads_nothing (same_word net (mark_name w))) (reads_marks net above ws)
-
-or_and : (a b c : Bool) → ((a && c) || (b && c)) ≡ ((a || b) && c)
-or_and true true true = refl
-or_and true false true = refl
-or_and true true false = refl
-or_and true false false = refl
-or_and false b c = refl
+reads_marks net above (w ∷ ws) = rw (and-false (same_word net (mark_name w))) (reads_marks net above ws)
 
 reads_read : (net above : List ℕ) (ins ws : List (List ℕ)) → list_any (entry_reads net above) (map (read_by ins) ws) ≡ (among net ws && among above ins)
 reads_read net above ins [] = refl
 reads_read net above ins (w ∷ ws) =
     ap (λ b. (same_word net w && among above ins) || b) (reads_read net above ins ws)
-    ∙ or_and (same_word net w) (among net ws) (among above ins)
+    ∙ sym (and-or_distrib_right (same_word net w) (among net ws) (among above ins))
 
 reads_table : (net above : List ℕ) (b : Bool) (ins os : List (List ℕ)) → list_any (entry_reads net above) ((if b then map mark_of os else []) ++ map (read_by ins) os) ≡ (among net os && among above ins)
 reads_table net above true ins os =

@@ -12,5 +12,4 @@ pub mod Turned
 pub mod Spared
 pub mod Turns
 pub mod Decimals
-pub mod Placing
-pub mod Plain
+pub mod Named

@@ -1,5 +1,5 @@
 -- Elements of lists by place, and the numbers of names.
-use Rattle.std.proofs.Common.{◌≡◌, ℕ, suc, zero, ◌<◌, Bool, true, List, [], ◌∷◌, length, get_or, Some, refl, sym, ◌∙◌, ap, subst, ⊎_elim, All, map}
+use Rattle.std.proofs.Common.{◌≡◌, ℕ, suc, zero, ◌<◌, Bool, true, List, [], ◌∷◌, ◌++◌, length, get_or, Some, refl, sym, ap, subst, arith, ⊎_elim, All, map}
 use Rattle.std.specs.Prelude.{unwrap_or, nat_eq}
 use Rattle.std.specs.List.{list_any, slice_get}
 use Rattle.std.proofs.lemmas.Bool.{false≢true, or_cases, or_left, or_right, eq-eqb, eqb-true}
@@ -25,10 +25,11 @@ found p (x ∷ xs) h =
     (λ (y : list_any p xs ≡ true). let f = found p xs y in record { place = suc f.place; item = f.item; at = f.at; passes = f.passes })
     (or_cases (p x) (list_any p xs) h)
 
-pub any_at : {X : Type 0} (p : X → Bool) (xs : List X) (k : ℕ) (x : X) → slice_get xs k ≡ Some x → p x ≡ true → list_any p xs ≡ true
-any_at p [] k x e h = absurd (none-some x e)
-any_at p (y ∷ xs) zero x e h = or_left _ _ (ap p (same_Some y x e) ∙ h)
-any_at p (y ∷ xs) (suc k) x e h = or_right (p y) _ (any_at p xs k x e h)
+-- a list stands at the front of itself and others
+pub get_front : {X : Type 0} (xs ys : List X) (k : ℕ) → k < length xs → slice_get (xs ++ ys) k ≡ slice_get xs k
+get_front [] ys k h = absurd (omega arith)
+get_front (x ∷ xs) ys zero h = refl
+get_front (x ∷ xs) ys (suc k) h = get_front xs ys k (omega arith)
 
 -- an element of the image of a list
 pub record Mapped {X Y : Type 0} (f : X → Y) (xs : List X) (k : ℕ) (y : Y) : Type 0 where

@@ -1,13 +1,13 @@
--- Names, each once, in the order in which they come; and how often a name stands in a list.
-use Rattle.std.proofs.Common.{◌≡◌, ℕ, ◌+◌, Bool, true, false, ◌||◌, cond, List, [], ◌∷◌, ◌++◌, map, refl, sym, ◌∙◌, ap, arith}
+-- Names, each once, in the order in which they come; how often a name stands in a list; and what holds of each name of one.
+use Rattle.std.proofs.Common.{◌≡◌, ℕ, ◌+◌, Bool, true, false, ◌||◌, cond, List, [], ◌∷◌, ◌++◌, map, refl, sym, ◌∙◌, ap, arith, ⊎_elim}
 use Rattle.std.specs.Prelude.{nat_lt, count_by, if◌then◌else◌}
-use Rattle.std.specs.List.{flat_map}
-use Rattle.std.proofs.lemmas.Bool.{false≢true}
+use Rattle.std.specs.List.{flat_map, list_all}
+use Rattle.std.proofs.lemmas.Bool.{false≢true, and_from, and_parts, or_cases, or_left, or_right}
 use Rattle.std.proofs.lemmas.Bool.Decides.{nat_tests}
 use Rattle.std.proofs.lemmas.List.{append-nil, append_assoc}
 use Rattle.std.proofs.lemmas.List.Sums.{sum_by-cons, sum_by-append}
 use Rattle.mv_base.specs.Names.{same_word, among, names_differ}
-use Rattle.mv_base.proofs.NameLemmas.{same_word_is, among-append, differ-repeated}
+use Rattle.mv_base.proofs.NameLemmas.{same_word_is, same_word_refl, among-append, differ-repeated}
 use Rattle.mv_design.specs.declared.table.FileTable.{FileTable}
 use Rattle.mv_model.specs.Nets.{columns_of, with_name, with_names}
 use Rattle.mv_model.specs.Driving.{with_columns}
@@ -108,3 +108,18 @@ among_counted w [] = refl
 among_counted w (u ∷ us) =
     ap (λ b. same_word w u || b) (among_counted w us)
     ∙ (some_counted (same_word w u) (count_by (same_word w) us) ∙ ap (nat_lt 0) (sym (count_of_cons w u us)))
+
+-- ---- what holds of each name
+
+-- what holds of each holds of those among them
+pub all_among : (p : List ℕ → Bool) (ws : List (List ℕ)) (w : List ℕ) → list_all p ws ≡ true → among w ws ≡ true → p w ≡ true
+all_among p [] w all h = absurd (false≢true h)
+all_among p (u ∷ us) w all h =
+    let q = and_parts (p u) (list_all p us) all in
+    ⊎_elim (λ (y : same_word w u ≡ true). ap p (same_word_is w u y) ∙ q.0) (λ (y : among w us ≡ true). all_among p us w q.1 y) (or_cases (same_word w u) (among w us) h)
+
+-- and the other way round
+pub all_from_among : (p : List ℕ → Bool) (ws : List (List ℕ)) → ((w : List ℕ) → among w ws ≡ true → p w ≡ true) → list_all p ws ≡ true
+all_from_among p [] h = refl
+all_from_among p (w ∷ ws) h =
+    and_from (p w) (list_all p ws) (h w (or_left (same_word w w) _ (same_word_refl w))) (all_from_among p ws (λ u y. h u (or_right (same_word u w) _ y)))

@@ -6,16 +6,17 @@ use Rattle.std.specs.Option.{option_map}
 use Rattle.std.proofs.lemmas.Bool.{false≢true, and_parts, and_from, cases_lt, eq-eqb}
 use Rattle.std.proofs.lemmas.List.{length-map, get_or_past}
 use Rattle.std.proofs.lemmas.Option.{slice_get-map, get_or_from_slice_get, slice_get-get_or}
+use Rattle.std.proofs.lemmas.Map.Keys.{any_passes_from_place}
 use Rattle.mv_base.specs.Names.{same_word, among, IsDistinct}
 use Rattle.mv_base.specs.declared.number.NetId.{NetId}
 use Rattle.mv_base.proofs.NameLemmas.{same_word_is, same_word_refl}
 use Rattle.mv_net.specs.Index.{has_id, row}
-use Rattle.mv_net.specs.Ranks.{IsRanked as AreRanked, AllBelow}
+use Rattle.mv_net.specs.Ranks.{IsRanked, AllBelow}
 use Rattle.mv_design.specs.declared.design.FileModel.{FileModel}
 use Rattle.mv_model.specs.Numbers.{number_in}
-use Rattle.mv_model.specs.Sound.{IsRanked}
+use Rattle.mv_model.specs.Sound.{HasRank}
 use Rattle.mv_model.proofs.Entries.{Entry, name_of, columns_in, entry_reads, entries, reads_are}
-use Rattle.mv_model.proofs.Listed.{found, any_at, all_from, IsNumber-among, number_at, has_number, numbered_by}
+use Rattle.mv_model.proofs.Listed.{found, all_from, IsNumber-among, number_at, has_number, numbered_by}
 
 -- nets by number with different names, of which each column is one
 pub record AreNets (es : List Entry) (names : List (List ℕ)) : Type 0 where
@@ -59,7 +60,7 @@ pub record ReadsName (es : List Entry) (names : List (List ℕ)) (n m : ℕ) : T
 reads_at : (es : List Entry) (names : List (List ℕ)) (n m : ℕ) (e : Entry) → AreNets es names → slice_get es n ≡ Some e → has_id (columns_in names e) m ≡ true → ReadsName es names n m
 reads_at es names n m e a at h =
     let b = numbered_by names e.above m h in
-    let r : list_any (entry_reads e.name b.name) es ≡ true = any_at (entry_reads e.name b.name) es n e at (and_from _ _ (same_word_refl e.name) b.among_them) in
+    let r : list_any (entry_reads e.name b.name) es ≡ true = any_passes_from_place (entry_reads e.name b.name) es n e at (and_from _ _ (same_word_refl e.name) b.among_them) in
     let l = name_listed es names n e a at in
     record {
       net = e.name;
@@ -87,7 +88,7 @@ reads_name es names n m a h =
     (cases_lt n (length es))
 
 -- ranks by number are ranks by name
-pub ranked_by_name : (m : FileModel) (names : List (List ℕ)) → AreNets (entries m) names → AreRanked (columns_of (entries m) names) → IsRanked m
+pub ranked_by_name : (m : FileModel) (names : List (List ℕ)) → AreNets (entries m) names → IsRanked (columns_of (entries m) names) → HasRank m
 ranked_by_name m names a r = record {
   rank = λ net. r.rank (number_in names net);
   falls = λ net above h. r.falls (number_in names net) (number_in names above) (reads_number (entries m) names net above a (reads_are m net above ∙ h));
@@ -102,7 +103,7 @@ columns_below es names a =
     below : (k : ℕ) (ns : List NetId) → slice_get (columns_of es names) k ≡ Some ns → (j : ℕ) (c : NetId) → slice_get ns j ≡ Some c → c.0 < length (columns_of es names)
     below k ns at j c there =
         let r : row (columns_of es names) k ≡ ns = get_or_from_slice_get (columns_of es names) k ns [] at in
-        let b = reads_name es names k c.0 a (ap (λ x. has_id x c.0) r ∙ any_at (λ (x : NetId). nat_eq x.0 c.0) ns j c there (eq-eqb c.0 c.0 refl)) in
+        let b = reads_name es names k c.0 a (ap (λ x. has_id x c.0) r ∙ any_passes_from_place (λ (x : NetId). nat_eq x.0 c.0) ns j c there (eq-eqb c.0 c.0 refl)) in
         let w = (IsNumber-among names b.above b.above_known).within in
         let l = length_columns es names a in
         let e = b.above_number in

@@ -1,21 +1,22 @@
 -- Models whose nets have no fault: each net is driven once.
-use Rattle.std.proofs.Common.{◌≡◌, ◌⊎◌, ℕ, suc, zero, ◌+◌, ◌<◌, ◌≤◌, Bool, true, false, List, [], ◌∷◌, ◌++◌, length, Some, refl, sym, ◌∙◌, ap, subst, arith, ⊎_elim, inl, inr}
+use Rattle.std.proofs.Common.{◌≡◌, ◌⊎◌, ℕ, ◌+◌, ◌<◌, ◌≤◌, Bool, true, false, List, [], ◌∷◌, ◌++◌, length, Some, refl, sym, ◌∙◌, ap, subst, arith, ⊎_elim, inl, inr}
 use Rattle.std.specs.Prelude.{nat_lt, ◌==◌}
-use Rattle.std.specs.List.{list_any, flat_map, slice_get}
+use Rattle.std.specs.List.{list_any, flat_map}
 use Rattle.std.proofs.lemmas.Bool.{false≢true, and_parts, or_cases, or_left, or_right}
 use Rattle.std.proofs.lemmas.Bool.Decides.{nat_tests}
-use Rattle.std.proofs.lemmas.Option.{none-some, same_Some}
+use Rattle.std.proofs.lemmas.Option.{same_Some}
 use Rattle.mv_base.specs.Names.{same_word, among}
 use Rattle.mv_base.specs.declared.limits.TheConstants.{MAX_FLAT_NETS}
 use Rattle.mv_base.proofs.NameLemmas.{same_word_is, same_word_refl, among-append}
 use Rattle.mv_fault.specs.declared.fault.Which.TheVariants.{Nets}
+use Rattle.mv_fault.proofs.Nothing.{left-nothing, right-nothing}
 use Rattle.mv_design.specs.declared.table.FileTable.{FileTable}
 use Rattle.mv_design.specs.declared.design.FileModel.{FileModel}
 use Rattle.mv_model.specs.declared.fault.FlatFault.{FlatFault}
 use Rattle.mv_model.specs.declared.fault.FlatFault.TheVariants.{DrivenTwice, Undriven, Cycle, Limit, Memory}
 use Rattle.mv_model.specs.Nets.{columns_of, outputs_of, nets_named, nets_of, drivers, drivers_of}
-use Rattle.mv_model.specs.Sound.{when, first, table_reads, reads, twice_at, undriven_at, many_faults, net_faults, IsDrivenOnce, IsRanked, IsSoundModel, ReadsOn, IsOnCycle, IsFault}
-use Rattle.mv_model.proofs.Names.{among-with_names}
+use Rattle.mv_model.specs.Sound.{when, first, table_reads, reads, twice_at, undriven_at, many_faults, net_faults, IsDrivenOnce, HasRank, IsSoundModel, ReadsOn, IsOnCycle, IsFault}
+use Rattle.mv_model.proofs.Named.{among-nets_of}
 
 -- ---- names in parts of lists
 
@@ -31,25 +32,11 @@ in_either w us ws e = or_cases _ _ (sym (among-append w us ws) ∙ e)
 -- ---- the nets of a model
 
 named_is : (m : FileModel) (w : List ℕ) → among w (nets_named m) ≡ true → among w (nets_of m) ≡ true
-unfolding nets_of
-named_is m w e = among-with_names w [] (nets_named m) ∙ e
+named_is m w e = among-nets_of w m ∙ e
 
 pub column_named : (m : FileModel) (w : List ℕ) → among w (flat_map columns_of m.tables) ≡ true → among w (nets_of m) ≡ true
 unfolding nets_named
 column_named m w e = named_is m w (in_right w m.inputs _ (in_right w m.outputs _ e))
-
-pub input_is_net : (m : FileModel) (w : List ℕ) → among w m.inputs ≡ true → among w (nets_of m) ≡ true
-unfolding nets_named
-input_is_net m w e = named_is m w (in_left w m.inputs _ e)
-
-columns_at : (ts : List FileTable) (k : ℕ) (t : FileTable) (w : List ℕ) → slice_get ts k ≡ Some t → among w (columns_of t) ≡ true → among w (flat_map columns_of ts) ≡ true
-columns_at [] k t w at e = absurd (none-some t at)
-columns_at (u ∷ us) zero t w at e = in_left w (columns_of u) _ (ap (λ (x : FileTable). among w (columns_of x)) (same_Some u t at) ∙ e)
-columns_at (u ∷ us) (suc k) t w at e = in_right w (columns_of u) _ (columns_at us k t w at e)
-
--- the columns of a table are nets
-pub column_is_net : (m : FileModel) (k : ℕ) (t : FileTable) (w : List ℕ) → slice_get m.tables k ≡ Some t → among w (columns_of t) ≡ true → among w (nets_of m) ≡ true
-column_is_net m k t w at e = column_named m w (columns_at m.tables k t w at e)
 
 outputs_are_columns : (w : List ℕ) (ts : List FileTable) → among w (flat_map outputs_of ts) ≡ true → among w (flat_map columns_of ts) ≡ true
 outputs_are_columns w [] e = e
@@ -65,10 +52,6 @@ driver_is_net m w e =
     ⊎_elim (λ (h : among w m.inputs ≡ true). named_is m w (in_left w m.inputs _ h))
     (λ (h : among w (flat_map outputs_of m.tables) ≡ true). column_named m w (outputs_are_columns w m.tables h))
     (in_either w m.inputs (flat_map outputs_of m.tables) e)
-
-pub output_is_net : (m : FileModel) (w : List ℕ) → among w m.outputs ≡ true → among w (nets_of m) ≡ true
-unfolding nets_named
-output_is_net m w e = named_is m w (in_right w m.inputs _ (in_left w m.outputs _ e))
 
 read_columns : (net above : List ℕ) (ts : List FileTable) → list_any (table_reads net above) ts ≡ true → among above (flat_map columns_of ts) ≡ true
 read_columns net above [] e = absurd (false≢true e)
@@ -96,13 +79,9 @@ reader_is_net m net above e = column_named m net (reader_columns net above m.tab
 
 -- ---- lists of faults
 
-pub when_none : (b : Bool) (f : FlatFault) → when b f ≡ [] → b ≡ false
+when_none : (b : Bool) (f : FlatFault) → when b f ≡ [] → b ≡ false
 when_none false f e = refl
 when_none true f e = cc
-
-pub none_parts : (a b : List FlatFault) → a ++ b ≡ [] → (a ≡ []) × (b ≡ [])
-none_parts [] b e = (refl, e)
-none_parts (f ∷ a) b e = cc
 
 abbrev faults_of : (List ℕ → Bool) → (List ℕ → FlatFault) → List (List ℕ) → List FlatFault
 faults_of test fault nets = flat_map (λ net. when (test net) (fault net)) nets
@@ -110,9 +89,10 @@ faults_of test fault nets = flat_map (λ net. when (test net) (fault net)) nets
 none_of : (test : List ℕ → Bool) (fault : List ℕ → FlatFault) (nets : List (List ℕ)) (net : List ℕ) → faults_of test fault nets ≡ [] → among net nets ≡ true → test net ≡ false
 none_of test fault [] net e h = absurd (false≢true h)
 none_of test fault (n ∷ ns) net e h =
-    let p = none_parts (when (test n) (fault n)) (faults_of test fault ns) e in
-    ⊎_elim (λ (s : same_word net n ≡ true). ap test (same_word_is net n s) ∙ when_none (test n) (fault n) p.0)
-    (λ (r : among net ns ≡ true). none_of test fault ns net p.1 r)
+    let here : when (test n) (fault n) ≡ [] = left-nothing _ (faults_of test fault ns) e in
+    let others : faults_of test fault ns ≡ [] = right-nothing (when (test n) (fault n)) _ e in
+    ⊎_elim (λ (s : same_word net n ≡ true). ap test (same_word_is net n s) ∙ when_none (test n) (fault n) here)
+    (λ (r : among net ns ≡ true). none_of test fault ns net others r)
     (or_cases (same_word net n) (among net ns) h)
 
 none_from : (test : List ℕ → Bool) (fault : List ℕ → FlatFault) (nets : List (List ℕ)) → ((net : List ℕ) → among net nets ≡ true → test net ≡ false) → faults_of test fault nets ≡ []
@@ -121,23 +101,24 @@ none_from test fault (n ∷ ns) h =
     ap (λ b. when b (fault n) ++ faults_of test fault ns) (h n (or_left _ _ (same_word_refl n)))
     ∙ none_from test fault ns (λ net e. h net (or_right (same_word net n) _ e))
 
-one_driver : (n : ℕ) → nat_lt 1 n ≡ false → (n == 0) ≡ false → n ≡ 1
+pub one_driver : (n : ℕ) → nat_lt 1 n ≡ false → (n == 0) ≡ false → n ≡ 1
 one_driver n h k = grind (arith, nat_tests)
 
 -- where the nets have no fault, each is driven once, and there are not too many
 pub driven_once : (m : FileModel) → net_faults m ≡ [] → IsDrivenOnce m
 unfolding net_faults
 driven_once m e =
-    let p = none_parts (many_faults m) _ e in
-    let q = none_parts (flat_map (twice_at m) (nets_of m)) (flat_map (undriven_at m) (nets_of m)) p.1 in
-    record { once = λ net h. one_driver (drivers_of m net) (none_of (λ w. nat_lt 1 (drivers_of m w)) DrivenTwice (nets_of m) net q.0 h) (none_of (λ w. drivers_of m w == 0) Undriven (nets_of m) net q.1 h) }
+    let twice = flat_map (twice_at m) (nets_of m) in
+    let undriven = flat_map (undriven_at m) (nets_of m) in
+    let driven : twice ++ undriven ≡ [] = right-nothing (many_faults m) (twice ++ undriven) e in
+    record { once = λ net h. one_driver (drivers_of m net) (none_of (λ w. nat_lt 1 (drivers_of m w)) DrivenTwice (nets_of m) net (left-nothing twice undriven driven) h) (none_of (λ w. drivers_of m w == 0) Undriven (nets_of m) net (right-nothing twice undriven driven) h) }
 
 few_from : (n : ℕ) → nat_lt MAX_FLAT_NETS n ≡ false → n ≤ MAX_FLAT_NETS
 few_from n h = grind (arith, nat_tests)
 
 pub few_nets : (m : FileModel) → net_faults m ≡ [] → length (nets_of m) ≤ MAX_FLAT_NETS
 unfolding net_faults many_faults
-few_nets m e = few_from (length (nets_of m)) (when_none _ (Limit Nets (MAX_FLAT_NETS + 1)) (none_parts (many_faults m) _ e).0)
+few_nets m e = few_from (length (nets_of m)) (when_none _ (Limit Nets (MAX_FLAT_NETS + 1)) (left-nothing (many_faults m) _ e))
 
 not_many : (n : ℕ) → n ≤ MAX_FLAT_NETS → nat_lt MAX_FLAT_NETS n ≡ false
 not_many n h = grind (arith, nat_tests)
@@ -168,9 +149,6 @@ first_either : (a b : List FlatFault) (f : FlatFault) → first (a ++ b) ≡ Som
 first_either [] b f e = inr e
 first_either (g ∷ a) b f e = inl e
 
-some_fault : (f g : FlatFault) → Some f ≡ Some g → f ≡ g
-some_fault f g e = cc
-
 told_by : (test : List ℕ → Bool) (fault : List ℕ → FlatFault) (nets : List (List ℕ)) (f : FlatFault) → first (faults_of test fault nets) ≡ Some f → (net : List ℕ) × (fault net ≡ f)
 told_by test fault [] f e = cc
 told_by test fault (n ∷ ns) f e =
@@ -178,7 +156,7 @@ told_by test fault (n ∷ ns) f e =
     (first_either (when (test n) (fault n)) (faults_of test fault ns) f e)
   where
     here : (b : Bool) → first (when b (fault n)) ≡ Some f → fault n ≡ f
-    here true h = some_fault (fault n) f h
+    here true h = same_Some (fault n) f h
     here false h = cc
 
 no_limit_cycle : (b : Bool) (net : List ℕ) → first (when b (Limit Nets (MAX_FLAT_NETS + 1))) ≡ Some (Cycle net) → ⊥
@@ -218,14 +196,14 @@ told_is_fault m f h = ⊎_elim (λ e. memory_is_fault m f e) (λ e. first_is_fau
 
 -- ---- a model with a fault isn't sound
 
-falls_along : (m : FileModel) (r : IsRanked m) (last net : List ℕ) (path : List (List ℕ)) → ReadsOn m last net path → r.rank last < r.rank net
+falls_along : (m : FileModel) (r : HasRank m) (last net : List ℕ) (path : List (List ℕ)) → ReadsOn m last net path → r.rank last < r.rank net
 falls_along m r last net [] h = r.falls net last h
 falls_along m r last net (above ∷ path) h =
     let a = r.falls net above h.0 in
     let b = falls_along m r last above path h.1 in
     omega arith
 
-cycle_excludes : (m : FileModel) (net : List ℕ) → IsOnCycle m net → IsRanked m → ⊥
+cycle_excludes : (m : FileModel) (net : List ℕ) → IsOnCycle m net → HasRank m → ⊥
 cycle_excludes m net c r = let l = falls_along m r net net c.path c.closed in absurd (omega arith)
 
 -- a model with a fault that isn't want of memory isn't sound, or has too many nets

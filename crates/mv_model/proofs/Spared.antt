@@ -4,10 +4,12 @@ use Rattle.std.specs.Prelude.{nat_eq, MatchBool}
 use Rattle.std.specs.List.{list_any}
 use Rattle.std.proofs.lemmas.Bool.{false≢true, cases_Bool, cases_lt, eqb-false}
 use Rattle.std.proofs.lemmas.List.{get_or_past, get_or-replicate}
+use Rattle.std.proofs.lemmas.Map.Keys.{any_passes_from_place}
 use Rattle.mv_base.specs.declared.number.NetId.{NetId}
 use Rattle.mv_net.specs.Index.{has_id, row}
-use Rattle.mv_model.specs.Cycles.{GoesOn, IsAbove, AreAbove, HasUnmarked, MarksTurning, is_marked}
-use Rattle.mv_model.proofs.Listed.{found, any_at}
+use Rattle.mv_net.specs.Seen.{is_marked}
+use Rattle.mv_model.specs.Cycles.{GoesOn, IsAbove, AreAbove, HasUnmarked, MarksTurning}
+use Rattle.mv_model.proofs.Listed.{found}
 use Rattle.mv_model.proofs.Walks.{above_more, none_in}
 use Rattle.mv_model.proofs.Clear.{goes_inside}
 
@@ -24,7 +26,7 @@ next_turns columns n (k ∷ path) g = record { next = k; column = g.0; turns = a
 any_marked : (marks : List Bool) (nets : List NetId) (m : ℕ) → has_id nets m ≡ true → is_marked marks m ≡ true → list_any (λ (c : NetId). is_marked marks c.0) nets ≡ true
 any_marked marks nets m h e =
     let f = found (λ (c : NetId). nat_eq c.0 m) nets h in
-    any_at (λ (c : NetId). is_marked marks c.0) nets f.place f.item f.at (ap (is_marked marks) (eqb-true f.item.0 m f.passes) ∙ e)
+    any_passes_from_place (λ (c : NetId). is_marked marks c.0) nets f.place f.item f.at (ap (is_marked marks) (eqb-true f.item.0 m f.passes) ∙ e)
 
 -- a net goes in whose row none is marked
 MarksTurning-without : (rows : List (List NetId)) (old new : List Bool) (n : ℕ) → MarksTurning rows old → list_any (λ (c : NetId). is_marked old c.0) (row rows n) ≡ false → HasUnmarked old new n → MarksTurning rows new

@@ -9,11 +9,11 @@ use Rattle.mv_base.specs.Names.{among}
 use Rattle.mv_base.specs.declared.number.NetId.{NetId}
 use Rattle.mv_base.proofs.NameLemmas.{among-at, IsDistinct-from_differ}
 use Rattle.mv_net.specs.Index.{has_id, row}
-use Rattle.mv_net.specs.Ranks.{IsRanked as AreRanked, AllBelow}
+use Rattle.mv_net.specs.Ranks.{IsRanked, AllBelow}
 use Rattle.mv_design.specs.declared.design.FileModel.{FileModel}
 use Rattle.mv_model.specs.Nets.{nets_of}
 use Rattle.mv_model.specs.Proper.{IsProperModel}
-use Rattle.mv_model.specs.Sound.{reads, ReadsOn, IsOnCycle, IsFirstOnCycle, IsDrivenOnce, IsRanked}
+use Rattle.mv_model.specs.Sound.{reads, ReadsOn, IsOnCycle, IsFirstOnCycle, IsDrivenOnce, HasRank}
 use Rattle.mv_model.specs.Numbers.{number_in, net_in, places}
 use Rattle.mv_model.specs.Columns.{numbers_in, columns_by_net}
 use Rattle.mv_model.specs.Cycles.{GoesOn, IsAbove, IsTurning}
@@ -44,9 +44,9 @@ model_below m columns p d e =
 pub model_length : (m : FileModel) (columns : List (List NetId)) → IsProperModel m → IsDrivenOnce m → columns ≡ columns_by_net (places m) m → length columns ≡ length (places m)
 model_length m columns p d e = ap length (sym (columns_same m columns p e)) ∙ length_columns (entries m) (places m) (are_nets m p d)
 
-pub model_ranked : (m : FileModel) (columns : List (List NetId)) → IsProperModel m → IsDrivenOnce m → columns ≡ columns_by_net (places m) m → AreRanked columns → IsRanked m
+pub model_ranked : (m : FileModel) (columns : List (List NetId)) → IsProperModel m → IsDrivenOnce m → columns ≡ columns_by_net (places m) m → IsRanked columns → HasRank m
 model_ranked m columns p d e r =
-    let P : List (List NetId) → Type 0 = AreRanked in
+    let P : List (List NetId) → Type 0 = IsRanked in
     ranked_by_name m (places m) (are_nets m p d) (subst P (sym (columns_same m columns p e)) r)
 
 -- ---- the nets in their order

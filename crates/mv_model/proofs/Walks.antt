@@ -1,23 +1,21 @@
 -- The nets above a net, as a walk marks them.
-use Rattle.std.proofs.Common.{◌≡◌, ◌⊎◌, ℕ, suc, zero, ◌+◌, ◌<◌, ◌≤◌, true, false, List, [], ◌∷◌, ◌++◌, length, get_or, Some, refl, sym, ◌∙◌, ap, subst, arith, ⊎_elim, inl, inr, All}
+use Rattle.std.proofs.Common.{◌≡◌, ◌⊎◌, ℕ, ◌+◌, ◌<◌, ◌≤◌, true, false, List, [], ◌∷◌, ◌++◌, length, get_or, Some, refl, sym, ◌∙◌, ap, subst, arith, ⊎_elim, inl, inr, All}
 use Rattle.std.specs.Prelude.{nat_eq}
 use Rattle.std.specs.List.{slice_get}
 use Rattle.std.proofs.lemmas.Bool.{false≢true, or_cases, or_left, or_right, cases_lt, cases_Bool, eq-eqb, eqb-true}
-use Rattle.std.proofs.lemmas.List.{get_or_default, get_or_past}
+use Rattle.std.proofs.lemmas.List.{get_or_past}
 use Rattle.std.proofs.lemmas.Option.{same_Some, slice_get_within, slice_get_read, get_or_from_slice_get}
+use Rattle.std.proofs.lemmas.Map.Keys.{any_passes_from_place}
 use Rattle.mv_base.specs.declared.number.NetId.{NetId}
 use Rattle.mv_net.specs.Index.{has_id, row}
 use Rattle.mv_net.specs.Ranks.{AllBelow}
+use Rattle.mv_net.specs.Seen.{is_marked}
 use Rattle.mv_net.proofs.Orders.{has_id-append}
 use Rattle.mv_model.specs.declared.walk.Walk.{Walk}
-use Rattle.mv_model.specs.Cycles.{GoesOn, IsAbove, AreAbove, HasMarked, IsWalk, is_marked}
-use Rattle.mv_model.proofs.Listed.{found, any_at}
+use Rattle.mv_model.specs.Cycles.{GoesOn, IsAbove, AreAbove, HasMarked, IsWalk}
+use Rattle.mv_model.proofs.Listed.{found, get_front}
 
 -- ---- columns
-
--- the columns of a net as they are read
-pub columns_read : (columns : List (List NetId)) (n : ℕ) (x nets : List NetId) → n < length columns → x ≡ get_or columns n x → nets ≡ x → nets ≡ row columns n
-columns_read columns n x nets h e f = f ∙ (e ∙ get_or_default columns n x [] h)
 
 pub row_below : (columns : List (List NetId)) (n : ℕ) → AllBelow columns → n < length columns → All (λ (c : NetId). c.0 < length columns) (row columns n)
 row_below columns n below h = below n [] h
@@ -53,11 +51,6 @@ above_more columns n above m a h = record { path = a.path ++ above ∷ []; goes 
 
 -- ---- one step more
 
-get_front : {X : Type 0} (xs ys : List X) (k : ℕ) → k < length xs → slice_get (xs ++ ys) k ≡ slice_get xs k
-get_front [] ys k h = absurd (omega arith)
-get_front (x ∷ xs) ys zero h = refl
-get_front (x ∷ xs) ys (suc k) h = get_front xs ys k (omega arith)
-
 in_either : (ms ns : List NetId) (n : ℕ) → has_id (ms ++ ns) n ≡ true → (has_id ms n ≡ true) ⊎ (has_id ns n ≡ true)
 in_either ms ns n e = or_cases _ _ (sym (has_id-append ms ns n) ∙ e)
 
@@ -89,7 +82,7 @@ listed_was columns old new nets h k e =
 
 pub walk_next : (columns : List (List NetId)) (n done : ℕ) (old new : Walk) (c : NetId) → AllBelow columns → IsWalk columns n old done → slice_get old.listed.items done ≡ Some c → HasMarked old new (row columns c.0) → IsWalk columns n new (done + 1)
 walk_next columns n done old new c below w at h =
-    let here : IsAbove columns n c.0 = w.above c.0 (any_at (λ (x : NetId). nat_eq x.0 c.0) old.listed.items done c at (eq-eqb c.0 c.0 refl)) in
+    let here : IsAbove columns n c.0 = w.above c.0 (any_passes_from_place (λ (x : NetId). nat_eq x.0 c.0) old.listed.items done c at (eq-eqb c.0 c.0 refl)) in
     record {
       long = h.long ∙ w.long;
       below = λ k e. ⊎_elim (λ y. w.below k y) (λ y. column_below columns c.0 k below y) (listed_was columns old new (row columns c.0) h k e);
@@ -116,7 +109,7 @@ walk_all columns n done walk w high = record {
 
 pub listed_below : (columns : List (List NetId)) (n done : ℕ) (walk : Walk) (c : NetId) → IsWalk columns n walk done → done < length walk.listed.items → c ≡ get_or walk.listed.items done c → c.0 < length columns
 listed_below columns n done walk c w inside is =
-    w.below c.0 (any_at (λ (x : NetId). nat_eq x.0 c.0) walk.listed.items done c (slice_get_read walk.listed.items (length walk.listed.items) done c refl inside is) (eq-eqb c.0 c.0 refl))
+    w.below c.0 (any_passes_from_place (λ (x : NetId). nat_eq x.0 c.0) walk.listed.items done c (slice_get_read walk.listed.items (length walk.listed.items) done c refl inside is) (eq-eqb c.0 c.0 refl))
 
 pub columns_within : (columns : List (List NetId)) (n size : ℕ) (nets : List NetId) → AllBelow columns → n < length columns → nets ≡ row columns n → size ≡ length columns → All (λ (c : NetId). c.0 < size) nets
 columns_within columns n size nets below low is s =

@@ -1,7 +1,8 @@
 -- The nets above a net, by number, and how they are marked.
-use Rattle.std.specs.Prelude.{◌≡◌, ℕ, ◌<◌, Bool, true, false, ◌||◌, ◌&&◌, nat_eq, nat_lt, Some, List, [], ◌∷◌, ◌++◌, length, take, slice_get, slice_index_or}
+use Rattle.std.specs.Prelude.{◌≡◌, ℕ, ◌<◌, Bool, true, false, ◌||◌, ◌&&◌, nat_eq, nat_lt, Some, List, [], ◌∷◌, ◌++◌, length, take, slice_get}
 use Rattle.mv_base.specs.declared.number.NetId.{NetId}
 use Rattle.mv_net.specs.Index.{has_id, row}
+use Rattle.mv_net.specs.Seen.{is_marked}
 use Rattle.mv_design.specs.declared.design.FileModel.{FileModel}
 use Rattle.mv_model.specs.declared.fault.FlatFault.{FlatFault}
 use Rattle.mv_model.specs.declared.fault.FlatFault.TheVariants.{DrivenTwice, Undriven, Cycle, Limit, Memory}
@@ -17,9 +18,6 @@ GoesOn columns last n (m ∷ path) = (has_id (row columns n) m ≡ true) × Goes
 pub record IsAbove (columns : List (List NetId)) (n above : ℕ) : Type 0 where
   pub path : List ℕ
   pub goes : GoesOn columns above n path
-
-abbrev pub is_marked : List Bool → ℕ → Bool
-is_marked marks n = slice_index_or marks n false
 
 -- the marks are those of the nets above n
 pub record AreAbove (columns : List (List NetId)) (n : ℕ) (marks : List Bool) : Type 0 where
@@ -65,7 +63,7 @@ pub record HasUnmarked (old new : List Bool) (n : ℕ) : Type 0 where
 pub record AreReaders (columns readers : List (List NetId)) : Type 0 where
   pub each : (n m : ℕ) → has_id (row readers m) n ≡ has_id (row columns n) m
 
--- the same as far as the columns of the nets below i
+-- the lists turned round as far as the columns of the nets below i
 pub record AreReadersBelow (i : ℕ) (columns readers : List (List NetId)) : Type 0 where
   pub long : length readers ≡ length columns
   pub each : (n m : ℕ) → has_id (row readers m) n ≡ (nat_lt n i && has_id (row columns n) m)

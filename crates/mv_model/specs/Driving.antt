@@ -19,10 +19,12 @@ with_columns names (t ∷ ts) = with_columns (with_names (with_names names t.inp
 abbrev pub with_driver : Drivers → List ℕ → Drivers
 with_driver d w = record { driven = with_name d.driven w; twice = if among w d.driven then with_name d.twice w else d.twice }
 
+-- the driven nets with these drivers more
 abbrev pub with_drivers : Drivers → List (List ℕ) → Drivers
 with_drivers d [] = d
 with_drivers d (w ∷ ws) = with_drivers (with_driver d w) ws
 
+-- the driven nets with the outputs of these tables more
 abbrev pub with_tables : Drivers → List FileTable → Drivers
 with_tables d [] = d
 with_tables d (t ∷ ts) = with_tables (with_drivers d t.outputs) ts
@@ -32,16 +34,19 @@ pub record AreDriven (drivers : List (List ℕ)) (d : Drivers) : Type 0 where
   pub some : (w : List ℕ) → among w d.driven ≡ nat_lt 0 (count_by (same_word w) drivers)
   pub more : (w : List ℕ) → among w d.twice ≡ nat_lt 1 (count_by (same_word w) drivers)
 
--- the faults of these nets
+-- the fault of a net that is driven more than once
 abbrev pub twice_in : Drivers → List ℕ → List FlatFault
 twice_in d net = when (among net d.twice) (DrivenTwice net)
 
+-- the fault of a net that isn't driven
 abbrev pub undriven_in : Drivers → List ℕ → List FlatFault
 undriven_in d net = when (not (among net d.driven)) (Undriven net)
 
+-- the faults of those of these nets that are driven more than once
 unfoldable pub twice_faults : Drivers → List (List ℕ) → List FlatFault
 twice_faults d nets = flat_map (twice_in d) nets
 
+-- the faults of those of these nets that aren't driven
 unfoldable pub undriven_faults : Drivers → List (List ℕ) → List FlatFault
 undriven_faults d nets = flat_map (undriven_in d) nets
 

@@ -1,5 +1,6 @@
 -- What a design means, after the description of BLIF-MV by Kukimoto: a valuation gives each net of the root one of its
 -- values, and it is allowed where each table allows the values of its columns. Nothing is said of an order of evaluation.
+-- The models are without latches, resets and instances: the grammar gives no others.
 use Rattle.std.specs.Prelude.{◌≡◌, ℕ, Bool, true, nat_lt, List, [], map}
 use Rattle.std.specs.List.{list_all}
 use Rattle.mv_base.specs.Meaning.{Port, Meaning}
@@ -35,6 +36,7 @@ pub record AllowsModel (m : FileModel) (i s o n r : List ℕ) : Type 0 where
 abbrev pub port : FileModel → List ℕ → Port
 port m net = record { name = net; values = values_of m.decls net }
 
+-- what a model means: its inputs and outputs as they are seen from outside, and what it allows
 unfoldable pub of_model : FileModel → Meaning
 of_model m = record { interface = record { inputs = map (port m) m.inputs; outputs = map (port m) m.outputs; latches = [] }; allows = AllowsModel m }
 

@@ -1,6 +1,8 @@
--- The nets of a model as it names them, what drives them, and how many values each has.
+-- The nets of a model as it names them, what drives them, and how many values each has. These are models without latches,
+-- resets and instances: the grammar gives no others.
 use Rattle.std.specs.Prelude.{ℕ, List, [], ◌∷◌, ◌++◌, length, count_by, slice_index_or, if◌then◌else◌}
 use Rattle.std.specs.List.{flat_map}
+use Rattle.mv_base.specs.Firsts.{firsts_by}
 use Rattle.mv_base.specs.Names.{same_word, among}
 use Rattle.mv_design.specs.declared.design.Decl.{Decl}
 use Rattle.mv_design.specs.declared.design.FileModel.{FileModel}
@@ -28,22 +30,24 @@ columns_of t = t.inputs ++ t.outputs
 unfoldable pub nets_named : FileModel → List (List ℕ)
 nets_named m = m.inputs ++ (m.outputs ++ flat_map columns_of m.tables)
 
--- names, each once, where it first stands
+-- the nets of a model, each once, in the order in which it first names them
+unfoldable pub nets_of : FileModel → List (List ℕ)
+nets_of m = firsts_by same_word (nets_named m)
+
+-- names with one more behind them, if it isn't one of them
 abbrev pub with_name : List (List ℕ) → List ℕ → List (List ℕ)
 with_name names w = if among w names then names else names ++ w ∷ []
 
+-- names with those of others behind them that they lack, each once, where it first stands
 abbrev pub with_names : List (List ℕ) → List (List ℕ) → List (List ℕ)
 with_names names [] = names
 with_names names (w ∷ ws) = with_names (with_name names w) ws
 
--- the nets of a model in order
-unfoldable pub nets_of : FileModel → List (List ℕ)
-nets_of m = with_names [] (nets_named m)
-
--- the nets that are driven, as often as they are: by an input of the model, or by a table
+-- the nets that a table drives
 abbrev pub outputs_of : FileTable → List (List ℕ)
 outputs_of t = t.outputs
 
+-- the nets that are driven, as often as they are: by an input of the model, or by a table
 unfoldable pub drivers : FileModel → List (List ℕ)
 drivers m = m.inputs ++ flat_map outputs_of m.tables
 

@@ -19,6 +19,7 @@ abbrev pub default_needs : Entry → List Row → Bool
 default_needs (Set s) rows = some_silent rows
 default_needs (Same k) rows = true
 
+-- the default, if there is one, may need a mark
 abbrev pub some_needs : Option (List Entry) → List Row → Bool
 some_needs None rows = false
 some_needs (Some entries) rows = default_needs (entry_of entries) rows
@@ -39,9 +40,10 @@ table_places t = if may_mark t then map mark_name t.outputs ++ t.outputs else t.
 unfoldable pub places : FileModel → List (List ℕ)
 places m = m.inputs ++ flat_map table_places m.tables
 
--- the number of a net
+-- the number of a net: its place among these names
 unfoldable pub number_in : List (List ℕ) → List ℕ → ℕ
 number_in names net = unwrap_or (place_of net names) 0
 
+-- the net with this name, by its number
 abbrev pub net_in : List (List ℕ) → List ℕ → NetId
 net_in names net = record { 0 = number_in names net }

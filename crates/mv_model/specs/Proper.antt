@@ -21,26 +21,29 @@ FitSets ds [] (_ ∷ _) = ⊥
 FitSets ds (_ ∷ _) [] = ⊥
 FitSets ds (net ∷ nets) (s ∷ sets) = Within s (full (count_of ds net)) × FitSets ds nets sets
 
--- an output entry: values that the net has, or the place of an input column of a net with as many values
+-- an entry `=` of an output: the place of an input column of a net with as many values
 pub record IsSame (ds : List Decl) (ins : List (List ℕ)) (net : List ℕ) (k : ℕ) : Type 0 where
   pub within : k < length ins
   pub counts : count_of ds (slice_index_or ins k []) ≡ count_of ds net
 
+-- an entry fits its output: values that the net has, or the place of an input column of a net with as many values
 abbrev pub FitOutput : List Decl → List (List ℕ) → List ℕ → Entry → Type 0
 FitOutput ds ins net (Set s) = Within s (full (count_of ds net))
 FitOutput ds ins net (Same k) = IsSame ds ins net k
 
--- an entry for each output
+-- an entry for each output, which fits it
 abbrev pub FitOutputs : List Decl → List (List ℕ) → List (List ℕ) → List Entry → Type 0
 FitOutputs ds ins [] [] = Unit {0}
 FitOutputs ds ins [] (_ ∷ _) = ⊥
 FitOutputs ds ins (_ ∷ _) [] = ⊥
 FitOutputs ds ins (net ∷ nets) (e ∷ entries) = FitOutput ds ins net e × FitOutputs ds ins nets entries
 
+-- a row fits its table: a set for each input, and an entry for each output
 pub record IsFileRow (ds : List Decl) (t : FileTable) (r : Row) : Type 0 where
   pub sets : FitSets ds t.inputs r.ins
   pub outs : FitOutputs ds t.inputs t.outputs r.outs
 
+-- a table has lawful names and one output, and its rows and its default fit it
 pub record IsFileTable (ds : List Decl) (t : FileTable) : Type 0 where
   pub inputs : list_all is_net_name t.inputs ≡ true
   pub outputs : list_all is_net_name t.outputs ≡ true
@@ -56,6 +59,8 @@ pub record IsFileDecl (d : Decl) : Type 0 where
   pub lawful : list_all is_value_name d.values ≡ true
   pub differ : names_differ d.values ≡ true
 
+-- a model: its names are lawful, no input and no output stands twice, and its declarations and tables are such as above. It
+-- has no latches, resets and instances
 pub record IsProperModel (m : FileModel) : Type 0 where
   pub name : is_model_name m.name ≡ true
   pub inputs : list_all is_net_name m.inputs ≡ true

@@ -1,4 +1,5 @@
--- When a model is sound: each net that it names is driven exactly once, and none is above itself.
+-- When a model is sound: each net that it names is driven exactly once, and none is above itself. These are models without
+-- latches, resets and instances: the grammar gives no others.
 use Rattle.std.specs.Prelude.{◌≡◌, ℕ, ◌+◌, ◌<◌, Bool, true, ◌&&◌, ◌==◌, nat_lt, Option, Some, List, [], ◌∷◌, ◌++◌, length, if◌then◌else◌}
 use Rattle.std.specs.List.{list_any, flat_map}
 use Rattle.mv_base.specs.Names.{among}
@@ -11,15 +12,16 @@ use Rattle.mv_model.specs.declared.fault.FlatFault.{FlatFault}
 use Rattle.mv_model.specs.declared.fault.FlatFault.TheVariants.{DrivenTwice, Undriven, Cycle, Limit, Memory}
 use Rattle.mv_model.specs.Nets.{root_of, nets_of, drivers_of}
 
--- a table whose output is `net` has a column `above`
+-- `net` is an output of the table, and `above` an input of it
 abbrev pub table_reads : List ℕ → List ℕ → FileTable → Bool
 table_reads net above t = among net t.outputs && among above t.inputs
 
+-- some table whose output is `net` has a column `above`
 unfoldable pub reads : FileModel → List ℕ → List ℕ → Bool
 reads m net above = list_any (table_reads net above) m.tables
 
 -- no net is above itself: some rank falls from each net to the columns of its table
-pub record IsRanked (m : FileModel) : Type 0 where
+pub record HasRank (m : FileModel) : Type 0 where
   pub rank : List ℕ → ℕ
   pub falls : (net above : List ℕ) → reads m net above ≡ true → rank above < rank net
 
@@ -45,12 +47,15 @@ pub record IsFirstOnCycle (m : FileModel) (net : List ℕ) : Type 0 where
 abbrev pub when : Bool → FlatFault → List FlatFault
 when test f = if test then f ∷ [] else []
 
+-- the fault of a net that is driven more than once
 abbrev pub twice_at : FileModel → List ℕ → List FlatFault
 twice_at m net = when (nat_lt 1 (drivers_of m net)) (DrivenTwice net)
 
+-- the fault of a net that nothing drives
 abbrev pub undriven_at : FileModel → List ℕ → List FlatFault
 undriven_at m net = when (drivers_of m net == 0) (Undriven net)
 
+-- the fault of a model that names too many nets
 unfoldable pub many_faults : FileModel → List FlatFault
 many_faults m = when (nat_lt MAX_FLAT_NETS (length (nets_of m))) (Limit Nets (MAX_FLAT_NETS + 1))
 
@@ -59,29 +64,31 @@ many_faults m = when (nat_lt MAX_FLAT_NETS (length (nets_of m))) (Limit Nets (MA
 unfoldable pub net_faults : FileModel → List FlatFault
 net_faults m = many_faults m ++ (flat_map (twice_at m) (nets_of m) ++ flat_map (undriven_at m) (nets_of m))
 
+-- the first of these faults, if there is one
 abbrev pub first : List FlatFault → Option FlatFault
 first [] = Option.None
 first (f ∷ fs) = Some f
 
--- each net has one driver
+-- each net that the model names has one driver
 pub record IsDrivenOnce (m : FileModel) : Type 0 where
   pub once : (net : List ℕ) → among net (nets_of m) ≡ true → drivers_of m net ≡ 1
 
--- a sound model
+-- a sound model: each net is driven once, and none is above itself
 pub record IsSoundModel (m : FileModel) : Type 0 where
   pub driven : IsDrivenOnce m
-  pub acyclic : IsRanked m
+  pub acyclic : HasRank m
 
 -- a sound design: in this version its root is its only model
 pub record IsSound (d : Design) : Type 0 where
   pub root : IsSoundModel (root_of d)
 
--- why a model is refused: the first fault of its nets, or, where they have none, the first on a cycle. (A limit on the nets that
--- the flattening makes is told later.)
+-- the nets of the model have no other fault, and this is the first one on a cycle
 pub record HasCycle (m : FileModel) (net : List ℕ) : Type 0 where
   pub none : net_faults m ≡ []
   pub first : IsFirstOnCycle m net
 
+-- why a model is refused: the first fault of its nets, or, where they have none, the first net on a cycle; for want of
+-- memory any may be
 abbrev pub IsFault : FileModel → FlatFault → Type 0
 IsFault m (Cycle net) = HasCycle m net
 IsFault m Memory = Unit {0}

@@ -1,9 +1,10 @@
-ghost use Rattle.std.specs.Prelude.{◌≡◌, ◌≤◌, length, IfOk, IfErr, OnOk};
+ghost use Rattle.std.specs.Prelude.{◌≡◌, ◌≤◌, true, length, IfOk, IfErr, OnOk};
+ghost use Rattle.mv_base.specs.Names.{names_differ};
 ghost use Rattle.mv_base.specs.declared.limits.TheConstants.{MAX_FLAT_NETS, MAX_NETS};
-ghost use Rattle.mv_net.specs.Ranks.{IsRanked as AreRanked};
+ghost use Rattle.mv_net.specs.Ranks.{IsRanked};
 ghost use Rattle.mv_model.specs.Nets.{nets_of};
 ghost use Rattle.mv_model.specs.Proper.{IsProperModel};
-ghost use Rattle.mv_model.specs.Sound.{IsDrivenOnce, IsFault, IsRanked, IsSoundModel};
+ghost use Rattle.mv_model.specs.Sound.{IsDrivenOnce, IsFault, HasRank, IsSoundModel};
 ghost use Rattle.mv_model.specs.Numbers.{places};
 ghost use Rattle.mv_model.specs.Columns.{columns_by_net};
 ghost use Rattle.mv_model.specs.Cycles.{TellsCycle};
@@ -18,12 +19,13 @@ use mv_design::FileModel;
 use mv_net::sorted;
 use std::alloc::Global;
 
-/// The numbers of the model's nets, if the model is sound: each net is driven once, and none is above itself. Otherwise the
-/// first fault: there are too many nets; the first net that is driven twice; the first that nothing drives; the first that is
-/// on a cycle.
+/// The numbers of the model's nets, if the model is sound: each net is driven once, and none is above itself. Then each net
+/// and each mark has one number. Otherwise the first fault: there are too many nets; the first net that is driven twice; the
+/// first that nothing drives; the first that is on a cycle.
 pub fn numbered(alloc: Global, model: &FileModel) -> Result<Numbers, FlatFault>
     requires proper { IsProperModel model.now }
     ensures places { IfOk result (λ n. n ≡ places model.now) }
+    ensures differ { IfOk result (λ n. names_differ n ≡ true) }
     ensures sound { OnOk result (IsSoundModel model.now) }
     ensures nets { OnOk result (length (nets_of model.now) ≤ MAX_FLAT_NETS) }
     ensures few { IfOk result (λ n. length n ≤ MAX_NETS) }
@@ -49,7 +51,7 @@ fn check_cycles(
     requires numbers { numbers.now ≡ places model.now }
     requires few_nets { length (nets_of model.now) ≤ MAX_FLAT_NETS }
     requires few { length numbers.now ≤ MAX_NETS }
-    ensures ranked { OnOk result (IsRanked model.now) }
+    ensures ranked { OnOk result (HasRank model.now) }
     ensures fault { IfErr result (λ f. TellsCycle model.now f) }
 {
     let columns = columns(alloc, numbers, model)?;
@@ -74,8 +76,8 @@ fn check_turning(
     requires few_nets { length (nets_of model.now) ≤ MAX_FLAT_NETS }
     requires few { length numbers.now ≤ MAX_NETS }
     requires columns { columns.now ≡ columns_by_net (places model.now) model.now }
-    requires unranked { AreRanked columns.now → ⊥ }
-    ensures ranked { OnOk result (IsRanked model.now) }
+    requires unranked { IsRanked columns.now → ⊥ }
+    ensures ranked { OnOk result (HasRank model.now) }
     ensures fault { IfErr result (λ f. TellsCycle model.now f) }
 {
     let nets = nets.as_slice();

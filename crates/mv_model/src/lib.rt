@@ -11,8 +11,6 @@ mod nets;
 mod numbers;
 mod suspects;
 mod tell;
-#[cfg(test)]
-mod tests;
 mod walk;
 
 pub use check::numbered;

@@ -8,7 +8,7 @@ use mv_design::{FileModel, FileTable};
 use std::alloc::Global;
 
 /// The nets of the model in order.
-#[tactic(auto, using(crate::proofs::Names::with_names_of), unfolding(crate::specs::Nets::nets_of, crate::specs::Nets::nets_named))]
+#[tactic(auto, using(crate::proofs::Named::nets_gathered), unfolding(crate::specs::Nets::nets_of, crate::specs::Nets::nets_named))]
 pub fn nets(alloc: Global, model: &FileModel) -> Result<NameSet, Memory>
     ensures { IfOk result (λ nets. nets ≡ nets_of model.now) }
 {

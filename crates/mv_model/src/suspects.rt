@@ -1,13 +1,15 @@
 //! A filter: which nets may be on a cycle, so that few nets are looked at one by one.
-ghost use Rattle.std.specs.Prelude.{◌≡◌, ◌<◌, ◌≤◌, ◌∷◌, ◌++◌, [], length, replicate, slice_set, All, IfOk, OnOk};
+ghost use Rattle.std.specs.Prelude.{◌≡◌, ◌<◌, ◌≤◌, length, All, IfOk, OnOk};
 ghost use Rattle.std.specs.List.{list_any};
 ghost use Rattle.mv_base.specs.declared.limits.TheConstants.{MAX_NETS};
 ghost use Rattle.mv_base.specs.declared.number.NetId.{NetId};
 ghost use Rattle.mv_net.specs.Index.{row};
 ghost use Rattle.mv_net.specs.Ranks.{AllBelow};
-ghost use Rattle.mv_model.specs.Cycles.{AreReaders, HasReader, HasUnmarked, MarksTurning, is_marked};
+ghost use Rattle.mv_net.specs.Seen.{is_marked};
+ghost use Rattle.mv_model.specs.Cycles.{AreReaders, HasReader, HasUnmarked, MarksTurning};
 
 use mv_base::{Items, MAX_NETS, Memory, NetId};
+use mv_net::{empty_rows, push_to};
 use std::alloc::Global;
 
 /// Marks of the nets that may be on a cycle: each that is above itself is marked. A net that has no column left is taken
@@ -42,22 +44,11 @@ fn readers(alloc: Global, columns: &[Items<NetId>]) -> Result<Items<Items<NetId>
     requires few { length columns.now ≤ MAX_NETS }
     ensures { IfOk result (λ readers. AreReaders columns.now readers) }
 {
-    let mut readers = blank(alloc, columns.len())?;
+    let mut readers = empty_rows(alloc, columns.len())?;
     for (number, nets) in columns.iter().enumerate() {
         add_reader(&mut readers, nets.as_slice(), NetId(number as u32))?;
     }
     Ok(readers)
-}
-
-/// As many empty lists.
-fn blank(alloc: Global, count: usize) -> Result<Items<Items<NetId>>, Memory>
-    ensures { IfOk result (λ lists. lists ≡ replicate count []) }
-{
-    let mut lists = Items::new(alloc);
-    'lists: for _ in 0..count {
-        lists.push(Items::new(alloc))?;
-    }
-    Ok(lists)
 }
 
 /// Puts the reader on the lists of these nets.
@@ -72,17 +63,6 @@ fn add_reader(
     for net in nets {
         push_to(readers, net.0 as usize, reader)?;
     }
-    Ok(())
-}
-
-/// Puts the reader at the end of the list at this place.
-fn push_to(readers: &mut Items<Items<NetId>>, place: usize, reader: NetId) -> Result<(), Memory>
-    requires { place < length readers.old }
-    ensures { OnOk result (readers.new ≡ slice_set readers.old place (row readers.old place ++ reader ∷ [])) }
-{
-    let mut list = readers.replace(place, Items::new(readers.allocator()));
-    list.push(reader)?;
-    readers.replace(place, list);
     Ok(())
 }
 

@@ -7,7 +7,7 @@ use Rattle.std.proofs.lemmas.List.{get_or_past, get_or-take, length-take}
 use Rattle.std.proofs.lemmas.Option.{slice_get_within, get_or_from_slice_get}
 use Rattle.mv_base.specs.declared.number.NetId.{NetId}
 use Rattle.mv_net.specs.declared.sorting.Sorting.{Sorting}
-use Rattle.mv_net.specs.Formed.{stands_in, all_differ}
+use Rattle.mv_net.specs.Formed.{all_differ}
 use Rattle.mv_net.specs.Index.{has_id, row}
 use Rattle.mv_net.specs.Ranks.{IsRanked, AllBelow, IsSortedBy}
 use Rattle.mv_net.specs.Sorting.{net_at, rank_in, IsSorting, Waits, ArePlaced}
@@ -46,12 +46,12 @@ not_all_at (x ∷ xs) e =
 all_differ-from_places : (nets : List NetId) → ((i k : ℕ) → i < length nets → k < length nets → net_at nets i ≡ net_at nets k → i ≡ k) → all_differ nets ≡ true
 all_differ-from_places [] once = refl
 all_differ-from_places (n ∷ ns) once =
-    let apart : stands_in n ns ≡ true → ⊥ = λ e.
+    let apart : has_id ns n.0 ≡ true → ⊥ = λ e.
     let r = id_at ns n.0 e in
     let same : 0 ≡ suc r.0 = once 0 (suc r.0) (omega arith) (omega (arith, r.1)) (sym r.2) in
     omega arith in
     let rest = all_differ-from_places ns (λ i k l m e. let same : suc i ≡ suc k = once (suc i) (suc k) (omega arith) (omega arith) e in omega arith) in
-    and_from (not (stands_in n ns)) (all_differ ns) (⊎_elim (λ (y : stands_in n ns ≡ true). absurd (apart y)) (λ (f : stands_in n ns ≡ false). rw f refl) (cases_Bool (stands_in n ns))) rest
+    and_from (not (has_id ns n.0)) (all_differ ns) (⊎_elim (λ (y : has_id ns n.0 ≡ true). absurd (apart y)) (λ (f : has_id ns n.0 ≡ false). rw f refl) (cases_Bool (has_id ns n.0))) rest
 
 -- every net has a place in the order
 place_of : (columns : List (List NetId)) (s : Sorting) (n : ℕ) → IsSorting columns s → 0 < rank_in s n → (k : ℕ) × (rank_in s n ≡ k + 1) × (k < length s.order.items) × (net_at s.order.items k ≡ n)

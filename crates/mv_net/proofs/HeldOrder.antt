@@ -8,7 +8,7 @@ use Rattle.std.proofs.lemmas.List.{get_or_default}
 use Rattle.std.proofs.lemmas.Option.{slice_get_within}
 use Rattle.mv_base.specs.declared.number.NetId.{NetId}
 use Rattle.mv_net.specs.declared.parts.NetParts.{NetParts}
-use Rattle.mv_net.specs.Formed.{stands_in, all_differ, WellFormed}
+use Rattle.mv_net.specs.Formed.{all_differ, WellFormed}
 use Rattle.mv_net.specs.Index.{has_id, is_held, row, AreFanins}
 use Rattle.mv_net.specs.Order.{IsOrder}
 use Rattle.mv_net.specs.Ranks.{AllBelow, IsSortedBy}
@@ -43,12 +43,12 @@ has_id-passing test (n ∷ ns) k =
 all_differ-passing : (test : ℕ → Bool) (ns : List NetId) → all_differ ns ≡ true → all_differ (passing test ns) ≡ true
 all_differ-passing test [] e = refl
 all_differ-passing test (n ∷ ns) e =
-    let p = and_parts (not (stands_in n ns)) (all_differ ns) e in
+    let p = and_parts (not (has_id ns n.0)) (all_differ ns) e in
     let rest = all_differ-passing test ns p.1 in
     ⊎_elim
     (λ (y : test n.0 ≡ true).
-    let apart : not (stands_in n (passing test ns)) ≡ true = ap not (has_id-passing test ns n.0 ∙ ap (λ b. b && has_id ns n.0) y) ∙ p.0 in
-    rw y (and_from (not (stands_in n (passing test ns))) (all_differ (passing test ns)) apart rest))
+    let apart : not (has_id (passing test ns) n.0) ≡ true = ap not (has_id-passing test ns n.0 ∙ ap (λ b. b && has_id ns n.0) y) ∙ p.0 in
+    rw y (and_from (not (has_id (passing test ns) n.0)) (all_differ (passing test ns)) apart rest))
     (λ (f : test n.0 ≡ false). rw f rest)
     (cases_Bool (test n.0))
 

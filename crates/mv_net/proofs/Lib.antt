@@ -8,7 +8,6 @@ pub mod Known
 pub mod Waiting
 pub mod Finished
 pub mod HeldOrder
-pub mod Inverter
 pub mod Changed
 pub mod Patches
 pub mod Ports
@@ -16,3 +15,4 @@ pub mod Drivers
 pub mod Stays
 pub mod Totals
 pub mod Removal
+pub mod Latchless

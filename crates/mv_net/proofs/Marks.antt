@@ -8,7 +8,7 @@ use Rattle.mv_net.specs.declared.parts.FlatNet.{FlatNet}
 use Rattle.mv_net.specs.declared.parts.NetParts.{NetParts}
 use Rattle.mv_net.specs.Nets.{slot}
 use Rattle.mv_net.specs.Index.{has_id, is_input, is_reset, kind_in, is_seen}
-use Rattle.mv_net.specs.Seen.{mark, AreMarked, AreSeen}
+use Rattle.mv_net.specs.Seen.{is_marked, AreMarked, AreSeen}
 
 -- the test that an element of the list has the number
 abbrev pub has_number : {X : Type 0} → (X → ℕ) → List X → ℕ → Bool
@@ -31,18 +31,18 @@ or_false false b = refl
 pub AreMarked-more : {X : Type 0} (num : X → ℕ) (old mid new : List Bool) (xs : List X) (i : ℕ) (d : X) → i < length xs → num (get_or xs i d) < length mid → AreMarked old (has_number num (take i xs)) mid → new ≡ set mid (num (get_or xs i d)) true → AreMarked old (has_number num (take (i + 1) xs)) new
 AreMarked-more num old mid new xs i d lt within before e = record {
   long = ap length e ∙ (length-set mid (num (get_or xs i d)) true ∙ before.long);
-  each = λ n. ap (λ ms. mark ms n) e ∙ (at n ∙ ap (λ b. b || mark old n) (sym (list_any_more (λ y. nat_eq (num y) n) xs i d lt)));
+  each = λ n. ap (λ ms. is_marked ms n) e ∙ (at n ∙ ap (λ b. b || is_marked old n) (sym (list_any_more (λ y. nat_eq (num y) n) xs i d lt)));
 }
   where
-    at : (n : ℕ) → mark (set mid (num (get_or xs i d)) true) n ≡ ((has_number num (take i xs) n || nat_eq (num (get_or xs i d)) n) || mark old n)
+    at : (n : ℕ) → is_marked (set mid (num (get_or xs i d)) true) n ≡ ((has_number num (take i xs) n || nat_eq (num (get_or xs i d)) n) || is_marked old n)
     at n =
         ⊎_elim
         (λ (y : nat_eq (num (get_or xs i d)) n ≡ true).
-        let P : ℕ → Type 0 = λ j. mark (set mid (num (get_or xs i d)) true) j ≡ true in
+        let P : ℕ → Type 0 = λ j. is_marked (set mid (num (get_or xs i d)) true) j ≡ true in
         let here : P n = subst P (eqb-true (num (get_or xs i d)) n y) (get_or-set_same mid (num (get_or xs i d)) true false within) in
-        here ∙ (or_true (has_number num (take i xs) n) (mark old n) ∙ ap (λ b. (has_number num (take i xs) n || b) || mark old n) (sym y)))
+        here ∙ (or_true (has_number num (take i xs) n) (is_marked old n) ∙ ap (λ b. (has_number num (take i xs) n || b) || is_marked old n) (sym y)))
         (λ (f : nat_eq (num (get_or xs i d)) n ≡ false).
-        get_or-set_other mid (num (get_or xs i d)) n true false (λ e. eqb-false (num (get_or xs i d)) n f (sym e)) ∙ (before.each n ∙ (or_false (has_number num (take i xs) n) (mark old n) ∙ ap (λ b. (has_number num (take i xs) n || b) || mark old n) (sym f))))
+        get_or-set_other mid (num (get_or xs i d)) n true false (λ e. eqb-false (num (get_or xs i d)) n f (sym e)) ∙ (before.each n ∙ (or_false (has_number num (take i xs) n) (is_marked old n) ∙ ap (λ b. (has_number num (take i xs) n || b) || is_marked old n) (sym f))))
         (cases_Bool (nat_eq (num (get_or xs i d)) n))
 
 turned : (a b c : Bool) → (b || (a || c)) ≡ ((a || b) || c)
@@ -51,7 +51,7 @@ turned true false c = refl
 turned false true c = refl
 turned false false c = refl
 
-reset_mark : (nets : List (Option FlatNet)) (n : ℕ) → mark (map (λ (f : Option FlatNet). is_reset (kind_in f)) nets) n ≡ is_reset (kind_in (slot nets n))
+reset_mark : (nets : List (Option FlatNet)) (n : ℕ) → is_marked (map (λ (f : Option FlatNet). is_reset (kind_in f)) nets) n ≡ is_reset (kind_in (slot nets n))
 reset_mark nets n =
     ⊎_elim
     (λ (l : n < length nets). get_or-map (λ (f : Option FlatNet). is_reset (kind_in f)) nets n None false l)
@@ -66,5 +66,5 @@ unfolding is_seen
 AreSeen-from_marks net resets outputs all r o a = record {
   long = a.long ∙ (o.long ∙ (ap length r ∙ length-map net.nets (λ (f : Option FlatNet). is_reset (kind_in f))));
   each = λ n.
-      a.each n ∙ (ap (λ b. is_input net.latches n || b) (o.each n ∙ ap (λ b. has_id net.outputs n || b) (ap (λ ms. mark ms n) r ∙ reset_mark net.nets n)) ∙ turned (has_id net.outputs n) (is_input net.latches n) (is_reset (kind_in (slot net.nets n))));
+      a.each n ∙ (ap (λ b. is_input net.latches n || b) (o.each n ∙ ap (λ b. has_id net.outputs n || b) (ap (λ ms. is_marked ms n) r ∙ reset_mark net.nets n)) ∙ turned (has_id net.outputs n) (is_input net.latches n) (is_reset (kind_in (slot net.nets n))));
 }

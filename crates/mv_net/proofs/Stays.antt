@@ -7,13 +7,14 @@ use Rattle.mv_cover.specs.declared.cover.Cover.{Cover}
 use Rattle.mv_cover.specs.declared.cube.Lit.{Lit}
 use Rattle.mv_cover.specs.declared.line.Line.{Line}
 use Rattle.mv_cover.specs.Covers.{cube_reads, lines_read, cover_reads}
+use Rattle.mv_cover.specs.Lines.{IsOutput}
 use Rattle.mv_net.specs.declared.parts.Kind.{Kind}
 use Rattle.mv_net.specs.declared.parts.Kind.TheVariants.{Input, Latch, Reset}
 use Rattle.mv_net.specs.declared.parts.FlatNet.{FlatNet}
 use Rattle.mv_net.specs.declared.parts.FlatLatch.{FlatLatch}
 use Rattle.mv_net.specs.declared.parts.NetParts.{NetParts}
 use Rattle.mv_net.specs.Nets.{slot, values_in, net_reads, table_reads}
-use Rattle.mv_net.specs.Formed.{IsKind, IsReadable, IsOutput, IsLiteral, AllLiterals, AllLines, IsCover, IsNet, IsResetNet, IsLatch, AllLatches, latch_outputs, latch_resets, with_reset, AreKind, WellFormed}
+use Rattle.mv_net.specs.Formed.{IsKind, IsReadable, IsLiteral, AllLiterals, AllLines, IsCover, IsNet, IsResetNet, IsLatch, AllLatches, latch_outputs, latch_resets, with_reset, AreKind, WellFormed}
 use Rattle.mv_net.specs.Changes.{with_nets}
 use Rattle.mv_net.specs.Index.{has_id, is_input}
 use Rattle.mv_net.proofs.Patches.{IsWritten, other_than}

@@ -9,10 +9,11 @@ use Rattle.mv_cover.specs.declared.line.Line.{Line}
 use Rattle.mv_cover.specs.Cubes.{matches}
 use Rattle.mv_cover.specs.Covers.{allowed, some_gives, some_matches, default_gives}
 use Rattle.mv_cover.specs.Covering.{IsPoint, AreWithin, CoversAll, MissesSome}
+use Rattle.mv_cover.specs.Lines.{IsOutput}
 use Rattle.mv_net.specs.declared.parts.FlatNet.{FlatNet}
 use Rattle.mv_net.specs.declared.parts.NetParts.{NetParts}
 use Rattle.mv_net.specs.Nets.{slot, values_in, table_in, table_reads}
-use Rattle.mv_net.specs.Formed.{IsOutput, AllLines, IsCover, WellFormed}
+use Rattle.mv_net.specs.Formed.{AllLines, IsCover, WellFormed}
 use Rattle.mv_net.specs.Allowed.{net_allows, table_allows}
 use Rattle.mv_net.specs.Total.{AllowsValue, IsTotal, IsTotalNet}
 use Rattle.mv_net.proofs.Known.{counts_at, reads_readable, values_some}

@@ -1,23 +1,17 @@
 -- Nets in an order in which each stands behind its columns: what looking at a net keeps.
-use Rattle.std.proofs.Common.{◌≡◌, ◌≢◌, ℕ, suc, ◌+◌, ◌-◌, ◌<◌, ◌≤◌, Bool, true, false, ◌||◌, List, [], ◌∷◌, ◌++◌, length, Result, Ok, Err, ◌⊎◌, ⊎_elim, inl, inr, refl, sym, ◌∙◌, ap, arith, get_or, set, take, get_or-set_same, get_or-set_other, length-set, length-append}
-use Rattle.std.specs.Prelude.{nat_eq, OnOk, All}
+use Rattle.std.proofs.Common.{◌≡◌, ◌≢◌, ℕ, suc, ◌+◌, ◌-◌, ◌<◌, ◌≤◌, Bool, true, false, ◌||◌, List, [], ◌∷◌, ◌++◌, length, ◌⊎◌, ⊎_elim, inl, inr, refl, sym, ◌∙◌, ap, arith, get_or, set, take, get_or-set_same, get_or-set_other, length-set, length-append}
+use Rattle.std.specs.Prelude.{nat_eq, All}
 use Rattle.std.specs.List.{list_any}
 use Rattle.std.proofs.lemmas.Bool.{or_cases, or_left, or_right, eqb-true, eq-eqb, cases_eq, cases_lt, cases_Bool}
 use Rattle.std.proofs.lemmas.List.{get_or_append_left, get_or-append_right, get_or_default, take_more}
 use Rattle.std.proofs.lemmas.Grind.{get_or_head, get_or_default_zero}
 use Rattle.mv_base.specs.declared.number.NetId.{NetId}
-use Rattle.mv_base.specs.declared.memory.Memory.{Memory}
 use Rattle.mv_net.specs.declared.sorting.Sorting.{Sorting}
 use Rattle.mv_net.specs.Index.{has_id, row}
 use Rattle.mv_net.specs.Ranks.{AllBelow}
 use Rattle.mv_net.specs.Sorting.{net_at, rank_in, waiters, IsSorting, Waits, IsPlaced, ArePlaced, HasWaited, HasFinished, HasReleased, HasLooked}
 use Rattle.mv_net.proofs.Orders.{has_id-append}
 use Rattle.mv_net.proofs.Turning.{has_id-at}
-
--- what follows from what a success says
-pub ok_more : (r : Result (Unit {0}) Memory) (P Q : Type 0) → (P → Q) → OnOk r P → OnOk r Q
-ok_more (Ok x) P Q f p = f p
-ok_more (Err e) P Q f p = p
 
 -- an element that passes stands at some place
 any_at : {X : Type 0} (p : X → Bool) (xs : List X) (d : X) → list_any p xs ≡ true → (k : ℕ) × (k < length xs) × (p (get_or xs k d) ≡ true)

@@ -1,12 +1,14 @@
 -- When the parts of a network are well formed.
-use Rattle.std.specs.Prelude.{◌≡◌, ℕ, ◌<◌, ◌≤◌, Bool, true, false, ◌&&◌, ◌||◌, not, nat_eq, IsTrue, Option, Some, None, List, [], ◌∷◌, length, decimal, map, is_some, ◌⊎◌}
-use Rattle.std.specs.List.{list_all, list_any, range_with_len}
+use Rattle.std.specs.Prelude.{◌≡◌, ℕ, ◌<◌, ◌≤◌, Bool, true, false, ◌&&◌, not, IsTrue, Option, Some, None, List, [], ◌∷◌, length, decimal, map, is_some}
+use Rattle.std.specs.List.{list_all, range_with_len}
 use Rattle.mv_base.specs.Names.{is_net_name, is_model_name, is_value_name, names_differ}
-use Rattle.mv_base.specs.Set.{empty, full, Within}
+use Rattle.mv_base.specs.Set.{full}
 use Rattle.mv_base.specs.declared.limits.TheConstants.{MAX_VALUES}
 use Rattle.mv_base.specs.declared.number.NetId.{NetId}
 use Rattle.mv_cover.specs.declared.cube.Lit.{Lit}
 use Rattle.mv_cover.specs.Cubes.{IsCube}
+use Rattle.mv_cover.specs.Lines.{IsOutput, lines_differ}
+use Rattle.mv_cover.specs.Absorb.{some_bare}
 use Rattle.mv_cover.specs.declared.line.Line.{Line}
 use Rattle.mv_cover.specs.declared.cover.Cover.{Cover}
 use Rattle.mv_net.specs.declared.parts.Kind.{Kind}
@@ -15,15 +17,12 @@ use Rattle.mv_net.specs.declared.parts.FlatNet.{FlatNet}
 use Rattle.mv_net.specs.declared.parts.FlatLatch.{FlatLatch}
 use Rattle.mv_net.specs.declared.parts.NetParts.{NetParts}
 use Rattle.mv_net.specs.Nets.{slot, net_reads, values_in}
-
--- the net stands in the list
-abbrev pub stands_in : NetId → List NetId → Bool
-stands_in n ns = list_any (λ (m : NetId). nat_eq m.0 n.0) ns
+use Rattle.mv_net.specs.Index.{has_id}
 
 -- no net stands twice in the list
 abbrev pub all_differ : List NetId → Bool
 all_differ [] = true
-all_differ (n ∷ ns) = not (stands_in n ns) && all_differ ns
+all_differ (n ∷ ns) = not (has_id ns n.0) && all_differ ns
 
 -- the net at the number is held and of this kind
 pub record IsKind (nets : List (Option FlatNet)) (n : ℕ) (kind : Kind) : Type 0 where
@@ -37,54 +36,34 @@ pub record IsReadable (nets : List (Option FlatNet)) (n : ℕ) : Type 0 where
   pub held : slot nets n ≡ Some net
   pub plain : net.kind ≡ Reset → ⊥
 
--- some of the values of a net that has this many
-pub record IsOutput (values set : ℕ) : Type 0 where
-  pub some : set ≡ empty → ⊥
-  pub within : Within set (full values)
-
 -- a literal on a net that can be read, whose set has some of the net's values, but not all
 pub record IsLiteral (nets : List (Option FlatNet)) (l : Lit) : Type 0 where
   pub readable : IsReadable nets l.net.0
   pub set : IsOutput (values_in (slot nets l.net.0)) l.set
   pub not_full : l.set ≡ full (values_in (slot nets l.net.0)) → ⊥
 
--- each is a literal
+-- each of these is a literal
 abbrev pub AllLiterals : List (Option FlatNet) → List Lit → Type 0
 AllLiterals nets [] = Unit {0}
 AllLiterals nets (l ∷ ls) = IsLiteral nets l × AllLiterals nets ls
 
--- each line has literals, and as its output some of the values of the output's net
+-- each line's literals are such, and its output is some of the values of the output's net
 abbrev pub AllLines : List (Option FlatNet) → ℕ → List Line → Type 0
 AllLines nets values [] = Unit {0}
 AllLines nets values (l ∷ ls) = AllLiterals nets l.cube × IsOutput values l.out × AllLines nets values ls
 
--- each line has a cube
+-- each line's literals are a cube
 abbrev pub AllCubes : List Line → Type 0
 AllCubes [] = Unit {0}
 AllCubes (l ∷ ls) = IsCube l.cube × AllCubes ls
-
--- the line is one of these
-abbrev pub IsLineAmong : Line → List Line → Type 0
-IsLineAmong l [] = ⊥
-IsLineAmong l (m ∷ ms) = (l ≡ m) ⊎ IsLineAmong l ms
-
--- no line stands twice
-abbrev pub LinesDiffer : List Line → Type 0
-LinesDiffer [] = Unit {0}
-LinesDiffer (l ∷ ls) = (IsLineAmong l ls → ⊥) × LinesDiffer ls
-
--- a line without literals
-abbrev pub has_empty_cube : List Line → Bool
-has_empty_cube [] = false
-has_empty_cube (l ∷ ls) = nat_eq (length l.cube) 0 || has_empty_cube ls
 
 -- a cover over the nets, whose output has this many values
 pub record IsCover (nets : List (Option FlatNet)) (values : ℕ) (c : Cover) : Type 0 where
   pub cubes : AllCubes c.lines
   pub lines : AllLines nets values c.lines
-  pub differ : LinesDiffer c.lines
+  pub differ : lines_differ c.lines ≡ true
   pub default : (out : ℕ) → c.default ≡ Some out → IsOutput values out
-  pub met : has_empty_cube c.lines ≡ true → c.default ≡ None
+  pub met : some_bare c.lines ≡ true → c.default ≡ None
 
 -- only the output of a table or a reset table has a cover
 abbrev pub has_table : Kind → Bool
@@ -125,7 +104,7 @@ pub record IsLatch (nets : List (Option FlatNet)) (l : FlatLatch) : Type 0 where
   pub values : values_in (slot nets l.input.0) ≡ values_in (slot nets l.output.0)
   pub reset : (n : NetId) → l.reset ≡ Some n → IsResetNet nets l.output.0 n.0
 
--- each is a latch
+-- each of these is a latch
 abbrev pub AllLatches : List (Option FlatNet) → List FlatLatch → Type 0
 AllLatches nets [] = Unit {0}
 AllLatches nets (l ∷ ls) = IsLatch nets l × AllLatches nets ls
@@ -159,8 +138,8 @@ pub record ResetsStandAlone (nets : List (Option FlatNet)) : Type 0 where
 
 -- each net of a kind stands in the list, and each net of the list is of the kind
 pub record AreKind (nets : List (Option FlatNet)) (kind : Kind) (list : List NetId) : Type 0 where
-  pub all : (n : NetId) → IsKind nets n.0 kind → stands_in n list ≡ true
-  pub only : (n : NetId) → stands_in n list ≡ true → IsKind nets n.0 kind
+  pub all : (n : NetId) → IsKind nets n.0 kind → has_id list n.0 ≡ true
+  pub only : (n : NetId) → has_id list n.0 ≡ true → IsKind nets n.0 kind
   pub once : all_differ list ≡ true
 
 -- the parts of a network are well formed
@@ -169,7 +148,7 @@ pub record WellFormed (net : NetParts) : Type 0 where
   pub nets : (n : ℕ) (f : FlatNet) → slot net.nets n ≡ Some f → IsNet net.nets f
   pub names : (n m : ℕ) (f g : FlatNet) → slot net.nets n ≡ Some f → slot net.nets m ≡ Some g → f.name ≡ g.name → n ≡ m
   pub inputs : AreKind net.nets Input net.inputs
-  pub outputs : (n : NetId) → stands_in n net.outputs ≡ true → IsReadable net.nets n.0
+  pub outputs : (n : NetId) → has_id net.outputs n.0 ≡ true → IsReadable net.nets n.0
   pub outputs_once : all_differ net.outputs ≡ true
   pub latches : AllLatches net.nets net.latches
   pub states : AreKind net.nets Latch (latch_outputs net.latches)

@@ -34,6 +34,6 @@ pub record AreNamed (nets : List (Option FlatNet)) : Type 0 where
 abbrev pub entry_of : Vec ℕ Global × ℕ → List ℕ × ℕ
 entry_of e = (e.0.items, e.1)
 
--- all of its pairs
+-- all pairs that a map holds, without their memory
 abbrev pub entries_of : List (Vec ℕ Global × ℕ) → List (List ℕ × ℕ)
 entries_of es = map entry_of es

@@ -1,4 +1,5 @@
--- Ranks of nets by number, which show that no net is above itself, and orders of the nets in which each stands behind its columns.
+-- Ranks of nets by number, which show that no net is above itself, and orders of the nets in which each stands behind its
+-- columns.
 use Rattle.std.specs.Prelude.{◌≡◌, ℕ, ◌<◌, true, nat_lt, List, length, take, slice_get, Some, All}
 use Rattle.mv_base.specs.declared.number.NetId.{NetId}
 use Rattle.mv_net.specs.Formed.{all_differ}

@@ -3,14 +3,14 @@ use Rattle.std.specs.Prelude.{◌≡◌, ℕ, ◌<◌, Bool, true, false, ◌||�
 use Rattle.mv_net.specs.declared.parts.NetParts.{NetParts}
 use Rattle.mv_net.specs.Index.{has_id, is_input, is_seen}
 
--- the mark at a number
-abbrev pub mark : List Bool → ℕ → Bool
-mark marks n = slice_index_or marks n false
+-- the number is marked
+abbrev pub is_marked : List Bool → ℕ → Bool
+is_marked marks n = slice_index_or marks n false
 
 -- the numbers that pass the test were marked besides
 pub record AreMarked (old : List Bool) (test : ℕ → Bool) (new : List Bool) : Type 0 where
   pub long : length new ≡ length old
-  pub each : (n : ℕ) → mark new n ≡ (test n || mark old n)
+  pub each : (n : ℕ) → is_marked new n ≡ (test n || is_marked old n)
 
 -- the outputs and the latch inputs are numbers of the network
 pub record SeenAreHeld (net : NetParts) : Type 0 where
@@ -20,4 +20,4 @@ pub record SeenAreHeld (net : NetParts) : Type 0 where
 -- each number is marked where its net is seen
 pub record AreSeen (net : NetParts) (marks : List Bool) : Type 0 where
   pub long : length marks ≡ length net.nets
-  pub each : (n : ℕ) → mark marks n ≡ is_seen net n
+  pub each : (n : ℕ) → is_marked marks n ≡ is_seen net n

@@ -13,7 +13,7 @@ pub record AllowsValue (c : Cover) (at : ℕ → ℕ) : Type 0 where
   pub value : ℕ
   pub is_allowed : allowed c at value ≡ true
 
--- it does so wherever each net has one of its values
+-- the cover allows some value wherever each net has one of its values
 pub record IsTotal (nets : List (Option FlatNet)) (c : Cover) : Type 0 where
   pub some : (at : ℕ → ℕ) → IsPoint (map values_in nets) at → AllowsValue c at
 

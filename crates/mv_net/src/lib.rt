@@ -5,6 +5,7 @@
 mod change;
 mod fanins;
 mod kept;
+mod laws;
 mod names;
 mod network;
 mod parts;
@@ -15,9 +16,8 @@ mod tallies;
 mod total;
 
 pub use change::{Change, NewCount, NewNet, NewTable};
+pub use laws::refinement_laws;
 pub use network::Network;
 pub use parts::{FlatLatch, FlatNet, Kind, NetParts};
+pub use readers::{empty_rows, push_to};
 pub use sorting::sorted;
-
-#[cfg(test)]
-mod tests;

@@ -66,7 +66,7 @@ impl Network {
         let _ = &self.parts;
     }
 
-    /// Few numbers are used.
+    /// No more than `MAX_NETS` numbers are used.
     pub fn few(&self)
         ensures { length self.now.nets ≤ MAX_NETS }
     {

@@ -5,7 +5,7 @@ ghost use Rattle.mv_net.specs.Turned.{CanTurn, AreTurned, IsPutOn};
 use mv_base::{Items, MAX_NETS, Memory, NetId};
 use std::alloc::Global;
 
-/// As many empty lists.
+/// As many empty lists of nets, one for each number from 0.
 pub fn empty_rows(alloc: Global, count: usize) -> Result<Items<Items<NetId>>, Memory>
     ensures { IfOk result (λ rows. rows ≡ replicate count []) }
 {
@@ -16,7 +16,7 @@ pub fn empty_rows(alloc: Global, count: usize) -> Result<Items<Items<NetId>>, Me
     Ok(rows)
 }
 
-/// Puts the net at the end of the list at this place.
+/// Puts the net at the end of the list at this place; the other lists stay as they are.
 pub fn push_to(rows: &mut Items<Items<NetId>>, at: usize, net: NetId) -> Result<(), Memory>
     requires { at < length rows.old }
     ensures { OnOk result (rows.new ≡ slice_set rows.old at (row rows.old at ++ net ∷ [])) }

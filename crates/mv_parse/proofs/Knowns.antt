@@ -6,16 +6,16 @@ use Rattle.std.proofs.lemmas.Bool.{cases_Bool}
 use Rattle.std.proofs.lemmas.List.{append-nil}
 use Rattle.std.proofs.lemmas.Grind.{flat_map-append}
 use Rattle.mv_lex.specs.declared.lines.LexLine.{LexLine}
+use Rattle.mv_lex.proofs.Cuts.{closed-end, closed-more, open_piece-end, open_piece-more}
 use Rattle.mv_design.specs.declared.design.FileModel.{FileModel}
+use Rattle.mv_fault.proofs.Nothing.{right-nothing}
 use Rattle.mv_parse.specs.declared.command.Command.{Command}
 use Rattle.mv_parse.specs.declared.command.Command.TheVariants.{Model, Inputs, Outputs, Mv, Table, Default, Row, End, Unbuilt, Unknown}
 use Rattle.mv_parse.specs.declared.known.Known.{Known}
 use Rattle.mv_parse.specs.Commands.{command_at, is_end}
-use Rattle.mv_parse.specs.Known.{ended, open_part, open_model, inside_of, model_of, known, inputs_of, outputs_of}
+use Rattle.mv_parse.specs.Known.{ends_part, ended, open_part, open_model, inside_of, model_of, known, inputs_of, outputs_of}
 use Rattle.mv_parse.specs.Grammar.{unread_faults, outside_faults, inside_faults, placed_faults, line_faults, behind_model}
 use Rattle.mv_parse.specs.Steps.{inside_step, placed_step, stepped}
-use Rattle.mv_parse.proofs.Narrows.{none-right}
-use Rattle.mv_parse.proofs.Parts.{ended-end, ended-more, open_part-end, open_part-more}
 use Rattle.mv_parse.proofs.Opens.{inputs-push, outputs-push, decls-push, open_table-row, open_table-default, open_table-table, open_table-other}
 
 -- a line within a model
@@ -46,7 +46,7 @@ model-row m ls l e =
 -- the models that have ended
 models-end : (ls : List LexLine) (l : LexLine) → is_end (command_at l) ≡ true → flat_map model_of (ended (ls ++ l ∷ [])) ≡ flat_map model_of (ended ls) ++ model_of (open_part ls)
 models-end ls l h =
-    ap (flat_map model_of) (ended-end ls l h)
+    ap (flat_map model_of) (closed-end ends_part ls l h)
     ∙ (flat_map-append model_of (ended ls) (open_part ls ∷ [])
     ∙ ap (λ ms. flat_map model_of (ended ls) ++ ms) (append-nil (model_of (open_part ls))))
 
@@ -84,8 +84,8 @@ placed-end c models (m ∷ ls) l y h = rw y refl
 pub known-push : (ls : List LexLine) (l : LexLine) → line_faults (command_at l) (known ls) (behind_model (open_part ls)) l ≡ [] → known (ls ++ l ∷ []) ≡ stepped (command_at l) (known ls) (behind_model (open_part ls)) l
 unfolding known line_faults stepped
 known-push ls l none =
-    let placed : placed_faults (command_at l) (inside_of (open_part ls)) (behind_model (open_part ls)) l ≡ [] = none-right (unread_faults (command_at l) (known ls) l) (placed_faults (command_at l) (inside_of (open_part ls)) (behind_model (open_part ls)) l) none in
+    let placed : placed_faults (command_at l) (inside_of (open_part ls)) (behind_model (open_part ls)) l ≡ [] = right-nothing (unread_faults (command_at l) (known ls) l) (placed_faults (command_at l) (inside_of (open_part ls)) (behind_model (open_part ls)) l) none in
     ⊎_elim
-    (λ (y : is_end (command_at l) ≡ true). rw (models-end ls l y, open_part-end ls l y) (placed-end (command_at l) (flat_map model_of (ended ls)) (open_part ls) l y placed))
-    (λ (n : is_end (command_at l) ≡ false). rw (ended-more ls l n, open_part-more ls l n) (placed-said (command_at l) (flat_map model_of (ended ls)) (open_part ls) l refl n placed))
+    (λ (y : is_end (command_at l) ≡ true). rw (models-end ls l y, open_piece-end ends_part ls l y) (placed-end (command_at l) (flat_map model_of (ended ls)) (open_part ls) l y placed))
+    (λ (n : is_end (command_at l) ≡ false). rw (closed-more ends_part ls l n, open_piece-more ends_part ls l n) (placed-said (command_at l) (flat_map model_of (ended ls)) (open_part ls) l refl n placed))
     (cases_Bool (is_end (command_at l)))

@@ -1,4 +1,3 @@
-pub mod Parts
 pub mod Opens
 pub mod Narrows
 pub mod Knowns

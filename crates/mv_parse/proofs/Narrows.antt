@@ -1,5 +1,5 @@
 -- A table whose first line has no fault has no more columns than a table may have.
-use Rattle.std.proofs.Common.{◌≡◌, ℕ, ◌+◌, ◌≤◌, Bool, true, false, List, [], ◌∷◌, ◌++◌, length, ◌&&◌, refl, subst, ⊎_elim, arith}
+use Rattle.std.proofs.Common.{◌≡◌, ℕ, ◌+◌, ◌≤◌, true, false, List, [], ◌∷◌, ◌++◌, length, ◌&&◌, refl, subst, ⊎_elim, arith}
 use Rattle.std.specs.Prelude.{Option, Some, None, nat_le, not, All}
 use Rattle.std.specs.List.{list_all}
 use Rattle.std.proofs.lemmas.Bool.{cases_Bool, and_parts}
@@ -8,9 +8,9 @@ use Rattle.mv_base.specs.Names.{is_net_name}
 use Rattle.mv_base.specs.declared.limits.TheConstants.{MAX_COLUMNS}
 use Rattle.mv_lex.specs.declared.lines.LexLine.{LexLine}
 use Rattle.mv_fault.specs.declared.fault.Which.TheVariants.{Columns}
-use Rattle.mv_fault.specs.declared.fault.ParseFault.{ParseFault}
 use Rattle.mv_fault.specs.declared.fault.ParseFault.TheVariants.{Limit, BadName}
 use Rattle.mv_fault.specs.Tells.{when}
+use Rattle.mv_fault.proofs.Nothing.{left-nothing, right-nothing, when-nothing}
 use Rattle.mv_table.specs.Columns.{ins_of, outs_of, names_faults, columns_faults}
 use Rattle.mv_table.specs.Tables.{behind_first}
 use Rattle.mv_parse.specs.declared.command.Command.{Command}
@@ -21,20 +21,7 @@ use Rattle.mv_parse.specs.declared.known.Known.{Known}
 use Rattle.mv_parse.specs.Commands.{first_word, command_at, keeps_table, is_table}
 use Rattle.mv_parse.specs.Grammar.{unread_faults, placed_faults, line_faults}
 use Rattle.mv_parse.specs.Known.{open_table, table_state}
-use Rattle.mv_parse.specs.Steps.{Narrow}
-
--- nothing of two parts together is nothing of either
-pub none-left : (a b : List ParseFault) → a ++ b ≡ [] → a ≡ []
-none-left [] b e = refl
-none-left (f ∷ a) b e = cc
-
-pub none-right : (a b : List ParseFault) → a ++ b ≡ [] → b ≡ []
-none-right [] b e = e
-none-right (f ∷ a) b e = cc
-
-when-none : (t : Bool) (f : ParseFault) → when t f ≡ [] → t ≡ false
-when-none true f e = cc
-when-none false f e = refl
+use Rattle.mv_parse.specs.Steps.{HasFewColumns}
 
 few : (m n : ℕ) → nat_le m n ≡ false → n + 1 ≤ m
 few m n e = grind arith
@@ -43,17 +30,17 @@ few m n e = grind arith
 names-few : (n at : ℕ) (ws : List (List ℕ)) → at ≤ MAX_COLUMNS → names_faults n at ws ≡ [] → at + length ws ≤ MAX_COLUMNS
 names-few n at [] within none = omega arith
 names-few n at (w ∷ ws) within none =
-    let test : nat_le MAX_COLUMNS at ≡ false = when-none _ _ (none-left _ _ (none-left _ _ none)) in
+    let test : nat_le MAX_COLUMNS at ≡ false = when-nothing _ _ (left-nothing _ _ (left-nothing _ _ none)) in
     let below : at + 1 ≤ MAX_COLUMNS = few MAX_COLUMNS at test in
-    let rest : (at + 1) + length ws ≤ MAX_COLUMNS = names-few n (at + 1) ws below (none-right (when (nat_le MAX_COLUMNS at) (Limit n Columns (MAX_COLUMNS + 1)) ++ when (not (is_net_name w)) (BadName n w)) (names_faults n (at + 1) ws) none) in
+    let rest : (at + 1) + length ws ≤ MAX_COLUMNS = names-few n (at + 1) ws below (right-nothing (when (nat_le MAX_COLUMNS at) (Limit n Columns (MAX_COLUMNS + 1)) ++ when (not (is_net_name w)) (BadName n w)) (names_faults n (at + 1) ws) none) in
     omega arith
 
 -- a table's first line without a fault
 pub columns-few : (n : ℕ) (word : List ℕ) (words : List (List ℕ)) → columns_faults n word words ≡ [] → length (ins_of words) + length (outs_of words) ≤ MAX_COLUMNS
 unfolding columns_faults
 columns-few n word words none =
-    let ins : 0 + length (ins_of words) ≤ MAX_COLUMNS = names-few n 0 (ins_of words) (omega arith) (none-left _ _ (none-left _ _ none)) in
-    names-few n (length (ins_of words)) (outs_of words) (omega arith) (none-right _ _ (none-left _ _ none))
+    let ins : 0 + length (ins_of words) ≤ MAX_COLUMNS = names-few n 0 (ins_of words) (omega arith) (left-nothing _ _ (left-nothing _ _ none)) in
+    names-few n (length (ins_of words)) (outs_of words) (omega arith) (right-nothing _ _ (left-nothing _ _ none))
 
 -- a line without a fault is narrow
 table-only : (c : Command) → is_table c ≡ true → c ≡ Table
@@ -65,12 +52,12 @@ placed-narrow Table None ls l e none = cc
 placed-narrow Table (Some m) ls l e none = columns-few l.number (first_word l) (behind_first l) none
 placed-narrow _ o ls l e none = cc
 
-pub line-narrow : (k : Known) (ls : List LexLine) (l : LexLine) → line_faults (command_at l) k ls l ≡ [] → Narrow l
+pub line-narrow : (k : Known) (ls : List LexLine) (l : LexLine) → line_faults (command_at l) k ls l ≡ [] → HasFewColumns l
 unfolding line_faults
-line-narrow k ls l none = λ e. placed-narrow (command_at l) k.inside ls l e (none-right (unread_faults (command_at l) k l) (placed_faults (command_at l) k.inside ls l) none)
+line-narrow k ls l none = λ e. placed-narrow (command_at l) k.inside ls l e (right-nothing (unread_faults (command_at l) k l) (placed_faults (command_at l) k.inside ls l) none)
 
 -- and so is the open table of narrow lines
-pub open-small : (ls : List LexLine) (t : OpenTable) → All (λ (l : LexLine). Narrow l) ls → open_table ls ≡ Some t → t.ins + t.outs ≤ MAX_COLUMNS
+pub open-small : (ls : List LexLine) (t : OpenTable) → All (λ (l : LexLine). HasFewColumns l) ls → open_table ls ≡ Some t → t.ins + t.outs ≤ MAX_COLUMNS
 open-small [] t narrow e = cc
 open-small (x ∷ ls) t narrow e =
     ⊎_elim
@@ -78,7 +65,7 @@ open-small (x ∷ ls) t narrow e =
     let is : Some (table_state x ls) ≡ Some t = rw y at e in
     let same : table_state x ls ≡ t = cc in
     let P : OpenTable → Type 0 = λ u. u.ins + u.outs ≤ MAX_COLUMNS in
-    subst P same (All-head (λ (l : LexLine). Narrow l) x ls narrow (table-only (command_at x) (and_parts (is_table (command_at x)) (list_all (λ r. keeps_table (command_at r)) ls) y).0)))
+    subst P same (All-head (λ (l : LexLine). HasFewColumns l) x ls narrow (table-only (command_at x) (and_parts (is_table (command_at x)) (list_all (λ r. keeps_table (command_at r)) ls) y).0)))
     (λ (n : (is_table (command_at x) && list_all (λ r. keeps_table (command_at r)) ls) ≡ false).
-    open-small ls t (All-tail (λ (l : LexLine). Narrow l) x ls narrow) (rw n at e))
+    open-small ls t (All-tail (λ (l : LexLine). HasFewColumns l) x ls narrow) (rw n at e))
     (cases_Bool (is_table (command_at x) && list_all (λ r. keeps_table (command_at r)) ls))

@@ -12,10 +12,10 @@ use Rattle.mv_parse.specs.declared.command.Command.{Command}
 use Rattle.mv_parse.specs.declared.command.Command.TheVariants.{Table}
 use Rattle.mv_parse.specs.Commands.{command_at, is_table}
 use Rattle.mv_parse.specs.Known.{front_rows}
-use Rattle.mv_parse.specs.Grammar.{values_at, value_faults, end_faults}
+use Rattle.mv_parse.specs.Grammar.{table_value_faults, value_faults, end_faults}
 use Rattle.mv_table.proofs.Places.{drop_one}
 
-values-table : (c : Command) (ds : List Decl) (l : LexLine) (ls : List LexLine) → is_table c ≡ true → values_at c ds l ls ≡ table_faults ds l (front_rows ls)
+values-table : (c : Command) (ds : List Decl) (l : LexLine) (ls : List LexLine) → is_table c ≡ true → table_value_faults c ds l ls ≡ table_faults ds l (front_rows ls)
 values-table Table ds l ls e = refl
 values-table _ ds l ls e = cc
 

@@ -6,21 +6,22 @@ use Rattle.std.proofs.lemmas.List.{take_all, drop_all, drop-append-le, length-ap
 use Rattle.std.proofs.lemmas.List.Elements.{All-nil, All-push}
 use Rattle.mv_base.specs.declared.limits.TheConstants.{MAX_COLUMNS}
 use Rattle.mv_lex.specs.declared.lines.LexLine.{LexLine}
+use Rattle.mv_lex.proofs.Cuts.{open_piece-end, open_piece-more}
 use Rattle.mv_fault.specs.declared.fault.ParseFault.{ParseFault}
 use Rattle.mv_fault.specs.declared.fault.ParseFault.TheVariants.{Memory}
 use Rattle.mv_fault.specs.Tells.{first}
 use Rattle.mv_fault.proofs.Firsts.{first-append}
+use Rattle.mv_fault.proofs.Nothing.{right-nothing}
 use Rattle.mv_parse.specs.declared.command.Command.{Command}
 use Rattle.mv_parse.specs.declared.command.Command.TheVariants.{Model, End}
 use Rattle.mv_parse.specs.declared.known.OpenTable.{OpenTable}
 use Rattle.mv_parse.specs.declared.known.OpenModel.{OpenModel}
 use Rattle.mv_parse.specs.declared.known.Known.{Known}
 use Rattle.mv_parse.specs.Commands.{command_at, is_end, is_bound}
-use Rattle.mv_parse.specs.Known.{open_part, inside_of, open_model, known}
+use Rattle.mv_parse.specs.Known.{ends_part, open_part, inside_of, open_model, known}
 use Rattle.mv_parse.specs.Grammar.{unread_faults, placed_faults, line_faults, behind_model, faults_at, faults_behind, faults_of, design_of}
-use Rattle.mv_parse.specs.Steps.{stepped, Narrow, IsSmall}
-use Rattle.mv_parse.proofs.Parts.{open_part-end, open_part-more}
-use Rattle.mv_parse.proofs.Narrows.{none-right, line-narrow, open-small}
+use Rattle.mv_parse.specs.Steps.{stepped, HasFewColumns, IsSmall}
+use Rattle.mv_parse.proofs.Narrows.{line-narrow, open-small}
 use Rattle.mv_parse.proofs.Knowns.{known-push}
 use Rattle.mv_table.proofs.Places.{take_more, drop_one}
 
@@ -30,7 +31,7 @@ pub record IsAt (lines : List LexLine) (first at : ℕ) (k : Known) : Type 0 whe
   pub within : first ≤ at
   pub known : k ≡ known (take at lines)
   pub open_lines : drop first (take at lines) ≡ behind_model (open_part (take at lines))
-  pub narrow : All (λ (l : LexLine). Narrow l) (behind_model (open_part (take at lines)))
+  pub narrow : All (λ (l : LexLine). HasFewColumns l) (behind_model (open_part (take at lines)))
   pub fault : faults_behind (take at lines) (drop at lines) ≡ faults_of lines
 
 pub begins : (lines : List LexLine) → IsAt lines 0 0 (record { models = []; inside = None })
@@ -39,11 +40,11 @@ begins lines = record {
   within = omega arith;
   known = refl;
   open_lines = refl;
-  narrow = All-nil (λ (l : LexLine). Narrow l);
+  narrow = All-nil (λ (l : LexLine). HasFewColumns l);
   fault = refl;
 }
 
-part-small : (part : List LexLine) (m : OpenModel) (t : OpenTable) → All (λ (l : LexLine). Narrow l) (behind_model part) → inside_of part ≡ Some m → m.table ≡ Some t → t.ins + t.outs ≤ MAX_COLUMNS
+part-small : (part : List LexLine) (m : OpenModel) (t : OpenTable) → All (λ (l : LexLine). HasFewColumns l) (behind_model part) → inside_of part ≡ Some m → m.table ≡ Some t → t.ins + t.outs ≤ MAX_COLUMNS
 part-small [] m t narrow e f = cc
 part-small (x ∷ ls) m t narrow e f = open-small ls t narrow (let same : open_model x ls ≡ m = cc in ap (λ (o : OpenModel). o.table) same ∙ f)
 
@@ -94,9 +95,9 @@ other-inside c (x ∷ part) ls l b none = refl
 pub open-bound : (before : List LexLine) (ls : List LexLine) (l : LexLine) → is_bound (command_at l) ≡ true → placed_faults (command_at l) (inside_of (open_part before)) ls l ≡ [] → behind_model (open_part (before ++ l ∷ [])) ≡ []
 open-bound before ls l b none =
     ⊎_elim
-    (λ (y : is_end (command_at l) ≡ true). ap behind_model (open_part-end before l y))
+    (λ (y : is_end (command_at l) ≡ true). ap behind_model (open_piece-end ends_part before l y))
     (λ (n : is_end (command_at l) ≡ false).
-    ap behind_model (open_part-more before l n ∙ ap (λ part. part ++ l ∷ []) (inside-none (open_part before) (bound-begins (command_at l) (inside_of (open_part before)) ls l b n none))))
+    ap behind_model (open_piece-more ends_part before l n ∙ ap (λ part. part ++ l ∷ []) (inside-none (open_part before) (bound-begins (command_at l) (inside_of (open_part before)) ls l b n none))))
     (cases_Bool (is_end (command_at l)))
 
 not-end : (c : Command) → is_bound c ≡ false → is_end c ≡ false
@@ -106,11 +107,11 @@ not-end _ e = refl
 
 pub open-more : (before : List LexLine) (ls : List LexLine) (l : LexLine) → is_bound (command_at l) ≡ false → placed_faults (command_at l) (inside_of (open_part before)) ls l ≡ [] → behind_model (open_part (before ++ l ∷ [])) ≡ behind_model (open_part before) ++ l ∷ []
 open-more before ls l b none =
-    ap behind_model (open_part-more before l (not-end (command_at l) b)) ∙ other-inside (command_at l) (open_part before) ls l b none
+    ap behind_model (open_piece-more ends_part before l (not-end (command_at l) b)) ∙ other-inside (command_at l) (open_part before) ls l b none
 
 placed_none : (ls : List LexLine) (l : LexLine) → faults_at ls l ≡ [] → placed_faults (command_at l) (inside_of (open_part ls)) (behind_model (open_part ls)) l ≡ []
 unfolding line_faults known
-placed_none ls l none = none-right (unread_faults (command_at l) (known ls) l) (placed_faults (command_at l) (inside_of (open_part ls)) (behind_model (open_part ls)) l) none
+placed_none ls l none = right-nothing (unread_faults (command_at l) (known ls) l) (placed_faults (command_at l) (inside_of (open_part ls)) (behind_model (open_part ls)) l) none
 
 drop-push : (ls : List LexLine) (l : LexLine) (n : ℕ) → n ≤ length ls → drop n (ls ++ l ∷ []) ≡ drop n ls ++ l ∷ []
 drop-push ls l n h = drop-append-le n ls (l ∷ []) h
@@ -118,7 +119,7 @@ drop-push ls l n h = drop-append-le n ls (l ∷ []) h
 -- the reader stands behind the line, whichever it was
 pub record IsBehind (before : List LexLine) (l : LexLine) (first : ℕ) : Type 0 where
   pub open_lines : drop first (before ++ l ∷ []) ≡ behind_model (open_part (before ++ l ∷ []))
-  pub narrow : All (λ (x : LexLine). Narrow x) (behind_model (open_part (before ++ l ∷ [])))
+  pub narrow : All (λ (x : LexLine). HasFewColumns x) (behind_model (open_part (before ++ l ∷ [])))
   pub within : first ≤ length before + 1
 
 behind-bound : (before : List LexLine) (l : LexLine) → faults_at before l ≡ [] → is_bound (command_at l) ≡ true → IsBehind before l (length before + 1)
@@ -126,20 +127,20 @@ behind-bound before l none b =
     let no : behind_model (open_part (before ++ l ∷ [])) ≡ [] = open-bound before (behind_model (open_part before)) l b (placed_none before l none) in
     record {
       open_lines = drop_all (length before + 1) (before ++ l ∷ []) (rw (length-append before (l ∷ [])) (omega arith)) ∙ sym no;
-      narrow = rw no (All-nil (λ (x : LexLine). Narrow x));
+      narrow = rw no (All-nil (λ (x : LexLine). HasFewColumns x));
       within = omega arith;
     }
 
-behind-more : (before : List LexLine) (l : LexLine) (first : ℕ) → faults_at before l ≡ [] → first ≤ length before → drop first before ≡ behind_model (open_part before) → All (λ (x : LexLine). Narrow x) (behind_model (open_part before)) → is_bound (command_at l) ≡ false → IsBehind before l first
+behind-more : (before : List LexLine) (l : LexLine) (first : ℕ) → faults_at before l ≡ [] → first ≤ length before → drop first before ≡ behind_model (open_part before) → All (λ (x : LexLine). HasFewColumns x) (behind_model (open_part before)) → is_bound (command_at l) ≡ false → IsBehind before l first
 behind-more before l first none within was narrow b =
     let more : behind_model (open_part (before ++ l ∷ [])) ≡ behind_model (open_part before) ++ l ∷ [] = open-more before (behind_model (open_part before)) l b (placed_none before l none) in
     record {
       open_lines = drop-push before l first within ∙ (ap (λ ls. ls ++ l ∷ []) was ∙ sym more);
-      narrow = rw more (All-push (λ (x : LexLine). Narrow x) (behind_model (open_part before)) l narrow (line-narrow (known before) (behind_model (open_part before)) l none));
+      narrow = rw more (All-push (λ (x : LexLine). HasFewColumns x) (behind_model (open_part before)) l narrow (line-narrow (known before) (behind_model (open_part before)) l none));
       within = omega arith;
     }
 
-behind-any : (before : List LexLine) (l : LexLine) (first : ℕ) → faults_at before l ≡ [] → first ≤ length before → drop first before ≡ behind_model (open_part before) → All (λ (x : LexLine). Narrow x) (behind_model (open_part before)) → IsBehind before l (if is_bound (command_at l) then length before + 1 else first)
+behind-any : (before : List LexLine) (l : LexLine) (first : ℕ) → faults_at before l ≡ [] → first ≤ length before → drop first before ≡ behind_model (open_part before) → All (λ (x : LexLine). HasFewColumns x) (behind_model (open_part before)) → IsBehind before l (if is_bound (command_at l) then length before + 1 else first)
 behind-any before l first none within was narrow =
     ⊎_elim
     (λ (y : is_bound (command_at l) ≡ true). rw y (behind-bound before l none y))

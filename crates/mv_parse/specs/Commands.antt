@@ -6,7 +6,7 @@ use Rattle.mv_table.specs.Tables.{is_default_word}
 use Rattle.mv_parse.specs.declared.command.Command.{Command}
 use Rattle.mv_parse.specs.declared.command.Command.TheVariants.{Model, Inputs, Outputs, Mv, Table, Default, Row, End, Unbuilt, Unknown}
 
--- the first word of a line
+-- the first of these words, or no bytes where there is none
 abbrev pub first_of : List (List ℕ) → List ℕ
 first_of [] = []
 first_of (w ∷ words) = w
@@ -23,7 +23,7 @@ is_unbuilt w = same_word w (codes ".latch") || same_word w (codes ".reset") || s
 abbrev pub is_table_word : List ℕ → Bool
 is_table_word w = same_word w (codes ".table") || same_word w (codes ".names")
 
--- a word that doesn't begin with a full stop begins a row
+-- what a line is, by its first word: one that doesn't begin with a full stop begins a row
 unfoldable pub command_of : List ℕ → Command
 command_of w =
     if not (begins_with 46 w) then Row

@@ -1,5 +1,5 @@
 -- The grammar of a network file, after the description of BLIF-MV by Kukimoto: the faults of its lines, in the order in
--- which they are told. A line's faults are those that the lines before leave it; a file that has none is a design.
+-- which they are told. A line's faults depend on the lines before it; a file that has none is a design.
 use Rattle.std.specs.Prelude.{◌≡◌, ℕ, ◌+◌, Bool, true, false, not, ◌==◌, nat_lt, nat_le, List, [], ◌∷◌, ◌++◌, length, drop, filter, Option, Some, None, if◌then◌else◌}
 use Rattle.mv_base.specs.Names.{among, is_net_name, is_model_name}
 use Rattle.mv_base.specs.declared.limits.TheConstants.{MAX_TABLE_LINES}
@@ -38,31 +38,31 @@ row_faults n t words =
     when (nat_le MAX_TABLE_LINES t.rows) (Limit n TableLines (MAX_TABLE_LINES + 1))
     ++ when (not (length words == t.ins + t.outs)) (Columns n (t.ins + t.outs) (length words))
 
--- its default: once, and one entry an output
+-- the default of the open table: once, and one entry an output
 unfoldable pub default_faults : ℕ → List ℕ → OpenTable → List (List ℕ) → List ParseFault
 default_faults n word t words =
     when t.has_default (DefaultTwice n) ++ when (nat_lt (length words) t.outs) (Missing n word) ++ when (nat_lt t.outs (length words)) (Extra n word)
 
--- the values of a model's rows and defaults, table by table
-abbrev pub values_at : Command → List Decl → LexLine → List LexLine → List ParseFault
-values_at Table ds l ls = table_faults ds l (front_rows ls)
-values_at _ ds l ls = []
+-- the faults of the values of a table, if the line begins one and these lines stand behind it
+abbrev pub table_value_faults : Command → List Decl → LexLine → List LexLine → List ParseFault
+table_value_faults Table ds l ls = table_faults ds l (front_rows ls)
+table_value_faults _ ds l ls = []
 
--- the same of all its lines
+-- the faults of the values of a model's rows and defaults, table by table, where these are its lines
 abbrev pub value_faults : List Decl → List LexLine → List ParseFault
 value_faults ds [] = []
-value_faults ds (l ∷ ls) = values_at (command_at l) ds l ls ++ value_faults ds ls
+value_faults ds (l ∷ ls) = table_value_faults (command_at l) ds l ls ++ value_faults ds ls
 
 -- `.end`: no further word; then the values of its model are checked
 unfoldable pub end_faults : ℕ → List ℕ → List (List ℕ) → List Decl → List LexLine → List ParseFault
 end_faults n word words ds ls = when (nat_lt 0 (length words)) (Extra n word) ++ value_faults ds ls
 
--- what needs a table that is open
+-- the faults of what needs a table that is open
 abbrev pub at_table : ℕ → Option OpenTable → (OpenTable → List ParseFault) → List ParseFault
 at_table n None faults = NoTable n ∷ []
 at_table n (Some t) faults = faults t
 
--- lines that this version doesn't read: a second model, and a table with several outputs
+-- the fault of a line that this version doesn't read: a second model, and a table with several outputs
 abbrev pub unread_faults : Command → Known → LexLine → List ParseFault
 unread_faults Model k l = when (nat_lt 0 (length k.models)) (NotBuilt l.number)
 unread_faults Table k l = when (nat_lt 1 (length (outs_of (behind_first l)))) (NotBuilt l.number)
@@ -75,7 +75,7 @@ outside_faults Unbuilt l = NotBuilt l.number ∷ []
 outside_faults Unknown l = UnknownCommand l.number (first_word l) ∷ []
 outside_faults _ l = OutsideModel l.number ∷ []
 
--- and within one, which it doesn't end
+-- the faults of a line within a model, which it doesn't end
 abbrev pub inside_faults : Command → OpenModel → LexLine → List ParseFault
 inside_faults Model m l = NoEnd m.line ∷ model_faults l.number (first_word l) (behind_first l)
 inside_faults Inputs m l = port_faults l.number m.inputs (behind_first l)
@@ -88,7 +88,7 @@ inside_faults End m l = []
 inside_faults Unbuilt m l = NotBuilt l.number ∷ []
 inside_faults Unknown m l = UnknownCommand l.number (first_word l) ∷ []
 
--- at its place, where `ls` are the lines of the open model behind its first
+-- the faults of a line outside a model or within one, where `ls` are the lines of the open model behind its first
 abbrev pub placed_faults : Command → Option OpenModel → List LexLine → LexLine → List ParseFault
 placed_faults c None ls l = outside_faults c l
 placed_faults c (Some m) ls l =
@@ -106,7 +106,7 @@ behind_model part = drop 1 part
 abbrev pub faults_at : List LexLine → LexLine → List ParseFault
 faults_at before l = line_faults (command_at l) (known before) (behind_model (open_part before)) l
 
--- the end of the file: no model is open, and there is one
+-- the faults of the end of the file, where a model may be open, and so many have ended: none is open, and there is one
 abbrev pub last_faults : Option OpenModel → ℕ → List ParseFault
 last_faults (Some m) models = NoEnd m.line ∷ []
 last_faults None models = when (models == 0) (NoModel 1)

@@ -1,7 +1,8 @@
 -- What the lines of a network file say, each part of it said of the whole list of lines.
-use Rattle.std.specs.Prelude.{ℕ, ◌&&◌, List, [], ◌∷◌, ◌++◌, length, drop, count_by, Option, Some, None, if◌then◌else◌}
+use Rattle.std.specs.Prelude.{ℕ, Bool, ◌&&◌, List, [], ◌∷◌, ◌++◌, length, drop, count_by, Option, Some, None, if◌then◌else◌}
 use Rattle.std.specs.List.{flat_map, list_all, list_any}
 use Rattle.mv_lex.specs.declared.lines.LexLine.{LexLine}
+use Rattle.mv_lex.specs.Cuts.{closed, open_piece}
 use Rattle.mv_design.specs.declared.design.Decl.{Decl}
 use Rattle.mv_design.specs.declared.design.FileModel.{FileModel}
 use Rattle.mv_design.specs.declared.table.FileTable.{FileTable}
@@ -27,21 +28,21 @@ inputs_at _ words = []
 abbrev pub inputs_of : List LexLine → List (List ℕ)
 inputs_of ls = flat_map (λ l. inputs_at (command_at l) (behind_first l)) ls
 
--- and on a line of outputs
+-- the names on a line of outputs
 abbrev pub outputs_at : Command → List (List ℕ) → List (List ℕ)
 outputs_at Outputs words = words
 outputs_at _ words = []
 
--- its outputs
+-- the outputs of a model with these lines: the names on all its lines of outputs, joined in order
 abbrev pub outputs_of : List LexLine → List (List ℕ)
 outputs_of ls = flat_map (λ l. outputs_at (command_at l) (behind_first l)) ls
 
--- and the declarations on a line
+-- the declarations that a line says, if it says some
 abbrev pub decls_at : Command → List (List ℕ) → List Decl
 decls_at Mv words = decls_said words
 decls_at _ words = []
 
--- its declarations, wherever they stand: each net keeps its first
+-- the declarations of a model with these lines, wherever they stand: each net keeps its first
 abbrev pub decls_of : List LexLine → List Decl
 decls_of ls = with_decls [] (flat_map (λ l. decls_at (command_at l) (behind_first l)) ls)
 
@@ -77,25 +78,17 @@ open_table (l ∷ ls) =
 
 -- ---- models: the lines are cut behind each `.end`
 
--- a line in front of the first part
-abbrev pub onto_part : LexLine → List (List LexLine) → List (List LexLine)
-onto_part l [] = []
-onto_part l (part ∷ parts) = (l ∷ part) ∷ parts
+-- a line ends its part
+abbrev pub ends_part : LexLine → Bool
+ends_part l = is_end (command_at l)
 
 -- the parts that an `.end` has ended, without it
 abbrev pub ended : List LexLine → List (List LexLine)
-ended [] = []
-ended (l ∷ ls) = if is_end (command_at l) then [] ∷ ended ls else onto_part l (ended ls)
-
--- a line stands in the open part unless it stands in a part that has ended
-abbrev pub with_front : List (List LexLine) → LexLine → List LexLine → List LexLine
-with_front [] l ls = l ∷ ls
-with_front (_ ∷ _) l ls = ls
+ended ls = closed ends_part ls
 
 -- the part behind the last `.end`
 abbrev pub open_part : List LexLine → List LexLine
-open_part [] = []
-open_part (l ∷ ls) = if is_end (command_at l) then open_part ls else with_front (ended ls) l (open_part ls)
+open_part ls = open_piece ends_part ls
 
 -- a model as its first line and the lines behind it say it
 abbrev pub open_model : LexLine → List LexLine → OpenModel
@@ -126,14 +119,14 @@ file_model m ls = record {
   parts = [];
 }
 
--- the same, if there is a model
-abbrev pub closed : Option OpenModel → List LexLine → List FileModel
-closed None ls = []
-closed (Some m) ls = file_model m ls ∷ []
+-- the model that has ended, if there is one
+abbrev pub ended_model : Option OpenModel → List LexLine → List FileModel
+ended_model None ls = []
+ended_model (Some m) ls = file_model m ls ∷ []
 
 -- the model that a part says, if it has a line
 abbrev pub model_of : List LexLine → List FileModel
-model_of part = closed (inside_of part) (drop 1 part)
+model_of part = ended_model (inside_of part) (drop 1 part)
 
 -- what the lines say: the models that have ended, and the one that is open
 unfoldable pub known : List LexLine → Known

@@ -28,15 +28,15 @@ new_table words = record { ins = length (ins_of words); outs = length (outs_of w
 abbrev pub with_inputs : List (List ℕ) → OpenModel → OpenModel
 with_inputs words m = record m { inputs = m.inputs ++ words; table = None }
 
--- with further outputs
+-- a model with further outputs; the line closes its table
 abbrev pub with_outputs : List (List ℕ) → OpenModel → OpenModel
 with_outputs words m = record m { outputs = m.outputs ++ words; table = None }
 
--- with the declarations that these words say
+-- a model with the declarations that these words say; the line closes its table
 abbrev pub with_declared : List (List ℕ) → OpenModel → OpenModel
 with_declared words m = record m { decls = with_decls m.decls (decls_said words); table = None }
 
--- with a table that begins
+-- a model with a table that begins
 abbrev pub with_table : List (List ℕ) → OpenModel → OpenModel
 with_table words m = record m { table = Some (new_table words) }
 
@@ -86,9 +86,9 @@ unfoldable pub stepped : Command → Known → List LexLine → LexLine → Know
 stepped c k ls l = placed_step c k.models k.inside ls l
 
 -- a first line of a table has no more columns than a table may have
-abbrev pub Narrow : LexLine → Type 0
-Narrow l = command_at l ≡ Table → length (ins_of (behind_first l)) + length (outs_of (behind_first l)) ≤ MAX_COLUMNS
+abbrev pub HasFewColumns : LexLine → Type 0
+HasFewColumns l = command_at l ≡ Table → length (ins_of (behind_first l)) + length (outs_of (behind_first l)) ≤ MAX_COLUMNS
 
--- nor has the open table
+-- the open table has no more columns than a table may have
 pub record IsSmall (k : Known) : Type 0 where
   pub columns : (m : OpenModel) (t : OpenTable) → k.inside ≡ Some m → m.table ≡ Some t → t.ins + t.outs ≤ MAX_COLUMNS

@@ -62,7 +62,7 @@ fn read_lines(alloc: Global, lines: &[LexLine]) -> Result<Design, ParseFault>
 }
 
 /// The design that the lines say, or else the first fault of the lines, in the order in which faults are told; limits of
-/// the program are among them. Each line has a word, and the lines are those of a file in order.
+/// the program are among them.
 pub fn parse(alloc: Global, lines: &Lines) -> Result<Design, ParseFault>
     ensures ok { IfOk result (λ design. IsDesign lines.now design) }
     ensures within { OnOk result (IsWithin lines.now) }
@@ -71,7 +71,8 @@ pub fn parse(alloc: Global, lines: &Lines) -> Result<Design, ParseFault>
     read_lines(alloc, lines.as_slice())
 }
 
-/// Lines with a first fault say no design within the limits. So `parse` is Ok exactly where they do.
+/// Lines with a first fault say no design within the limits. So `parse` is Ok exactly where lines say a design within the
+/// limits, memory aside.
 pub fn one_answer()
     ensures { (lines : List LexLine) (f : ParseFault) (d : Design) → FirstFault lines f → IsDesign lines d → IsWithin lines → ⊥ }
 {}

@@ -7,7 +7,7 @@ ghost use Rattle.mv_table.specs.Tables.{behind_first};
 ghost use Rattle.mv_parse.specs.Commands.{first_word, is_end};
 ghost use Rattle.mv_parse.specs.Grammar.{line_faults, unread_faults, placed_faults, outside_faults, inside_faults, end_faults};
 ghost use Rattle.mv_parse.specs.Known.{file_model};
-ghost use Rattle.mv_parse.specs.Steps.{stepped, new_model, inside_step, Narrow, IsSmall};
+ghost use Rattle.mv_parse.specs.Steps.{stepped, new_model, inside_step, HasFewColumns, IsSmall};
 
 use crate::command::{Command, first_word, is_end};
 use crate::known::{Known, OpenModel};
@@ -79,7 +79,7 @@ fn end_line(
     lines: &[LexLine],
     line: &LexLine,
 ) -> Result<FileModel, ParseFault>
-    requires { All (λ (l : LexLine). Narrow l) lines.now }
+    requires { All (λ (l : LexLine). HasFewColumns l) lines.now }
     ensures fault { Tells result (end_faults line.now.number (first_word line.now) (behind_first line.now) model.decls lines.now) }
     ensures ok { IfOk result (λ ended. ended ≡ file_model model lines.now) }
 {
@@ -162,7 +162,7 @@ fn end_open(
     lines: &[LexLine],
     line: &LexLine,
 ) -> Result<(), ParseFault>
-    requires narrow { All (λ (l : LexLine). Narrow l) lines.now }
+    requires narrow { All (λ (l : LexLine). HasFewColumns l) lines.now }
     requires ends { is_end command ≡ true }
     ensures fault { Tells result (placed_faults command known.old.inside lines.now line.now) }
     ensures ok { OnOk result (known.new ≡ stepped command known.old lines.now line.now) }
@@ -184,7 +184,7 @@ pub fn take_line(
     line: &LexLine,
 ) -> Result<(), ParseFault>
     requires small { IsSmall known.old }
-    requires narrow { All (λ (l : LexLine). Narrow l) lines.now }
+    requires narrow { All (λ (l : LexLine). HasFewColumns l) lines.now }
     ensures fault { Tells result (line_faults command known.old lines.now line.now) }
     ensures ok { OnOk result (known.new ≡ stepped command known.old lines.now line.now) }
 {

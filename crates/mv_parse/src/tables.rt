@@ -3,7 +3,7 @@ ghost use Rattle.mv_lex.specs.declared.lines.LexLine.{LexLine};
 ghost use Rattle.mv_fault.specs.Tells.{Tells};
 ghost use Rattle.mv_parse.specs.Known.{front_rows, tables_of, file_model};
 ghost use Rattle.mv_parse.specs.Grammar.{value_faults};
-ghost use Rattle.mv_parse.specs.Steps.{Narrow};
+ghost use Rattle.mv_parse.specs.Steps.{HasFewColumns};
 
 use crate::command::{command_at, is_table, keeps_table};
 use crate::known::OpenModel;
@@ -30,7 +30,7 @@ fn front_rows(lines: &[LexLine]) -> &[LexLine]
 /// The tables among the lines of a model behind its first.
 #[tactic(auto, using(mv_fault::proofs::Firsts::firsts))]
 fn tables(alloc: Global, decls: &Decls, lines: &[LexLine]) -> Result<Items<FileTable>, ParseFault>
-    requires { All (λ (l : LexLine). Narrow l) lines.now }
+    requires { All (λ (l : LexLine). HasFewColumns l) lines.now }
     ensures fault { Tells result (value_faults decls.now lines.now) }
     ensures ok { IfOk result (λ tables. tables ≡ tables_of decls.now lines.now) }
 {
@@ -53,7 +53,7 @@ pub fn end_model(
     model: OpenModel,
     lines: &[LexLine],
 ) -> Result<FileModel, ParseFault>
-    requires { All (λ (l : LexLine). Narrow l) lines.now }
+    requires { All (λ (l : LexLine). HasFewColumns l) lines.now }
     ensures fault { Tells result (value_faults model.decls lines.now) }
     ensures ok { IfOk result (λ ended. ended ≡ file_model model lines.now) }
 {

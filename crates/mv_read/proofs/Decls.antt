@@ -10,11 +10,11 @@ use Rattle.mv_design.specs.declared.design.Decl.{Decl}
 use Rattle.mv_fault.specs.declared.fault.Which.TheVariants.{Values}
 use Rattle.mv_fault.specs.declared.fault.ParseFault.TheVariants.{BadCount, Limit}
 use Rattle.mv_fault.specs.Tells.{when}
-use Rattle.mv_decl.specs.Nets.{nets_of, with_decl, with_decls}
+use Rattle.mv_fault.proofs.Nothing.{left-nothing, right-nothing, when-nothing}
+use Rattle.mv_decl.specs.Nets.{declared_of, with_decl, with_decls}
 use Rattle.mv_decl.specs.Line.{is_comma, is_count, net_faults, head_faults, head_nets, from_count, number_of, value_names, named_values, told_number, count_faults, name_faults, length_faults, redeclared_faults, commas_apart, values_from, nets_said, values_said, decls_for, decls_said, count_line_faults, decl_faults}
 use Rattle.mv_decl.proofs.Numbers.{numbers_size}
 use Rattle.mv_model.specs.Proper.{IsFileDecl}
-use Rattle.mv_read.proofs.Nothing.{left-nothing, right-nothing, when-nothing}
 use Rattle.mv_model.proofs.Decimals.{numbers-differ, numbers-lawful}
 use Rattle.mv_read.proofs.Names.{IsNames, no-names, values-named}
 
@@ -118,7 +118,7 @@ line-declares n word ds words none =
 module _ (P : Decl → Type 0) where
   All-with_decl : (ds : List Decl) (d : Decl) → All P ds → P d → All P (with_decl ds d)
   unfolding with_decl
-  All-with_decl ds d h p = cond_both (among d.net (nets_of ds)) ds (ds ++ d ∷ []) (All P) (λ y. h) (λ n. All-push P ds d h p)
+  All-with_decl ds d h p = cond_both (among d.net (declared_of ds)) ds (ds ++ d ∷ []) (All P) (λ y. h) (λ n. All-push P ds d h p)
 
   pub All-with_decls : (ds more : List Decl) → All P ds → All P more → All P (with_decls ds more)
   All-with_decls ds [] h i = h

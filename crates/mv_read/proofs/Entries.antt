@@ -12,7 +12,7 @@ use Rattle.mv_word.specs.Entries.{word_set}
 use Rattle.mv_design.specs.declared.table.Entry.TheVariants.{Set, Same}
 use Rattle.mv_design.specs.declared.design.Decl.{Decl}
 use Rattle.mv_decl.specs.Nets.{values_of}
-use Rattle.mv_table.specs.Entries.{in_said, same_at, set_entry, out_said, said_or, ins_said, outs_said}
+use Rattle.mv_table.specs.Entries.{in_said, same_at, set_entry, out_word, out_said, said_or, ins_said, outs_said}
 use Rattle.mv_model.specs.Nets.{count_of}
 use Rattle.mv_model.specs.Proper.{FitSets, FitOutput, FitOutputs}
 use Rattle.mv_read.proofs.WordSets.{SaysWithin, empty-within, word-within}
@@ -42,7 +42,7 @@ place-is name ins k e =
     let p = position-Some (same_word name) ins k [] e in
     (p.0, same_word_is name (slice_index_or ins k []) p.1)
 
-same-fits : (ds : List Decl) (ins : List (List ℕ)) (net name : List ℕ) (o : Option ℕ) → PlaceOf name ins o → FitOutput ds ins net (said_or (Set empty) (same_at ds net name o))
+same-fits : (ds : List Decl) (ins : List (List ℕ)) (net name : List ℕ) (o : Option ℕ) → PlaceOf name ins o → FitOutput ds ins net (said_or (Set empty) (same_at ds (values_of ds net) name o))
 same-fits ds ins net name None at = empty-within (count_of ds net)
 same-fits ds ins net name (Some k) at =
     cond_both (length (values_of ds name) == length (values_of ds net)) (Ok (Same k)) (Err (Equal name)) (λ r. FitOutput ds ins net (said_or (Set empty) r))
@@ -54,9 +54,9 @@ set-fits ds ins net (Ok s) h = h
 set-fits ds ins net (Err fault) h = empty-within (count_of ds net)
 
 out-fits : (ds : List Decl) (ins : List (List ℕ)) (net word : List ℕ) → FitOutput ds ins net (said_or (Set empty) (out_said ds ins net word))
-unfolding out_said in_said
+unfolding out_said out_word
 out-fits ds ins net word =
-    cond_both (begins_with 61 word) (same_at ds net (drop 1 word) (place_of (drop 1 word) ins)) (set_entry (word_set (values_of ds net) word)) (λ r. FitOutput ds ins net (said_or (Set empty) r))
+    cond_both (begins_with 61 word) (same_at ds (values_of ds net) (drop 1 word) (place_of (drop 1 word) ins)) (set_entry (word_set (values_of ds net) word)) (λ r. FitOutput ds ins net (said_or (Set empty) r))
     (λ y. same-fits ds ins net (drop 1 word) (place_of (drop 1 word) ins) (place-is (drop 1 word) ins))
     (λ n. set-fits ds ins net (word_set (values_of ds net) word) (word-within (values_of ds net) word))
 

@@ -5,7 +5,7 @@ use Rattle.std.proofs.lemmas.Bool.{cases_Bool, false_from_ne_true, or_cases}
 use Rattle.mv_base.specs.Names.{same_word, begins_with}
 use Rattle.mv_base.proofs.NameLemmas.{same_word_is}
 use Rattle.mv_lex.specs.declared.lines.LexLine.{LexLine}
-use Rattle.mv_table.specs.Tables.{is_default_word, default_words, is_default}
+use Rattle.mv_table.specs.Tables.{is_default_word, begins_default, is_default}
 use Rattle.mv_parse.specs.declared.command.Command.{Command}
 use Rattle.mv_parse.specs.declared.command.Command.TheVariants.{Model, Inputs, Outputs, Mv, Table, Default, Row, End, Unbuilt, Unknown}
 use Rattle.mv_parse.specs.Commands.{first_of, is_unbuilt, is_table_word, command_of, command_at}
@@ -19,7 +19,7 @@ word-default w y =
     (λ (e : same_word w (codes ".def") ≡ true). ap command_of (same_word_is w (codes ".def") e))
     (or_cases _ _ y)
 
-words-default : (ws : List (List ℕ)) → default_words ws ≡ true → command_of (first_of ws) ≡ Default
+words-default : (ws : List (List ℕ)) → begins_default ws ≡ true → command_of (first_of ws) ≡ Default
 words-default [] y = cc
 words-default (w ∷ ws) y = word-default w y
 
@@ -53,7 +53,7 @@ default-word w e =
     cc)
     (cases_Bool (is_default_word w))
 
-default-words : (ws : List (List ℕ)) → command_of (first_of ws) ≡ Default → default_words ws ≡ true
+default-words : (ws : List (List ℕ)) → command_of (first_of ws) ≡ Default → begins_default ws ≡ true
 unfolding command_of
 default-words [] e = cc
 default-words (w ∷ ws) e = default-word w e
@@ -67,4 +67,4 @@ differ c e f = cc
 
 pub line-row : (l : LexLine) → command_at l ≡ Row → is_default l ≡ false
 unfolding is_default
-line-row l e = false_from_ne_true (default_words l.words) (λ y. differ (command_at l) e (words-default l.words y))
+line-row l e = false_from_ne_true (begins_default l.words) (λ y. differ (command_at l) e (words-default l.words y))

@@ -10,6 +10,7 @@ use Rattle.mv_fault.specs.declared.fault.Which.TheVariants.{TableLines}
 use Rattle.mv_fault.specs.declared.fault.ParseFault.{ParseFault}
 use Rattle.mv_fault.specs.declared.fault.ParseFault.TheVariants.{Limit, Columns, Missing, Extra, DefaultTwice}
 use Rattle.mv_fault.specs.Tells.{when}
+use Rattle.mv_fault.proofs.Nothing.{left-nothing, right-nothing, when-nothing}
 use Rattle.mv_decl.specs.Nets.{with_decls}
 use Rattle.mv_decl.specs.Line.{decls_said}
 use Rattle.mv_table.specs.Columns.{outs_of}
@@ -24,7 +25,6 @@ use Rattle.mv_parse.specs.Known.{inputs_at, inputs_of, outputs_at, outputs_of, d
 use Rattle.mv_parse.specs.Grammar.{row_faults, default_faults, at_table, unread_faults, inside_faults}
 use Rattle.mv_parse.proofs.Opens.{inputs-push, outputs-push, decls-push}
 use Rattle.mv_model.specs.Proper.{IsFileDecl, IsProperModel}
-use Rattle.mv_read.proofs.Nothing.{left-nothing, right-nothing, when-nothing}
 use Rattle.mv_read.proofs.Rows.{IsEntryLine, HasColumns}
 use Rattle.mv_read.proofs.Names.{IsNames, no-names, IsNames-nil}
 use Rattle.mv_read.proofs.Decls.{line-declares, All-with_decls}

@@ -8,8 +8,8 @@ use Rattle.mv_base.specs.Names.{among, is_value_name, names_differ}
 use Rattle.mv_base.proofs.NameLemmas.{differ-push}
 use Rattle.mv_fault.specs.declared.fault.ParseFault.TheVariants.{BadName, Repeated}
 use Rattle.mv_fault.specs.Tells.{when}
+use Rattle.mv_fault.proofs.Nothing.{left-nothing, right-nothing, when-nothing}
 use Rattle.mv_decl.specs.Line.{value_faults, name_faults}
-use Rattle.mv_read.proofs.Nothing.{left-nothing, right-nothing, when-nothing}
 
 -- each passes a test of names, and no two are alike
 pub record IsNames (test : List ℕ → Bool) (ws : List (List ℕ)) : Type 0 where

@@ -7,22 +7,23 @@ use Rattle.std.proofs.lemmas.List.{append-nil}
 use Rattle.std.proofs.lemmas.List.Elements.{All-nil, All-push, All-get_or}
 use Rattle.std.proofs.lemmas.Grind.{flat_map-append}
 use Rattle.mv_lex.specs.declared.lines.LexLine.{LexLine}
+use Rattle.mv_lex.proofs.Cuts.{closed-end, closed-more, open_piece-end, open_piece-more}
 use Rattle.mv_design.specs.declared.design.FileModel.{FileModel}
 use Rattle.mv_design.specs.declared.design.Design.{Design}
 use Rattle.mv_table.specs.Tables.{behind_first}
 use Rattle.mv_fault.specs.declared.fault.ParseFault.TheVariants.{NoModel}
+use Rattle.mv_fault.proofs.Nothing.{left-nothing, right-nothing, when-nothing}
 use Rattle.mv_parse.specs.declared.command.Command.{Command}
 use Rattle.mv_parse.specs.declared.command.Command.TheVariants.{Model}
 use Rattle.mv_parse.specs.declared.known.OpenModel.{OpenModel}
 use Rattle.mv_parse.specs.declared.known.Known.{Known}
 use Rattle.mv_parse.specs.Commands.{first_word, command_at, is_end}
-use Rattle.mv_parse.specs.Known.{ended, open_part, open_model, inside_of, file_model, model_of, known}
+use Rattle.mv_parse.specs.Known.{ends_part, ended, open_part, open_model, inside_of, file_model, model_of, known}
 use Rattle.mv_parse.specs.Grammar.{model_faults, unread_faults, outside_faults, placed_faults, line_faults, behind_model, faults_at, last_faults, file_faults, faults_behind, faults_of, is_limit, design_of, IsDesign, IsWithin}
-use Rattle.mv_parse.proofs.Parts.{ended-end, ended-more, open_part-end, open_part-more}
 use Rattle.mv_parse.proofs.Knowns.{said}
 use Rattle.mv_model.specs.Nets.{no_model, root_of}
 use Rattle.mv_model.specs.Proper.{IsProperModel, IsProper}
-use Rattle.mv_read.proofs.Nothing.{left-nothing, right-nothing, when-nothing, filters-nothing}
+use Rattle.mv_read.proofs.Nothing.{filters-nothing}
 use Rattle.mv_read.proofs.Ports.{model-named}
 use Rattle.mv_read.proofs.Models.{IsOpen, IsOpen-new, IsOpen-push, IsOpen-proper}
 
@@ -88,7 +89,7 @@ Along before = IsAlong (flat_map model_of (ended before)) (open_part before)
 
 models-end : (before : List LexLine) (l : LexLine) → is_end (command_at l) ≡ true → flat_map model_of (ended (before ++ l ∷ [])) ≡ flat_map model_of (ended before) ++ model_of (open_part before)
 models-end before l y =
-    ap (flat_map model_of) (ended-end before l y)
+    ap (flat_map model_of) (closed-end ends_part before l y)
     ∙ (flat_map-append model_of (ended before) (open_part before ∷ [])
     ∙ ap (λ ms. flat_map model_of (ended before) ++ ms) (append-nil (model_of (open_part before))))
 
@@ -100,8 +101,8 @@ along-next before l h none =
     let unread : unread_faults (command_at l) (said models part) l ≡ [] = left-nothing _ (placed_faults (command_at l) (inside_of part) (behind_model part) l) none in
     let placed : placed_faults (command_at l) (inside_of part) (behind_model part) l ≡ [] = right-nothing (unread_faults (command_at l) (said models part) l) _ none in
     ⊎_elim
-    (λ (y : is_end (command_at l) ≡ true). rw (models-end before l y, open_part-end before l y) (along-end models part l h y placed))
-    (λ (n : is_end (command_at l) ≡ false). rw (ended-more before l n, open_part-more before l n) (along-more models part l h n unread placed))
+    (λ (y : is_end (command_at l) ≡ true). rw (models-end before l y, open_piece-end ends_part before l y) (along-end models part l h y placed))
+    (λ (n : is_end (command_at l) ≡ false). rw (closed-more ends_part before l n, open_piece-more ends_part before l n) (along-more models part l h n unread placed))
     (cases_Bool (is_end (command_at l)))
 
 -- at the end of the file one model has ended

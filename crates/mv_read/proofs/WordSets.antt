@@ -2,23 +2,21 @@
 use Rattle.std.proofs.Common.{◌≡◌, ℕ, zero, suc, ◌+◌, ◌-◌, ◌<◌, true, ◌==◌, List, [], ◌∷◌, ◌++◌, length, take, Option, Some, None, Result, Ok, Err, refl, sym, ◌∙◌, arith, ⊎_elim}
 use Rattle.std.specs.Prelude.{nat_le, codes, if◌then◌else◌}
 use Rattle.std.specs.List.{slice_split}
-use Rattle.std.proofs.lemmas.Bool.{false≢true, and_parts, or_cases, cond_both, eqb-true, ltb-true, lt-ltb}
+use Rattle.std.proofs.lemmas.Bool.{false≢true, and_parts, or_cases, cond_both, ltb-true, lt-ltb}
 use Rattle.mv_base.specs.Names.{same_word, place_of}
-use Rattle.mv_base.specs.Set.{has, empty, one, full, join, minus, Within}
+use Rattle.mv_base.specs.Set.{has, empty, full, join, minus, Within}
 use Rattle.mv_base.proofs.NameLemmas.{IsPlace-from_place}
-use Rattle.mv_base.proofs.Sets.{has-empty, has-one, has-full, has-join, has-minus}
+use Rattle.mv_base.proofs.Sets.{has-empty, has-full, has-join, has-minus}
 use Rattle.mv_lex.specs.Words.{is_bang, opens, front, behind}
 use Rattle.mv_word.specs.declared.fault.EntryFault.{EntryFault}
 use Rattle.mv_word.specs.declared.fault.EntryFault.TheVariants.{Equal}
+use Rattle.mv_rows.proofs.Over.{one_within}
 use Rattle.mv_word.specs.Entries.{span, span_of, parts_range, range_from, range_of, one_or, item_of, with_item, items_of, list_of, named_or, plain_of, base_of, opposite, opposites, word_set}
 
 -- ---- sets within the first values
 
 pub empty-within : (k : ℕ) → Within empty (full k)
 empty-within k v h = absurd (false≢true (sym (has-empty v) ∙ h))
-
-one-within : (v k : ℕ) → v < k → Within (one v) (full k)
-one-within v k low u h = has-full k u ∙ lt-ltb u k (let e : u ≡ v = eqb-true u v (sym (has-one v u) ∙ h) in omega arith)
 
 -- those below one that is among them, but some
 below-within : (last k s : ℕ) → last < k → Within (minus (full (last + 1)) s) (full k)
@@ -65,7 +63,7 @@ range_from-within values before (b ∷ bytes) =
 
 one_or-within : (o other : Option ℕ) (k : ℕ) → ((v : ℕ) → o ≡ Some v → v < k) → MaybeWithin k other → MaybeWithin k (one_or o other)
 one_or-within None other k low h = h
-one_or-within (Some v) other k low h = one-within v k (low v refl)
+one_or-within (Some v) other k low h = one_within v k (low v refl)
 
 item-within : (values : List (List ℕ)) (word : List ℕ) → MaybeWithin (length values) (item_of values word)
 unfolding item_of range_of
@@ -92,7 +90,7 @@ list-within values bytes = items-within values empty (slice_split (λ b. b == 44
 
 named-within : (whole : List ℕ) (o : Option ℕ) (k : ℕ) → ((v : ℕ) → o ≡ Some v → v < k) → SaysWithin k (named_or whole o)
 named-within whole None k low = tt
-named-within whole (Some v) k low = one-within v k (low v refl)
+named-within whole (Some v) k low = one_within v k (low v refl)
 
 plain-within : (values : List (List ℕ)) (whole word : List ℕ) → SaysWithin (length values) (plain_of values whole word)
 unfolding plain_of

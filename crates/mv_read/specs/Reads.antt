@@ -38,17 +38,18 @@ pub record IsUnsound (lines : List LexLine) (f : FlatFault) : Type 0 where
   pub fault : IsFault (root_of design) f
   pub cause : f ≡ NoFlatMemory → ⊥
 
--- why lines are refused: their first fault, or what is wrong with their design; for want of memory any may be
+-- why lines are refused: their first fault, or the fault of their design; for want of memory any may be
 abbrev pub IsFaultOf : List LexLine → NetFault → Type 0
 IsFaultOf lines (Parse f) = FirstFault lines f
 IsFaultOf lines (Flat f) = IsUnsound lines f
 IsFaultOf lines Memory = Unit {0}
 
--- want of memory is told alike wherever it comes
+-- how a fault of the lines is told: want of memory is told alike wherever it comes
 abbrev pub parse_refused : ParseFault → NetFault
 parse_refused NoParseMemory = Memory
 parse_refused f = Parse f
 
+-- how a fault of the design is told: want of memory is told alike wherever it comes
 abbrev pub flat_refused : FlatFault → NetFault
 flat_refused NoFlatMemory = Memory
 flat_refused f = Flat f

@@ -13,7 +13,7 @@ pub fn designs_are_proper()
 {}
 
 /// Lines that are refused, but for want of memory, say no sound design within the limits. So `network_of` is Ok exactly
-/// where they say one, if memory suffices.
+/// where lines say such a design, memory aside.
 pub fn one_answer()
     ensures { (lines : List LexLine) (f : NetFault) → IsFaultOf lines f → (f ≡ NetFault.Memory → ⊥) → HasForm lines → ⊥ }
 {}

@@ -3,8 +3,6 @@
 
 mod laws;
 mod network;
-#[cfg(test)]
-mod tests;
 
 pub use laws::{designs_are_proper, one_answer};
 pub use network::{NetFault, network_of};

@@ -167,7 +167,7 @@ parts : (count : ℕ → ℕ) (ls : List Lit) → AreLess count ls → all_possi
 parts count [] less some = tt
 parts count (l ∷ ls) less some =
     let p = and_parts (nonempty l) (list_all nonempty ls) some in
-    (record { some = eqb-false _ _ (not-true (nat_eq l.set empty) p.0); within = less.0.within; not_full = less.0.not_full }, parts count ls less.1 p.1)
+    (record { values = record { some = eqb-false _ _ (not-true (nat_eq l.set empty) p.0); within = less.0.within }; not_full = less.0.not_full }, parts count ls less.1 p.1)
 
 -- ---- the cube
 

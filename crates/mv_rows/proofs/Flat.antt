@@ -7,14 +7,17 @@ use Rattle.std.proofs.lemmas.Bool.{cases_Bool, false≢true, and_parts, and_from
 use Rattle.std.proofs.lemmas.List.{map-append, get_or_append_left, length-append}
 use Rattle.std.proofs.lemmas.List.Elements.{All-nil, All-cons, All-head, All-tail, All-append, All-weaker, All-map}
 use Rattle.std.proofs.lemmas.List.Folds.{list_all-append}
+use Rattle.std.proofs.lemmas.Option.{same_Some}
 use Rattle.mv_base.specs.Set.{has, empty, one, full, Within}
 use Rattle.mv_base.specs.declared.number.NetId.{NetId}
 use Rattle.mv_base.proofs.Sets.{has-empty, has-one, has-full}
 use Rattle.mv_cover.specs.Covers.{some_gives, some_matches, default_gives, allowed}
+use Rattle.mv_cover.specs.Lines.{IsOutput}
 use Rattle.mv_cover.specs.Absorb.{some_bare}
 use Rattle.mv_cover.specs.declared.line.Line.{Line}
 use Rattle.mv_cover.specs.declared.cover.Cover.{Cover}
 use Rattle.mv_cover.proofs.Covering.{same_number}
+use Rattle.mv_cover.proofs.Absorbing.{bare-matches, all-firsts}
 use Rattle.mv_cover.proofs.Points.{some_matches-append, some_gives-append}
 use Rattle.mv_design.specs.declared.table.Entry.{Entry}
 use Rattle.mv_design.specs.declared.table.Entry.TheVariants.{Set, Same}
@@ -26,10 +29,10 @@ use Rattle.mv_rows.specs.Tables.{row_matches, row_holds, entry_holds, entries_ho
 use Rattle.mv_rows.specs.Cubes.{values_at, in_range, CountBy}
 use Rattle.mv_rows.specs.Lines.{FitEntry}
 use Rattle.mv_rows.specs.Flat.{entry_of, IsRow, IsTable, RowsLines, has_output, kept, says_nothing, default_left, plain_default, mark_line, mark_cover, with_mark, marked_sets, unmarked, IsMarked, FlatBy, FlatOf, IsMade}
-use Rattle.mv_rows.specs.Covers.{IsOutput, IsTableLine, IsTableCover, FitOutput, FitOutputs, mark_value, MarkHas, IsFlatTable}
+use Rattle.mv_rows.specs.Covers.{IsTableLine, IsTableCover, FitOutput, FitOutputs, mark_value, MarkHas, IsFlatTable}
 use Rattle.mv_rows.proofs.Meanings.{gives-entry, matches-entry, values_length}
 use Rattle.mv_rows.proofs.Rows.{fit_marked}
-use Rattle.mv_rows.proofs.Kept.{gives-kept, matches-kept, gives-marked, matches-marked, bare-kept, bare-marked, bare-matches, all-kept, all-distinct, differ-distinct}
+use Rattle.mv_rows.proofs.Kept.{gives-kept, matches-kept, gives-marked, matches-marked, bare-kept, bare-marked, all-kept, differ-firsts}
 use Rattle.mv_rows.proofs.Over.{IsOver, RowSays, entry-over, rows-over, says_any, says_within}
 
 -- ---- a single output
@@ -228,7 +231,7 @@ bare_not ls P bare there = absurd (false≢true (sym bare ∙ bare-kept ls there
 formed_none : (count : ℕ → ℕ) (values : ℕ) (ls : List Line) → All (IsOver count (λ s. Within s (full values))) ls → IsTableCover count values (record { lines = kept ls; default = None })
 formed_none count values ls over = record {
   lines = all-kept (IsOver count (λ s. Within s (full values))) (IsTableLine count values) (keeps count values) ls over;
-  differ = differ-distinct (filter has_output ls);
+  differ = differ-firsts (filter has_output ls);
   default = λ s e. absurd (cc);
   met = λ _. refl;
 }
@@ -236,7 +239,7 @@ formed_none count values ls over = record {
 formed_some : (count : ℕ → ℕ) (values : ℕ) (ls : List Line) (s : ℕ) → All (IsOver count (λ x. Within x (full values))) ls → some_bare ls ≡ false → IsOutput values s → IsTableCover count values (record { lines = kept ls; default = Some s })
 formed_some count values ls s over bare out = record {
   lines = all-kept (IsOver count (λ x. Within x (full values))) (IsTableLine count values) (keeps count values) ls over;
-  differ = differ-distinct (filter has_output ls);
+  differ = differ-firsts (filter has_output ls);
   default = λ x e. let same : s ≡ x = cc in subst (IsOutput values) same out;
   met = λ there. bare_not ls _ bare there;
 }
@@ -251,10 +254,10 @@ formed_mark : (count : ℕ → ℕ) (cs : List Column) (rows : List Row) (ls : L
 formed_mark count cs rows ls by are bare =
     let over : All (IsOver count (λ _. Unit {0})) ls = rows-over count (λ _. Unit {0}) cs rows ls by are (λ i d low. says_any cs (entry_of (get_or rows i d).outs)) in
     record {
-      lines = all-distinct (IsTableLine count 2) (map mark_line ls)
+      lines = all-firsts (IsTableLine count 2) (map mark_line ls)
           (All-map (IsTableLine count 2) mark_line ls
           (All-weaker (IsOver count (λ _. Unit {0})) (λ (l : Line). IsTableLine count 2 (mark_line l)) (λ l o. record { cube = o.cube; parts = o.parts; out = one_output 0 (omega arith) }) ls over));
-      differ = differ-distinct (map mark_line ls);
+      differ = differ-firsts (map mark_line ls);
       default = λ x e. let same : one 1 ≡ x = cc in subst (IsOutput 2) same (one_output 1 (omega arith));
       met = λ there. absurd (false≢true (sym bare ∙ (sym (bare-marked ls) ∙ there)));
     }
@@ -298,7 +301,7 @@ flat_some cs t mark ls entry s flat table are left plain e =
 flat_marked : (cs : List Column) (t : FileTable) (mark : NetId) (ls : List Line) (entry : Entry) (flat : FlatTable) → IsTable cs t → RowsLines cs t.rows ls → IsLeft t.default ls entry → IsMarked cs mark ls entry flat → IsFlatTable cs t mark flat
 flat_marked cs t mark ls entry flat table are left is =
     let fit : FitEntry cs entry = subst (FitEntry cs) (sym left.entry) (table.default left.entries left.is).entry in
-    let cover : (m : Cover) → flat.mark ≡ Some m → m ≡ mark_cover ls = λ m e. let same : Some (mark_cover ls) ≡ Some m = sym is.mark_is ∙ e in sym (some_same same) in
+    let cover : (m : Cover) → flat.mark ≡ Some m → m ≡ mark_cover ls = λ m e. let same : Some (mark_cover ls) ≡ Some m = sym is.mark_is ∙ e in sym (same_Some (mark_cover ls) m same) in
     record {
       allows = λ at range value v. allows_marked cs t mark ls entry flat table are left fit is at range (has_mark at (mark_value t.rows (values_at at cs)) value) v;
       marks = λ m e at range v. ap (λ (c : Cover). allowed c at v) (cover m e) ∙ allows_mark cs t ls table are at range v;
@@ -312,9 +315,6 @@ flat_marked cs t mark ls entry flat table are left is =
       mark_formed = λ m e count by. subst (IsTableCover count 2) (sym (cover m e)) (formed_mark count cs t.rows ls by are left.bare);
     }
   where
-    some_same : {m n : Cover} → Some m ≡ Some n → m ≡ n
-    some_same e = cc
-
     has_mark : (of : ℕ → ℕ) (n : ℕ) → MarkHas flat.mark mark of n → of mark.0 ≡ n
     has_mark of n h = let P : Option Cover → Type 0 = λ o. MarkHas o mark of n in subst P is.mark_is h
 

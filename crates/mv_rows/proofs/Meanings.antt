@@ -9,7 +9,7 @@ use Rattle.mv_base.proofs.Sets.{has-one, has-meet}
 use Rattle.mv_cover.specs.Covers.{some_gives, some_matches}
 use Rattle.mv_cover.specs.declared.line.Line.{Line}
 use Rattle.mv_cover.proofs.Points.{some_matches-append, some_gives-append}
-use Rattle.mv_cover.proofs.Covering.{same_number}
+use Rattle.mv_cover.proofs.Covering.{regroup, same_number}
 use Rattle.mv_design.specs.declared.table.Entry.{Entry}
 use Rattle.mv_design.specs.declared.table.Entry.TheVariants.{Set, Same}
 use Rattle.mv_rows.specs.declared.column.Column.{Column}
@@ -28,17 +28,13 @@ at_front true false true m e = ap (λ x. x && true) e
 at_front true false false m e = ap (λ x. x && false) e
 at_front false b r m e = ap (λ x. x && r) e
 
-and_assoc : (a b c m : Bool) → m ≡ (b && c) → (a && m) ≡ ((a && b) && c)
-and_assoc true b c m e = e
-and_assoc false b c m e = refl
-
 matches-narrowed : (sets values : List ℕ) (k v : ℕ) → k < length sets → row_matches (narrowed sets k v) values ≡ (row_matches sets values && nat_eq (get_or values k 0) v)
 matches-narrowed [] values k v low = absurd (omega arith)
 matches-narrowed (s ∷ sets) [] zero v low = refl
 matches-narrowed (s ∷ sets) [] (suc k) v low = refl
 matches-narrowed (s ∷ sets) (x ∷ values) zero v low =
     at_front (has s x) (nat_eq x v) (row_matches sets values) (has (meet s (one v)) x) (has-meet s (one v) x ∙ ap (λ b. has s x && b) (has-one v x))
-matches-narrowed (s ∷ sets) (x ∷ values) (suc k) v low = and_assoc (has s x) (row_matches sets values) (nat_eq (get_or values k 0) v) _ (matches-narrowed sets values k v (omega arith))
+matches-narrowed (s ∷ sets) (x ∷ values) (suc k) v low = regroup (has s x) (row_matches sets values) (nat_eq (get_or values k 0) v) _ (matches-narrowed sets values k v (omega arith))
 
 -- ---- one line
 

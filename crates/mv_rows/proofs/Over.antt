@@ -61,7 +61,7 @@ pub says_any : (cs : List Column) (e : Entry) → Says (λ _. Unit {0}) cs e
 says_any cs (Set s) = tt
 says_any cs (Same k) = λ v low. tt
 
-one_within : (v n : ℕ) → v < n → Within (one v) (full n)
+pub one_within : (v n : ℕ) → v < n → Within (one v) (full n)
 one_within v n low u h = has-full n u ∙ lt-ltb u n (let e : u ≡ v = eqb-true u v (sym (has-one v u) ∙ h) in omega arith)
 
 pub says_within : (cs : List Column) (values : ℕ) (e : Entry) → FitOutput cs values e → Says (λ s. Within s (full values)) cs e

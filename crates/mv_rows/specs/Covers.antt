@@ -1,12 +1,11 @@
 -- What the covers of a table mean, and when they are well formed.
-use Rattle.std.specs.Prelude.{◌≡◌, ℕ, ◌≤◌, Bool, true, ◌&&◌, not, nat_eq, Option, Some, None, List, [], ◌∷◌, if◌then◌else◌, All}
-use Rattle.std.specs.List.{list_any}
-use Rattle.mv_base.specs.Set.{empty, full, Within}
+use Rattle.std.specs.Prelude.{◌≡◌, ℕ, ◌≤◌, true, nat_eq, Option, Some, None, List, [], ◌∷◌, if◌then◌else◌, All}
+use Rattle.mv_base.specs.Set.{full, Within}
 use Rattle.mv_base.specs.declared.number.NetId.{NetId}
 use Rattle.mv_cover.specs.Cubes.{IsCube}
 use Rattle.mv_cover.specs.Covers.{allowed}
+use Rattle.mv_cover.specs.Lines.{IsOutput, lines_differ}
 use Rattle.mv_cover.specs.Absorb.{some_bare}
-use Rattle.mv_cover.specs.Equal.{line_eq}
 use Rattle.mv_cover.specs.declared.line.Line.{Line}
 use Rattle.mv_cover.specs.declared.cover.Cover.{Cover}
 use Rattle.mv_design.specs.declared.table.Entry.{Entry}
@@ -20,21 +19,11 @@ use Rattle.mv_rows.specs.Cubes.{values_at, in_range, CountBy, AreParts}
 use Rattle.mv_rows.specs.Lines.{count_at}
 use Rattle.mv_rows.specs.Flat.{entry_of}
 
--- some of the values of a net that has this many
-pub record IsOutput (values set : ℕ) : Type 0 where
-  pub some : set ≡ empty → ⊥
-  pub within : Within set (full values)
-
 -- a line over nets with these numbers of values, whose output is some of the output net's
 pub record IsTableLine (count : ℕ → ℕ) (values : ℕ) (l : Line) : Type 0 where
   pub cube : IsCube l.cube
   pub parts : AreParts count l.cube
   pub out : IsOutput values l.out
-
--- no line is equal to a later one
-abbrev pub lines_differ : List Line → Bool
-lines_differ [] = true
-lines_differ (l ∷ ls) = not (list_any (line_eq l) ls) && lines_differ ls
 
 -- a cover over such nets: its lines are such and all different, and there is no default beside a line without literals
 pub record IsTableCover (count : ℕ → ℕ) (values : ℕ) (c : Cover) : Type 0 where
@@ -48,7 +37,7 @@ abbrev pub FitOutput : List Column → ℕ → Entry → Type 0
 FitOutput columns values (Set s) = Within s (full values)
 FitOutput columns values (Same k) = count_at columns k ≤ values
 
--- so do the entry of each row and that of the default
+-- the entry of each row, and that of the default, say values of an output net that has this many
 pub record FitOutputs (columns : List Column) (values : ℕ) (t : FileTable) : Type 0 where
   pub rows : All (λ (r : Row). FitOutput columns values (entry_of r.outs)) t.rows
   pub default : (entries : List Entry) → t.default ≡ Some entries → FitOutput columns values (entry_of entries)

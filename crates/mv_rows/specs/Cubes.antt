@@ -1,10 +1,11 @@
 -- The cube of a row: where the nets of the columns have values that the row matches.
 use Rattle.std.specs.Prelude.{◌≡◌, ℕ, ◌<◌, ◌≤◌, Bool, true, false, nat_lt, List, [], ◌∷◌, map, All}
 use Rattle.std.specs.List.{list_all}
-use Rattle.mv_base.specs.Set.{empty, full, Within}
+use Rattle.mv_base.specs.Set.{full, Within}
 use Rattle.mv_base.specs.declared.limits.TheConstants.{MAX_VALUES}
 use Rattle.mv_cover.specs.declared.cube.Lit.{Lit}
 use Rattle.mv_cover.specs.Cubes.{matches, IsCube}
+use Rattle.mv_cover.specs.Lines.{IsOutput}
 use Rattle.mv_rows.specs.declared.column.Column.{Column}
 use Rattle.mv_rows.specs.declared.column.Frame.{Frame}
 use Rattle.mv_rows.specs.Tables.{row_matches}
@@ -47,8 +48,7 @@ FitRow (c ∷ columns) (s ∷ sets) = Within s (full c.count) × FitRow columns 
 
 -- some of the values that a net of this many values has, but not all
 pub record IsPart (count set : ℕ) : Type 0 where
-  pub some : set ≡ empty → ⊥
-  pub within : Within set (full count)
+  pub values : IsOutput count set
   pub not_full : set ≡ full count → ⊥
 
 -- each literal leaves its net some of its values, but not all

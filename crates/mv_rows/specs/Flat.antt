@@ -1,10 +1,10 @@
 -- A table of one output as covers: the cover of its output, and of the mark net that the cover reads.
 use Rattle.std.specs.Prelude.{◌≡◌, ℕ, Bool, false, ◌||◌, not, nat_eq, Option, Some, None, List, [], ◌∷◌, ◌++◌, length, map, filter, if◌then◌else◌, All}
 use Rattle.std.specs.List.{list_any}
-use Rattle.indexmap.specs.IndexSet.{insert_key, insert_all}
+use Rattle.indexmap.specs.IndexSet.{insert_key}
 use Rattle.mv_base.specs.Set.{empty, one, full}
 use Rattle.mv_base.specs.declared.number.NetId.{NetId}
-use Rattle.mv_cover.specs.Absorb.{some_bare}
+use Rattle.mv_cover.specs.Absorb.{firsts, some_bare}
 use Rattle.mv_cover.specs.Equal.{line_eq}
 use Rattle.mv_cover.specs.declared.line.Line.{Line}
 use Rattle.mv_cover.specs.declared.cover.Cover.{Cover}
@@ -49,7 +49,7 @@ has_output l = not (nat_eq l.out empty)
 
 -- the lines that have an output, without those that are equal to an earlier one
 abbrev pub kept : List Line → List Line
-kept lines = insert_all line_eq [] (filter has_output lines)
+kept lines = firsts (filter has_output lines)
 
 -- the lines with one more, if it has an output and is new
 abbrev pub insert_kept : List Line → Line → List Line
@@ -74,9 +74,9 @@ plain_default (Same k) lines = None
 abbrev pub mark_line : Line → Line
 mark_line l = record { cube = l.cube; out = one 0 }
 
--- the mark's cover: 0 where some line's cube holds, and 1 elsewhere
+-- the mark's cover: 0 where some line's cube holds, each cube once, and 1 elsewhere
 abbrev pub mark_cover : List Line → Cover
-mark_cover lines = record { lines = insert_all line_eq [] (map mark_line lines); default = Some (one 1) }
+mark_cover lines = record { lines = firsts (map mark_line lines); default = Some (one 1) }
 
 -- the columns with the mark behind them
 abbrev pub with_mark : List Column → NetId → List Column

@@ -43,7 +43,8 @@ pub fn flat_table(
     made(alloc, columns, table, mark)
 }
 
-/// The covers of a table with these columns and one output, line by line. `mark` is the net of the mark, should one be needed.
+/// The covers of a table with these columns and one output, line by line. `mark` is the net of the mark, should one be
+/// needed.
 fn made(
     alloc: Global,
     columns: &[Column],
@@ -234,6 +235,7 @@ fn default_sets(alloc: Global, columns: &[Column]) -> Result<Vec<ValueSet>, Memo
 }
 
 /// The lines that have an output, without those that are equal to an earlier one.
+#[tactic(auto, using(mv_cover::proofs::Absorbing::inserted_firsts))]
 fn kept(alloc: Global, lines: Vec<Line>) -> Result<Items<Line>, Memory>
     ensures { IfOk result (λ list. list ≡ kept lines.items) }
 {

@@ -1,5 +1,5 @@
 -- Entries one after the other: what a network went through, and what a sink gained of it.
-use Rattle.std.proofs.Common.{◌≡◌, ℕ, List, [], ◌∷◌, ◌++◌, Option, Ok, Err, inl, inr, refl, sym, subst}
+use Rattle.std.proofs.Common.{◌≡◌, ◌∙◌, ℕ, List, [], ◌∷◌, ◌++◌, Option, Ok, Err, inl, inr, refl, sym, ap, subst}
 use Rattle.std.proofs.lemmas.Grind.{flat_map-append}
 use Rattle.std.proofs.lemmas.List.{map-append, append-nil}
 use Rattle.mv_base.specs.declared.outside.Failed.{Failed}
@@ -10,7 +10,7 @@ use Rattle.mv_net.specs.declared.parts.NetParts.{NetParts}
 use Rattle.mv_net.specs.Nets.{slot, name_in, literals_in}
 use Rattle.mv_net.specs.Changes.{without}
 use Rattle.mv_sweep.specs.Entries.{Entry, Begin, Remove, End, entry_line, print}
-use Rattle.mv_sweep.specs.Drops.{NoneLeft, IsFirst, Goes, Went, WentPart, IsFront, HasDropped, IsDropping, IsCutOff, begun, whole}
+use Rattle.mv_sweep.specs.Drops.{NoneLeft, IsFirst, Goes, Went, WentPart, IsFront, HasDropped, IsDropping, IsCutOff, begun}
 use Rattle.mv_sweep.specs.Search.{HasRemoved, IsRemoving}
 
 -- ---- the entries of two stretches
@@ -42,28 +42,41 @@ module _ {a b c : NetParts} {t u v : Option (List ℕ)} {xs ys : List Entry} whe
         subst P (sym (print-append xs ys)) (Gained-then t u v (print xs) (print ys) p.gained q.gained);
   }
 
-  pub WentPart-then : Went a b t u xs → WentPart b c u v ys → WentPart a c t v (xs ++ ys)
-  WentPart-then p q = record {
-    goes = Goes-append a b c xs ys p.goes q.goes;
-    gained =
-        let P : List ℕ → Type 0 = λ z. GainedPart t v z in
-        subst P (sym (print-append xs ys)) (GainedPart-then t u v (print xs) (print ys) p.gained q.gained);
-  }
+pub WentPart-then : {a b c : NetParts} {t u v : Option (List ℕ)} {xs ys : List Entry} {e : Entry} → Went a b t u xs → WentPart b c u v ys e → WentPart a c t v (xs ++ ys) e
+WentPart-then p q = record {
+  net = q.net;
+  mid = q.mid;
+  went = Went-then p q.went;
+  goes = q.goes;
+  part = q.part;
+}
 
--- a network that stays, with one entry
+-- no entry
+Went-none : (a : NetParts) (t : Option (List ℕ)) → Went a a t t []
+Went-none a t = record { goes = refl; gained = let P : List ℕ → Type 0 = λ z. Gained t t z in subst P (sym print-none) (Gained-none t) }
+
+-- one entry
 pub Went-one : (a b : NetParts) (t u : Option (List ℕ)) (e : Entry) → Goes a (e ∷ []) b → Gained t u (entry_line e) → Went a b t u (e ∷ [])
 Went-one a b t u e g h = record { goes = g; gained = let P : List ℕ → Type 0 = λ z. Gained t u z in subst P (sym (print-one e)) h }
 
-pub WentPart-one : (a b : NetParts) (t u : Option (List ℕ)) (e : Entry) → Goes a (e ∷ []) b → GainedPart t u (entry_line e) → WentPart a b t u (e ∷ [])
-WentPart-one a b t u e g h = record { goes = g; gained = let P : List ℕ → Type 0 = λ z. GainedPart t u z in subst P (sym (print-one e)) h }
+pub WentPart-one : (a b : NetParts) (t u : Option (List ℕ)) (e : Entry) → Goes a (e ∷ []) b → GainedPart t u (entry_line e) → WentPart a b t u [] e
+WentPart-one a b t u e g h = record { net = a; mid = t; went = Went-none a t; goes = g; part = h }
+
+-- all the entries in one list, and some first part of their text
+module _ {a b : NetParts} {t u : Option (List ℕ)} {xs : List Entry} {e : Entry} where
+  pub WentPart-goes : WentPart a b t u xs e → Goes a (xs ++ e ∷ []) b
+  WentPart-goes p = Goes-append a p.net b xs (e ∷ []) p.went.goes p.goes
+
+  pub WentPart-gained : WentPart a b t u xs e → GainedPart t u (print (xs ++ e ∷ []))
+  WentPart-gained p =
+      let line : print xs ++ entry_line e ≡ print (xs ++ e ∷ []) = ap (λ z. print xs ++ z) (sym (print-one e)) ∙ sym (print-append xs (e ∷ [])) in
+      let P : List ℕ → Type 0 = λ z. GainedPart t u z in
+      subst P line (GainedPart-then t p.mid u (print xs) (entry_line e) p.went.gained p.part)
 
 -- ---- nets that went
 
 pub HasRemoved-none : (a : NetParts) (t : Option (List ℕ)) → HasRemoved a a t t
-HasRemoved-none a t = record {
-  names = [];
-  went = record { goes = refl; gained = let P : List ℕ → Type 0 = λ z. Gained t t z in subst P (sym print-none) (Gained-none t) };
-}
+HasRemoved-none a t = record { names = []; went = Went-none a t }
 
 pub HasRemoved-then : (a b c : NetParts) (t u v : Option (List ℕ)) → HasRemoved a b t u → HasRemoved b c u v → HasRemoved a c t v
 HasRemoved-then a b c t u v p q = record {
@@ -76,8 +89,9 @@ HasRemoved-then a b c t u v p q = record {
 pub IsRemoving-then : (a b c : NetParts) (t u v : Option (List ℕ)) → HasRemoved a b t u → IsRemoving b c u v → IsRemoving a c t v
 IsRemoving-then a b c t u v p q = record {
   names = p.names ++ q.names;
+  last = q.last;
   went =
-      let P : List Entry → Type 0 = λ es. WentPart a c t v es in
+      let P : List Entry → Type 0 = λ es. WentPart a c t v es (Remove q.last) in
       subst P (sym (map-append Remove p.names q.names)) (WentPart-then p.went q.went);
 }
 
@@ -103,7 +117,8 @@ removed old new n name t u before now first is e p = record {
 
 pub removing : (old new : NetParts) (n : ℕ) (name : List ℕ) (t u : Option (List ℕ)) (before now : ℕ) (f : Failed) → IsFirst old n → name ≡ name_in (slot old.nets n) → new ≡ without old n → Appends t u before now (entry_line (Remove name)) (Err f) → IsRemoving old new t u
 removing old new n name t u before now f first is e p = record {
-  names = name ∷ [];
+  names = [];
+  last = name;
   went = WentPart-one old new t u (Remove name) (goes_away old new n name first is e) p.part;
 }
 
@@ -119,10 +134,22 @@ pub drop_begun : (a b : NetParts) (t u v : Option (List ℕ)) (before now : ℕ)
 drop_begun a b t u v before now p q = record { names = q.names; went = Went-then (begins a t u p.ok) q.went }
 
 pub drop_unbegun : (a : NetParts) (t u : Option (List ℕ)) (before now : ℕ) (f : Failed) → Appends t u before now (entry_line Begin) (Err f) → IsCutOff a a t u
-drop_unbegun a t u before now f p = record { entries = begun []; front = front_begun []; went = WentPart-one a a t u Begin refl p.part }
+drop_unbegun a t u before now f p = record {
+  done = [];
+  last = Begin;
+  front = front_begun [];
+  went = WentPart-one a a t u Begin refl p.part;
+}
 
 pub drop_cut : (a b : NetParts) (t u v : Option (List ℕ)) (before now : ℕ) → Appends t u before now (entry_line Begin) (Ok tt) → IsRemoving a b u v → IsCutOff a b t v
-drop_cut a b t u v before now p q = record { entries = begun q.names; front = front_begun q.names; went = WentPart-then (begins a t u p.ok) q.went }
+drop_cut a b t u v before now p q = record {
+  done = begun q.names;
+  last = Remove q.last;
+  front =
+      let entries : begun (q.names ++ q.last ∷ []) ≡ begun q.names ++ Remove q.last ∷ [] = ap (λ es. Begin ∷ es) (map-append Remove q.names (q.last ∷ [])) in
+      subst IsFront entries (front_begun (q.names ++ q.last ∷ []));
+  went = WentPart-then (begins a t u p.ok) q.went;
+}
 
 settles : (b : NetParts) (literals : ℕ) → NoneLeft b → literals ≡ literals_in b.nets → Goes b (End literals ∷ []) b
 settles b literals none e = (record { none_left = none; counted = e }, refl)
@@ -136,9 +163,16 @@ drop_ended a b t u v w literals before now mid then p q none e r = record {
 
 pub drop_end_cut : (a b : NetParts) (t u v w : Option (List ℕ)) (literals before now mid then : ℕ) (f : Failed) → Appends t u before now (entry_line Begin) (Ok tt) → HasRemoved a b u v → NoneLeft b → literals ≡ literals_in b.nets → Appends v w mid then (entry_line (End literals)) (Err f) → IsCutOff a b t w
 drop_end_cut a b t u v w literals before now mid then f p q none e r = record {
-  entries = whole q.names literals;
+  done = begun q.names;
+  last = End literals;
   front = record { names = q.names; literals = literals; is = inr refl };
-  went = WentPart-then (Went-then (begins a t u p.ok) q.went) (WentPart-one b b v w (End literals) (settles b literals none e) r.part);
+  went = record {
+    net = b;
+    mid = v;
+    went = Went-then (begins a t u p.ok) q.went;
+    goes = settles b literals none e;
+    part = r.part;
+  };
 }
 
 -- where nothing went yet

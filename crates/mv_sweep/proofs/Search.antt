@@ -1,5 +1,5 @@
 -- The search for the least net that can go.
-use Rattle.std.proofs.Common.{◌≡◌, ◌∙◌, ℕ, ◌+◌, ◌<◌, ◌≤◌, Bool, true, false, List, [], ◌∷◌, Option, Some, None, IsTrue, MatchBool, Result, Ok, Err, IfOk, is_some, set, refl, sym, ap, subst, arith, ⊎_elim, ◌⊎◌, inl, inr, length, nat_eq, eqb-true, eq-eqb}
+use Rattle.std.proofs.Common.{◌≡◌, ◌∙◌, ℕ, ◌+◌, ◌<◌, ◌≤◌, Bool, true, false, List, [], ◌∷◌, Option, Some, None, MatchBool, Result, Ok, Err, IfOk, set, refl, sym, ap, subst, arith, ⊎_elim, ◌⊎◌, inl, inr, length, nat_eq, eqb-true, eq-eqb}
 use Rattle.std.specs.Prelude.{sum_by, slice_get, min}
 use Rattle.std.proofs.lemmas.Bool.{false≢true, cases_lt, or_cases, or_left}
 use Rattle.std.proofs.lemmas.List.Sums.{sum_by-set}
@@ -7,7 +7,7 @@ use Rattle.mv_base.specs.declared.number.NetId.{NetId}
 use Rattle.mv_net.specs.declared.parts.FlatNet.{FlatNet}
 use Rattle.mv_net.specs.declared.parts.NetParts.{NetParts}
 use Rattle.mv_net.specs.Nets.{slot, net_reads}
-use Rattle.mv_net.specs.Index.{is_held, is_seen, IsAscending, has_id}
+use Rattle.mv_net.specs.Index.{is_seen, IsAscending, has_id}
 use Rattle.mv_net.specs.Changes.{without, with_nets}
 use Rattle.mv_net.specs.Total.{IsTotalNet, IsRemovable}
 use Rattle.mv_net.proofs.Named.{held_below}

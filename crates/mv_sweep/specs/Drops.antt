@@ -5,12 +5,13 @@ use Rattle.mv_net.specs.declared.parts.NetParts.{NetParts}
 use Rattle.mv_net.specs.Nets.{slot, name_in, literals_in}
 use Rattle.mv_net.specs.Changes.{without}
 use Rattle.mv_net.specs.Total.{IsRemovable}
-use Rattle.mv_sweep.specs.Entries.{Entry, Begin, Remove, End, print}
+use Rattle.mv_sweep.specs.Entries.{Entry, Begin, Remove, End, entry_line, print}
 
--- no net can go: none at all, or none below a number
+-- no net can go
 pub record NoneLeft (net : NetParts) : Type 0 where
   pub none : (n : ℕ) → IsRemovable net n → ⊥
 
+-- no net below this number can go
 pub record NoneBelow (net : NetParts) (from : ℕ) : Type 0 where
   pub none : (n : ℕ) → n < from → IsRemovable net n → ⊥
 
@@ -38,10 +39,11 @@ Goes old (Begin ∷ es) new = Goes old es new
 Goes old (Remove name ∷ es) new = (mid : NetParts) × (RemovesLeast old name mid × Goes mid es new)
 Goes old (End literals ∷ es) new = Settles old literals × Goes old es new
 
--- the entries of a `drop`: those of one that has removed these nets, and those of a whole one
+-- the entries of a `drop` that has removed these nets and has not ended
 abbrev pub begun : List (List ℕ) → List Entry
 begun names = Begin ∷ map Remove names
 
+-- the entries of a whole `drop` that has removed these nets and left these literals
 abbrev pub whole : List (List ℕ) → ℕ → List Entry
 whole names literals = begun names ++ End literals ∷ []
 
@@ -50,10 +52,14 @@ pub record Went (old new : NetParts) (told now : Option (List ℕ)) (entries : L
   pub goes : Goes old entries new
   pub gained : Gained told now (print entries)
 
--- or some first part of it
-pub record WentPart (old new : NetParts) (told now : Option (List ℕ)) (entries : List Entry) : Type 0 where
-  pub goes : Goes old entries new
-  pub gained : GainedPart told now (print entries)
+-- the network went through these entries, whose text the sink gained whole, and then one more, with some first part of
+-- its line
+pub record WentPart (old new : NetParts) (told now : Option (List ℕ)) (done : List Entry) (last : Entry) : Type 0 where
+  pub net : NetParts
+  pub mid : Option (List ℕ)
+  pub went : Went old net told mid done
+  pub goes : Goes net (last ∷ []) new
+  pub part : GainedPart mid now (entry_line last)
 
 -- some first entries of a `drop`, with its beginning
 pub record IsFront (entries : List Entry) : Type 0 where
@@ -72,8 +78,9 @@ pub record IsDropping (old new : NetParts) (told now : Option (List ℕ)) : Type
   pub names : List (List ℕ)
   pub went : Went old new told now (begun names)
 
--- one that has begun or is over, where the line of its last entry may be cut
+-- a `drop` that stopped at a line: the entries before it are written whole, and of this last one some first part
 pub record IsCutOff (old new : NetParts) (told now : Option (List ℕ)) : Type 0 where
-  pub entries : List Entry
-  pub front : IsFront entries
-  pub went : WentPart old new told now entries
+  pub done : List Entry
+  pub last : Entry
+  pub front : IsFront (done ++ last ∷ [])
+  pub went : WentPart old new told now done last

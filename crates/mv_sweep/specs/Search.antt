@@ -15,11 +15,13 @@ pub record IsFirstFrom (net : NetParts) (from n : ℕ) : Type 0 where
   pub above : from ≤ n
   pub least : (m : ℕ) → from ≤ m → m < n → IsRemovable net m → ⊥
 
--- nets of these names went, the least first, and a sink gained their lines, whole or some first part of them
+-- nets of these names went, the least first, and a sink gained their lines
 pub record HasRemoved (old new : NetParts) (told now : Option (List ℕ)) : Type 0 where
   pub names : List (List ℕ)
   pub went : Went old new told now (map Remove names)
 
+-- nets of these names went, and the sink gained their lines; then one more went, and it gained some first part of its line
 pub record IsRemoving (old new : NetParts) (told now : Option (List ℕ)) : Type 0 where
   pub names : List (List ℕ)
-  pub went : WentPart old new told now (map Remove names)
+  pub last : List ℕ
+  pub went : WentPart old new told now (map Remove names) (Remove last)

@@ -68,8 +68,9 @@ fn remove_each<E: Sink>(alloc: Global, net: &mut Network, notes: &mut E) -> Resu
 
 /// The command `drop`: takes away the least-numbered net that nobody sees or reads and whose table is total, until
 /// there is none, and puts the beginning, each net that goes and the end to the notes. What the network means stays,
-/// also where the command stops: at Note the network is without the nets whose lines were put or begun, at Memory
-/// without those whose lines were put.
+/// also where the command stops: at Memory the network is without the nets whose lines were put. At Note it is too,
+/// and where the line that failed is that of a net, also without this one: the notes have all lines before the one that
+/// failed, and some first part of it.
 pub fn remove_unread<E: Sink>(alloc: Global, net: &mut Network, notes: &mut E) -> Result<(), Stop>
     ensures ok { OnOk result (HasDropped net.old net.new (E.told notes.old) (E.told notes.new)) }
     ensures means { SameMeaning (of_net net.new) (of_net net.old) }

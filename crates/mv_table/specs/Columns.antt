@@ -16,7 +16,7 @@ is_arrow w = same_word w (codes "->")
 abbrev pub arrow_at : List (List ℕ) → ℕ
 arrow_at words = position_or_len is_arrow words
 
--- such a word stands there
+-- some word is `->`
 abbrev pub has_arrow : List (List ℕ) → Bool
 has_arrow words = nat_lt (arrow_at words) (length words)
 

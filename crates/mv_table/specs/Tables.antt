@@ -20,20 +20,20 @@ behind_first l = drop 1 l.words
 abbrev pub is_default_word : List ℕ → Bool
 is_default_word w = same_word w (codes ".default") || same_word w (codes ".def")
 
--- the words of a line whose first says so
-abbrev pub default_words : List (List ℕ) → Bool
-default_words [] = false
-default_words (w ∷ words) = is_default_word w
+-- the first of a line's words says that it is a default
+abbrev pub begins_default : List (List ℕ) → Bool
+begins_default [] = false
+begins_default (w ∷ words) = is_default_word w
 
 -- the line is a default
 unfoldable pub is_default : LexLine → Bool
-is_default l = default_words l.words
+is_default l = begins_default l.words
 
 -- a row: one entry a column, inputs first
 abbrev pub row_of : List Decl → List (List ℕ) → List (List ℕ) → List (List ℕ) → Row
 row_of ds ins outs words = record { ins = ins_said ds ins words; outs = outs_said ds ins outs (drop (length ins) words) }
 
--- the faults of its entries
+-- the faults of the entries of a row
 abbrev pub row_faults : ℕ → List Decl → List (List ℕ) → List (List ℕ) → List (List ℕ) → List ParseFault
 row_faults n ds ins outs words = ins_faults n ds ins words ++ outs_faults n ds ins outs (drop (length ins) words)
 
@@ -45,7 +45,7 @@ rows_at ds ins outs l = if is_default l then [] else row_of ds ins outs l.words 
 abbrev pub rows_of : List Decl → List (List ℕ) → List (List ℕ) → List LexLine → List Row
 rows_of ds ins outs lines = flat_map (rows_at ds ins outs) lines
 
--- its default
+-- the default of a line that is a row or a default
 abbrev pub default_at : List Decl → List (List ℕ) → List (List ℕ) → LexLine → Option (List Entry)
 default_at ds ins outs l = if is_default l then Some (outs_said ds ins outs (behind_first l)) else None
 
@@ -54,16 +54,16 @@ abbrev pub default_of : List Decl → List (List ℕ) → List (List ℕ) → Li
 default_of ds ins outs [] = None
 default_of ds ins outs (l ∷ lines) = option_or (default_of ds ins outs lines) (default_at ds ins outs l)
 
--- the faults of its values, from left to right
+-- the faults of the values of a row or a default, from left to right
 abbrev pub line_faults : List Decl → List (List ℕ) → List (List ℕ) → LexLine → List ParseFault
 line_faults ds ins outs l =
     if is_default l then outs_faults l.number ds ins outs (behind_first l) else row_faults l.number ds ins outs l.words
 
--- and of these lines, line by line
+-- the faults of the values of these lines, line by line
 abbrev pub lines_faults : List Decl → List (List ℕ) → List (List ℕ) → List LexLine → List ParseFault
 lines_faults ds ins outs lines = flat_map (line_faults ds ins outs) lines
 
--- the whole table
+-- the table that its first line says, with the rows and the default behind it
 unfoldable pub table_of : List Decl → LexLine → List LexLine → FileTable
 table_of ds head lines = record {
   line = head.number;
@@ -73,6 +73,6 @@ table_of ds head lines = record {
   default = default_of ds (ins_of (behind_first head)) (outs_of (behind_first head)) lines;
 }
 
--- the faults of its values
+-- the faults of the values of a table
 unfoldable pub table_faults : List Decl → LexLine → List LexLine → List ParseFault
 table_faults ds head lines = lines_faults ds (ins_of (behind_first head)) (outs_of (behind_first head)) lines

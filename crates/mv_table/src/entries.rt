@@ -1,8 +1,9 @@
-ghost use Rattle.std.specs.Prelude.{◌≡◌, ◌<◌, ◌^◌, Ok, length, IfOk, IfSome};
+ghost use Rattle.std.specs.Prelude.{◌≡◌, ◌<◌, ◌≤◌, ◌^◌, Ok, length, IfOk, IfSome};
+ghost use Rattle.mv_base.specs.declared.limits.TheConstants.{MAX_VALUES as most_values};
 ghost use Rattle.mv_fault.specs.Tells.{Tells};
 ghost use Rattle.mv_base.specs.Names.{place_of};
-ghost use Rattle.mv_decl.specs.Nets.{nets_of};
-ghost use Rattle.mv_table.specs.Entries.{places_of, in_said, same_at, out_said, entry_faults, ins_faults, ins_said, outs_faults, outs_said};
+ghost use Rattle.mv_word.specs.Entries.{word_set};
+ghost use Rattle.mv_table.specs.Entries.{ArePlaced, places_of, same_at, out_word, entry_faults, ins_faults, ins_said, outs_faults, outs_said};
 
 use mv_base::{Items, Memory, Name, ValueSet};
 use mv_decl::Decls;
@@ -11,8 +12,38 @@ use mv_fault::ParseFault;
 use mv_word::{EntryFault, begins_with, word_set};
 use std::alloc::Global;
 
+/// The columns of a table, each with the place at which its net is declared, which is looked up once.
+#[derive(Drop)]
+pub struct Columns<'a> {
+    pub ins: &'a [Name],
+    pub in_places: Vec<Option<usize>>,
+    pub outs: &'a [Name],
+    pub out_places: Vec<Option<usize>>,
+}
+
+impl<'a> Columns<'a> {
+    /// These columns, whose nets are looked up.
+    pub fn placed(
+        alloc: Global,
+        decls: &Decls,
+        ins: &'a [Name],
+        outs: &'a [Name],
+    ) -> Result<Columns<'a>, Memory>
+        ensures placed { IfOk result (λ columns. ArePlaced decls.now columns) }
+        ensures ins { IfOk result (λ columns. columns.ins.now ≡ ins.now) }
+        ensures outs { IfOk result (λ columns. columns.outs.now ≡ outs.now) }
+    {
+        Ok(Columns {
+            ins,
+            in_places: places(alloc, decls, ins)?,
+            outs,
+            out_places: places(alloc, decls, outs)?,
+        })
+    }
+}
+
 /// Where the nets of columns are declared.
-pub fn places(alloc: Global, decls: &Decls, nets: &[Name]) -> Result<Vec<Option<usize>>, Memory>
+fn places(alloc: Global, decls: &Decls, nets: &[Name]) -> Result<Vec<Option<usize>>, Memory>
     ensures { IfOk result (λ places. places.items ≡ places_of decls.now nets.now) }
 {
     let mut places = Vec::with_capacity(alloc, nets.len())?;
@@ -22,22 +53,18 @@ pub fn places(alloc: Global, decls: &Decls, nets: &[Name]) -> Result<Vec<Option<
     Ok(places)
 }
 
-/// What an input entry says of a net that is declared at the place. The net itself is named by the contract alone.
-#[tactic(auto, unfolding(crate::specs::Entries::in_said))]
-fn in_entry(
+/// What the word says as a set of values.
+fn entry_set(
     alloc: Global,
     number: u32,
-    decls: &Decls,
-    net: &Name,
-    place: Option<usize>,
+    values: &[Name],
     word: &[u8],
 ) -> Result<ValueSet, ParseFault>
-    requires { place ≡ place_of net.now (nets_of decls.now) }
-    ensures fault { Tells result (entry_faults number (in_said decls.now net.now word.now)) }
-    ensures ok { IfOk result (λ set. in_said decls.now net.now word.now ≡ Ok set) }
+    requires { length values.now ≤ most_values }
+    ensures fault { Tells result (entry_faults number (word_set values.now word.now)) }
+    ensures ok { IfOk result (λ set. word_set values.now word.now ≡ Ok set) }
 {
-    let _ = net;
-    match word_set(alloc, decls.values_at(place), word) {
+    match word_set(alloc, values, word) {
         Ok(set) => Ok(set),
         Err(EntryFault::Unknown(word)) => Err(ParseFault::UnknownValue { line: number, word }),
         Err(EntryFault::Equal(name)) => Err(ParseFault::BadEqual { line: number, name }),
@@ -53,95 +80,110 @@ fn place(columns: &[Name], name: &Name) -> Option<usize>
     columns.iter().position(|column| name == column)
 }
 
-/// The input column that an output entry `=x` names.
+/// The input column that an output entry `=x` names, where the columns' nets are declared at these places.
 fn same_entry(
     alloc: Global,
     number: u32,
     decls: &Decls,
     ins: &[Name],
-    net: &Name,
+    places: &[Option<usize>],
+    values: &[Name],
     name: &[u8],
 ) -> Result<Entry, ParseFault>
-    requires { length ins.now < 2 ^ 32 }
-    ensures fault { Tells result (entry_faults number (same_at decls.now net.now name.now (place_of name.now ins.now))) }
-    ensures ok { IfOk result (λ entry. same_at decls.now net.now name.now (place_of name.now ins.now) ≡ Ok entry) }
+    requires few { length ins.now < 2 ^ 32 }
+    requires places { places.now ≡ places_of decls.now ins.now }
+    ensures fault { Tells result (entry_faults number (same_at decls.now values.now name.now (place_of name.now ins.now))) }
+    ensures ok { IfOk result (λ entry. same_at decls.now values.now name.now (place_of name.now ins.now) ≡ Ok entry) }
 {
     let name = Name::new(alloc, name)?;
     let Some(place) = place(ins, &name) else {
         return Err(ParseFault::BadEqual { line: number, name });
     };
-    if decls.values_of(&name).len() != decls.values_of(net).len() {
+    if decls.values_at(places[place]).len() != values.len() {
         return Err(ParseFault::BadEqual { line: number, name });
     }
     Ok(Entry::Same(place as u32))
 }
 
-/// What an output entry says.
-#[tactic(auto, unfolding(crate::specs::Entries::out_said))]
+/// What an output entry says of a column with these values.
+#[tactic(auto, unfolding(crate::specs::Entries::out_word))]
 fn out_entry(
     alloc: Global,
     number: u32,
     decls: &Decls,
     ins: &[Name],
-    net: &Name,
+    places: &[Option<usize>],
+    values: &[Name],
     word: &[u8],
 ) -> Result<Entry, ParseFault>
-    requires { length ins.now < 2 ^ 32 }
-    ensures fault { Tells result (entry_faults number (out_said decls.now ins.now net.now word.now)) }
-    ensures ok { IfOk result (λ entry. out_said decls.now ins.now net.now word.now ≡ Ok entry) }
+    requires few { length ins.now < 2 ^ 32 }
+    requires places { places.now ≡ places_of decls.now ins.now }
+    requires within { length values.now ≤ most_values }
+    ensures fault { Tells result (entry_faults number (out_word decls.now ins.now values.now word.now)) }
+    ensures ok { IfOk result (λ entry. out_word decls.now ins.now values.now word.now ≡ Ok entry) }
 {
     if begins_with(word, b'=') {
         let (_equal, name) = word.split_at(1);
-        return same_entry(alloc, number, decls, ins, net, name);
+        return same_entry(alloc, number, decls, ins, places, values, name);
     }
-    match in_entry(alloc, number, decls, net, decls.place(net), word) {
+    match entry_set(alloc, number, values, word) {
         Ok(set) => Ok(Entry::Set(set)),
         Err(fault) => Err(fault),
     }
 }
 
-/// What the entries of input columns say, whose nets are declared at these places.
-#[tactic(auto, using(mv_fault::proofs::Firsts::firsts, crate::proofs::Ended::ends))]
+/// What the entries of input columns say.
+#[tactic(auto, using(crate::proofs::Ended::ends))]
 pub fn in_entries(
     alloc: Global,
     number: u32,
     decls: &Decls,
-    nets: &[Name],
-    places: &[Option<usize>],
+    columns: &Columns,
     words: &[Name],
 ) -> Result<Items<ValueSet>, ParseFault>
-    requires { places.now ≡ places_of decls.now nets.now }
-    ensures fault { Tells result (ins_faults number decls.now nets.now words.now) }
-    ensures ok { IfOk result (λ sets. sets ≡ ins_said decls.now nets.now words.now) }
+    requires { ArePlaced decls.now columns.now }
+    ensures fault { Tells result (ins_faults number decls.now columns.now.ins.now words.now) }
+    ensures ok { IfOk result (λ sets. sets ≡ ins_said decls.now columns.now.ins.now words.now) }
 {
-    let count = nets.len().min(words.len());
+    let count = columns.ins.len().min(words.len());
     let mut sets = Items::with_room(alloc, count)?;
     for at in 0..count {
-        let (net, word) = (&nets[at], words[at].bytes());
-        sets.push(in_entry(alloc, number, decls, net, places[at], word)?)?;
+        let (values, word) = (decls.values_at(columns.in_places[at]), words[at].bytes());
+        match entry_set(alloc, number, values, word) {
+            Ok(set) => sets.push(set)?,
+            Err(fault) => return Err(fault),
+        }
     }
     Ok(sets)
 }
 
-/// What the entries of output columns say.
-#[tactic(auto, using(mv_fault::proofs::Firsts::firsts, crate::proofs::Ended::ends))]
+/// What the entries of output columns say, where the nets of input columns and theirs are declared at these places.
+#[tactic(auto, using(crate::proofs::Ended::ends))]
 pub fn out_entries(
     alloc: Global,
     number: u32,
     decls: &Decls,
-    ins: &[Name],
-    nets: &[Name],
+    columns: &Columns,
     words: &[Name],
 ) -> Result<Items<Entry>, ParseFault>
-    requires { length ins.now < 2 ^ 32 }
-    ensures fault { Tells result (outs_faults number decls.now ins.now nets.now words.now) }
-    ensures ok { IfOk result (λ entries. entries ≡ outs_said decls.now ins.now nets.now words.now) }
+    requires few { length columns.now.ins.now < 2 ^ 32 }
+    requires placed { ArePlaced decls.now columns.now }
+    ensures fault { Tells result (outs_faults number decls.now columns.now.ins.now columns.now.outs.now words.now) }
+    ensures ok { IfOk result (λ entries. entries ≡ outs_said decls.now columns.now.ins.now columns.now.outs.now words.now) }
 {
-    let count = nets.len().min(words.len());
+    let count = columns.outs.len().min(words.len());
     let mut entries = Items::with_room(alloc, count)?;
     for at in 0..count {
-        let (net, word) = (&nets[at], words[at].bytes());
-        match out_entry(alloc, number, decls, ins, net, word) {
+        let (values, word) = (decls.values_at(columns.out_places[at]), words[at].bytes());
+        match out_entry(
+            alloc,
+            number,
+            decls,
+            columns.ins,
+            &columns.in_places,
+            values,
+            word,
+        ) {
             Ok(entry) => entries.push(entry)?,
             Err(fault) => return Err(fault),
         }

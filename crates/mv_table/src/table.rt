@@ -2,11 +2,11 @@ ghost use Rattle.std.specs.Prelude.{◌≡◌, ◌<◌, ◌^◌, ◌++◌, lengt
 ghost use Rattle.std.specs.Option.{option_or};
 ghost use Rattle.mv_fault.specs.Tells.{Tells};
 ghost use Rattle.mv_table.specs.Columns.{ins_of};
-ghost use Rattle.mv_table.specs.Entries.{places_of};
-ghost use Rattle.mv_table.specs.Tables.{behind_first, is_default_word, default_words, is_default, row_of, row_faults, rows_at, default_at, line_faults, table_of, table_faults};
+ghost use Rattle.mv_table.specs.Entries.{ArePlaced};
+ghost use Rattle.mv_table.specs.Tables.{behind_first, is_default_word, begins_default, is_default, row_of, row_faults, rows_at, default_at, line_faults, table_of, table_faults};
 
 use crate::columns::{ins, outs};
-use crate::entries::{in_entries, out_entries, places};
+use crate::entries::{Columns, in_entries, out_entries};
 use mv_base::{Items, Name};
 use mv_decl::Decls;
 use mv_design::{Entry, FileTable, Row};
@@ -34,7 +34,7 @@ pub fn is_default_word(word: &[u8]) -> bool
 
 /// Whether these are the words of a default.
 fn begins_default(words: &[Name]) -> bool
-    ensures { result ≡ default_words words.now }
+    ensures { result ≡ begins_default words.now }
 {
     match words {
         [first, ..] => is_default_word(first.bytes()),
@@ -56,19 +56,17 @@ fn row(
     alloc: Global,
     number: u32,
     decls: &Decls,
-    ins: &[Name],
-    places: &[Option<usize>],
-    outs: &[Name],
+    columns: &Columns,
     words: &[Name],
 ) -> Result<Row, ParseFault>
-    requires few { length ins.now < 2 ^ 32 }
-    requires places { places.now ≡ places_of decls.now ins.now }
-    ensures fault { Tells result (row_faults number decls.now ins.now outs.now words.now) }
-    ensures ok { IfOk result (λ row. row ≡ row_of decls.now ins.now outs.now words.now) }
+    requires few { length columns.now.ins.now < 2 ^ 32 }
+    requires placed { ArePlaced decls.now columns.now }
+    ensures fault { Tells result (row_faults number decls.now columns.now.ins.now columns.now.outs.now words.now) }
+    ensures ok { IfOk result (λ row. row ≡ row_of decls.now columns.now.ins.now columns.now.outs.now words.now) }
 {
-    let sets = in_entries(alloc, number, decls, ins, places, words)?;
-    let (_inputs, behind) = words.split_at(ins.len().min(words.len()));
-    let entries = out_entries(alloc, number, decls, ins, outs, behind)?;
+    let sets = in_entries(alloc, number, decls, columns, words)?;
+    let (_inputs, behind) = words.split_at(columns.ins.len().min(words.len()));
+    let entries = out_entries(alloc, number, decls, columns, behind)?;
     Ok(Row {
         ins: sets,
         outs: entries,
@@ -80,25 +78,23 @@ fn row(
 fn read_line(
     alloc: Global,
     decls: &Decls,
-    ins: &[Name],
-    places: &[Option<usize>],
-    outs: &[Name],
+    columns: &Columns,
     line: &LexLine,
     rows: &mut Items<Row>,
     default: &mut Option<Items<Entry>>,
 ) -> Result<(), ParseFault>
-    requires few { length ins.now < 2 ^ 32 }
-    requires places { places.now ≡ places_of decls.now ins.now }
-    ensures fault { Tells result (line_faults decls.now ins.now outs.now line.now) }
-    ensures rows { OnOk result (rows.new ≡ rows.old ++ rows_at decls.now ins.now outs.now line.now) }
-    ensures default { OnOk result (default.new ≡ option_or (default_at decls.now ins.now outs.now line.now) default.old) }
+    requires few { length columns.now.ins.now < 2 ^ 32 }
+    requires placed { ArePlaced decls.now columns.now }
+    ensures fault { Tells result (line_faults decls.now columns.now.ins.now columns.now.outs.now line.now) }
+    ensures rows { OnOk result (rows.new ≡ rows.old ++ rows_at decls.now columns.now.ins.now columns.now.outs.now line.now) }
+    ensures default { OnOk result (default.new ≡ option_or (default_at decls.now columns.now.ins.now columns.now.outs.now line.now) default.old) }
 {
     if is_default(line) {
-        let entries = out_entries(alloc, line.number, decls, ins, outs, behind_first(line))?;
+        let entries = out_entries(alloc, line.number, decls, columns, behind_first(line))?;
         *default = Some(entries);
     } else {
         let words = line.words.as_slice();
-        rows.push(row(alloc, line.number, decls, ins, places, outs, words)?)?;
+        rows.push(row(alloc, line.number, decls, columns, words)?)?;
     }
     Ok(())
 }
@@ -117,20 +113,14 @@ pub fn read_table(
 {
     let ins = ins(behind_first(head));
     let outs = outs(behind_first(head));
-    let places = places(alloc, decls, ins)?;
+    let columns = Columns::placed(alloc, decls, ins, outs)?;
     let mut rows = Items::with_room(alloc, lines.len())?;
     let mut default = None;
     for line in lines {
-        read_line(
-            alloc,
-            decls,
-            ins,
-            &places,
-            outs,
-            line,
-            &mut rows,
-            &mut default,
-        )?;
+        match read_line(alloc, decls, &columns, line, &mut rows, &mut default) {
+            Ok(()) => {}
+            Err(fault) => return Err(fault),
+        }
     }
     Ok(FileTable {
         line: head.number,

@@ -1,3 +1,5 @@
 pub mod Fronts
 pub mod Turns
 pub mod Ranges
+pub mod Saying
+pub mod LawfulNames

@@ -6,7 +6,7 @@ use Rattle.mv_word.specs.declared.fault.EntryFault.TheVariants.{Memory}
 use Rattle.mv_word.specs.Entries.{base_of, opposite, opposites, word_set}
 
 -- a fault stays however often it is turned
-opposites-err : (count n : ℕ) (f : EntryFault) → opposites count n (Err f) ≡ Err f
+pub opposites-err : (count n : ℕ) (f : EntryFault) → opposites count n (Err f) ≡ Err f
 opposites-err count zero f = refl
 opposites-err count (suc n) f = ap (opposite count) (opposites-err count n f)
 

@@ -4,6 +4,7 @@
 
 mod entry;
 mod fault;
+mod laws;
 mod list;
 mod names;
 #[cfg(test)]
@@ -11,4 +12,5 @@ mod tests;
 
 pub use entry::word_set;
 pub use fault::EntryFault;
+pub use laws::entry_laws;
 pub use names::{begins_with, is_model_name, is_net_name, is_text, is_value_name};

@@ -1,8 +1,6 @@
-ghost use Rattle.std.specs.Prelude.{◌≡◌, ◌<◌, ◌&&◌, ◌==◌, ◌||◌, not, length, nat_le, codes};
+ghost use Rattle.std.specs.Prelude.{◌≡◌, ◌<◌, ◌&&◌, ◌==◌, ◌||◌, not, length, codes};
 ghost use Rattle.std.specs.List.{list_all, list_any};
 ghost use Rattle.mv_base.specs.Names.{is_word, is_net_name, is_model_name, is_value_name, is_bracketed, is_visible, same_word, ends_with, begins_with};
-
-use mv_base::MAX_WORD_BYTES;
 
 /// Whether the word is this text.
 pub fn is_text(word: &[u8], text: &[u8]) -> bool
@@ -26,6 +24,7 @@ fn is_bracketed(word: &[u8]) -> bool
     false
 }
 
+/// Whether the word ends with the byte.
 fn ends_with(word: &[u8], byte: u8) -> bool
     ensures { result ≡ ends_with byte word.now }
 {
@@ -47,18 +46,19 @@ fn is_visible(word: &[u8]) -> bool
         .all(|byte| 33 <= *byte && *byte <= 126 && *byte != b'#')
 }
 
+/// Whether the byte stands in the word.
 fn holds(word: &[u8], byte: u8) -> bool
     ensures { result ≡ list_any (λ b. b == byte) word.now }
 {
     word.iter().any(|other| *other == byte)
 }
 
-/// Whether the word is one that a file can hold: not empty, within the limit, of visible bytes, not bracketed.
+/// Whether the word is one that a file can hold: not empty, of visible bytes, not bracketed.
 #[tactic(auto, unfolding(mv_base::specs::Names::is_word))]
 fn is_word(word: &[u8]) -> bool
     ensures { result ≡ is_word word.now }
 {
-    0 < word.len() && word.len() as u64 <= MAX_WORD_BYTES && is_visible(word) && !is_bracketed(word)
+    0 < word.len() && is_visible(word) && !is_bracketed(word)
 }
 
 /// Whether the word is a lawful name of a net.
@@ -81,6 +81,7 @@ pub fn is_model_name(word: &[u8]) -> bool
     is_net_name(word) && !holds(word, b'=')
 }
 
+/// Whether a bracket stands in the word, of either kind.
 fn has_bracket(word: &[u8]) -> bool
     ensures { result ≡ list_any (λ b. (b == 40) || (b == 41) || (b == 123) || (b == 125)) word.now }
 {

@@ -53,7 +53,7 @@ fn put_set(text: &mut Vec<u8>, set: ValueSet, count: usize) -> Result<(), Fail>
 }
 
 /// Words, and what each says.
-const WORDS: [(&[u8], &[u8]); 34] = [
+const WORDS: &[(&[u8], &[u8])] = &[
     (b"-", b"11111"),
     (b"a", b"10000"),
     (b"d", b"00001"),
@@ -94,7 +94,7 @@ const WORDS: [(&[u8], &[u8]); 34] = [
 fn words_say_sets_or_have_faults(rt: HostRuntime) -> Result<(), Fail> {
     for (word, wanted) in WORDS {
         let got = shown(rt.alloc(), word)?;
-        assert_eq!(rt; got.as_slice(), wanted);
+        assert_eq!(rt; got.as_slice(), *wanted);
     }
     Ok(())
 }

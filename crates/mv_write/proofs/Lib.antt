@@ -5,7 +5,4 @@ mod Walks
 mod Lines
 mod Parts
 mod Held
-mod Literals
-mod SampleParts
-mod SampleSets
-mod SampleNets
+pub mod Literals

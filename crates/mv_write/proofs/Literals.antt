@@ -6,10 +6,11 @@ use Rattle.mv_base.proofs.Sets.{has-empty, has-full}
 use Rattle.mv_cover.specs.declared.cube.Lit.{Lit}
 use Rattle.mv_cover.specs.declared.line.Line.{Line}
 use Rattle.mv_cover.specs.declared.cover.Cover.{Cover}
+use Rattle.mv_cover.specs.Lines.{IsOutput}
 use Rattle.mv_net.specs.declared.parts.FlatNet.{FlatNet}
 use Rattle.mv_net.specs.declared.parts.NetParts.{NetParts}
 use Rattle.mv_net.specs.Nets.{slot, values_in, table_in}
-use Rattle.mv_net.specs.Formed.{IsOutput, AllLiterals, AllLines, IsCover, WellFormed}
+use Rattle.mv_net.specs.Formed.{AllLiterals, AllLines, IsCover, WellFormed}
 use Rattle.mv_net.specs.Index.{is_held}
 use Rattle.mv_net.proofs.Known.{values_some}
 use Rattle.mv_write.specs.Walk.{first_set, behind, IsLineOver}

@@ -1,5 +1,5 @@
 -- Texts of declarations, tables and networks, piece by piece as they are written.
-use Rattle.std.proofs.Common.{◌≡◌, ◌∙◌, ℕ, ◌+◌, ◌<◌, ◌≤◌, true, false, ◌&&◌, nat_eq, IsTrue, is_some, Option, Some, None, List, [], ◌∷◌, ◌++◌, length, drop, map, codes, decimal, refl, sym, ap}
+use Rattle.std.proofs.Common.{◌≡◌, ◌∙◌, ℕ, ◌+◌, ◌<◌, ◌≤◌, false, is_some, Option, Some, None, List, [], ◌∷◌, ◌++◌, length, drop, map, codes, refl, sym, ap}
 use Rattle.std.specs.List.{flat_map}
 use Rattle.std.proofs.lemmas.Bool.{false≢true}
 use Rattle.std.proofs.lemmas.List.{append-nil, at_drop_more, at_drop_all}
@@ -11,8 +11,7 @@ use Rattle.mv_cover.specs.declared.line.Line.{Line}
 use Rattle.mv_cover.specs.declared.cover.Cover.{Cover}
 use Rattle.mv_net.specs.declared.parts.FlatNet.{FlatNet}
 use Rattle.mv_net.specs.declared.parts.NetParts.{NetParts}
-use Rattle.mv_net.specs.Nets.{slot, name_in, values_in, table_in, spelled_in}
-use Rattle.mv_net.specs.Index.{value_names_in}
+use Rattle.mv_net.specs.Nets.{slot, name_in, table_in, spelled_in}
 use Rattle.mv_write.specs.Text.{entry_word, fanins_of, line_words, default_words, cover_words, table_words, net_words, decl_words, names_of, inner_lines, net_lines, text_of}
 use Rattle.mv_write.specs.Walk.{numbers}
 

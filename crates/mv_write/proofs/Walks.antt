@@ -6,6 +6,7 @@ use Rattle.mv_base.specs.declared.number.NetId.{NetId}
 use Rattle.mv_cover.specs.declared.cube.Lit.{Lit}
 use Rattle.mv_cover.specs.Cubes.{nets_ascend}
 use Rattle.mv_cover.specs.Covers.{cube_reads}
+use Rattle.mv_cover.proofs.Meeting.{ascend_tail as lits_tail}
 use Rattle.mv_net.specs.declared.parts.FlatNet.{FlatNet}
 use Rattle.mv_net.specs.Nets.{slot, values_in, spelled_in}
 use Rattle.mv_net.proofs.Orders.{above_first, ascend_tail}
@@ -22,10 +23,6 @@ lits_above l (k ∷ ls) m up h =
     (λ (y : nat_eq k.net.0 m ≡ true). let e : k.net.0 ≡ m = eqb-true k.net.0 m y in omega arith)
     (λ (rest : cube_reads ls m ≡ true). let far : k.net.0 < m = lits_above k ls m p.1 rest in omega arith)
     (or_cases (nat_eq k.net.0 m) (cube_reads ls m) h)
-
-lits_tail : (l : Lit) (ls : List Lit) → nets_ascend (l ∷ ls) ≡ true → nets_ascend ls ≡ true
-lits_tail l [] up = refl
-lits_tail l (m ∷ ls) up = (and_parts (nat_lt l.net.0 m.net.0) (nets_ascend (m ∷ ls)) up).1
 
 -- each net of ascending literals is no lower than the first
 lits_from : (l : Lit) (ls : List Lit) (m : ℕ) → nets_ascend (l ∷ ls) ≡ true → cube_reads (l ∷ ls) m ≡ true → l.net.0 ≤ m

@@ -14,22 +14,25 @@ use Rattle.mv_net.specs.Nets.{slot, name_in, values_in, spelled_values, spelled_
 
 -- ---- entries, over the names of a net's values
 
--- the names of the values of a set, ascending
+-- the name of a value
 abbrev pub value_at : List (List ℕ) → ℕ → List ℕ
 value_at values v = slice_index_or values v []
 
+-- the names of the values of a set, ascending
 abbrev pub names_in_set : List (List ℕ) → ℕ → List (List ℕ)
 names_in_set values set = map (value_at values) (filter (λ v. has set v) (range_with_len 0 (length values)))
 
--- names with a comma before each but the first
+-- a name with a comma before it
 abbrev pub with_comma : List ℕ → List ℕ
 with_comma w = 44 ∷ w
 
+-- names with a comma before each but the first
 abbrev pub comma_joined : List (List ℕ) → List ℕ
 comma_joined [] = []
 comma_joined (w ∷ ws) = w ++ flat_map with_comma ws
 
--- one name stands for itself, and several stand in brackets
+-- one name stands for itself, and several stand in brackets. (No set of a well-formed network is without values, so none of
+-- its entries is `()`, which no file may have.)
 abbrev pub one_or_list : List (List ℕ) → List ℕ
 one_or_list [] = codes "()"
 one_or_list (w ∷ []) = w
@@ -72,10 +75,12 @@ abbrev pub cover_words : List (Option FlatNet) → List (List ℕ) → List ℕ 
 cover_words nets values name fanins c =
     head_words nets fanins name ∷ (default_words values c.default ++ map (line_words nets values fanins) c.lines)
 
+-- the lines of the table of a net, if it has one
 abbrev pub table_words : List (Option FlatNet) → Option Cover → List (List ℕ) → List ℕ → List (List (List ℕ))
 table_words nets None values name = []
 table_words nets (Some c) values name = cover_words nets values name (fanins_of (length nets) c) c
 
+-- the lines of the table of a number's net, if there is a net and it has one
 abbrev pub net_words : List (Option FlatNet) → Option FlatNet → List (List (List ℕ))
 net_words nets None = []
 net_words nets (Some f) = table_words nets f.table (spelled_values f.values f.value_names) f.name
@@ -91,6 +96,7 @@ abbrev pub decl_words : Option FlatNet → List (List (List ℕ))
 decl_words None = []
 decl_words (Some f) = if is_plain_pair f then [] else (codes ".mv" ∷ f.name ∷ decimal f.values ∷ f.value_names) ∷ []
 
+-- the names of these nets
 abbrev pub names_of : List (Option FlatNet) → List NetId → List (List ℕ)
 names_of nets ns = map (λ (n : NetId). name_in (slot nets n.0)) ns
 

@@ -7,9 +7,10 @@ use Rattle.mv_base.specs.declared.number.NetId.{NetId}
 use Rattle.mv_cover.specs.declared.cube.Lit.{Lit}
 use Rattle.mv_cover.specs.declared.line.Line.{Line}
 use Rattle.mv_cover.specs.Covers.{cube_reads}
+use Rattle.mv_cover.specs.Lines.{IsOutput}
 use Rattle.mv_net.specs.declared.parts.FlatNet.{FlatNet}
 use Rattle.mv_net.specs.Nets.{slot, values_in, spelled_in}
-use Rattle.mv_net.specs.Formed.{IsOutput, AllLiterals}
+use Rattle.mv_net.specs.Formed.{AllLiterals}
 use Rattle.mv_net.specs.Index.{has_id, ids_ascend, is_held}
 use Rattle.mv_write.specs.Text.{entry_word}
 

@@ -10,8 +10,3 @@ mod rows;
 mod tables;
 
 pub use network::write;
-
-#[cfg(test)]
-mod samples;
-#[cfg(test)]
-mod tests;

@@ -8,8 +8,8 @@ use Rattle.mv_net.specs.declared.parts.NetParts.{NetParts}
 use Rattle.mv_net.specs.Changes.{with_nets}
 use Rattle.mv_sweep.specs.Entries.{Entry, Begin, Remove, End, print}
 use Rattle.mv_sweep.specs.Drops.{Goes, IsFront, HasDropped, IsDropping, IsCutOff, begun, whole}
-use Rattle.mv_sweep.proofs.Removing.{Goes-append, print-append, front_begun}
-use Rattle.mvopt.specs.declared.script.Command.{Command}
+use Rattle.mv_sweep.proofs.Removing.{Goes-append, WentPart-goes, WentPart-gained, print-append, front_begun}
+use Rattle.mv_script.specs.declared.script.Command.{Command}
 use Rattle.mvopt.specs.Outcomes.{HasRun, HasStopped, IsNoteCut}
 use Rattle.mvopt.specs.Runs.{Part, entries_of, StopsIn}
 
@@ -66,11 +66,11 @@ HasRun-stopped commands i a b c t u v lt ran dropping = record {
 
 pub HasRun-cut : (commands : List Command) (i : ℕ) (a b c : NetParts) (t u v : Option (List ℕ)) → i < length commands → HasRun (take i commands) a b t u → IsCutOff b c u v → IsNoteCut commands a c t v
 HasRun-cut commands i a b c t u v lt ran cut = record {
-  entries = entries_of ran.parts ++ cut.entries;
-  stops = stops_in commands i a b c t u cut.entries lt ran cut.front cut.went.goes;
+  entries = entries_of ran.parts ++ (cut.done ++ cut.last ∷ []);
+  stops = stops_in commands i a b c t u (cut.done ++ cut.last ∷ []) lt ran cut.front (WentPart-goes cut.went);
   gained =
       let P : List ℕ → Type 0 = λ z. GainedPart t v z in
-      subst P (sym (print-append (entries_of ran.parts) cut.entries)) (GainedPart-then t u v _ _ ran.gained cut.went.gained);
+      subst P (sym (print-append (entries_of ran.parts) (cut.done ++ cut.last ∷ []))) (GainedPart-then t u v _ _ ran.gained (WentPart-gained cut.went));
 }
 
 -- no command makes latches

@@ -12,7 +12,8 @@ use Rattle.mv_model.specs.Meaning.{of_design}
 use Rattle.mv_read.specs.declared.network.NetFault.TheVariants.{Parse as ParseFault, Flat as FlatFault}
 use Rattle.mv_read.proofs.Refused.{refused-excludes}
 use Rattle.mv_sweep.specs.Entries.{print}
-use Rattle.mvopt.specs.declared.script.Command.{Command}
+use Rattle.mv_script.specs.declared.script.Command.{Command}
+use Rattle.mv_script.specs.Scripts.{is_script}
 use Rattle.mvopt.specs.declared.stop.FileFault.{FileFault}
 use Rattle.mvopt.specs.declared.stop.FileFault.TheVariants.{Lex, Parse, Flat}
 use Rattle.mvopt.specs.declared.stop.Stop.{Stop}
@@ -22,9 +23,8 @@ use Rattle.mvopt.specs.Faults.{Refuses, IsFaulty, TellsFault}
 use Rattle.mvopt.specs.Made.{Prepared}
 use Rattle.mvopt.specs.Outcomes.{HasWorked, HasStoppedAt, IsCut, EndsCut, EndsShort}
 use Rattle.mvopt.specs.Replaced.{Replaced}
-use Rattle.mvopt.specs.Run.{IsAccepted, IsRefused, RefusesScript, LacksFile, Tells, fault_line}
+use Rattle.mvopt.specs.Run.{IsAccepted, IsRefused, RefusesScript, LacksFile, TellsLine, fault_line}
 use Rattle.mvopt.specs.Runs.{Runs}
-use Rattle.mvopt.specs.Scripts.{is_script}
 use Rattle.mvopt.specs.Stops.{status_of, line_of, IsCause}
 use Rattle.mvopt.specs.Taken.{IsTaken, TakesScript, TakesCommands, TakesNetwork}
 use Rattle.mvopt.specs.Words.{word_at, accepts}
@@ -72,21 +72,21 @@ ends_cut words before after commands first out now notes told a b c d p t h = re
 pub cut_cause : (commands : List Command) (first : NetParts) (out now notes told : Option (List ℕ)) (a b c d : ℕ) → IsCut commands first out now notes told a b c d → Rose a b ⊎ Rose c d
 cut_cause commands first out now notes told a b c d h = ⊎_elim (λ text. inl text.0) (λ line. inr line.1) h.how
 
-Tells-later : (notes mid told : Option (List ℕ)) (c d e : ℕ) (lines line : List ℕ) → Gained notes mid lines → c ≤ d → Tells mid told d e line → Tells notes told c e (lines ++ line)
-Tells-later notes mid told c d e lines line g later t =
+TellsLine-later : (notes mid told : Option (List ℕ)) (c d e : ℕ) (lines line : List ℕ) → Gained notes mid lines → c ≤ d → TellsLine mid told d e line → TellsLine notes told c e (lines ++ line)
+TellsLine-later notes mid told c d e lines line g later t =
     ⊎_elim
     (λ (all : Gained mid told line). inl (Gained-then notes mid told lines line g all))
     (λ (part : GainedPart mid told line × Rose d e). inr (GainedPart-then notes mid told lines line g part.0, Rose-earlier c d e later part.1))
     t
 
-pub short_work : (words : List (List ℕ)) (before after : Option Held) (commands : List Command) (first : NetParts) (notes mid told : Option (List ℕ)) (c d e : ℕ) → Prepared words before after first → TakesCommands words before commands → HasStoppedAt commands first notes mid → c ≤ d → Tells mid told d e (fault_line 6) → EndsShort words before after notes told c e
+pub short_work : (words : List (List ℕ)) (before after : Option Held) (commands : List Command) (first : NetParts) (notes mid told : Option (List ℕ)) (c d e : ℕ) → Prepared words before after first → TakesCommands words before commands → HasStoppedAt commands first notes mid → c ≤ d → TellsLine mid told d e (fault_line 6) → EndsShort words before after notes told c e
 short_work words before after commands first notes mid told c d e p t h later tells = record {
   entries = h.stopped.entries;
   ran = inr (record { first = first; made = p; commands = commands; taken = t; net = h.net; stops = h.stopped.stops });
-  tells = Tells-later notes mid told c d e (print h.stopped.entries) (fault_line 6) h.stopped.gained later tells;
+  tells = TellsLine-later notes mid told c d e (print h.stopped.entries) (fault_line 6) h.stopped.gained later tells;
 }
 
-pub short_early : (words : List (List ℕ)) (before after : Option Held) (notes told : Option (List ℕ)) (c d : ℕ) (stop : Stop) → Tells notes told c d (line_of stop) → status_of stop ≡ 6 → EndsShort words before after notes told c d
+pub short_early : (words : List (List ℕ)) (before after : Option Held) (notes told : Option (List ℕ)) (c d : ℕ) (stop : Stop) → TellsLine notes told c d (line_of stop) → status_of stop ≡ 6 → EndsShort words before after notes told c d
 unfolding print
 short_early words before after notes told c d Words tells e = absurd (omega arith)
 short_early words before after notes told c d (Network f) tells e = absurd (omega arith)
@@ -198,7 +198,7 @@ status_words words held before now Read c e = absurd (omega arith)
 status_words words held before now Memory c e = absurd (omega arith)
 
 -- status 2: the fault of the network, and its line
-pub tells_fault : (words : List (List ℕ)) (held : Option Held) (before now : ℕ) (stop : Stop) (notes told : Option (List ℕ)) (c d : ℕ) → IsCause words held before now stop → Tells notes told c d (line_of stop) → status_of stop ≡ 2 → TellsFault words held notes told c d
+pub tells_fault : (words : List (List ℕ)) (held : Option Held) (before now : ℕ) (stop : Stop) (notes told : Option (List ℕ)) (c d : ℕ) → IsCause words held before now stop → TellsLine notes told c d (line_of stop) → status_of stop ≡ 2 → TellsFault words held notes told c d
 tells_fault words held before now Words notes told c d cause tells e = absurd (omega arith)
 tells_fault words held before now (Network f) notes told c d cause tells e = record { fault = f; refuses = cause; tells = tells }
 tells_fault words held before now Script notes told c d cause tells e = absurd (omega arith)
@@ -206,7 +206,7 @@ tells_fault words held before now Read notes told c d cause tells e = absurd (om
 tells_fault words held before now Memory notes told c d cause tells e = absurd (omega arith)
 
 -- every other one: its line
-pub tells_line : (stop : Stop) (notes told : Option (List ℕ)) (c d : ℕ) → Tells notes told c d (line_of stop) → (status_of stop ≡ 1) ⊎ (status_of stop ≡ 3) ⊎ (status_of stop ≡ 4) → Tells notes told c d (fault_line (status_of stop))
+pub tells_line : (stop : Stop) (notes told : Option (List ℕ)) (c d : ℕ) → TellsLine notes told c d (line_of stop) → (status_of stop ≡ 1) ⊎ (status_of stop ≡ 3) ⊎ (status_of stop ≡ 4) → TellsLine notes told c d (fault_line (status_of stop))
 tells_line Words notes told c d tells h = tells
 tells_line (Network f) notes told c d tells h = absurd (omega arith)
 tells_line Script notes told c d tells h = tells

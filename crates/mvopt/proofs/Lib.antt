@@ -1,9 +1,6 @@
 pub mod CommandRuns
 pub mod Ends
-pub mod FileReads
-pub mod LexedReads
 pub mod NetFiles
 pub mod NumberLines
-pub mod ScriptWords
 pub mod Takes
 pub mod Works

@@ -1,7 +1,7 @@
 -- Files that a run reads and judges.
-use Rattle.std.proofs.Common.{◌≡◌, ℕ, ◌+◌, ◌≤◌, true, false, List, [], ◌∷◌, ◌++◌, length, map, Option, Some, None, inl, inr, refl, sym, ◌∙◌, ap, subst, arith, ⊎_elim, length-append}
+use Rattle.std.proofs.Common.{◌≡◌, ℕ, ◌+◌, ◌≤◌, true, false, List, [], ◌++◌, length, map, Option, Some, None, inl, inr, sym, ◌∙◌, ap, subst, arith, ⊎_elim, length-append}
 use Rattle.std.specs.Prelude.{nat_eq}
-use Rattle.std.proofs.lemmas.List.{length-map}
+use Rattle.std.proofs.lemmas.List.{append-nil, length-map}
 use Rattle.std.proofs.lemmas.Bool.{and_parts, leb-true, eqb-true, false≢true}
 use Rattle.mv_base.specs.Outside.{Held, file_named}
 use Rattle.mv_base.specs.declared.limits.TheConstants.{MAX_SCRIPT_BYTES}
@@ -13,29 +13,25 @@ use Rattle.mv_model.specs.declared.fault.FlatFault.{FlatFault}
 use Rattle.mv_net.specs.declared.parts.NetParts.{NetParts}
 use Rattle.mv_parse.specs.Grammar.{FirstFault}
 use Rattle.mv_read.specs.Reads.{IsNetOf, IsUnsound}
-use Rattle.mvopt.specs.declared.script.Command.{Command}
+use Rattle.mv_script.specs.declared.script.Command.{Command}
+use Rattle.mv_script.specs.Scripts.{is_script, commands_in}
+use Rattle.mv_files.specs.FileReading.{WasRead, Read, StaySame, Stay, Lacks}
+use Rattle.mv_files.specs.LexedFiles.{WasLexed, HasFault}
 use Rattle.mvopt.specs.declared.stop.FileFault.{FileFault}
 use Rattle.mvopt.specs.declared.stop.FileFault.TheVariants.{Lex, Parse, Flat}
 use Rattle.mvopt.specs.declared.stop.Stop.{Stop}
 use Rattle.mvopt.specs.declared.stop.Stop.TheVariants.{Words, Network, Script, Read as Unread, Memory}
 use Rattle.mvopt.specs.Faults.{RefusesNetwork}
-use Rattle.mvopt.specs.FileReading.{WasRead, Read, StaySame, Stay, Lacks}
-use Rattle.mvopt.specs.LexedFiles.{WasLexed, HasFault}
 use Rattle.mvopt.specs.Made.{Prepared}
 use Rattle.mvopt.specs.Run.{IsRefused, RefusesScript, LacksOne, LacksFile}
-use Rattle.mvopt.specs.Scripts.{is_script, commands_in}
 use Rattle.mvopt.specs.Stops.{IsCause}
 use Rattle.mvopt.specs.Taken.{TakesScript, TakesCommands, TakesNetwork}
 use Rattle.mvopt.specs.Words.{word_at, accepts}
 
 -- ---- what was read is the whole content, where that is within the limit
 
-append_nothing : {A : Type 0} (xs : List A) → xs ++ [] ≡ xs
-append_nothing [] = refl
-append_nothing (x ∷ xs) = ap (λ r. x ∷ r) (append_nothing xs)
-
 some_whole : (bytes rest : List ℕ) → rest ≡ [] → bytes ++ rest ≡ bytes
-some_whole bytes rest e = ap (λ r. bytes ++ r) e ∙ append_nothing bytes
+some_whole bytes rest e = ap (λ r. bytes ++ r) e ∙ append-nil bytes
 
 whole : (before after : Held) (name : List ℕ) (limit : ℕ) (bytes : List ℕ) → WasRead before after name limit bytes → length bytes ≤ limit → file_named name before.files ≡ Some bytes
 whole before after name limit bytes r h =

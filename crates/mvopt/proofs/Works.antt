@@ -10,8 +10,8 @@ use Rattle.mv_net.specs.Allowed.{of_net}
 use Rattle.mv_net.specs.Nets.{literals_in}
 use Rattle.mv_write.specs.Text.{text_of}
 use Rattle.mv_back.specs.Back.{ReadsBack}
-use Rattle.mvopt.specs.declared.script.Command.{Command}
-use Rattle.mvopt.specs.Outcomes.{HasRun, IsNoteCut, IsEndCut, HasWorked, IsCut}
+use Rattle.mv_script.specs.declared.script.Command.{Command}
+use Rattle.mvopt.specs.Outcomes.{HasRun, IsEndCut, HasWorked, IsCut}
 use Rattle.mvopt.specs.Run.{done_line}
 
 -- ---- the end of the work

@@ -1,16 +1,17 @@
 -- When a run refuses, the other way round, and when it succeeds.
 use Rattle.std.specs.Prelude.{◌≡◌, ◌⊎◌, ℕ, true, false, Option, Some, None, List}
 use Rattle.mv_base.specs.Outside.{Held, Rose}
+use Rattle.mv_script.specs.Scripts.{is_script}
 use Rattle.mvopt.specs.Run.{IsAccepted, IsRefused}
-use Rattle.mvopt.specs.Scripts.{is_script}
 use Rattle.mvopt.specs.Taken.{IsTaken}
 use Rattle.mvopt.specs.Words.{word_at, accepts}
 
--- the files tell the named script, and it is refused; the same of the network
+-- the files tell the named script, and it is refused
 abbrev pub ScriptIsRefused : List (List ℕ) → Option Held → Type 0
 ScriptIsRefused words None = ⊥
 ScriptIsRefused words (Some held) = IsRefused (λ text. is_script text ≡ true) (word_at words 2) held
 
+-- the files tell the named network, and it is refused
 abbrev pub NetworkIsRefused : List (List ℕ) → Option Held → Type 0
 NetworkIsRefused words None = ⊥
 NetworkIsRefused words (Some held) = IsRefused IsAccepted (word_at words 1) held
@@ -39,10 +40,11 @@ pub record HoldsAll (words : List (List ℕ)) (held : Held) : Type 0 where
   pub script : IsTaken (λ text. is_script text ≡ true) (word_at words 2) held
   pub network : IsTaken IsAccepted (word_at words 1) held
 
+-- the files tell what they hold, and it is all that accepted words name
 abbrev pub IsReady : List (List ℕ) → Option Held → Type 0
 IsReady words None = ⊥
 IsReady words (Some held) = HoldsAll words held
 
--- with these, and no count of the output's and of the notes' faults risen, the work is done or memory is short
-pub record IsComplete (words : List (List ℕ)) (held : Option Held) (a b c d status : ℕ) : Type 0 where
-  pub succeeds : IsReady words held → (Rose a b → ⊥) → (Rose c d → ⊥) → (status ≡ 0) ⊎ (status ≡ 6)
+-- with such files, and no count of the output's and of the notes' faults risen, the work is done or memory is short
+pub record IsComplete (words : List (List ℕ)) (held : Option Held) (out_before out_now notes_before notes_now status : ℕ) : Type 0 where
+  pub succeeds : IsReady words held → (Rose out_before out_now → ⊥) → (Rose notes_before notes_now → ⊥) → (status ≡ 0) ⊎ (status ≡ 6)

@@ -13,7 +13,7 @@ use Rattle.mv_model.specs.Told.{flat_line}
 use Rattle.mv_read.specs.Reads.{IsUnsound}
 use Rattle.mvopt.specs.declared.stop.FileFault.{FileFault}
 use Rattle.mvopt.specs.declared.stop.FileFault.TheVariants.{Lex, Parse, Flat}
-use Rattle.mvopt.specs.Run.{Tells, number_line, numbers_line}
+use Rattle.mvopt.specs.Run.{TellsLine, number_line, numbers_line}
 use Rattle.mvopt.specs.Words.{word_at}
 
 -- the bytes have no fault, but this is the first one of their lines
@@ -21,7 +21,7 @@ pub record HasLineFault (content : List ℕ) (f : ParseFault) : Type 0 where
   pub lexed : lex_fault MAX_NETWORK_BYTES content ≡ None
   pub first : FirstFault (lines_of content) f
 
--- neither have their lines one, but the design that they say isn't sound, or has too many nets
+-- neither the bytes nor their lines have a fault, but the design that they say isn't sound, or has too many nets
 pub record HasNetFault (content : List ℕ) (f : FlatFault) : Type 0 where
   pub lexed : lex_fault MAX_NETWORK_BYTES content ≡ None
   pub unsound : IsUnsound (lines_of content) f
@@ -38,6 +38,7 @@ pub record IsFaulty (name : List ℕ) (held : Held) (fault : FileFault) : Type 0
   pub named : file_named name held.files ≡ Some content
   pub refused : Refuses content fault
 
+-- the named network is refused for this fault, where the files tell their contents
 abbrev pub RefusesNetwork : List (List ℕ) → Option Held → FileFault → Type 0
 RefusesNetwork words None fault = Unit {0}
 RefusesNetwork words (Some held) fault = IsFaulty (word_at words 1) held fault
@@ -60,4 +61,4 @@ net_line (Flat f) = flat_line f
 pub record TellsFault (words : List (List ℕ)) (held : Option Held) (notes told : Option (List ℕ)) (before now : ℕ) : Type 0 where
   pub fault : FileFault
   pub refuses : RefusesNetwork words held fault
-  pub tells : Tells notes told before now (net_line fault)
+  pub tells : TellsLine notes told before now (net_line fault)

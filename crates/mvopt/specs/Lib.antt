@@ -1,14 +1,10 @@
 pub mod Exact
 pub mod Faults
-pub mod FileReading
-pub mod LexedFiles
 pub mod Made
 pub mod Outcomes
-pub mod Pieces
 pub mod Replaced
 pub mod Run
 pub mod Runs
-pub mod Scripts
 pub mod Stops
 pub mod Taken
 pub mod Words

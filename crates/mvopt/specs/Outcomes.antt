@@ -7,9 +7,9 @@ use Rattle.mv_net.specs.Allowed.{of_net}
 use Rattle.mv_sweep.specs.Entries.{Entry, print}
 use Rattle.mv_write.specs.Text.{text_of}
 use Rattle.mv_back.specs.Back.{ReadsBack}
-use Rattle.mvopt.specs.declared.script.Command.{Command}
+use Rattle.mv_script.specs.declared.script.Command.{Command}
 use Rattle.mvopt.specs.Made.{Prepared}
-use Rattle.mvopt.specs.Run.{Tells, fault_line}
+use Rattle.mvopt.specs.Run.{TellsLine, fault_line}
 use Rattle.mvopt.specs.Runs.{Part, entries_of, Runs, StopsIn, all_notes}
 use Rattle.mvopt.specs.Taken.{TakesCommands}
 
@@ -19,26 +19,26 @@ pub record HasRun (commands : List Command) (old new : NetParts) (notes told : O
   pub runs : Runs commands old parts new
   pub gained : Gained notes told (print (entries_of parts))
 
--- they stopped, and the notes gained the entries that came
+-- the commands stopped, and the notes gained the entries that came
 pub record HasStopped (commands : List Command) (old new : NetParts) (notes told : Option (List ℕ)) : Type 0 where
   pub entries : List Entry
   pub stops : StopsIn commands old entries new
   pub gained : Gained notes told (print entries)
 
--- the same of some network that they left
+-- the commands stopped at some network, and the notes gained the entries that came
 pub record HasStoppedAt (commands : List Command) (old : NetParts) (notes told : Option (List ℕ)) : Type 0 where
   pub net : NetParts
   pub stopped : HasStopped commands old net notes told
 
--- they stopped, and the notes gained some first part of the lines of the entries that came
+-- the commands stopped, and the notes gained some first part of the lines of the entries that came
 pub record IsNoteCut (commands : List Command) (old new : NetParts) (notes told : Option (List ℕ)) : Type 0 where
   pub entries : List Entry
   pub stops : StopsIn commands old entries new
   pub gained : GainedPart notes told (print entries)
 
 -- the done line, and behind it the text, were written as far as the notes or the output failed
-pub record IsEndCut (out now notes told : Option (List ℕ)) (a b c d : ℕ) (line text : List ℕ) : Type 0 where
-  pub how : (Rose a b × (Gained notes told line × GainedPart out now text)) ⊎ ((now ≡ out) × Rose c d × GainedPart notes told line)
+pub record IsEndCut (out now notes told : Option (List ℕ)) (out_before out_now notes_before notes_now : ℕ) (line text : List ℕ) : Type 0 where
+  pub how : (Rose out_before out_now × (Gained notes told line × GainedPart out now text)) ⊎ ((now ≡ out) × Rose notes_before notes_now × GainedPart notes told line)
 
 -- the work is done: the network that was left means the same, and its text, which reads back, was written
 pub record HasWorked (commands : List Command) (first : NetParts) (out now notes told : Option (List ℕ)) : Type 0 where
@@ -66,17 +66,17 @@ pub record IsTextCut (commands : List Command) (first : NetParts) (out now notes
   pub part : GainedPart out now (text_of net)
 
 -- a write failed: one to the output, which the notes stand before, or one to the notes, which leaves the output as it was
-pub record IsCut (commands : List Command) (first : NetParts) (out now notes told : Option (List ℕ)) (a b c d : ℕ) : Type 0 where
-  pub how : (Rose a b × IsTextCut commands first out now notes told) ⊎ ((now ≡ out) × Rose c d × (IsDoneCut commands first notes told ⊎ ((net : NetParts) × IsNoteCut commands first net notes told)))
+pub record IsCut (commands : List Command) (first : NetParts) (out now notes told : Option (List ℕ)) (out_before out_now notes_before notes_now : ℕ) : Type 0 where
+  pub how : (Rose out_before out_now × IsTextCut commands first out now notes told) ⊎ ((now ≡ out) × Rose notes_before notes_now × (IsDoneCut commands first notes told ⊎ ((net : NetParts) × IsNoteCut commands first net notes told)))
 
 -- the same of a run, whose network and commands are those of the named files; the counts are those of the output's and
 -- of the notes' faults, before and after
-pub record EndsCut (words : List (List ℕ)) (before after : Option Held) (out now notes told : Option (List ℕ)) (a b c d : ℕ) : Type 0 where
+pub record EndsCut (words : List (List ℕ)) (before after : Option Held) (out now notes told : Option (List ℕ)) (out_before out_now notes_before notes_now : ℕ) : Type 0 where
   pub first : NetParts
   pub made : Prepared words before after first
   pub commands : List Command
   pub taken : TakesCommands words before commands
-  pub cut : IsCut commands first out now notes told a b c d
+  pub cut : IsCut commands first out now notes told out_before out_now notes_before notes_now
 
 -- commands of the named script stopped on the network of the named file
 pub record HasStoppedOn (words : List (List ℕ)) (before after : Option Held) (entries : List Entry) : Type 0 where
@@ -88,7 +88,7 @@ pub record HasStoppedOn (words : List (List ℕ)) (before after : Option Held) (
   pub stops : StopsIn commands first entries net
 
 -- memory ran out, before any command or within one, and the notes tell so behind the entries that came
-pub record EndsShort (words : List (List ℕ)) (before after : Option Held) (notes told : Option (List ℕ)) (c d : ℕ) : Type 0 where
+pub record EndsShort (words : List (List ℕ)) (before after : Option Held) (notes told : Option (List ℕ)) (notes_before notes_now : ℕ) : Type 0 where
   pub entries : List Entry
   pub ran : (entries ≡ []) ⊎ HasStoppedOn words before after entries
-  pub tells : Tells notes told c d (print entries ++ fault_line 6)
+  pub tells : TellsLine notes told notes_before notes_now (print entries ++ fault_line 6)

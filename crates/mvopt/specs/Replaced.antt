@@ -8,8 +8,8 @@ use Rattle.mv_model.specs.Meaning.{of_design}
 use Rattle.mv_flat.specs.Flat.{IsFlat}
 use Rattle.mv_write.specs.Text.{text_of}
 use Rattle.mv_back.specs.Back.{ReadsAs}
+use Rattle.mv_script.specs.Scripts.{is_script, commands_in}
 use Rattle.mvopt.specs.Runs.{Part, Runs, all_notes}
-use Rattle.mvopt.specs.Scripts.{is_script, commands_in}
 use Rattle.mvopt.specs.Words.{word_at}
 
 -- the network file was read to its end; the script's commands ran on its network, and the notes gained their entries and

@@ -4,7 +4,7 @@ use Rattle.mv_base.specs.Outside.{Held, file_named, Gained, GainedPart, Rose}
 use Rattle.mv_base.specs.declared.limits.TheConstants.{MAX_NETWORK_BYTES}
 use Rattle.mv_lex.specs.Lines.{lines_of, lex_fault}
 use Rattle.mv_read.specs.Reads.{HasForm}
-use Rattle.mvopt.specs.Scripts.{is_script}
+use Rattle.mv_script.specs.Scripts.{is_script}
 use Rattle.mvopt.specs.Words.{word_at}
 
 -- a network file that is accepted: its bytes have no fault, and its lines say a sound design, within the limits
@@ -30,14 +30,16 @@ pub record IsRefused (Accepts : List ℕ → Type 0) (name : List ℕ) (held : H
   pub named : file_named name held.files ≡ Some content
   pub refused : Accepts content → ⊥
 
+-- the named script is refused, where the files tell their contents
 abbrev pub RefusesScript : List (List ℕ) → Option Held → Type 0
 RefusesScript words None = Unit {0}
 RefusesScript words (Some held) = IsRefused (λ text. is_script text ≡ true) (word_at words 2) held
 
--- sound files lack one of the two that the words name
+-- the files lack one of the two that the words name
 pub record LacksOne (words : List (List ℕ)) (held : Held) : Type 0 where
   pub lacks : (file_named (word_at words 1) held.files ≡ None) ⊎ (file_named (word_at words 2) held.files ≡ None)
 
+-- sound files that tell their contents lack one of the two that the words name
 abbrev pub LacksFile : List (List ℕ) → Option Held → Type 0
 LacksFile words None = Unit {0}
 LacksFile words (Some held) = held.sound ≡ true → LacksOne words held
@@ -47,5 +49,5 @@ abbrev pub fault_line : ℕ → List ℕ
 fault_line status = if status == 1 then codes "# fault words\n" else (if status == 3 then codes "# fault script 8 NotBuilt\n" else (if status == 4 then codes "# fault read\n" else codes "# fault memory\n"))
 
 -- the notes gained the line, or some first part of it where their count of faults rose
-abbrev pub Tells : Option (List ℕ) → Option (List ℕ) → ℕ → ℕ → List ℕ → Type 0
-Tells notes told before now line = Gained notes told line ⊎ (GainedPart notes told line × Rose before now)
+abbrev pub TellsLine : Option (List ℕ) → Option (List ℕ) → ℕ → ℕ → List ℕ → Type 0
+TellsLine notes told before now line = Gained notes told line ⊎ (GainedPart notes told line × Rose before now)

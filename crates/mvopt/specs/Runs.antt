@@ -5,7 +5,7 @@ use Rattle.mv_net.specs.declared.parts.NetParts.{NetParts}
 use Rattle.mv_net.specs.Nets.{literals_in}
 use Rattle.mv_sweep.specs.Entries.{Entry, print}
 use Rattle.mv_sweep.specs.Drops.{Goes, IsFront, whole}
-use Rattle.mvopt.specs.declared.script.Command.{Command}
+use Rattle.mv_script.specs.declared.script.Command.{Command}
 use Rattle.mvopt.specs.Run.{done_line}
 
 -- what one `drop` wrote: the names of the nets that went, and the literals at its end
@@ -23,7 +23,7 @@ pub record Runs (commands : List Command) (old : NetParts) (parts : List Part) (
   pub each : length parts ≡ length commands
   pub goes : Goes old (entries_of parts) new
 
--- they stopped: some commands wrote whole parts, and the next one, if it had begun, some first entries of a part
+-- the commands stopped: some wrote whole parts, and the next one some first entries of a part, its beginning at least
 pub record StopsIn (commands : List Command) (old : NetParts) (entries : List Entry) (new : NetParts) : Type 0 where
   pub parts : List Part
   pub last : List Entry

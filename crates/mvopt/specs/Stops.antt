@@ -15,7 +15,7 @@ status_of Script = 3
 status_of Read = 4
 status_of Memory = 6
 
--- its line
+-- the line of each cause
 abbrev pub line_of : Stop → List ℕ
 line_of Words = fault_line 1
 line_of (Network fault) = net_line fault

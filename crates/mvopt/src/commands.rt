@@ -5,9 +5,9 @@ ghost use Rattle.mv_net.specs.Allowed.{of_net};
 ghost use Rattle.mv_sweep.specs.Drops.{HasDropped, IsDropping, IsCutOff};
 ghost use Rattle.mvopt.specs.Outcomes.{HasRun, HasStopped, IsNoteCut};
 
-use crate::script::Command;
 use mv_base::Sink;
 use mv_net::Network;
+use mv_script::Command;
 use mv_sweep::{Stop, remove_unread};
 use std::alloc::Global;
 

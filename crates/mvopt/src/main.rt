@@ -2,11 +2,8 @@
 #![tactic(auto)]
 
 mod commands;
-mod lines;
 mod numbers;
-mod read;
 mod run;
-mod script;
 mod stop;
 mod take;
 #[cfg(test)]

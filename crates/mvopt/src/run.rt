@@ -4,7 +4,7 @@ ghost use Rattle.mvopt.specs.Exact.{IsComplete, IsExact};
 ghost use Rattle.mvopt.specs.Outcomes.{EndsCut, EndsShort};
 ghost use Rattle.mvopt.specs.Replaced.{Replaced};
 ghost use Rattle.mvopt.specs.Faults.{TellsFault};
-ghost use Rattle.mvopt.specs.Run.{RefusesScript, LacksFile, Tells, fault_line};
+ghost use Rattle.mvopt.specs.Run.{RefusesScript, LacksFile, TellsLine, fault_line};
 ghost use Rattle.mvopt.specs.Stops.{line_of};
 ghost use Rattle.mvopt.specs.Taken.{TakesScript, TakesNetwork};
 ghost use Rattle.mvopt.specs.Words.{accepts};
@@ -17,7 +17,7 @@ use std::alloc::Global;
 
 /// Puts the line of a refusal to the notes, as far as they take it.
 fn refuse<E: Sink>(stop: &Stop, notes: &mut E)
-    ensures { Tells (E.told notes.old) (E.told notes.new) (E.faults notes.old) (E.faults notes.new) (line_of stop.now) }
+    ensures { TellsLine (E.told notes.old) (E.told notes.new) (E.faults notes.old) (E.faults notes.new) (line_of stop.now) }
 {
     match put_line(stop, notes) {
         Ok(()) => {}
@@ -30,8 +30,8 @@ fn refuse<E: Sink>(stop: &Stop, notes: &mut E)
 ///
 /// The answer is the status that a process ends with: 0 where the work is done, 1 where the words are refused, 2 the
 /// network, 3 the script, 4 where a file couldn't be read, 5 where the output or the notes couldn't be written, 6 for
-/// want of memory. What the commands do is put to `notes` as they do it, and then the line that says how it ended, for 0
-/// before `out` is begun.
+/// want of memory. What the commands do is put to `notes` as they do it, and then the line that says how it ended: for 0
+/// before `out` is begun, so that it is there too where `out` fails; 5 has no line.
 #[tactic(auto, using(crate::proofs::Ends::runs))]
 pub fn run<F: Files, O: Sink, E: Sink>(
     alloc: Global,
@@ -51,7 +51,7 @@ pub fn run<F: Files, O: Sink, E: Sink>(
     ensures cut { result ≡ 5 → EndsCut (map string_bytes words.now) (F.held files.old) (F.held files.new) (O.told out.old) (O.told out.new) (E.told notes.old) (E.told notes.new) (O.faults out.old) (O.faults out.new) (E.faults notes.old) (E.faults notes.new) }
     ensures short { result ≡ 6 → EndsShort (map string_bytes words.now) (F.held files.old) (F.held files.new) (E.told notes.old) (E.told notes.new) (E.faults notes.old) (E.faults notes.new) }
     ensures untouched { (result ≡ 0 → ⊥) → (result ≡ 5 → ⊥) → O.told out.new ≡ O.told out.old }
-    ensures noted { (result ≡ 1) ⊎ (result ≡ 3) ⊎ (result ≡ 4) → Tells (E.told notes.old) (E.told notes.new) (E.faults notes.old) (E.faults notes.new) (fault_line result) }
+    ensures noted { (result ≡ 1) ⊎ (result ≡ 3) ⊎ (result ≡ 4) → TellsLine (E.told notes.old) (E.told notes.new) (E.faults notes.old) (E.faults notes.new) (fault_line result) }
     ensures accepted { (result ≡ 1 → ⊥) → accepts (map string_bytes words.now) ≡ true }
     ensures exact { IsExact (map string_bytes words.now) (F.held files.old) result }
     ensures complete { IsComplete (map string_bytes words.now) (F.held files.old) (O.faults out.old) (O.faults out.new) (E.faults notes.old) (E.faults notes.new) result }

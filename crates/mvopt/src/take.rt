@@ -1,20 +1,19 @@
 ghost use Rattle.std.specs.Prelude.{◌≡◌, ◌≤◌, [], map, length, string_bytes, true, Err, IfOk, IfErr, OnOk};
+ghost use Rattle.mv_files.specs.FileReading.{Stay};
 ghost use Rattle.mvopt.specs.declared.stop.FileFault.{FileFault};
-ghost use Rattle.mvopt.specs.FileReading.{Stay};
 ghost use Rattle.mvopt.specs.Made.{Prepared};
 ghost use Rattle.mvopt.specs.Stops.{IsCause};
 ghost use Rattle.mvopt.specs.Taken.{TakesScript, TakesCommands};
 ghost use Rattle.mvopt.specs.Words.{accepts};
 
-use crate::lines::{LinesStop, read_lines};
-use crate::read::{ReadStop, read_file};
-use crate::script::{Command, ScriptStop, read_script};
 use crate::stop::{FileFault, Stop};
 use crate::words::{is_accepted, word_at};
 use mv_base::{Files, Items, MAX_SCRIPT_BYTES};
+use mv_files::{LinesStop, ReadStop, read_file, read_lines};
 use mv_lex::LexFault;
 use mv_net::Network;
 use mv_read::{NetFault, network_of};
+use mv_script::{Command, ScriptStop, read_script};
 use std::alloc::Global;
 
 /// Reads the script file, and gives its commands.

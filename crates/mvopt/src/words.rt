@@ -40,6 +40,7 @@ pub fn is_accepted(words: &[String]) -> bool
         && !(is_stdin(net) && is_stdin(script))
 }
 
+/// Whether the word is this text.
 fn is_text(word: &[u8], text: &[u8]) -> bool
     ensures { result ≡ same_word word.now text.now }
 {

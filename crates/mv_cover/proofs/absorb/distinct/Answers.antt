@@ -1,10 +1,12 @@
--- The set's keys, and the lines to come that are new to them.
-use Rattle.mv_cover.proofs.Absorbing.{distinct_none, distinct_more}
+-- The keys of the set are the first of each of the lines.
+use Rattle.std.proofs.Common.{◌∙◌, [], ap}
+use Rattle.std.proofs.lemmas.List.{take_all}
+use Rattle.indexmap.specs.IndexSet.{insert_all}
+use Rattle.mv_cover.specs.Equal.{line_eq}
+use Rattle.mv_cover.proofs.Absorbing.{inserted_firsts}
 use Rattle.mv_cover.proofs.absorb.distinct.Goals as goal
 
-pub loop-line-init : goal.loop-line-init
-loop-line-init c = distinct_none c.new-set.result.keys c.args.lines.now c.new-set.ensures.empty
-
-pub loop-line-preserved : goal.loop-line-preserved
-loop-line-preserved c =
-    distinct_more c.loop-line.set.keys c.insert.new.self.keys c.args.lines.now c.loop-line.line-index c.line-item.result c.in_ok-copy.field-0 c.loop-line-test.true c.line-item.is c.in_ok-copy.ensures c.in_ok-insert.ensures.keys c.loop-line.invariant
+pub returns : goal.returns
+returns c =
+    let lines = c.args.lines.now in
+    c.loop-line.invariant ∙ (ap (insert_all line_eq []) (take_all c.loop-line.line-index lines c.loop-line-test.false) ∙ inserted_firsts lines)

@@ -1,4 +1,4 @@
-use Rattle.std.proofs.Common.{◌≡◌, length}
+use Rattle.std.proofs.Common.{◌≡◌}
 use Rattle.mv_diagram.proofs.tests.a_thousand_reclaims.Given as goal
 
 abbrev pub invariant-loop-round : goal.invariant-loop-round

@@ -1,4 +1,4 @@
-use Rattle.std.proofs.Common.{◌≡◌, length}
+use Rattle.std.proofs.Common.{◌≡◌}
 use Rattle.mv_diagram.specs.Diagrams.{IsHeld}
 use Rattle.mv_diagram.proofs.tests.parity_of_forty.Given as goal
 

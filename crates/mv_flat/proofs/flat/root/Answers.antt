@@ -1,5 +1,5 @@
 -- The root is one of the models.
-use Rattle.std.proofs.Common.{◌≡◌, ◌∙◌, ◌<◌, ap, length, get_or, List, arith}
+use Rattle.std.proofs.Common.{◌∙◌, ◌<◌, ap, length, get_or, List, arith}
 use Rattle.std.proofs.lemmas.List.{get_or_default}
 use Rattle.mv_design.specs.declared.design.FileModel.{FileModel}
 use Rattle.mv_model.specs.Nets.{root_of, no_model}

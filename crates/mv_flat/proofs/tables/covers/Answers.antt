@@ -1,7 +1,5 @@
 -- The columns fit the table, also with the mark behind them.
-use Rattle.std.proofs.Common.{◌≡◌, ◌∙◌, List}
-use Rattle.mv_rows.specs.declared.column.Column.{Column}
-use Rattle.mv_flat.specs.Numbers.{columns_at}
+use Rattle.std.proofs.Common.{◌∙◌}
 use Rattle.mv_flat.proofs.Shapes.{table_columns, marked_columns, table_is}
 use Rattle.mv_flat.proofs.tables.covers.Goals as goal
 

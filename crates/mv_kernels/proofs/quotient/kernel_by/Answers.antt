@@ -1,4 +1,5 @@
--- What the quotient becomes without the symbols that all of its cubes have is the kernel below, unless no two of its cubes differ.
+-- What the quotient becomes without the symbols that all of its cubes have is the kernel below, unless no two of its cubes
+-- differ.
 use Rattle.std.proofs.Common.{◌≡◌, ◌∙◌, List, ap, sym, subst, arith}
 use Rattle.mv_cover.specs.declared.cube.Lit.{Lit}
 use Rattle.mv_kernels.specs.Symbols as spec

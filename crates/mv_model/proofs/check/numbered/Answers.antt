@@ -1,6 +1,7 @@
 -- A model whose nets have no fault and no cycle is sound.
-use Rattle.std.proofs.Common.{ap, length, arith}
+use Rattle.std.proofs.Common.{◌∙◌, ap, length, arith}
 use Rattle.std.proofs.lemmas.Result.{err_from_is_err_and}
+use Rattle.mv_base.specs.Names.{names_differ}
 use Rattle.mv_model.proofs.Soundness.{driven_once, few_nets, told_is_fault}
 use Rattle.mv_model.proofs.Distinct.{places_differ, few_places}
 use Rattle.mv_model.proofs.check.numbered.Goals as goal
@@ -25,6 +26,10 @@ check_cycles-requires-clause-few c =
 
 pub check_cycles-requires-clause-few_nets : goal.check_cycles-requires-clause-few_nets
 check_cycles-requires-clause-few_nets c = few_nets c.args.model.now c.in_ok-check_nets.ensures
+
+pub returns-clause-differ : goal.returns-clause-differ
+returns-clause-differ c =
+    ap names_differ c.in_ok-numbers.ensures ∙ places_differ c.args.model.now c.requires.proper (driven_once c.args.model.now c.in_ok-check_nets.ensures)
 
 pub returns-clause-sound : goal.returns-clause-sound
 returns-clause-sound c = record { driven = driven_once c.args.model.now c.in_ok-check_nets.ensures; acyclic = c.in_ok-check_cycles.ensures.ranked }

@@ -1,6 +1,6 @@
 -- The net's mark among those of the nets above it.
 use Rattle.std.proofs.Common.{◌∙◌, ap}
-use Rattle.mv_model.specs.Cycles.{is_marked}
+use Rattle.mv_net.specs.Seen.{is_marked}
 use Rattle.mv_model.proofs.Spared.{marks_tell}
 use Rattle.mv_model.proofs.cycle.is_turning.Goals as goal
 

@@ -1,7 +1,7 @@
 use Rattle.std.proofs.Common.{◌≡◌, false, take}
 use Rattle.std.specs.List.{list_any}
 use Rattle.mv_base.specs.declared.number.NetId.{NetId}
-use Rattle.mv_model.specs.Cycles.{is_marked}
+use Rattle.mv_net.specs.Seen.{is_marked}
 use Rattle.mv_model.proofs.suspects.some_left.Given as goal
 
 abbrev pub invariant-loop-net : goal.invariant-loop-net

@@ -1,4 +1,4 @@
-use Rattle.std.proofs.Common.{◌≡◌, ◌∷◌, [], List, ◌∙◌, ℕ, sym, ap, subst, refl}
+use Rattle.std.proofs.Common.{◌≡◌, ◌∷◌, [], List, ◌∙◌, sym, ap, subst, refl}
 use Rattle.mv_base.specs.Set.{meet}
 use Rattle.mv_design.specs.declared.table.Entry.{Entry}
 use Rattle.mv_rows.specs.Cubes.{FitRow}

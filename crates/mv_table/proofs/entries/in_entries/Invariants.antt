@@ -4,6 +4,6 @@ use Rattle.mv_table.proofs.entries.in_entries.Given as goal
 
 abbrev pub invariant-loop-at : goal.invariant-loop-at
 invariant-loop-at l = record {
-  said : l.sets ++ ins_said l.decls (drop l.at l.nets) (drop l.at l.words) ≡ ins_said l.decls l.nets l.words;
-  fault : ins_faults l.number l.decls (drop l.at l.nets) (drop l.at l.words) ≡ ins_faults l.number l.decls l.nets l.words;
+  said : l.sets ++ ins_said l.decls (drop l.at l.columns.ins.now) (drop l.at l.words) ≡ ins_said l.decls l.columns.ins.now l.words;
+  fault : ins_faults l.number l.decls (drop l.at l.columns.ins.now) (drop l.at l.words) ≡ ins_faults l.number l.decls l.columns.ins.now l.words;
 }

@@ -1,10 +1,11 @@
 -- One more net of the list, and its columns.
 use Rattle.std.proofs.Common.{◌+◌, List, length, subst, refl}
 use Rattle.std.proofs.lemmas.Option.{slice_get_read}
+use Rattle.std.proofs.lemmas.Result.{on_ok_weaker}
 use Rattle.mv_base.specs.declared.number.NetId.{NetId}
-use Rattle.mv_net.proofs.Waiting.{ok_more}
+use Rattle.mv_net.proofs.Waiting.{columns_read}
 use Rattle.mv_model.specs.Cycles.{IsWalk, HasMarked}
-use Rattle.mv_model.proofs.Walks.{columns_read, listed_below, columns_within, walk_next}
+use Rattle.mv_model.proofs.Walks.{listed_below, columns_within, walk_next}
 use Rattle.mv_model.proofs.walk.Walk.step.Goals as goal
 
 pub bounds-columns-above : goal.bounds-columns-above
@@ -20,7 +21,7 @@ returns c =
     let low = listed_below c.args.columns.now c.args.net.0 c.args.place c.args.self.now c.index-above.result.now c.requires.walk c.requires.inside c.index-above.ensures in
     let read = columns_read c.args.columns.now c.index-above.result.now.0 _ _ low c.index-columns-above.is c.as_slice.ensures in
     let P : List NetId → Type 0 = HasMarked c.args.self.now c.mark.new.self in
-    ok_more c.mark.result (P c.as_slice.result.now) (IsWalk c.args.columns.now c.args.net.0 c.mark.new.self (c.args.place + 1))
+    on_ok_weaker {P = P c.as_slice.result.now} {Q = IsWalk c.args.columns.now c.args.net.0 c.mark.new.self (c.args.place + 1)} c.mark.result
     (λ h. walk_next c.args.columns.now c.args.net.0 c.args.place c.args.self.now c.mark.new.self c.index-above.result.now c.requires.below c.requires.walk
     (slice_get_read c.args.self.now.listed.items (length c.args.self.now.listed.items) c.args.place c.index-above.result.now refl c.requires.inside c.index-above.ensures)
     (subst P read h))

@@ -1,0 +1,20 @@
+ghost use Rattle.std.specs.Prelude.{◌≡◌, ℕ, ◌<◌, List, [], ◌∷◌, ◌++◌, not, length, codes, IsTrue};
+ghost use Rattle.mv_base.specs.Names.{is_net_name};
+ghost use Rattle.mv_design.specs.declared.design.Decl.{Decl};
+ghost use Rattle.mv_decl.specs.Line.{is_digits, number_of, numbers_below, named_values, count_faults, name_faults, length_faults, redeclared_faults, nets_said, values_said, decl_faults};
+ghost use Rattle.mv_decl.specs.Plain.{IsPlainLine, SayTheSame};
+
+/// What the words behind `.mv` say, after the description of BLIF-MV by Kukimoto. Without commas they are the names of nets,
+/// the count, and names of values: the nets are those named, their values are those named, or the numbers below the count
+/// where none is, and the faults are those of the count, of the values, and of nets declared before. A comma between the
+/// names of two nets, of which the second has more than digits, may be left out, be it a word of its own or a part of one.
+pub fn line_laws()
+    ensures nets { (words nets : List (List ℕ)) (count : List ℕ) (values : List (List ℕ)) → IsPlainLine words nets count values → nets_said words ≡ nets }
+    ensures names { (words nets : List (List ℕ)) (count : List ℕ) (values : List (List ℕ)) → IsPlainLine words nets count values → 0 < length values → values_said words ≡ values }
+    ensures numbers { (words nets : List (List ℕ)) (count : List ℕ) → IsPlainLine words nets count [] → values_said words ≡ numbers_below (number_of count) }
+    ensures faults { (words nets : List (List ℕ)) (count : List ℕ) (values : List (List ℕ)) → IsPlainLine words nets count values → (n : ℕ) (word : List ℕ) (ds : List Decl) → decl_faults n word ds words ≡ count_faults n count ++ name_faults n [] values ++ length_faults n (number_of count) values ++ redeclared_faults n ds (named_values (number_of count) values) nets }
+    ensures comma { (a : List (List ℕ)) (w x : List ℕ) (b : List (List ℕ)) → IsTrue (is_net_name w) → IsTrue (is_net_name x) → IsTrue (not (is_digits x)) → SayTheSame (a ++ w ∷ codes "," ∷ x ∷ b) (a ++ w ∷ x ∷ b) }
+    ensures joined { (a : List (List ℕ)) (w x : List ℕ) (b : List (List ℕ)) → IsTrue (is_net_name w) → IsTrue (is_net_name x) → IsTrue (not (is_digits x)) → SayTheSame (a ++ (w ++ codes "," ++ x) ∷ b) (a ++ w ∷ x ∷ b) }
+    ensures at_end { (a : List (List ℕ)) (w x : List ℕ) (b : List (List ℕ)) → IsTrue (is_net_name w) → IsTrue (is_net_name x) → IsTrue (not (is_digits x)) → SayTheSame (a ++ (w ++ codes ",") ∷ x ∷ b) (a ++ w ∷ x ∷ b) }
+    ensures in_front { (a : List (List ℕ)) (w x : List ℕ) (b : List (List ℕ)) → IsTrue (is_net_name w) → IsTrue (is_net_name x) → IsTrue (not (is_digits x)) → SayTheSame (a ++ w ∷ (codes "," ++ x) ∷ b) (a ++ w ∷ x ∷ b) }
+{}

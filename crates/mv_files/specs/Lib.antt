@@ -1,0 +1,4 @@
+pub mod FileReading
+pub mod LexedFiles
+pub mod LexedPieces
+pub mod Pieces

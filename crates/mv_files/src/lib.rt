@@ -1,0 +1,10 @@
+//! Files that are read to their end: their bytes, up to a limit, or their lines, lexed while they are read.
+#![tactic(auto)]
+
+mod lines;
+mod read;
+#[cfg(test)]
+mod tests;
+
+pub use lines::{LinesStop, read_lines};
+pub use read::{ReadStop, read_file};

@@ -1,0 +1,87 @@
+ghost use Rattle.std.specs.Prelude.{◌≡◌, ◌<◌, ◌≤◌, [], length, IfOk, OnOk, IfErr};
+ghost use Rattle.mv_base.specs.declared.limits.TheConstants.{MAX_NETWORK_BYTES as most_bytes};
+ghost use Rattle.mv_lex.specs.Reading.{IsAfter};
+ghost use Rattle.mv_files.specs.FileReading.{Stay};
+ghost use Rattle.mv_files.specs.LexedFiles.{WasLexed, LinesCause};
+ghost use Rattle.mv_files.specs.LexedPieces.{FedPiece, PieceCause, FedAll, FeedCause};
+
+use crate::read::PIECE;
+use mv_base::{Files, MAX_NETWORK_BYTES};
+use mv_lex::{LexFault, Lexer, Lines};
+use std::alloc::Global;
+
+/// Why the lines of a file couldn't be read.
+#[derive(Clone, Copy, Debug, PartialEq, Eq)]
+pub enum LinesStop {
+    /// A call of the files failed.
+    Failed,
+    /// The lexer stopped: at the content's first fault, or for want of memory.
+    Lex(LexFault),
+}
+
+/// Lexes the next bytes of the current file, and answers whether there were any.
+fn feed_piece<F: Files>(
+    files: &mut F,
+    room: &mut [u8],
+    lexer: &mut Lexer,
+    lines: &mut Lines,
+) -> Result<bool, LinesStop>
+    requires { 0 < length room.old }
+    ensures fed { IfOk result (λ more. FedPiece (F.held files.old) (F.held files.new) lexer.old lexer.new lines.old lines.new more) }
+    ensures stay { Stay (F.held files.old) (F.held files.new) }
+    ensures later { F.faults files.old ≤ F.faults files.new }
+    ensures stopped { IfErr result (PieceCause (F.held files.old) (F.held files.new) (F.faults files.old) (F.faults files.new) lexer.old) }
+{
+    let count = match files.next(room) {
+        Ok(count) => count,
+        Err(_failed) => return Err(LinesStop::Failed),
+    };
+    match lexer.feed(&room[..count], lines) {
+        Ok(()) => Ok(0 < count),
+        Err(fault) => Err(LinesStop::Lex(fault)),
+    }
+}
+
+/// Lexes the current file up to its end or to its first fault.
+fn feed_all<F: Files>(files: &mut F, lexer: &mut Lexer, lines: &mut Lines) -> Result<(), LinesStop>
+    requires start { IsAfter lexer.old [] }
+    requires limit { lexer.old.limit ≡ most_bytes }
+    requires empty { lines.old ≡ [] }
+    ensures fed { OnOk result (FedAll (F.held files.old) (F.held files.new) lexer.new lines.new) }
+    ensures stay { Stay (F.held files.old) (F.held files.new) }
+    ensures later { F.faults files.old ≤ F.faults files.new }
+    ensures stopped { IfErr result (FeedCause (F.held files.old) (F.held files.new) (F.faults files.old) (F.faults files.new)) }
+{
+    let mut room = [0u8; PIECE];
+    for _turn in 0..MAX_NETWORK_BYTES + 1 {
+        match feed_piece(files, &mut room, lexer, lines) {
+            Ok(true) => {}
+            Ok(false) => return Ok(()),
+            Err(stop) => return Err(stop),
+        }
+    }
+    unreachable!()
+}
+
+/// The lines of a network file. It is lexed while it is read, and the reading stops at its first fault.
+pub fn read_lines<F: Files>(alloc: Global, files: &mut F, name: &str) -> Result<Lines, LinesStop>
+    ensures lexed { IfOk result (WasLexed (F.held files.old) (F.held files.new) name.now) }
+    ensures stay { Stay (F.held files.old) (F.held files.new) }
+    ensures later { F.faults files.old ≤ F.faults files.new }
+    ensures stopped { IfErr result (LinesCause (F.held files.old) name.now (F.faults files.old) (F.faults files.new)) }
+{
+    match files.start(name) {
+        Ok(()) => {}
+        Err(_failed) => return Err(LinesStop::Failed),
+    }
+    let mut lines = Lines::new(alloc);
+    let mut lexer = Lexer::new(alloc, MAX_NETWORK_BYTES);
+    match feed_all(files, &mut lexer, &mut lines) {
+        Ok(()) => {}
+        Err(stop) => return Err(stop),
+    }
+    match lexer.finish(&mut lines) {
+        Ok(()) => Ok(lines),
+        Err(fault) => Err(LinesStop::Lex(fault)),
+    }
+}

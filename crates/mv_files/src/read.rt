@@ -1,0 +1,109 @@
+ghost use Rattle.std.specs.Prelude.{◌≡◌, ◌+◌, ◌<◌, ◌≤◌, ◌^◌, [], Err, length, IfOk, OnOk};
+ghost use Rattle.mv_base.specs.Outside.{Rose};
+ghost use Rattle.mv_files.specs.FileReading.{Read, Stay, Lacks};
+ghost use Rattle.mv_files.specs.Pieces.{GotPiece, ReadOn, Unsound};
+ghost use Rattle.mv_files.specs.declared.read.ReadStop.TheVariants.{Failed as failed_reading, Memory as short_of_memory};
+
+use mv_base::{Failed, Files};
+use std::alloc::{AllocError, Global};
+
+/// How many bytes are asked for at once.
+pub const PIECE: usize = 4_096;
+
+/// Why a file couldn't be read.
+#[derive(Clone, Copy, Debug, PartialEq, Eq)]
+pub enum ReadStop {
+    /// A call of the files failed.
+    Failed,
+    /// Want of memory, which says nothing of the file.
+    Memory,
+}
+
+impl From<Failed> for ReadStop {
+    ghost from_gives = { λ _ e. e ≡ failed_reading };
+
+    fn from(_error: Failed) -> ReadStop {
+        ReadStop::Failed
+    }
+}
+
+impl From<AllocError> for ReadStop {
+    ghost from_gives = { λ _ e. e ≡ short_of_memory };
+
+    fn from(_error: AllocError) -> ReadStop {
+        ReadStop::Memory
+    }
+}
+
+/// Puts the next bytes of the file behind those read, and answers whether there were any.
+fn read_piece<F: Files>(
+    files: &mut F,
+    room: &mut [u8],
+    bytes: &mut Vec<u8>,
+) -> Result<bool, ReadStop>
+    requires { 0 < length room.old }
+    ensures got { IfOk result (λ more. GotPiece (F.held files.old) (F.held files.new) bytes.old.items bytes.new.items (length room.old) more) }
+    ensures stay { Stay (F.held files.old) (F.held files.new) }
+    ensures later { F.faults files.old ≤ F.faults files.new }
+    ensures failed { result ≡ Err ReadStop.Failed → Rose (F.faults files.old) (F.faults files.new) }
+    ensures unsound { result ≡ Err ReadStop.Failed → Unsound (F.held files.old) }
+{
+    let count = match files.next(room) {
+        Ok(count) => count,
+        Err(_failed) => return Err(ReadStop::Failed),
+    };
+    match bytes.extend_from_slice(&room[..count]) {
+        Ok(()) => Ok(0 < count),
+        Err(_error) => Err(ReadStop::Memory),
+    }
+}
+
+/// Reads the current file to its end, or to the first byte past the limit.
+fn read_on<F: Files>(files: &mut F, bytes: &mut Vec<u8>, limit: u64) -> Result<(), ReadStop>
+    requires small { limit < 2 ^ 32 }
+    requires empty { bytes.old.items ≡ [] }
+    ensures ok { OnOk result (ReadOn (F.held files.old) (F.held files.new) limit bytes.new.items) }
+    ensures stay { Stay (F.held files.old) (F.held files.new) }
+    ensures later { F.faults files.old ≤ F.faults files.new }
+    ensures failed { result ≡ Err ReadStop.Failed → Rose (F.faults files.old) (F.faults files.new) }
+    ensures unsound { result ≡ Err ReadStop.Failed → Unsound (F.held files.old) }
+{
+    let mut room = [0u8; PIECE];
+    for _turn in 0..limit + 1 {
+        let left = limit as usize + 1 - bytes.len();
+        if left == 0 {
+            return Ok(());
+        }
+        match read_piece(files, &mut room[..left.min(PIECE)], bytes) {
+            Ok(true) => {}
+            Ok(false) => return Ok(()),
+            Err(stop) => return Err(stop),
+        }
+    }
+    Ok(())
+}
+
+/// The bytes of the named file: all of them, or those up to the first one past the limit.
+pub fn read_file<F: Files>(
+    alloc: Global,
+    files: &mut F,
+    name: &str,
+    limit: u64,
+) -> Result<Vec<u8>, ReadStop>
+    requires { limit < 2 ^ 32 }
+    ensures read { IfOk result (λ bytes. Read (F.held files.old) (F.held files.new) name.now limit bytes.items) }
+    ensures stay { Stay (F.held files.old) (F.held files.new) }
+    ensures later { F.faults files.old ≤ F.faults files.new }
+    ensures failed { result ≡ Err ReadStop.Failed → Rose (F.faults files.old) (F.faults files.new) }
+    ensures lacks { result ≡ Err ReadStop.Failed → Lacks (F.held files.old) name.now }
+{
+    match files.start(name) {
+        Ok(()) => {}
+        Err(_failed) => return Err(ReadStop::Failed),
+    }
+    let mut bytes = Vec::new(alloc);
+    match read_on(files, &mut bytes, limit) {
+        Ok(()) => Ok(bytes),
+        Err(stop) => Err(stop),
+    }
+}
