@@ -2,8 +2,9 @@
 use Rattle.std.proofs.Common.{◌≡◌, ℕ, suc, zero, ◌<◌, ◌≤◌, true, false, List, [], ◌∷◌, ◌++◌, length, Option, Some, None, Ok, Err, refl, sym, subst, ◌∙◌, ⊎_elim, arith}
 use Rattle.std.specs.List.{slice_get, AllByRecursion}
 use Rattle.std.specs.Option.{option_map, IfSome}
-use Rattle.std.specs.Prelude.{Result, OnOk, OnErr}
+use Rattle.std.specs.Prelude.{Result, OnOk, OnErr, All}
 use Rattle.std.proofs.lemmas.Bool.{cases_Bool, cond-true, cond-false}
+use Rattle.std.proofs.lemmas.List.Elements.{All-head, All-tail}
 use Rattle.mv_base.specs.Names.{same_word, place_of}
 use Rattle.mv_base.proofs.NameLemmas.{place_of-cons}
 use Rattle.mv_base.specs.declared.limits.TheConstants.{MAX_VALUES}
@@ -113,3 +114,8 @@ place_taken ds net k e none = let f = found ds net k e in let both : Some f.decl
 pub counts_after : (result : Result (Unit {0}) Memory) (old new : List Decl) (d : Decl) → OnOk result (new ≡ old ++ d ∷ []) → OnErr result (new ≡ old) → AllByRecursion HasValues old → HasValues d → AllByRecursion HasValues new
 counts_after (Ok u) old new d ok err all has = subst (λ ds. AllByRecursion HasValues ds) (sym ok) (counts_push old d all has)
 counts_after (Err e) old new d ok err all has = subst (λ ds. AllByRecursion HasValues ds) (sym err) all
+
+-- each of a list has values
+pub counts_all : (ds : List Decl) → All HasValues ds → AllByRecursion HasValues ds
+counts_all [] all = tt
+counts_all (d ∷ ds) all = (All-head HasValues d ds all, counts_all ds (All-tail HasValues d ds all))

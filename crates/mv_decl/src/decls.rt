@@ -1,4 +1,4 @@
-ghost use Rattle.std.specs.Prelude.{◌≡◌, ◌<◌, ◌≤◌, ℕ, List, [], ◌∷◌, ◌++◌, length, slice_get, IfOk, IfSome, OnOk, OnErr, All};
+ghost use Rattle.std.specs.Prelude.{◌≡◌, ◌<◌, ◌≤◌, ℕ, List, [], ◌∷◌, ◌++◌, length, slice_get, IfOk, IfSome, OnOk, OnErr};
 ghost use Rattle.mv_base.specs.declared.limits.TheConstants.{MAX_VALUES as most_values};
 ghost use Rattle.mv_base.specs.Names.{among, place_of};
 ghost use Rattle.mv_decl.specs.Nets.{values_of, with_decl, declared_of, two_values, HasValues, AreFirst};
@@ -46,18 +46,6 @@ impl Decls {
         })
     }
 
-    /// These declarations, among which a net may stand more than once.
-    pub fn of(alloc: Global, decls: &[Decl]) -> Result<Decls, Memory>
-        requires { All (λ d. HasValues d) decls.now }
-        ensures { IfOk result (λ made. made ≡ decls.now) }
-    {
-        let mut made = Decls::new(alloc)?;
-        for decl in decls {
-            made.push(decl.copy()?)?;
-        }
-        Ok(made)
-    }
-
     /// The names of the net's values in declared order: `0` and `1`, if it isn't declared.
     pub fn values_of(&self, net: &Name) -> &[Name]
         ensures value { result.now ≡ values_of self.now net.now }
@@ -65,7 +53,7 @@ impl Decls {
         ensures within { length result.now ≤ most_values }
     {
         match self.place(net) {
-            Some(at) => declared_at(&self.list, at),
+            Some(at) => declared_at(self.list.as_slice(), at),
             None => self.two.as_slice(),
         }
     }
@@ -142,7 +130,7 @@ impl Decls {
 }
 
 /// The two values of a net without a declaration.
-fn zero_and_one(alloc: Global) -> Result<Items<Name>, Memory>
+pub(crate) fn zero_and_one(alloc: Global) -> Result<Items<Name>, Memory>
     ensures { IfOk result (λ two. two ≡ two_values) }
 {
     let mut two = Items::new(alloc);
@@ -152,11 +140,11 @@ fn zero_and_one(alloc: Global) -> Result<Items<Name>, Memory>
 }
 
 /// The values of the declaration at the place.
-fn declared_at(list: &Items<Decl>, at: usize) -> &[Name]
+pub(crate) fn declared_at(list: &[Decl], at: usize) -> &[Name]
     requires { at < length list.now }
     ensures { IfSome (slice_get list.now at) (λ d. result.now ≡ d.values) }
 {
-    list.as_slice()[at].values.as_slice()
+    list[at].values.as_slice()
 }
 
 /// Whether these are the same names in the same order.

@@ -6,9 +6,11 @@ mod count;
 mod decls;
 mod laws;
 mod line;
+mod lookup;
 #[cfg(test)]
 mod tests;
 
 pub use decls::Decls;
 pub use laws::line_laws;
 pub use line::declare;
+pub use lookup::Declared;

@@ -1,7 +1,7 @@
 //! What a network answers of itself and of its nets, as it is read and behind a `drop`.
 use crate::text::{network, sink};
 use mv_base::NetId;
-use mv_net::Network;
+use mv_net::{Kind, Network};
 use mv_sweep::remove_unread;
 use std::alloc::Global;
 use std::test::Fail;
@@ -10,139 +10,140 @@ use std::test::Fail;
 const NETWORK: &str =
     ".model n\n.inputs a b\n.outputs z\n.mv b, x 3 low mid high\n.table a b -> z\n0 - 1\n1 {low-mid} 0\n.table z -> y\n.default 1\n0 0\n.table b -> x\n- low\n.default =b\n.end\n";
 
-/// Takes away what nobody sees or reads.
-fn sweep(alloc: Global, net: &mut Network) -> Result<(), Fail> {
-    let mut notes = sink(alloc)?;
-    remove_unread(alloc, net, &mut notes)?;
-    Ok(())
+/// That network as it is read.
+fn read(alloc: Global) -> Result<Network, Fail> {
+    network(alloc, NETWORK)
 }
 
-/// The network behind so many `drop`s.
-fn behind(alloc: Global, drops: usize) -> Result<Network, Fail> {
-    let mut net = network(alloc, NETWORK)?;
-    for _drop in 0..drops {
-        sweep(alloc, &mut net)?;
-    }
+/// That network behind a `drop`, which takes `y` and `x` away.
+fn dropped(alloc: Global) -> Result<Network, Fail> {
+    let mut net = read(alloc)?;
+    remove_unread(alloc, &mut net, &mut sink(alloc)?)?;
     Ok(net)
 }
 
-/// What the network answers of itself.
-fn said(alloc: Global, net: &Network) -> Result<String, Fail> {
-    let mut said = String::new(alloc);
-    write!(said, "{:?} to {:?}", net.inputs(), net.outputs())?;
-    write!(said, ", {} latches", net.latches().len())?;
-    write!(said, ", values {:?}", net.counts())?;
-    write!(said, ", {} literals", net.literals())?;
-    write!(said, ", next {}", net.next_number())?;
-    write!(said, ", {} in order", net.order()?.len())?;
-    Ok(said)
-}
-
-/// What it answers as it is read, and behind one `drop`.
-const ANSWERS: [&str; 2] = [
-    "[NetId(0), NetId(1)] to [NetId(2)], 0 latches, values [2, 3, 2, 2, 0, 3], 4 literals, next 6, 5 in order",
-    "[NetId(0), NetId(1)] to [NetId(2)], 0 latches, values [2, 3, 2, 0, 0, 0], 3 literals, next 6, 3 in order",
-];
-
 #[test]
 fn a_network_answers_of_itself(rt: HostRuntime) -> Result<(), Fail> {
-    for (drops, wanted) in ANSWERS.iter().enumerate() {
-        let net = behind(rt.alloc(), drops)?;
-        assert_eq!(rt; net.root(), b"n".as_slice());
-        assert_eq!(rt; said(rt.alloc(), &net)?.as_str(), *wanted);
-    }
+    let net = read(rt.alloc())?;
+    assert!(rt; net.root() == b"n".as_slice());
+    assert!(rt; net.inputs() == [NetId(0), NetId(1)].as_slice());
+    assert!(rt; net.outputs() == [NetId(2)].as_slice());
+    assert!(rt; net.latches().is_empty());
+    assert!(rt; net.counts() == [2, 3, 2, 2, 0, 3].as_slice());
+    assert!(rt; net.literals() == 4 && net.next_number() == 6);
     Ok(())
 }
 
-/// What the network answers of the net with this number, and nothing where it holds none.
-fn said_of(alloc: Global, net: &Network, n: NetId) -> Result<String, Fail> {
-    let mut said = String::new(alloc);
+#[test]
+fn a_number_that_went_is_not_used_again(rt: HostRuntime) -> Result<(), Fail> {
+    let net = dropped(rt.alloc())?;
+    assert!(rt; net.counts() == [2, 3, 2, 0, 0, 0].as_slice());
+    assert!(rt; net.literals() == 3 && net.next_number() == 6);
+    Ok(())
+}
+
+#[test]
+fn each_held_net_stands_behind_its_fanins(rt: HostRuntime) -> Result<(), Fail> {
+    let net = dropped(rt.alloc())?;
+    assert!(rt; net.order()?.as_slice() == [NetId(0), NetId(1), NetId(2)].as_slice());
+    Ok(())
+}
+
+/// What a network answers of one of its nets.
+#[derive(Clone, Copy, PartialEq, Eq)]
+struct Said {
+    kind: Kind,
+    values: u16,
+    named: usize,
+    fanins: usize,
+    reader: Option<NetId>,
+    seen: bool,
+    literals: Option<u128>,
+}
+
+/// What the network answers of the net with this number, if it holds one.
+fn said_of(net: &Network, number: u32) -> Option<Said> {
+    let n = NetId(number);
     if !net.holds(n) {
-        return Ok(said);
+        return None;
     }
-    write!(said, "{:?} of {} values", net.kind(n), net.values(n))?;
-    write!(said, ", {} named", net.value_names(n).len())?;
-    write!(said, ", reads {:?}", net.fanins(n))?;
-    write!(said, ", read by {:?}", net.readers(n))?;
-    if net.is_seen(n) {
-        said.push_str(", seen")?;
-    }
-    if net.is_total(alloc, n)? {
-        said.push_str(", total")?;
-    }
-    if let Some(cover) = net.table(n) {
-        write!(said, ", {} literals", cover.literals())?;
-    }
-    Ok(said)
+    Some(Said {
+        kind: net.kind(n),
+        values: net.values(n),
+        named: net.value_names(n).len(),
+        fanins: net.fanins(n).len(),
+        reader: net.readers(n).first().copied(),
+        seen: net.is_seen(n),
+        literals: net.table(n).map(|cover| cover.literals()),
+    })
 }
 
-/// What it answers of its nets as it is read, and behind one `drop`.
-const NETS: [(&str, &str); 6] = [
-    (
-        "Input of 2 values, 0 named, reads [], read by [NetId(2)]",
-        "Input of 2 values, 0 named, reads [], read by [NetId(2)]",
-    ),
-    (
-        "Input of 3 values, 3 named, reads [], read by [NetId(2)]",
-        "Input of 3 values, 3 named, reads [], read by [NetId(2)]",
-    ),
-    (
-        "Table of 2 values, 0 named, reads [NetId(0), NetId(1)], read by [NetId(3)], seen, 3 literals",
-        "Table of 2 values, 0 named, reads [NetId(0), NetId(1)], read by [], seen, 3 literals",
-    ),
-    (
-        "Table of 2 values, 0 named, reads [NetId(2)], read by [], total, 1 literals",
-        "",
-    ),
-    ("", ""),
-    (
-        "Table of 3 values, 3 named, reads [], read by [], total, 0 literals",
-        "",
-    ),
-];
+/// What is to be said of the input b.
+const INPUT: Said = Said {
+    kind: Kind::Input,
+    values: 3,
+    named: 3,
+    fanins: 0,
+    reader: Some(NetId(2)),
+    seen: false,
+    literals: None,
+};
+
+/// And of the output z, without its reader.
+const OUTPUT: Said = Said {
+    kind: Kind::Table,
+    values: 2,
+    named: 0,
+    fanins: 2,
+    reader: None,
+    seen: true,
+    literals: Some(3),
+};
 
 #[test]
-fn a_network_answers_of_each_net(rt: HostRuntime) -> Result<(), Fail> {
-    let read = behind(rt.alloc(), 0)?;
-    let left = behind(rt.alloc(), 1)?;
-    for (number, wanted) in NETS.iter().enumerate() {
-        let net = NetId(number as u32);
-        assert_eq!(rt;
-            said_of(rt.alloc(), &read, net)?.as_str(),
-            wanted.0,
-            "of {number}"
-        );
-        assert_eq!(rt;
-            said_of(rt.alloc(), &left, net)?.as_str(),
-            wanted.1,
-            "of {number}"
-        );
-    }
+fn a_network_answers_of_its_nets(rt: HostRuntime) -> Result<(), Fail> {
+    let net = read(rt.alloc())?;
+    assert!(rt; said_of(&net, 1) == Some(INPUT));
+    let read_by_y = Said {
+        reader: Some(NetId(3)),
+        ..OUTPUT
+    };
+    assert!(rt; said_of(&net, 2) == Some(read_by_y));
+    assert!(rt; said_of(&net, 4) == None);
     Ok(())
 }
 
-/// Names, and the numbers of their nets as the network is read and behind a `drop`.
-const NUMBERS: [(&str, Option<u32>, Option<u32>); 6] = [
-    ("a", Some(0), Some(0)),
-    ("z", Some(2), Some(2)),
-    ("y", Some(3), None),
-    ("x", Some(5), None),
-    ("_m1", None, None),
-    ("", None, None),
-];
+#[test]
+fn a_reader_that_went_reads_no_more(rt: HostRuntime) -> Result<(), Fail> {
+    let net = dropped(rt.alloc())?;
+    assert!(rt; said_of(&net, 2) == Some(OUTPUT));
+    assert!(rt; said_of(&net, 3) == None);
+    Ok(())
+}
 
-/// The number of the net of this name.
-fn number(net: &Network, name: &str) -> Option<u32> {
-    Some(net.find(name.as_bytes())?.0)
+/// The number of the net with this name, if it is total.
+fn total(net: &Network, alloc: Global, name: &str) -> Result<Option<NetId>, Fail> {
+    let Some(n) = net.find(name.as_bytes()) else {
+        return Ok(None);
+    };
+    if !net.holds(n) {
+        return Ok(None);
+    }
+    Ok(net.is_total(alloc, n)?.then(|| n))
 }
 
 #[test]
-fn held_nets_are_found_by_name(rt: HostRuntime) -> Result<(), Fail> {
-    let read = behind(rt.alloc(), 0)?;
-    let left = behind(rt.alloc(), 1)?;
-    for (name, first, later) in NUMBERS.iter() {
-        assert_eq!(rt; number(&read, name), *first, "{name}");
-        assert_eq!(rt; number(&left, name), *later, "{name}");
+fn a_table_is_total_or_partial(rt: HostRuntime) -> Result<(), Fail> {
+    let net = read(rt.alloc())?;
+    for (name, wanted) in [
+        ("z", None),
+        ("y", Some(NetId(3))),
+        ("x", Some(NetId(5))),
+        ("_m1", None),
+    ]
+    .iter()
+    {
+        assert!(rt; total(&net, rt.alloc(), name)? == *wanted, "of {name}");
     }
     Ok(())
 }

@@ -5,7 +5,7 @@ ghost use Rattle.mv_flat.specs.Numbers.{columns_at, mark_at};
 
 use crate::values::count_of;
 use mv_base::{Memory, NetId};
-use mv_decl::Decls;
+use mv_decl::Declared;
 use mv_design::FileTable;
 use mv_model::{Numbers, mark_name};
 use mv_rows::Column;
@@ -14,7 +14,7 @@ use std::alloc::Global;
 /// The input columns of the table.
 pub fn columns(
     alloc: Global,
-    decls: &Decls,
+    decls: &Declared,
     names: &Numbers,
     table: &FileTable,
 ) -> Result<Vec<Column>, Memory>

@@ -11,7 +11,7 @@ ghost use Rattle.mv_flat.specs.Placed.{ArePlaced};
 use crate::nets::input_nets;
 use crate::tables::put_tables;
 use mv_base::{Items, Memory};
-use mv_decl::Decls;
+use mv_decl::Declared;
 use mv_design::{Design, FileModel};
 use mv_model::{FlatFault, Numbers, numbered};
 use mv_net::{NetParts, Network};
@@ -57,7 +57,7 @@ fn parts(alloc: Global, model: &FileModel, names: &Numbers) -> Result<NetParts, 
     requires placed { ArePlaced model.now names.now }
     ensures { IfOk result (λ net. IsBuilt model.now net) }
 {
-    let decls = Decls::of(alloc, model.decls.as_slice())?;
+    let decls = Declared::of(alloc, model.decls.as_slice())?;
     let inputs = model.inputs.as_slice();
     let mut nets = input_nets(alloc, &decls, inputs)?;
     put_tables(&mut nets, alloc, &decls, names, model)?;

@@ -6,14 +6,14 @@ ghost use Rattle.mv_flat.specs.Built.{file_net, made_net};
 use crate::values::{count_of, kept_names};
 use mv_base::{Items, Memory, Name};
 use mv_cover::Cover;
-use mv_decl::Decls;
+use mv_decl::Declared;
 use mv_net::{FlatNet, Kind};
 use std::alloc::Global;
 
 /// A net of the model.
 pub fn file_net(
     alloc: Global,
-    decls: &Decls,
+    decls: &Declared,
     kind: Kind,
     table: Option<Cover>,
     net: &Name,
@@ -46,7 +46,7 @@ pub fn made_net(alloc: Global, name: Name, cover: Cover) -> FlatNet
 /// The nets of the inputs, which have no table.
 pub fn input_nets(
     alloc: Global,
-    decls: &Decls,
+    decls: &Declared,
     inputs: &[Name],
 ) -> Result<Items<Option<FlatNet>>, Memory>
     ensures { IfOk result (λ nets. nets ≡ map (file_net decls.now Input None) inputs.now) }

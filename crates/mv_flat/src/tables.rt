@@ -12,7 +12,7 @@ use crate::columns::{columns, mark_of};
 use crate::marks::put_mark;
 use crate::nets::file_net;
 use mv_base::{Items, Memory};
-use mv_decl::Decls;
+use mv_decl::Declared;
 use mv_design::{FileModel, FileTable};
 use mv_model::Numbers;
 use mv_net::{FlatNet, Kind};
@@ -24,7 +24,7 @@ use std::alloc::Global;
 pub fn put_tables(
     nets: &mut Items<Option<FlatNet>>,
     alloc: Global,
-    decls: &Decls,
+    decls: &Declared,
     names: &Numbers,
     model: &FileModel,
 ) -> Result<(), Memory>
@@ -46,7 +46,7 @@ fn put_table(
     nets: &mut Items<Option<FlatNet>>,
     last: &mut u32,
     alloc: Global,
-    decls: &Decls,
+    decls: &Declared,
     names: &Numbers,
     table: &FileTable,
 ) -> Result<(), Memory>
@@ -67,7 +67,7 @@ fn put_table(
 /// The covers of the table's output and of its mark.
 fn covers(
     alloc: Global,
-    decls: &Decls,
+    decls: &Declared,
     names: &Numbers,
     table: &FileTable,
 ) -> Result<FlatTable, Memory>

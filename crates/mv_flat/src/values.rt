@@ -5,11 +5,11 @@ ghost use Rattle.mv_flat.specs.Numbers.{are_numbers, kept_names};
 
 use itoa::Buffer;
 use mv_base::{Items, Memory, Name};
-use mv_decl::Decls;
+use mv_decl::Declared;
 use std::alloc::Global;
 
 /// How many values the net has.
-pub fn count_of(decls: &Decls, net: &Name) -> u16
+pub fn count_of(decls: &Declared, net: &Name) -> u16
     ensures { result ≡ count_of decls.now net.now }
 {
     decls.values_of(net).len() as u16

@@ -9,12 +9,12 @@ pub returns-in-Some : goal.returns-in-Some
 returns-in-Some c =
     let net = c.args.net.now in
     let place : place_of net (declared_of c.self.inside.list) ≡ Some c.in-Some.at = ap (λ ds. place_of net (declared_of ds)) c.self.view_is ∙ (sym c.place.ensures ∙ c.in-Some.is) in
-    let v = values_found c.self.inside.list net c.in-Some.at c.declared_at.result.now c.self.invariant.counts place c.declared_at.ensures in
+    let v = values_found c.self.inside.list net c.in-Some.at c.declared_at.result.now c.self.invariant.counts place (rw c.as_slice.ensures at c.declared_at.ensures) in
     record { value = v.value ∙ ap (λ ds. values_of ds net) c.self.view_is; some = v.some; within = v.within }
 
 pub returns-in-None : goal.returns-in-None
 returns-in-None c =
     let net = c.args.net.now in
     let place : place_of net (declared_of c.self.inside.list) ≡ None = ap (λ ds. place_of net (declared_of ds)) c.self.view_is ∙ (sym c.place.ensures ∙ c.in-None.is) in
-    let v = values_two c.self.inside.list net c.as_slice.result.now place (c.as_slice.ensures ∙ c.self.invariant.plain) in
+    let v = values_two c.self.inside.list net c.as_slice-in-None.result.now place (c.as_slice-in-None.ensures ∙ c.self.invariant.plain) in
     record { value = v.value ∙ ap (λ ds. values_of ds net) c.self.view_is; some = v.some; within = v.within }
