@@ -18,11 +18,11 @@ use Rattle.mv_net.specs.declared.parts.FlatLatch.{FlatLatch}
 use Rattle.mv_net.specs.declared.parts.NetParts.{NetParts}
 use Rattle.mv_net.specs.Nets.{slot, name_in, values_in}
 use Rattle.mv_net.specs.Formed.{WellFormed}
-use Rattle.mv_net.specs.Allowed.{table_allows, net_allows, Agrees, Allows, of_net}
+use Rattle.mv_net.specs.Allowed.{net_table_allows, net_allows, Agrees, Allows, of_net}
 use Rattle.mv_net.proofs.Latchless.{no_values, values_from, no_resets, resets_from}
 use Rattle.mv_write.specs.Text.{fanins_of, names_of}
 use Rattle.mv_write.specs.Walk.{numbers}
-use Rattle.mv_back.specs.Models.{fanin_names, IsModelOf}
+use Rattle.mv_back.proofs.TextModel.{fanin_names, IsModelOf}
 use Rattle.mv_back.proofs.Numbers.{IsHeldAt, AllHeld, number_of, number_of-held}
 use Rattle.mv_back.proofs.CoverRows.{is_low}
 use Rattle.mv_back.proofs.ModelTables.{IsOfNet, AllOfNets, all_of_nets, table_at}
@@ -57,7 +57,7 @@ agrees_net net m plain model value range all k (Some f) h =
     let small : nat_lt (value f.name) f.values ≡ true = ap (λ g. nat_lt (value (name_in g)) (values_in g)) (sym h) ∙ low_name net m plain model value range k held in
     and_from _ _ small (by_table f.table refl)
   where
-    by_table : (t : Option Cover) → f.table ≡ t → table_allows t (by_name net value) (value f.name) ≡ true
+    by_table : (t : Option Cover) → f.table ≡ t → net_table_allows t (by_name net value) (value f.name) ≡ true
     by_table None e = refl
     by_table (Some c) e =
         let fanins = fanins_of (length net.nets) c in
@@ -95,7 +95,7 @@ same_by_number net formed at (k ∷ ks) h = (value_of net formed at k h.0, same_
 low_at : (nets : List (Option FlatNet)) (at : ℕ → ℕ) → Agrees nets at → (k : ℕ) → IsHeldAt nets k → is_low nets at k ≡ true
 low_at nets at agrees k h =
     let e : net_allows (Some h.net) at (at k) ≡ true = ap (λ g. net_allows g at (at k)) (sym h.held) ∙ agrees.each k in
-    ap (λ g. nat_lt (at k) (values_in g)) h.held ∙ (and_parts (nat_lt (at k) h.net.values) (table_allows h.net.table at (at k)) e).0
+    ap (λ g. nat_lt (at k) (values_in g)) h.held ∙ (and_parts (nat_lt (at k) h.net.values) (net_table_allows h.net.table at (at k)) e).0
 
 low_ats : (nets : List (Option FlatNet)) (at : ℕ → ℕ) → Agrees nets at → (ks : List ℕ) → AllHeld nets ks → list_all (is_low nets at) ks ≡ true
 low_ats nets at agrees [] h = refl
@@ -114,7 +114,7 @@ table_given net formed at agrees t o =
     let held = fanins_held net formed o.number o.net o.cover o.held o.table in
     let given : value o.net.name ≡ at o.number = ap (λ g. value (name_in g)) (sym o.held) ∙ value_of net formed at o.number (record { net = o.net; held = o.held }) in
     let e : net_allows (Some o.net) at (at o.number) ≡ true = ap (λ g. net_allows g at (at o.number)) (sym o.held) ∙ agrees.each o.number in
-    let allows : allowed o.cover at (at o.number) ≡ true = ap (λ u. table_allows u at (at o.number)) (sym o.table) ∙ (and_parts (nat_lt (at o.number) o.net.values) (table_allows o.net.table at (at o.number)) e).1 in
+    let allows : allowed o.cover at (at o.number) ≡ true = ap (λ u. net_table_allows u at (at o.number)) (sym o.table) ∙ (and_parts (nat_lt (at o.number) o.net.values) (net_table_allows o.net.table at (at o.number)) e).1 in
     table_says net.nets o.net o.cover t value o.is ∙ (ap (says net.nets o.cover (map value (fanin_names net.nets o.cover))) given ∙ (table_is_cover net formed o.number o.net o.cover o.held o.table value at (same_by_number net formed at fanins held) (low_ats net.nets at agrees fanins held) (at o.number) ∙ allows))
 
 tables_given : (net : NetParts) → WellFormed net → (at : ℕ → ℕ) → Agrees net.nets at → (ts : List FileTable) → AllOfNets net.nets ts → list_all (table_holds (by_number net at)) ts ≡ true

@@ -12,7 +12,7 @@ use Rattle.mv_net.specs.Formed.{WellFormed}
 use Rattle.mv_net.specs.Allowed.{of_net}
 use Rattle.mv_write.specs.Text.{names_of}
 use Rattle.mv_write.specs.Walk.{numbers}
-use Rattle.mv_back.specs.Models.{IsModelOf}
+use Rattle.mv_back.proofs.TextModel.{IsModelOf}
 use Rattle.mv_back.proofs.Spelled.{spelled-held}
 use Rattle.mv_back.proofs.Numbers.{IsHeldAt, AllHeld}
 use Rattle.mv_back.proofs.Driven.{IsLatchless, inputs_held, outputs_held}

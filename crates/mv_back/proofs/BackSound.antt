@@ -7,12 +7,12 @@ use Rattle.mv_base.specs.Names.{same_word, among, names_differ}
 use Rattle.mv_base.proofs.NameLemmas.{same_word_is}
 use Rattle.mv_design.specs.declared.design.FileModel.{FileModel}
 use Rattle.mv_model.specs.Nets.{nets_of, drivers}
-use Rattle.mv_model.specs.Sound.{table_reads, reads, HasRank, IsSoundModel}
+use Rattle.mv_model.specs.Sound.{reads_through, reads, HasRank, IsSoundModel}
 use Rattle.mv_net.specs.declared.parts.NetParts.{NetParts}
 use Rattle.mv_net.specs.Nets.{slot, name_in}
 use Rattle.mv_net.specs.Formed.{WellFormed}
 use Rattle.mv_write.specs.Text.{fanins_of}
-use Rattle.mv_back.specs.Models.{IsModelOf}
+use Rattle.mv_back.proofs.TextModel.{IsModelOf}
 use Rattle.mv_back.proofs.Numbers.{IsHeldAt, held_in, number_of, number_of-held}
 use Rattle.mv_back.proofs.ModelTables.{Passes, some_passes, all_of_nets}
 use Rattle.mv_back.proofs.Driven.{IsLatchless, one_name, drivers_differ, held_driver}
@@ -56,7 +56,7 @@ rank_at : (net : NetParts) (formed : WellFormed net) (k : ℕ) (w : List ℕ) �
 rank_at net formed k w h e =
     ap (rank_of net formed) e ∙ ap formed.acyclic.rank (number_of-held net.nets (one_name net formed) k h)
 
-falls_at : (net : NetParts) (formed : WellFormed net) (w above : List ℕ) → Passes net.nets (table_reads w above) → rank_of net formed above < rank_of net formed w
+falls_at : (net : NetParts) (formed : WellFormed net) (w above : List ℕ) → Passes net.nets (reads_through w above) → rank_of net formed above < rank_of net formed w
 falls_at net formed w above t =
     let o = t.of_net in
     let p = and_parts (among w t.table.outputs) (among above t.table.inputs) t.passes in
@@ -71,7 +71,7 @@ ranked : (net : NetParts) (m : FileModel) → WellFormed net → IsModelOf net m
 unfolding reads
 ranked net m formed model = record {
   rank = rank_of net formed;
-  falls = λ w above e. falls_at net formed w above (some_passes net.nets (table_reads w above) m.tables (all_of_nets net.nets m.tables model.tables) e);
+  falls = λ w above e. falls_at net formed w above (some_passes net.nets (reads_through w above) m.tables (all_of_nets net.nets m.tables model.tables) e);
 }
 
 pub sound-back : (net : NetParts) (m : FileModel) → WellFormed net → net.latches ≡ [] → IsModelOf net m → IsSoundModel m

@@ -11,13 +11,14 @@ use Rattle.mv_cover.specs.declared.line.Line.{Line}
 use Rattle.mv_cover.specs.declared.cover.Cover.{Cover}
 use Rattle.mv_cover.specs.Cubes.{holds, matches, nets_ascend}
 use Rattle.mv_cover.specs.Covers.{some_matches, some_gives, default_gives, allowed, cube_reads, lines_read}
-use Rattle.mv_cover.proofs.Meeting.{above, above_tail, ascend_tail}
+use Rattle.mv_cover.proofs.Meeting.{above, above_tail}
+use Rattle.mv_cover.proofs.Walking.{ascend_tail}
 use Rattle.mv_rows.specs.Tables.{row_matches, some_row_matches, some_row_holds, default_holds, table_allows}
 use Rattle.mv_net.specs.declared.parts.FlatNet.{FlatNet}
 use Rattle.mv_net.specs.Nets.{slot, values_in}
 use Rattle.mv_net.specs.Formed.{AllCubes}
 use Rattle.mv_write.specs.Text.{set_in}
-use Rattle.mv_back.specs.Models.{set_entries, row_of}
+use Rattle.mv_back.proofs.TextModel.{set_entries, row_said}
 use Rattle.mv_back.proofs.Numbers.{number_in, passes-at}
 
 -- the value of the net is one of its values
@@ -101,15 +102,15 @@ first_row nets at fanins l ls o =
 later_rows : (nets : List (Option FlatNet)) (at : ℕ → ℕ) (fanins : List ℕ) (l : Line) (ls : List Line) → AreOver nets at fanins (l ∷ ls) → AreOver nets at fanins ls
 later_rows nets at fanins l ls o = record { cubes = o.cubes.1; reads = λ n h. o.reads n (or_right _ _ h); low = o.low }
 
-rows_match : (nets : List (Option FlatNet)) (at : ℕ → ℕ) (fanins : List ℕ) (ls : List Line) → AreOver nets at fanins ls → some_row_matches (map (row_of nets fanins) ls) (map at fanins) ≡ some_matches at ls
+rows_match : (nets : List (Option FlatNet)) (at : ℕ → ℕ) (fanins : List ℕ) (ls : List Line) → AreOver nets at fanins ls → some_row_matches (map (row_said nets fanins) ls) (map at fanins) ≡ some_matches at ls
 rows_match nets at fanins [] o = refl
 rows_match nets at fanins (l ∷ ls) o =
-    ap (λ b. b || some_row_matches (map (row_of nets fanins) ls) (map at fanins)) (first_row nets at fanins l ls o) ∙ ap (λ b. matches at l.cube || b) (rows_match nets at fanins ls (later_rows nets at fanins l ls o))
+    ap (λ b. b || some_row_matches (map (row_said nets fanins) ls) (map at fanins)) (first_row nets at fanins l ls o) ∙ ap (λ b. matches at l.cube || b) (rows_match nets at fanins ls (later_rows nets at fanins l ls o))
 
-rows_hold : (nets : List (Option FlatNet)) (at : ℕ → ℕ) (fanins : List ℕ) (value : ℕ) (ls : List Line) → AreOver nets at fanins ls → some_row_holds (map (row_of nets fanins) ls) (map at fanins) (value ∷ []) ≡ some_gives at value ls
+rows_hold : (nets : List (Option FlatNet)) (at : ℕ → ℕ) (fanins : List ℕ) (value : ℕ) (ls : List Line) → AreOver nets at fanins ls → some_row_holds (map (row_said nets fanins) ls) (map at fanins) (value ∷ []) ≡ some_gives at value ls
 rows_hold nets at fanins value [] o = refl
 rows_hold nets at fanins value (l ∷ ls) o =
-    let rest = some_row_holds (map (row_of nets fanins) ls) (map at fanins) (value ∷ []) in
+    let rest = some_row_holds (map (row_said nets fanins) ls) (map at fanins) (value ∷ []) in
     ap (λ b. (b && (has l.out value && true)) || rest) (first_row nets at fanins l ls o) ∙ (ap (λ b. (matches at l.cube && b) || rest) (and-true (has l.out value)) ∙ ap (λ b. (matches at l.cube && has l.out value) || b) (rows_hold nets at fanins value ls (later_rows nets at fanins l ls o)))
 
 default_says : (values : List ℕ) (value : ℕ) (d : Option ℕ) → default_holds (option_map set_entries d) values (value ∷ []) ≡ default_gives d value
@@ -117,9 +118,9 @@ default_says values value None = refl
 default_says values value (Some out) = and-true (has out value)
 
 -- the table of a cover allows what the cover allows
-pub rows_allow : (nets : List (Option FlatNet)) (at : ℕ → ℕ) (fanins : List ℕ) (value : ℕ) (c : Cover) → AllCubes c.lines → ((n : ℕ) → lines_read c.lines n ≡ true → number_in n fanins ≡ true) → list_all (is_low nets at) fanins ≡ true → table_allows (map (row_of nets fanins) c.lines) (option_map set_entries c.default) (map at fanins) (value ∷ []) ≡ allowed c at value
+pub rows_allow : (nets : List (Option FlatNet)) (at : ℕ → ℕ) (fanins : List ℕ) (value : ℕ) (c : Cover) → AllCubes c.lines → ((n : ℕ) → lines_read c.lines n ≡ true → number_in n fanins ≡ true) → list_all (is_low nets at) fanins ≡ true → table_allows (map (row_said nets fanins) c.lines) (option_map set_entries c.default) (map at fanins) (value ∷ []) ≡ allowed c at value
 unfolding table_allows allowed
 rows_allow nets at fanins value c cubes reads low =
     let o : AreOver nets at fanins c.lines = record { cubes = cubes; reads = reads; low = low } in
     let given = default_holds (option_map set_entries c.default) (map at fanins) (value ∷ []) in
-    ap (λ b. b || (not (some_row_matches (map (row_of nets fanins) c.lines) (map at fanins)) && given)) (rows_hold nets at fanins value c.lines o) ∙ (ap (λ b. some_gives at value c.lines || (not b && given)) (rows_match nets at fanins c.lines o) ∙ ap (λ b. some_gives at value c.lines || (not (some_matches at c.lines) && b)) (default_says (map at fanins) value c.default))
+    ap (λ b. b || (not (some_row_matches (map (row_said nets fanins) c.lines) (map at fanins)) && given)) (rows_hold nets at fanins value c.lines o) ∙ (ap (λ b. some_gives at value c.lines || (not b && given)) (rows_match nets at fanins c.lines o) ∙ ap (λ b. some_gives at value c.lines || (not (some_matches at c.lines) && b)) (default_says (map at fanins) value c.default))

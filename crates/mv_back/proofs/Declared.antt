@@ -1,16 +1,17 @@
 -- The line that declares one net: it says the net and its values, and has no fault where the net is new.
-use Rattle.std.proofs.Common.{◌≡◌, ℕ, ◌^◌, ◌<◌, ◌≤◌, true, false, List, [], ◌∷◌, length, decimal, refl, arith}
+use Rattle.std.proofs.Common.{◌≡◌, ◌∙◌, ℕ, ◌^◌, ◌<◌, ◌≤◌, true, false, List, [], ◌∷◌, ◌++◌, length, decimal, refl, ap, arith}
 use Rattle.std.specs.List.{list_all}
 use Rattle.std.proofs.lemmas.Bool.{and_from, le-ltb, ne_eqb, eq-eqb}
 use Rattle.mv_base.specs.Names.{among, is_net_name, is_value_name}
 use Rattle.mv_base.specs.declared.limits.TheConstants.{MAX_VALUES}
+use Rattle.mv_base.proofs.Lists.{all-weaker}
 use Rattle.mv_design.specs.declared.design.Decl.{Decl}
 use Rattle.mv_decl.specs.Nets.{declared_of}
-use Rattle.mv_decl.specs.Line.{commas_apart, net_faults, head_faults, from_count, value_names, named_values, count_faults, length_faults, is_redeclared, redeclared_faults, nets_said, values_said, decls_said, decl_faults}
+use Rattle.mv_decl.specs.Line.{commas_apart, Front, front_said, net_name_faults, front_faults, value_names, named_values, count_faults, length_faults, is_redeclared, redeclared_faults, values_from, nets_said, values_said, decls_said, count_line_faults, decl_faults}
 use Rattle.mv_net.specs.Nets.{spelled_values}
 use Rattle.mv_net.specs.Formed.{IsNamed}
 use Rattle.mv_model.proofs.Decimals.{decimal-value_name}
-use Rattle.mv_decl.proofs.Words.{all-weaker, is_piece, pieces, no_word, net_piece, value_piece, names_kept}
+use Rattle.mv_decl.proofs.Words.{is_piece, pieces, no_word, net_piece, value_piece, names_kept}
 use Rattle.mv_back.proofs.Counts.{decimal-digits, number-decimal}
 use Rattle.mv_back.proofs.NewNames.{names-none}
 
@@ -42,12 +43,12 @@ module _ (name : List ℕ) (values : ℕ) (names : List (List ℕ)) (is : IsSaid
   apart : commas_apart (mv_words name values names) ≡ mv_words name values names
   apart = pieces (mv_words name values names) (and_from (is_piece name) _ name_piece (and_from (is_piece (decimal values)) _ count_piece (values_pieces names is.named.lawful)))
 
+  one_front : front_said (mv_words name values names) ≡ record { nets = name ∷ []; rest = decimal values ∷ names }
+  one_front = rw (apart, no_word name name_piece, no_word (decimal values) count_piece, decimal-digits values small) refl
+
   one_net : nets_said (mv_words name values names) ≡ name ∷ []
   unfolding nets_said
-  one_net = rw (apart, no_word name name_piece, no_word (decimal values) count_piece, decimal-digits values small) refl
-
-  counted : from_count true (commas_apart (mv_words name values names)) ≡ decimal values ∷ names
-  counted = rw (apart, no_word name name_piece, no_word (decimal values) count_piece, decimal-digits values small) refl
+  one_net = ap (λ (f : Front). f.nets) one_front
 
   kept : value_names names ≡ names
   kept = names_kept names (values_pieces names is.named.lawful)
@@ -58,16 +59,12 @@ module _ (name : List ℕ) (values : ℕ) (names : List (List ℕ)) (is : IsSaid
 
   one_said : values_said (mv_words name values names) ≡ spelled_values values names
   unfolding values_said
-  one_said = rw (counted, kept, number-decimal values small) (same_names names)
+  one_said = ap (λ (f : Front). values_from f.rest) one_front ∙ rw (kept, number-decimal values small) (same_names names)
 
   -- it says the net with its values
   pub declares : decls_said (mv_words name values names) ≡ record { net = name; values = spelled_values values names } ∷ []
   unfolding decls_said
   declares = rw (one_net, one_said) refl
-
-  heads : (n : ℕ) (word : List ℕ) → head_faults n word true (commas_apart (mv_words name values names)) ≡ []
-  unfolding net_faults
-  heads n word = rw (apart, no_word name name_piece, no_word (decimal values) count_piece, decimal-digits values small, is.net) refl
 
   count_none : (n : ℕ) → count_faults n (decimal values) ≡ []
   unfolding count_faults
@@ -83,6 +80,7 @@ module _ (name : List ℕ) (values : ℕ) (names : List (List ℕ)) (is : IsSaid
 
   -- and has no fault behind other nets
   pub declared-none : (n : ℕ) (word : List ℕ) (ds : List Decl) → among name (declared_of ds) ≡ false → decl_faults n word ds (mv_words name values names) ≡ []
-  unfolding decl_faults
+  unfolding decl_faults net_name_faults
   declared-none n word ds new =
-      rw (heads n word, one_net, counted, kept, number-decimal values small, count_none n, names-none n [] names is.named.lawful is.named.differ, length_none n names is.named.each, new_none n ds (named_values values names) new) refl
+      ap (λ (f : Front). front_faults n word f ++ count_line_faults n ds f.nets f.rest) one_front
+      ∙ rw (is.net, kept, number-decimal values small, count_none n, names-none n [] names is.named.lawful is.named.differ, length_none n names is.named.each, new_none n ds (named_values values names) new) refl

@@ -14,10 +14,10 @@ use Rattle.mv_net.specs.declared.parts.FlatNet.{FlatNet}
 use Rattle.mv_net.specs.declared.parts.NetParts.{NetParts}
 use Rattle.mv_net.specs.Nets.{slot, name_in, table_in}
 use Rattle.mv_net.specs.Formed.{WellFormed, IsKind, has_table, latch_outputs}
-use Rattle.mv_net.specs.Index.{has_id}
+use Rattle.mv_graph.specs.Nets.{has_id}
 use Rattle.mv_net.proofs.Named.{held_below}
 use Rattle.mv_write.specs.Walk.{numbers}
-use Rattle.mv_back.specs.Models.{IsModelOf}
+use Rattle.mv_back.proofs.TextModel.{IsModelOf}
 use Rattle.mv_back.proofs.NetLines.{no_reset}
 use Rattle.mv_back.proofs.Numbers.{number_in, numbers_differ, number_in-stands, numbers_differ-all, names_at, names_at-numbers, IsHeldAt, AllHeld, OneName, among-number, names-differ, range-differs, range-passes, in-range, passes-at, number_in-append, differ-append, names_at-append, AllHeld-append, held_from}
 use Rattle.mv_back.proofs.ModelTables.{has_table_at, outputs_are}

@@ -12,13 +12,14 @@ use Rattle.mv_base.specs.Names.{begins_with, is_value_name}
 use Rattle.mv_base.specs.Set.{empty, one, full, join, Within}
 use Rattle.mv_base.proofs.NameLemmas.{place_of-at, IsDistinct-from_differ}
 use Rattle.mv_base.proofs.Sets.{join_empty}
+use Rattle.mv_base.proofs.Lists.{all-weaker}
 use Rattle.mv_word.specs.Entries.{with_item, item_of, items_of, list_of, word_set}
 use Rattle.mv_word.proofs.LawfulNames.{ValueName, value_name-has}
 use Rattle.mv_word.proofs.Saying.{full-set, named-set, listed-set}
 use Rattle.mv_write.specs.Text.{value_at, names_in_set, comma_joined, one_or_list, entry_word}
 use Rattle.mv_back.proofs.Spelled.{AreSpelled}
 use Rattle.mv_back.proofs.Members.{members, joined, members-below, members-joined}
-use Rattle.mv_decl.proofs.Words.{all-weaker, commaless, no_comma}
+use Rattle.mv_decl.proofs.Words.{commaless, no_comma}
 
 pub lawful-at : {count : ℕ} (values : List (List ℕ)) (m : ℕ) → AreSpelled count values → m < length values → ValueName (value_at values m)
 lawful-at values m names low = value_name-has _ (AllPass-from_list_all is_value_name values names.lawful m [] low)

@@ -2,6 +2,7 @@
 use Rattle.std.proofs.Common.{◌≡◌, ◌∙◌, Bool, true, false, not, ◌||◌, List, [], ◌∷◌, ◌++◌, refl, ap}
 use Rattle.std.specs.List.{list_all}
 use Rattle.std.proofs.lemmas.Bool.{and_parts, not-true}
+use Rattle.mv_base.proofs.Lists.{all-weaker}
 use Rattle.mv_lex.specs.declared.lines.LexLine.{LexLine}
 use Rattle.mv_design.specs.declared.design.Decl.{Decl}
 use Rattle.mv_table.specs.Tables.{table_of, table_faults}
@@ -9,8 +10,7 @@ use Rattle.mv_parse.specs.declared.command.Command.{Command}
 use Rattle.mv_parse.specs.declared.command.Command.TheVariants.{Table, Default, Row}
 use Rattle.mv_parse.specs.Commands.{command_at, keeps_table, is_table, is_end}
 use Rattle.mv_parse.specs.Known.{front_rows, table_at, tables_of}
-use Rattle.mv_parse.specs.Grammar.{table_value_faults, value_faults}
-use Rattle.mv_decl.proofs.Words.{all-weaker}
+use Rattle.mv_parse.specs.Grammar.{table_value_faults, tables_faults}
 use Rattle.mv_back.proofs.Opened.{goes_on}
 
 -- ---- what leaves a table open, and what begins none
@@ -46,11 +46,11 @@ tables-behind ds (l ∷ ls) rest e =
     let p = and_parts (begins_none l) (list_all begins_none ls) e in
     ap (λ ts. ts ++ tables_of ds (ls ++ rest)) (no_table (command_at l) ds l (ls ++ rest) (not-true _ p.0)) ∙ tables-behind ds ls rest p.1
 
-pub values-behind : (ds : List Decl) (ls rest : List LexLine) → list_all begins_none ls ≡ true → value_faults ds (ls ++ rest) ≡ value_faults ds rest
+pub values-behind : (ds : List Decl) (ls rest : List LexLine) → list_all begins_none ls ≡ true → tables_faults ds (ls ++ rest) ≡ tables_faults ds rest
 values-behind ds [] rest e = refl
 values-behind ds (l ∷ ls) rest e =
     let p = and_parts (begins_none l) (list_all begins_none ls) e in
-    ap (λ fs. fs ++ value_faults ds (ls ++ rest)) (no_values (command_at l) ds l (ls ++ rest) (not-true _ p.0)) ∙ values-behind ds ls rest p.1
+    ap (λ fs. fs ++ tables_faults ds (ls ++ rest)) (no_values (command_at l) ds l (ls ++ rest) (not-true _ p.0)) ∙ values-behind ds ls rest p.1
 
 kept_none : (kept : List LexLine) → list_all keeps kept ≡ true → list_all begins_none kept ≡ true
 kept_none kept e = all-weaker keeps begins_none (λ l y. keeps_none (command_at l) y) kept e
@@ -71,9 +71,9 @@ module _ (rest : List LexLine) (fresh : is_fresh rest ≡ true) where
   tables-table ds l kept is e =
       rw is (ap (λ ls. table_of ds l ls ∷ tables_of ds (kept ++ rest)) (front-kept kept e) ∙ ap (λ ts. table_of ds l kept ∷ ts) (tables-behind ds kept rest (kept_none kept e)))
 
-  pub values-table : (ds : List Decl) (l : LexLine) (kept : List LexLine) → command_at l ≡ Table → list_all keeps kept ≡ true → value_faults ds (l ∷ kept ++ rest) ≡ table_faults ds l kept ++ value_faults ds rest
+  pub values-table : (ds : List Decl) (l : LexLine) (kept : List LexLine) → command_at l ≡ Table → list_all keeps kept ≡ true → tables_faults ds (l ∷ kept ++ rest) ≡ table_faults ds l kept ++ tables_faults ds rest
   values-table ds l kept is e =
-      rw is (ap (λ ls. table_faults ds l ls ++ value_faults ds (kept ++ rest)) (front-kept kept e) ∙ ap (λ fs. table_faults ds l kept ++ fs) (values-behind ds kept rest (kept_none kept e)))
+      rw is (ap (λ ls. table_faults ds l ls ++ tables_faults ds (kept ++ rest)) (front-kept kept e) ∙ ap (λ fs. table_faults ds l kept ++ fs) (values-behind ds kept rest (kept_none kept e)))
 
 -- ---- lines of tables
 

@@ -10,7 +10,7 @@ use Rattle.mv_base.specs.Set.{has, full}
 use Rattle.mv_write.specs.Text.{value_at, names_in_set, with_comma, comma_joined, one_or_list, entry_word}
 use Rattle.mv_word.proofs.LawfulNames.{is_bracket, NetName, net_name-has, value_name-has}
 use Rattle.mv_back.proofs.Passes.{picked-pass}
-use Rattle.mv_back.specs.Written.{is_word_byte, is_list_rest, is_list_word, is_written_word, is_plain_word}
+use Rattle.mv_back.proofs.TextWords.{is_word_byte, is_list_rest, is_list_word, is_written_word, is_plain_word}
 
 -- ---- names
 

@@ -1,3 +1,5 @@
+pub mod TextModel
+pub mod TextWords
 pub mod Spelled
 pub mod Ends
 pub mod Words

@@ -1,6 +1,6 @@
 -- Lines numbered one behind the other.
 use Rattle.std.proofs.Common.{◌≡◌, ◌∙◌, ℕ, ◌+◌, List, [], ◌∷◌, ◌++◌, length, ap, arith}
-use Rattle.mv_back.specs.Written.{lines_from}
+use Rattle.mv_back.proofs.TextWords.{lines_from}
 
 -- the lines of two lists of words, one behind the other
 pub lines_from-append : (n : ℕ) (a b : List (List (List ℕ))) → lines_from n (a ++ b) ≡ lines_from n a ++ lines_from (n + length a) b

@@ -12,13 +12,12 @@ use Rattle.mv_design.specs.declared.table.FileTable.{FileTable}
 use Rattle.mv_decl.specs.Nets.{declared_of}
 use Rattle.mv_parse.specs.declared.command.Command.TheVariants.{Inputs, Outputs, End}
 use Rattle.mv_parse.specs.Known.{outputs_of, decls_of, tables_of, open_model, file_model, known}
-use Rattle.mv_parse.specs.Grammar.{model_faults, port_faults, end_faults, value_faults, line_faults, faults_at, file_faults, faults_of, design_of, IsDesign}
+use Rattle.mv_parse.specs.Grammar.{model_faults, port_faults, end_faults, tables_faults, line_faults, faults_at, file_faults, faults_of, design_of, IsDesign}
 use Rattle.mv_net.specs.declared.parts.NetParts.{NetParts}
 use Rattle.mv_net.specs.Formed.{WellFormed}
 use Rattle.mv_net.proofs.Known.{are_named}
 use Rattle.mv_write.specs.Text.{names_of, net_lines}
-use Rattle.mv_back.specs.Models.{AreTablesOf, IsModelOf}
-use Rattle.mv_back.specs.Back.{design_with}
+use Rattle.mv_back.proofs.TextModel.{AreTablesOf, IsModelOf, design_with}
 use Rattle.mv_back.proofs.Commands.{command-model, command-inputs, command-outputs, command-end}
 use Rattle.mv_back.proofs.Opened.{goes_on, known-closed, faults-going}
 use Rattle.mv_back.proofs.Limits.{only_limits, accepted-from_limits, AreFine, AreFine-append, limits-behind}
@@ -31,7 +30,7 @@ use Rattle.mv_back.proofs.Kept.{tables-behind, values-behind}
 use Rattle.mv_back.proofs.NetTables.{CanTable, SayTables, tables-said, tables-fine}
 use Rattle.mv_back.proofs.HeldTables.{table-net}
 use Rattle.mv_back.proofs.NetSays.{model_line, inputs_line, outputs_line, decl_part, tables_from, table_part, end_line, body, net-split, decls-alone, decls-begin_none, net-goes, net-inputs, net-outputs, decls-tables}
-use Rattle.mv_back.specs.Written.{lines_from}
+use Rattle.mv_back.proofs.TextWords.{lines_from}
 
 -- the lines of the network say this model, and it is the network's
 pub record IsReadModel (net : NetParts) : Type 0 where
@@ -74,7 +73,7 @@ module _ (net : NetParts) (formed : WellFormed net) (none : net.latches ≡ []) 
   tables_are : (ds : List Decl) → tables_of ds (body net) ≡ tables_of ds (table_part net)
   tables_are ds = rw (command-inputs, command-outputs) (tables-behind ds (decl_part net) (table_part net) (decls-begin_none (decl_part net) (decls-alone 4 net.nets)))
 
-  values_are : (ds : List Decl) → value_faults ds (body net) ≡ value_faults ds (table_part net)
+  values_are : (ds : List Decl) → tables_faults ds (body net) ≡ tables_faults ds (table_part net)
   values_are ds = rw (command-inputs, command-outputs) (values-behind ds (decl_part net) (table_part net) (decls-begin_none (decl_part net) (decls-alone 4 net.nets)))
 
   -- ---- the model
@@ -118,7 +117,7 @@ module _ (net : NetParts) (formed : WellFormed net) (none : net.latches ≡ []) 
   fine_end : only_limits (faults_at (first ∷ body net) (end_line net)) ≡ true
   unfolding end_faults
   fine_end =
-      ap only_limits (faults-going End first (body net) (end_line net) goes command-end ∙ (ap (λ ds. value_faults ds (body net)) decls_are ∙ (values_are (declared net.nets) ∙ say.faults)))
+      ap only_limits (faults-going End first (body net) (end_line net) goes command-end ∙ (ap (λ ds. tables_faults ds (body net)) decls_are ∙ (values_are (declared net.nets) ∙ say.faults)))
 
   fine : AreFine [] (first ∷ body net ++ end_line net ∷ [])
   fine =

@@ -9,7 +9,7 @@ use Rattle.mv_design.specs.declared.table.FileTable.{FileTable}
 use Rattle.mv_model.specs.Nets.{outputs_of}
 use Rattle.mv_net.specs.declared.parts.FlatNet.{FlatNet}
 use Rattle.mv_net.specs.Nets.{slot, name_in, table_in}
-use Rattle.mv_back.specs.Models.{IsTableOf, TableOrNot, AreTablesOf}
+use Rattle.mv_back.proofs.TextModel.{IsTableOf, TableOrNot, AreTablesOf}
 use Rattle.mv_back.proofs.Numbers.{names_at}
 
 -- ---- each table is that of a held net

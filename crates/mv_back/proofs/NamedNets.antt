@@ -18,7 +18,7 @@ use Rattle.mv_net.specs.Formed.{WellFormed}
 use Rattle.mv_net.proofs.Known.{reads_readable}
 use Rattle.mv_write.specs.Text.{fanins_of}
 use Rattle.mv_write.specs.Walk.{numbers}
-use Rattle.mv_back.specs.Models.{IsModelOf}
+use Rattle.mv_back.proofs.TextModel.{IsModelOf}
 use Rattle.mv_back.proofs.Numbers.{number_in, names_at, names_at-numbers, IsHeldAt, AllHeld, held_from, held_in, range-passes, passes-at}
 use Rattle.mv_back.proofs.ModelTables.{IsOfNet, AllOfNets, all_of_nets}
 use Rattle.mv_back.proofs.Driven.{inputs_held, outputs_held}

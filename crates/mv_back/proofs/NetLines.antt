@@ -5,6 +5,7 @@ use Rattle.std.proofs.lemmas.Bool.{cond_both, and_parts, and_from, ne_eqb, not_f
 use Rattle.std.proofs.lemmas.List.Folds.{list_all-append, list_all-map}
 use Rattle.mv_base.specs.Names.{is_model_name, is_value_name}
 use Rattle.mv_base.specs.declared.number.NetId.{NetId}
+use Rattle.mv_base.proofs.Lists.{everywhere}
 use Rattle.mv_cover.specs.declared.line.Line.{Line}
 use Rattle.mv_cover.specs.declared.cover.Cover.{Cover}
 use Rattle.mv_cover.specs.Covers.{cover_reads}
@@ -13,15 +14,15 @@ use Rattle.mv_net.specs.declared.parts.NetParts.{NetParts}
 use Rattle.mv_net.specs.declared.parts.Kind.TheVariants.{Reset}
 use Rattle.mv_net.specs.Nets.{slot, name_in, spelled_in, spelled_values, table_reads, net_reads}
 use Rattle.mv_net.specs.Formed.{latch_resets, WellFormed}
-use Rattle.mv_net.specs.Index.{has_id}
+use Rattle.mv_graph.specs.Nets.{has_id}
 use Rattle.mv_net.proofs.Known.{reads_readable}
 use Rattle.mv_lex.specs.Lines.{lines_of, is_clean}
 use Rattle.mv_write.specs.Text.{fanins_of, fanin_word, set_in, entry_word, line_words, default_words, head_words, cover_words, table_words, net_words, is_plain_pair, decl_words, names_of, inner_lines, net_lines, text_of}
-use Rattle.mv_back.specs.Written.{is_written_word, is_written_line, lines_from}
+use Rattle.mv_back.proofs.TextWords.{is_written_word, is_written_line, lines_from}
 use Rattle.mv_model.proofs.Decimals.{decimal-value_name}
 use Rattle.mv_back.proofs.Spelled.{spelled-held}
 use Rattle.mv_back.proofs.Lawful.{plain-written, net_name-written, value_name-written, value_names-written, entry-written}
-use Rattle.mv_back.proofs.Passes.{everywhere, flat_map-pass, stands-pass, picked-pass}
+use Rattle.mv_back.proofs.Passes.{flat_map-pass, stands-pass, picked-pass}
 use Rattle.mv_back.proofs.Written.{lines_of-written, is_clean-written}
 
 -- ---- lines

@@ -2,9 +2,10 @@
 use Rattle.std.proofs.Common.{◌≡◌, ◌∙◌, ℕ, ◌+◌, Bool, true, false, not, ◌||◌, List, [], ◌∷◌, ◌++◌, length, refl, ap, ⊎_elim, append-nil}
 use Rattle.std.specs.Prelude.{Option, Some, None, codes}
 use Rattle.std.specs.List.{list_all, flat_map}
-use Rattle.std.proofs.lemmas.Bool.{cases_Bool, and_from, and_parts, or_left, or_right}
+use Rattle.std.proofs.lemmas.Bool.{cases_Bool, and_from, or_left, or_right}
 use Rattle.std.proofs.lemmas.List.Folds.{list_all-append}
 use Rattle.std.proofs.lemmas.Grind.{flat_map-append}
+use Rattle.mv_base.proofs.Lists.{all-weaker, flat_map-nothing}
 use Rattle.mv_lex.specs.declared.lines.LexLine.{LexLine}
 use Rattle.mv_decl.specs.Nets.{with_decls}
 use Rattle.mv_table.specs.Tables.{behind_first}
@@ -15,12 +16,11 @@ use Rattle.mv_parse.specs.Known.{inputs_at, inputs_of, outputs_at, outputs_of, d
 use Rattle.mv_net.specs.declared.parts.FlatNet.{FlatNet}
 use Rattle.mv_net.specs.declared.parts.NetParts.{NetParts}
 use Rattle.mv_write.specs.Text.{is_plain_pair, decl_words, net_words, names_of, inner_lines, net_lines}
-use Rattle.mv_decl.proofs.Words.{all-weaker}
 use Rattle.mv_back.proofs.Commands.{command-model, command-inputs, command-outputs, command-mv}
 use Rattle.mv_back.proofs.Opened.{goes_on}
 use Rattle.mv_back.proofs.LinesFrom.{lines_from-append}
 use Rattle.mv_back.proofs.Kept.{begins_none, of_table, table-goes}
-use Rattle.mv_back.specs.Written.{lines_from}
+use Rattle.mv_back.proofs.TextWords.{lines_from}
 
 -- ---- the lines
 
@@ -95,12 +95,6 @@ net-goes net tables =
 
 -- ---- what they say
 
-nothing_said : {A : Type 0} (F : LexLine → List A) (p : LexLine → Bool) → ((l : LexLine) → p l ≡ true → F l ≡ []) → (ls : List LexLine) → list_all p ls ≡ true → flat_map F ls ≡ []
-nothing_said F p h [] e = refl
-nothing_said F p h (l ∷ ls) e =
-    let q = and_parts (p l) (list_all p ls) e in
-    rw (h l q.0) (nothing_said F p h ls q.1)
-
 -- lines that declare nets, or belong to tables
 abbrev is_inner : LexLine → Bool
 is_inner l = of_decl l || of_table l
@@ -127,13 +121,13 @@ no_outputs _ words e = cc
 pub net-inputs : (net : NetParts) → list_all of_table (table_part net) ≡ true → inputs_of (body net) ≡ names_of net.nets net.inputs
 net-inputs net tables =
     let inner = inner_all (decl_part net) (table_part net) (decls-alone 4 net.nets) tables in
-    let none = nothing_said (λ l. inputs_at (command_at l) (behind_first l)) is_inner (λ l y. no_inputs (command_at l) (behind_first l) y) (decl_part net ++ table_part net) inner in
+    let none = flat_map-nothing (λ l. inputs_at (command_at l) (behind_first l)) is_inner (λ l y. no_inputs (command_at l) (behind_first l) y) (decl_part net ++ table_part net) inner in
     rw (command-inputs, command-outputs, none) (append-nil (names_of net.nets net.inputs))
 
 pub net-outputs : (net : NetParts) → list_all of_table (table_part net) ≡ true → outputs_of (body net) ≡ names_of net.nets net.outputs
 net-outputs net tables =
     let inner = inner_all (decl_part net) (table_part net) (decls-alone 4 net.nets) tables in
-    let none = nothing_said (λ l. outputs_at (command_at l) (behind_first l)) is_inner (λ l y. no_outputs (command_at l) (behind_first l) y) (decl_part net ++ table_part net) inner in
+    let none = flat_map-nothing (λ l. outputs_at (command_at l) (behind_first l)) is_inner (λ l y. no_outputs (command_at l) (behind_first l) y) (decl_part net ++ table_part net) inner in
     rw (command-inputs, command-outputs, none) (append-nil (names_of net.nets net.outputs))
 
 no_decls : (c : Command) (l : LexLine) → (is_table c || keeps_table c) ≡ true → decls_at c (behind_first l) ≡ []
@@ -146,5 +140,5 @@ no_decls _ l e = cc
 pub decls-tables : (front ts : List LexLine) → list_all of_table ts ≡ true → decls_of (front ++ ts) ≡ decls_of front
 decls-tables front ts tables =
     let F = λ (l : LexLine). decls_at (command_at l) (behind_first l) in
-    let none = nothing_said F of_table (λ l y. no_decls (command_at l) l y) ts tables in
+    let none = flat_map-nothing F of_table (λ l y. no_decls (command_at l) l y) ts tables in
     ap (with_decls []) (flat_map-append F front ts ∙ (ap (λ ds. flat_map F front ++ ds) none ∙ append-nil (flat_map F front)))

@@ -4,17 +4,17 @@ use Rattle.std.specs.Prelude.{Option, Some, None, option_map}
 use Rattle.std.specs.List.{list_all, flat_map}
 use Rattle.std.proofs.lemmas.Bool.{and_from, or_right}
 use Rattle.std.proofs.lemmas.List.Folds.{list_all-append}
+use Rattle.mv_base.proofs.Lists.{all-weaker}
 use Rattle.mv_lex.specs.declared.lines.LexLine.{LexLine}
 use Rattle.mv_design.specs.declared.design.Decl.{Decl}
 use Rattle.mv_design.specs.declared.table.FileTable.{FileTable}
 use Rattle.mv_cover.specs.declared.cover.Cover.{Cover}
 use Rattle.mv_parse.specs.Known.{tables_of}
-use Rattle.mv_parse.specs.Grammar.{value_faults}
+use Rattle.mv_parse.specs.Grammar.{tables_faults}
 use Rattle.mv_net.specs.declared.parts.FlatNet.{FlatNet}
 use Rattle.mv_net.specs.Nets.{spelled_values}
 use Rattle.mv_write.specs.Text.{fanins_of, entry_word, default_words, line_words, table_words, net_words}
-use Rattle.mv_back.specs.Models.{fanin_names, TableOrNot, AreTablesOf}
-use Rattle.mv_decl.proofs.Words.{all-weaker}
+use Rattle.mv_back.proofs.TextModel.{fanin_names, TableOrNot, AreTablesOf}
 use Rattle.mv_back.proofs.Commands.{command-table}
 use Rattle.mv_back.proofs.Opened.{goes_on}
 use Rattle.mv_back.proofs.Limits.{AreFine, AreFine-append}
@@ -23,7 +23,7 @@ use Rattle.mv_back.proofs.TableLines.{head_line, one_default, table_lines, table
 use Rattle.mv_back.proofs.LinesFrom.{lines_from-append}
 use Rattle.mv_back.proofs.Kept.{keeps, is_fresh, of_table, tables-table, values-table, table-goes}
 use Rattle.mv_back.proofs.TableText.{IsTableNet, are_rows, kept_words, SayTable, table-said}
-use Rattle.mv_back.specs.Written.{lines_from}
+use Rattle.mv_back.proofs.TextWords.{lines_from}
 
 module _ (nets : List (Option FlatNet)) (ds : List Decl) where
   -- if the net has a table, it can be said
@@ -58,7 +58,7 @@ module _ (nets : List (Option FlatNet)) (ds : List Decl) where
   -- lines of tables say tables of which this holds, and their values have no fault
   pub record SayTables (Are : List FileTable → Type 0) (lines : List LexLine) : Type 0 where
     pub tables : Are (tables_of ds lines)
-    pub faults : value_faults ds lines ≡ []
+    pub faults : tables_faults ds lines ≡ []
     pub fresh : is_fresh lines ≡ true
     pub inside : list_all of_table lines ≡ true
 

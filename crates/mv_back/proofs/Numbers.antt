@@ -9,8 +9,7 @@ use Rattle.mv_base.proofs.NameLemmas.{same_word_is, same_word_refl}
 use Rattle.mv_base.specs.declared.number.NetId.{NetId}
 use Rattle.mv_net.specs.declared.parts.FlatNet.{FlatNet}
 use Rattle.mv_net.specs.Nets.{slot, name_in}
-use Rattle.mv_net.specs.Formed.{all_differ}
-use Rattle.mv_net.specs.Index.{has_id}
+use Rattle.mv_graph.specs.Nets.{all_differ, has_id}
 use Rattle.mv_write.specs.Walk.{numbers}
 
 -- ---- lists of numbers

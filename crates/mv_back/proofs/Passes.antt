@@ -5,12 +5,7 @@ use Rattle.std.specs.List.{list_all, flat_map, range_with_len}
 use Rattle.std.proofs.lemmas.Bool.{cases_Bool, and_from, or_left, or_right, eq-eqb}
 use Rattle.std.proofs.lemmas.List.Folds.{list_all-append}
 use Rattle.mv_base.specs.declared.number.NetId.{NetId}
-use Rattle.mv_net.specs.Index.{has_id}
-
--- a test that every value passes
-pub everywhere : {X : Type 0} (q : X → Bool) → ((x : X) → q x ≡ true) → (xs : List X) → list_all q xs ≡ true
-everywhere q each [] = refl
-everywhere q each (x ∷ xs) = and_from (q x) _ (each x) (everywhere q each xs)
+use Rattle.mv_graph.specs.Nets.{has_id}
 
 -- what is made of each element passes a test
 pub flat_map-pass : {X Y : Type 0} (q : Y → Bool) (f : X → List Y) (xs : List X) (d : X) → ((i : ℕ) → list_all q (f (get_or xs i d)) ≡ true) → list_all q (flat_map f xs) ≡ true

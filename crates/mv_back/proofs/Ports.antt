@@ -7,8 +7,8 @@ use Rattle.mv_base.specs.declared.number.NetId.{NetId}
 use Rattle.mv_net.specs.declared.parts.Kind.TheVariants.{Input, Reset}
 use Rattle.mv_net.specs.declared.parts.NetParts.{NetParts}
 use Rattle.mv_net.specs.Nets.{slot, name_in}
-use Rattle.mv_net.specs.Formed.{all_differ, IsReadable, WellFormed}
-use Rattle.mv_net.specs.Index.{has_id}
+use Rattle.mv_graph.specs.Nets.{all_differ, has_id}
+use Rattle.mv_net.specs.Formed.{IsReadable, WellFormed}
 use Rattle.mv_write.specs.Text.{names_of}
 use Rattle.mv_write.specs.Walk.{numbers}
 use Rattle.mv_back.proofs.Numbers.{number_in-stands, numbers_differ-all, names_at-numbers, AllHeld, held_from, names-differ as names-apart}

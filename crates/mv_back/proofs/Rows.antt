@@ -13,13 +13,13 @@ use Rattle.mv_cover.specs.Lines.{IsOutput}
 use Rattle.mv_word.specs.Entries.{word_set}
 use Rattle.mv_decl.specs.Nets.{values_of}
 use Rattle.mv_table.specs.Entries.{in_said, out_word, out_said, set_entry, ins_faults, ins_said, outs_faults, outs_said}
-use Rattle.mv_table.specs.Tables.{row_of, row_faults}
+use Rattle.mv_table.specs.Tables.{row_of, entries_faults}
 use Rattle.mv_net.specs.declared.parts.FlatNet.{FlatNet}
 use Rattle.mv_net.specs.Nets.{slot, name_in, values_in, spelled_in}
 use Rattle.mv_net.specs.Formed.{AllLiterals}
 use Rattle.mv_write.specs.Text.{entry_word, set_in, fanin_word, line_words}
 use Rattle.mv_write.proofs.Literals.{full_output}
-use Rattle.mv_back.specs.Models.{set_entries, row_of as row_said}
+use Rattle.mv_back.proofs.TextModel.{set_entries, row_said}
 use Rattle.mv_back.proofs.Spelled.{AreSpelled}
 use Rattle.mv_back.proofs.Entries.{entry-set, entry-equal}
 
@@ -86,7 +86,7 @@ module _ (nets : List (Option FlatNet)) (ds : List Decl) where
       rw same (drop-append_seam (map (fanin_word nets cube) ms) more)
 
   -- the values of a row have no fault
-  pub row-none : (n : ℕ) (ms : List ℕ) (name : List ℕ) (values : ℕ) (names : List (List ℕ)) (l : Line) → AllByRecursion IsFanin ms → IsColumn ds name values names → AllLiterals nets l.cube → IsOutput values l.out → row_faults n ds (map name_at ms) (name ∷ []) (line_words nets names ms l) ≡ []
+  pub row-none : (n : ℕ) (ms : List ℕ) (name : List ℕ) (values : ℕ) (names : List (List ℕ)) (l : Line) → AllByRecursion IsFanin ms → IsColumn ds name values names → AllLiterals nets l.cube → IsOutput values l.out → entries_faults n ds (map name_at ms) (name ∷ []) (line_words nets names ms l) ≡ []
   row-none n ms name values names l each is all out =
       let last = entry_word names l.out ∷ [] in
       rw (ins_none n l.cube ms last all each, behind_ins l.cube ms last) (outs-none n ds (map name_at ms) name values names l.out is out)

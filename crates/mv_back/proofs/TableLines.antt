@@ -9,7 +9,7 @@ use Rattle.mv_lex.specs.declared.lines.LexLine.{LexLine}
 use Rattle.mv_fault.specs.declared.fault.Which.TheVariants.{TableLines}
 use Rattle.mv_fault.specs.declared.fault.ParseFault.TheVariants.{Limit}
 use Rattle.mv_fault.specs.Tells.{when}
-use Rattle.mv_table.specs.Columns.{outs_of}
+use Rattle.mv_table.specs.Columns.{outs_of, has_several_outputs}
 use Rattle.mv_parse.specs.declared.command.Command.TheVariants.{Table, Default, Row}
 use Rattle.mv_parse.specs.declared.known.OpenTable.{OpenTable}
 use Rattle.mv_parse.specs.Commands.{first_of, command_at}
@@ -21,7 +21,7 @@ use Rattle.mv_back.proofs.Commands.{command-table, command-default, command-row}
 use Rattle.mv_back.proofs.Opened.{goes_on, going-push, faults-going}
 use Rattle.mv_back.proofs.Limits.{only_limits, limits-append, when-limit, AreFine}
 use Rattle.mv_back.proofs.Columns.{columns, ins-written, outs-written, columns-limits}
-use Rattle.mv_back.specs.Written.{lines_from}
+use Rattle.mv_back.proofs.TextWords.{lines_from}
 
 -- ---- rows
 
@@ -64,6 +64,7 @@ abbrev pub head_line : ℕ → List (List ℕ) → List ℕ → LexLine
 head_line n names name = record { number = n; words = codes ".table" ∷ columns names name }
 
 head_fine : (h : LexLine) (front : List LexLine) (n : ℕ) (names : List (List ℕ)) (name : List ℕ) → list_all goes_on (h ∷ front) ≡ true → list_all is_net_name names ≡ true → is_net_name name ≡ true → only_limits (faults_at (h ∷ front) (head_line n names name)) ≡ true
+unfolding has_several_outputs
 head_fine h front n names name goes lawful own =
     let one : length (outs_of (columns names name)) ≡ 1 = ap length (outs-written names name lawful) in
     ap only_limits (faults-going Table h front (head_line n names name) goes command-table) ∙ rw one (columns-limits n (codes ".table") names name lawful own)

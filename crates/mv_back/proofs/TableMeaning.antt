@@ -5,7 +5,7 @@ use Rattle.std.specs.List.{list_all}
 use Rattle.mv_cover.specs.declared.cover.Cover.{Cover}
 use Rattle.mv_cover.specs.Covers.{cover_reads, lines_read, allowed}
 use Rattle.mv_design.specs.declared.table.FileTable.{FileTable}
-use Rattle.mv_rows.specs.Tables.{table_allows as rows_allow_values}
+use Rattle.mv_rows.specs.Tables.{table_allows}
 use Rattle.mv_model.specs.Meaning.{table_holds}
 use Rattle.mv_net.specs.declared.parts.FlatNet.{FlatNet}
 use Rattle.mv_net.specs.declared.parts.NetParts.{NetParts}
@@ -13,7 +13,7 @@ use Rattle.mv_net.specs.Nets.{slot, name_in}
 use Rattle.mv_net.specs.Formed.{WellFormed}
 use Rattle.mv_net.proofs.Known.{readable_below, reads_readable}
 use Rattle.mv_write.specs.Text.{fanins_of}
-use Rattle.mv_back.specs.Models.{set_entries, row_of, fanin_names, IsTableOf}
+use Rattle.mv_back.proofs.TextModel.{set_entries, row_said, fanin_names, IsTableOf}
 use Rattle.mv_back.proofs.Numbers.{number_in, names_at, in-range}
 use Rattle.mv_back.proofs.CoverRows.{is_low, rows_allow}
 
@@ -34,11 +34,11 @@ values_same value at nets (k ∷ ks) s =
 
 -- what the table of a cover says of these values
 abbrev pub says : List (Option FlatNet) → Cover → List ℕ → ℕ → Bool
-says nets c values v = rows_allow_values (map (row_of nets (fanins_of (length nets) c)) c.lines) (option_map set_entries c.default) values (v ∷ [])
+says nets c values v = table_allows (map (row_said nets (fanins_of (length nets) c)) c.lines) (option_map set_entries c.default) values (v ∷ [])
 
 pub table_says : (nets : List (Option FlatNet)) (f : FlatNet) (c : Cover) (t : FileTable) (value : List ℕ → ℕ) → IsTableOf nets f c t → table_holds value t ≡ says nets c (map value (fanin_names nets c)) (value f.name)
 table_says nets f c t value is =
-    ap (λ rows. rows_allow_values rows t.default (map value t.inputs) (map value t.outputs)) is.rows ∙ (ap (λ d. rows_allow_values (map (row_of nets (fanins_of (length nets) c)) c.lines) d (map value t.inputs) (map value t.outputs)) is.default ∙ (ap (λ ws. rows_allow_values (map (row_of nets (fanins_of (length nets) c)) c.lines) (option_map set_entries c.default) (map value ws) (map value t.outputs)) is.inputs ∙ ap (λ ws. rows_allow_values (map (row_of nets (fanins_of (length nets) c)) c.lines) (option_map set_entries c.default) (map value (fanin_names nets c)) (map value ws)) is.outputs))
+    ap (λ rows. table_allows rows t.default (map value t.inputs) (map value t.outputs)) is.rows ∙ (ap (λ d. table_allows (map (row_said nets (fanins_of (length nets) c)) c.lines) d (map value t.inputs) (map value t.outputs)) is.default ∙ (ap (λ ws. table_allows (map (row_said nets (fanins_of (length nets) c)) c.lines) (option_map set_entries c.default) (map value ws) (map value t.outputs)) is.inputs ∙ ap (λ ws. table_allows (map (row_said nets (fanins_of (length nets) c)) c.lines) (option_map set_entries c.default) (map value (fanin_names nets c)) (map value ws)) is.outputs))
 
 pub table_is_cover : (net : NetParts) → WellFormed net → (k : ℕ) (f : FlatNet) (c : Cover) → slot net.nets k ≡ Some f → f.table ≡ Some c → (value : List ℕ → ℕ) (at : ℕ → ℕ) → Same value at net.nets (fanins_of (length net.nets) c) → list_all (is_low net.nets at) (fanins_of (length net.nets) c) ≡ true → (v : ℕ) → says net.nets c (map value (fanin_names net.nets c)) v ≡ allowed c at v
 table_is_cover net formed k f c h t value at same low v =

@@ -7,6 +7,7 @@ use Rattle.std.proofs.lemmas.List.{length-map}
 use Rattle.std.proofs.lemmas.List.Folds.{list_all-map}
 use Rattle.mv_base.specs.Names.{begins_with, same_word, is_net_name}
 use Rattle.mv_base.proofs.NameLemmas.{same_word_is}
+use Rattle.mv_base.proofs.Lists.{everywhere}
 use Rattle.mv_lex.specs.declared.lines.LexLine.{LexLine}
 use Rattle.mv_design.specs.declared.table.Entry.{Entry}
 use Rattle.mv_design.specs.declared.table.Row.{Row}
@@ -14,33 +15,32 @@ use Rattle.mv_design.specs.declared.design.Decl.{Decl}
 use Rattle.mv_cover.specs.declared.line.Line.{Line}
 use Rattle.mv_cover.specs.declared.cover.Cover.{Cover}
 use Rattle.mv_cover.specs.Lines.{IsOutput}
-use Rattle.mv_table.specs.Tables.{is_default, default_of, rows_of, lines_faults, table_of, table_faults}
+use Rattle.mv_table.specs.Tables.{says_default, default_of, rows_of, lines_values_faults, table_of, table_faults}
 use Rattle.mv_parse.specs.Commands.{first_of}
 use Rattle.mv_net.specs.declared.parts.FlatNet.{FlatNet}
 use Rattle.mv_net.specs.Nets.{slot, spelled_in, spelled_values}
 use Rattle.mv_net.specs.Formed.{AllLines}
 use Rattle.mv_write.specs.Text.{fanins_of, fanin_word, set_in, entry_word, line_words, default_words}
-use Rattle.mv_back.specs.Models.{set_entries, row_of as row_said, fanin_names, IsTableOf}
-use Rattle.mv_back.proofs.Passes.{everywhere}
+use Rattle.mv_back.proofs.TextModel.{set_entries, row_said, fanin_names, IsTableOf}
 use Rattle.mv_back.proofs.Entries.{entry-stop}
 use Rattle.mv_back.proofs.Commands.{command-default, command-row}
 use Rattle.mv_back.proofs.Columns.{ins-written, outs-written}
 use Rattle.mv_back.proofs.TableLines.{is_row_line, head_line}
 use Rattle.mv_back.proofs.Rows.{IsColumn, outs-none, outs-are, name_at, IsFanin, row-none, row-is}
 use Rattle.mv_back.proofs.Kept.{keeps}
-use Rattle.mv_back.specs.Written.{lines_from}
+use Rattle.mv_back.proofs.TextWords.{lines_from}
 
 -- a line of a row is no default
 not_word : (w v : List ℕ) → begins_with 46 v ≡ true → begins_with 46 w ≡ false → same_word w v ≡ false
 not_word w v y n = false_from_ne_true (same_word w v) (λ e. false≢true (sym n ∙ (ap (begins_with 46) (same_word_is w v e) ∙ y)))
 
-no_default : (n : ℕ) (ws : List (List ℕ)) → begins_with 46 (first_of ws) ≡ false → is_default (record { number = n; words = ws }) ≡ false
-unfolding is_default
+no_default : (n : ℕ) (ws : List (List ℕ)) → begins_with 46 (first_of ws) ≡ false → says_default (record { number = n; words = ws }) ≡ false
+unfolding says_default
 no_default n [] e = refl
 no_default n (w ∷ ws) e = or_from _ _ (not_word w (codes ".default") refl e) (not_word w (codes ".def") refl e)
 
-default_is : (n : ℕ) (w : List ℕ) → is_default (record { number = n; words = codes ".default" ∷ w ∷ [] }) ≡ true
-unfolding is_default
+default_is : (n : ℕ) (w : List ℕ) → says_default (record { number = n; words = codes ".default" ∷ w ∷ [] }) ≡ true
+unfolding says_default
 default_is n w = refl
 
 -- what lines behind the first line of a table say
@@ -48,7 +48,7 @@ record Say (ds : List Decl) (ins outs : List (List ℕ)) (lines : List LexLine) 
   keep : list_all keeps lines ≡ true
   rows : rows_of ds ins outs lines ≡ all
   default : default_of ds ins outs lines ≡ other
-  faults : lines_faults ds ins outs lines ≡ []
+  faults : lines_values_faults ds ins outs lines ≡ []
 
 -- the net of a table, among nets that these declarations name
 pub record IsTableNet (nets : List (Option FlatNet)) (ds : List Decl) (f : FlatNet) (c : Cover) : Type 0 where

@@ -7,7 +7,8 @@ use Rattle.mv_model.specs.Meaning.{of_design}
 use Rattle.mv_net.specs.declared.parts.NetParts.{NetParts}
 use Rattle.mv_net.specs.Formed.{WellFormed}
 use Rattle.mv_write.specs.Text.{text_of}
-use Rattle.mv_back.specs.Back.{ReadsAs, ReadsBack, design_with}
+use Rattle.mv_back.specs.Back.{ReadsAs, ReadsBack}
+use Rattle.mv_back.proofs.TextModel.{design_with}
 use Rattle.mv_back.proofs.NetLines.{lines-back, clean-back}
 use Rattle.mv_back.proofs.ModelBack.{IsReadModel, model-back}
 use Rattle.mv_back.proofs.BackSound.{sound-back}

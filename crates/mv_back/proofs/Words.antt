@@ -8,9 +8,9 @@ use Rattle.mv_base.specs.Names.{is_visible, is_bracketed, ends_with}
 use Rattle.mv_lex.specs.declared.parts.Kind.TheVariants.{Start, Plain, Bracketed}
 use Rattle.mv_lex.specs.Words.{is_blank, is_bang, opens, Cut, finished, waits}
 use Rattle.mv_lex.specs.Lines.{is_acceptable, is_line_feed, is_hash}
-use Rattle.mv_lex.specs.Reading.{ended_word, with_byte, with_bytes}
+use Rattle.mv_lex.specs.Steps.{ended_word, with_byte, with_bytes}
 use Rattle.mv_lex.proofs.Cutting.{cut_at, nonempty-some, some_front, start-bang, start-plain, start-opens, start-blank, plain-blank, plain-solid, bracketed-end, bracketed-solid}
-use Rattle.mv_back.specs.Written.{is_word_byte, is_list_rest, is_list_word, is_written_word, is_plain_word}
+use Rattle.mv_back.proofs.TextWords.{is_word_byte, is_list_rest, is_list_word, is_written_word, is_plain_word}
 use Rattle.mv_back.proofs.Ends.{ends_with-skip}
 
 -- ---- bytes of words

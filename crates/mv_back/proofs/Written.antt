@@ -1,20 +1,19 @@
 -- Lines that were written are read back, lines with bracketed words among them.
 use Rattle.std.proofs.Common.{◌≡◌, ℕ, ◌+◌, Bool, true, false, not, ◌==◌, List, [], ◌∷◌, ◌++◌, length, refl, ap, sym, ◌∙◌, subst, append_assoc}
-use Rattle.std.specs.List.{list_all, flat_map}
+use Rattle.std.specs.List.{list_all, flat_map, slice_split}
 use Rattle.std.proofs.lemmas.Bool.{and_parts, and_from, not_from_false}
 use Rattle.std.proofs.lemmas.List.Folds.{list_all-append}
 use Rattle.std.proofs.lemmas.List.{append-nil}
 use Rattle.mv_base.specs.Names.{ends_with}
 use Rattle.mv_lex.specs.declared.parts.Kind.TheVariants.{Start}
 use Rattle.mv_lex.specs.Words.{Cut, cut_of, finished, waits}
-use Rattle.mv_lex.specs.Cuts.{pieces}
 use Rattle.mv_lex.specs.Lines.{is_acceptable, is_line_feed, is_hash, joins, texts, all_joined, words_of, numbered, is_readable, is_closed, lines_of, is_clean}
-use Rattle.mv_lex.specs.Reading.{with_bytes}
+use Rattle.mv_lex.specs.Steps.{with_bytes}
 use Rattle.mv_lex.specs.Text.{spaced, line_text}
-use Rattle.mv_lex.proofs.Cuts.{pieces-first}
+use Rattle.mv_lex.proofs.Cuts.{split-first}
 use Rattle.mv_lex.proofs.Cutting.{cut_at, cut_of-bytes, with_bytes-append}
 use Rattle.mv_lex.proofs.Tails.{before_hash-clear}
-use Rattle.mv_back.specs.Written.{is_word_byte, is_written_word, is_written_line, lines_from}
+use Rattle.mv_back.proofs.TextWords.{is_word_byte, is_written_word, is_written_line, lines_from}
 use Rattle.mv_back.proofs.Ends.{ends_with-behind, own_text}
 use Rattle.mv_back.proofs.Words.{word_byte, written_word, cut-back}
 
@@ -105,17 +104,17 @@ all_joined-first : (line : List ℕ) (lines : List (List ℕ)) → joins line �
 all_joined-first line lines e = rw e refl
 
 -- a written line is the first physical line of what it begins
-pieces-line_text : (w : List ℕ) (ws : List (List ℕ)) (rest : List ℕ) → list_all (λ b. not (is_line_feed b)) (w ++ spaced ws) ≡ true → pieces is_line_feed (line_text (w ∷ ws) ++ rest) ≡ (w ++ spaced ws) ∷ pieces is_line_feed rest
+split-line_text : (w : List ℕ) (ws : List (List ℕ)) (rest : List ℕ) → list_all (λ b. not (is_line_feed b)) (w ++ spaced ws) ≡ true → slice_split is_line_feed (line_text (w ∷ ws) ++ rest) ≡ (w ++ spaced ws) ∷ slice_split is_line_feed rest
 unfolding line_text
-pieces-line_text w ws rest h =
+split-line_text w ws rest h =
     let e : (w ++ (spaced ws ++ 10 ∷ [])) ++ rest ≡ (w ++ spaced ws) ++ 10 ∷ rest = simp append_assoc in
-    ap (pieces is_line_feed) e ∙ pieces-first is_line_feed (w ++ spaced ws) 10 rest h refl
+    ap (slice_split is_line_feed) e ∙ split-first is_line_feed (w ++ spaced ws) 10 rest h refl
 
 -- the bytes are read as these lines, from whichever number they are counted, and are clean
 record AreReadAs (ls : List (List (List ℕ))) (bytes : List ℕ) : Type 0 where
-  lines : (number : ℕ) → numbered number (all_joined (pieces is_line_feed bytes)) ≡ lines_from number ls
-  readable : list_all is_readable (pieces is_line_feed bytes) ≡ true
-  closed : list_all is_closed (all_joined (pieces is_line_feed bytes)) ≡ true
+  lines : (number : ℕ) → numbered number (all_joined (slice_split is_line_feed bytes)) ≡ lines_from number ls
+  readable : list_all is_readable (slice_split is_line_feed bytes) ≡ true
+  closed : list_all is_closed (all_joined (slice_split is_line_feed bytes)) ≡ true
 
 written-read : (ls : List (List (List ℕ))) → list_all is_written_line ls ≡ true → AreReadAs ls (flat_map line_text ls)
 unfolding cut_of is_written_line
@@ -128,8 +127,8 @@ written-read ((w ∷ ws) ∷ ls) h =
     let line = w ++ spaced ws in
     let is = line_read w ws words in
     let more = flat_map line_text ls in
-    let cut : pieces is_line_feed (flat_map line_text ((w ∷ ws) ∷ ls)) ≡ line ∷ pieces is_line_feed more = pieces-line_text w ws more is.feedless in
-    let groups : all_joined (pieces is_line_feed (flat_map line_text ((w ∷ ws) ∷ ls))) ≡ (line ∷ []) ∷ all_joined (pieces is_line_feed more) = ap all_joined cut ∙ all_joined-first line (pieces is_line_feed more) is.stops in
+    let cut : slice_split is_line_feed (flat_map line_text ((w ∷ ws) ∷ ls)) ≡ line ∷ slice_split is_line_feed more = split-line_text w ws more is.feedless in
+    let groups : all_joined (slice_split is_line_feed (flat_map line_text ((w ∷ ws) ∷ ls))) ≡ (line ∷ []) ∷ all_joined (slice_split is_line_feed more) = ap all_joined cut ∙ all_joined-first line (slice_split is_line_feed more) is.stops in
     record {
       lines = λ number. rw (groups, is.cut) (ap (λ ms. record { number = number; words = w ∷ ws } ∷ ms) (rest.lines (number + 1)));
       readable = ap (list_all is_readable) cut ∙ and_from (is_readable line) _ is.readable rest.readable;

@@ -1,8 +1,7 @@
 -- What the text of a network reads as.
-use Rattle.std.specs.Prelude.{◌≡◌, ℕ, true, List, [], ◌∷◌}
+use Rattle.std.specs.Prelude.{◌≡◌, ℕ, true, List}
 use Rattle.mv_base.specs.Meaning.{SameMeaning}
 use Rattle.mv_lex.specs.Lines.{lines_of, is_clean}
-use Rattle.mv_design.specs.declared.design.FileModel.{FileModel}
 use Rattle.mv_design.specs.declared.design.Design.{Design}
 use Rattle.mv_parse.specs.Grammar.{IsDesign}
 use Rattle.mv_model.specs.Sound.{IsSound}
@@ -23,7 +22,3 @@ pub record ReadsBack (net : NetParts) : Type 0 where
   pub design : Design
   pub reads : ReadsAs (text_of net) design
   pub means : SameMeaning (of_design design) (of_net net)
-
--- a design of this one model
-abbrev pub design_with : FileModel → Design
-design_with m = record { root = 0; models = m ∷ [] }

@@ -1,3 +1,1 @@
-pub mod Models
-pub mod Written
 pub mod Back

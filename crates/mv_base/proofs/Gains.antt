@@ -1,41 +1,58 @@
--- Calls that append to a sink one after the other, and a loop or a run of calls that is on its way through a text.
+-- Calls that append to a sink, or to what stands before one, and a loop or a run of calls that is on its way through a text.
 use Rattle.std.proofs.Common.{◌≡◌, ◌∙◌, ℕ, List, [], ◌++◌, Option, Some, None, Result, Ok, Err, refl, sym, ap, subst, append_assoc, arith}
+use Rattle.std.specs.Prelude.{IfSome}
 use Rattle.std.specs.Result.{IsErrAnd}
 use Rattle.std.proofs.lemmas.List.{append-nil}
 use Rattle.mv_base.specs.declared.outside.Failed.{Failed}
-use Rattle.mv_base.specs.Outside.{Gained, GainedPart, HasCause}
-use Rattle.mv_base.proofs.OutsideLemmas.{told_gained, told_part, Rose-earlier}
-use Rattle.mv_base.specs.Appends.{Appends}
+use Rattle.mv_base.specs.Outside.{Written, Gained, GainedFront, GainedPart, HasCause, Appends}
+use Rattle.mv_base.proofs.OutsideLemmas.{Rose-earlier}
 
 -- ---- what a sink tells
 
-pub Gained-none : (a : Option (List ℕ)) → Gained a a []
-Gained-none None = tt
-Gained-none (Some o) = ap Some (sym (append-nil o))
+gained_nothing : (o : Option (List ℕ)) → IfSome o (λ had. o ≡ Some (had ++ []))
+gained_nothing None = tt
+gained_nothing (Some had) = ap Some (sym (append-nil had))
 
-pub Gained-then : (a b c : Option (List ℕ)) (x y : List ℕ) → Gained a b x → Gained b c y → Gained a c (x ++ y)
-Gained-then None b c x y g h = tt
-Gained-then (Some o) b c x y g h = told_gained b c (o ++ x) y g h ∙ ap Some (append_assoc o x y)
+gained_both : (o m n : Option (List ℕ)) (x y : List ℕ) → IfSome o (λ had. m ≡ Some (had ++ x)) → IfSome m (λ had. n ≡ Some (had ++ y)) → IfSome o (λ had. n ≡ Some (had ++ (x ++ y)))
+gained_both None m n x y g h = tt
+gained_both (Some o) m n x y g h =
+    let P : Option (List ℕ) → Type 0 = λ z. IfSome z (λ had. n ≡ Some (had ++ y)) in
+    subst P g h ∙ ap Some (append_assoc o x y)
 
-pub GainedPart-then : (a b c : Option (List ℕ)) (x y : List ℕ) → Gained a b x → GainedPart b c y → GainedPart a c (x ++ y)
-GainedPart-then None b c x y g h = tt
-GainedPart-then (Some o) b c x y g h =
-    let p = told_part b c (o ++ x) y g h in
-    record {
-      front = x ++ p.front;
-      back = p.back;
-      whole = ap (λ z. x ++ z) p.whole ∙ sym (append_assoc x p.front p.back);
-      gained = p.gained ∙ ap Some (append_assoc o x p.front);
-    }
+front_behind : (had : List ℕ) (n : Option (List ℕ)) (x y : List ℕ) → GainedFront (had ++ x) n y → GainedFront had n (x ++ y)
+front_behind had n x y p = record {
+  front = x ++ p.front;
+  back = p.back;
+  whole = ap (λ z. x ++ z) p.whole ∙ sym (append_assoc x p.front p.back);
+  gained = p.gained ∙ ap Some (append_assoc had x p.front);
+}
 
-pub GainedPart-more : (a b : Option (List ℕ)) (x y : List ℕ) → GainedPart a b x → GainedPart a b (x ++ y)
-GainedPart-more None b x y p = tt
-GainedPart-more (Some o) b x y p = record {
+part_behind : (o m n : Option (List ℕ)) (x y : List ℕ) → IfSome o (λ had. m ≡ Some (had ++ x)) → IfSome m (λ had. GainedFront had n y) → IfSome o (λ had. GainedFront had n (x ++ y))
+part_behind None m n x y g h = tt
+part_behind (Some o) m n x y g h =
+    let P : Option (List ℕ) → Type 0 = λ z. IfSome z (λ had. GainedFront had n y) in
+    front_behind o n x y (subst P g h)
+
+part_of_more : (o n : Option (List ℕ)) (x y : List ℕ) → IfSome o (λ had. GainedFront had n x) → IfSome o (λ had. GainedFront had n (x ++ y))
+part_of_more None n x y p = tt
+part_of_more (Some o) n x y p = record {
   front = p.front;
   back = p.back ++ y;
   whole = ap (λ z. z ++ y) p.whole ∙ append_assoc p.front p.back y;
   gained = p.gained;
 }
+
+pub Gained-none : (a : Written) → Gained a a []
+Gained-none a = gained_nothing a.told
+
+pub Gained-then : (a b c : Written) (x y : List ℕ) → Gained a b x → Gained b c y → Gained a c (x ++ y)
+Gained-then a b c x y g h = gained_both a.told b.told c.told x y g h
+
+pub GainedPart-then : (a b c : Written) (x y : List ℕ) → Gained a b x → GainedPart b c y → GainedPart a c (x ++ y)
+GainedPart-then a b c x y g h = part_behind a.told b.told c.told x y g h
+
+pub GainedPart-more : (a b : Written) (x y : List ℕ) → GainedPart a b x → GainedPart a b (x ++ y)
+GainedPart-more a b x y p = part_of_more a.told b.told x y p
 
 -- ---- causes
 
@@ -45,74 +62,68 @@ HasCause-then n m k q (Err e) c d = record { later = omega (arith, c.later, d.la
 
 -- ---- calls
 
-pub Appends-none : (a : Option (List ℕ)) (n : ℕ) → Appends a a n n [] (Ok tt)
-Appends-none a n = record { ok = Gained-none a; part = tt; cause = record { later = omega arith; failed = tt } }
+-- what calls do that append: nothing, then more, and some first part where one of them fails
+pub record Appending {S : Type 0} (App : S → S → List ℕ → Result (Unit {0}) Failed → Type 0) : Type 0 where
+  pub nothing : (a : S) → App a a [] (Ok tt)
+  pub more : (a b c : S) (x y : List ℕ) (r : Result (Unit {0}) Failed) → App a b x (Ok tt) → App b c y r → App a c (x ++ y) r
+  pub cut : (a b : S) (x y : List ℕ) (e : Failed) → App a b x (Err e) → App a b (x ++ y) (Err e)
 
-pub Appends-then : (a b c : Option (List ℕ)) (n m k : ℕ) (x y : List ℕ) (r : Result (Unit {0}) Failed) → Appends a b n m x (Ok tt) → Appends b c m k y r → Appends a c n k (x ++ y) r
-Appends-then a b c n m k x y (Ok u) p q = record {
+appends_more : (a b c : Written) (x y : List ℕ) (r : Result (Unit {0}) Failed) → Appends a b x (Ok tt) → Appends b c y r → Appends a c (x ++ y) r
+appends_more a b c x y (Ok u) p q = record {
   ok = Gained-then a b c x y p.ok q.ok;
   part = tt;
-  cause = HasCause-then n m k (Ok tt) (Ok u) p.cause q.cause;
+  cause = HasCause-then a.faults b.faults c.faults (Ok tt) (Ok u) p.cause q.cause;
 }
-Appends-then a b c n m k x y (Err e) p q = record {
+appends_more a b c x y (Err e) p q = record {
   ok = tt;
   part = GainedPart-then a b c x y p.ok q.part;
-  cause = HasCause-then n m k (Ok tt) (Err e) p.cause q.cause;
+  cause = HasCause-then a.faults b.faults c.faults (Ok tt) (Err e) p.cause q.cause;
 }
 
--- a call that appends nothing
-GainedPart-none : (a : Option (List ℕ)) → GainedPart a a []
-GainedPart-none None = tt
-GainedPart-none (Some o) = record { front = []; back = []; whole = refl; gained = ap Some (sym (append-nil o)) }
-
-pub appends_nothing : (a b : Option (List ℕ)) (n m : ℕ) (r : Result (Unit {0}) Failed) → b ≡ a → HasCause n m r → Appends a b n m [] r
-appends_nothing a b n m (Ok u) e c =
-    let P : Option (List ℕ) → Type 0 = λ z. Gained a z [] in
-    record { ok = subst P (sym e) (Gained-none a); part = tt; cause = c }
-appends_nothing a b n m (Err f) e c =
-    let P : Option (List ℕ) → Type 0 = λ z. GainedPart a z [] in
-    record { ok = tt; part = subst P (sym e) (GainedPart-none a); cause = c }
-
--- a call that failed in the middle of a longer text
-pub Appends-cut : (a b : Option (List ℕ)) (n m : ℕ) (x y : List ℕ) (e : Failed) → Appends a b n m x (Err e) → Appends a b n m (x ++ y) (Err e)
-Appends-cut a b n m x y e p = record { ok = tt; part = GainedPart-more a b x y p.part; cause = p.cause }
-
--- the same call under an equal text
-pub Appends-same : (a b : Option (List ℕ)) (n m : ℕ) (x y : List ℕ) (r : Result (Unit {0}) Failed) → x ≡ y → Appends a b n m x r → Appends a b n m y r
-Appends-same a b n m x y r e p = let P : List ℕ → Type 0 = λ z. Appends a b n m z r in subst P e p
+pub appends : Appending Appends
+appends = record {
+  nothing = λ a. record { ok = Gained-none a; part = tt; cause = record { later = omega arith; failed = tt } };
+  more = appends_more;
+  cut = λ a b x y e p. record { ok = tt; part = GainedPart-more a b x y p.part; cause = p.cause };
+}
 
 -- ---- on the way through a text
 
 -- all but the rest of the whole text was appended
-pub record Going (old new : Option (List ℕ)) (before now : ℕ) (rest whole : List ℕ) : Type 0 where
+pub record Going {S : Type 0} (App : S → S → List ℕ → Result (Unit {0}) Failed → Type 0) (old new : S) (rest whole : List ℕ) : Type 0 where
   pub done : List ℕ
   pub all : done ++ rest ≡ whole
-  pub appended : Appends old new before now done (Ok tt)
+  pub appended : App old new done (Ok tt)
 
-pub start : (a : Option (List ℕ)) (n : ℕ) (whole : List ℕ) → Going a a n n whole whole
-start a n whole = record { done = []; all = refl; appended = Appends-none a n }
+module _ {S : Type 0} {App : S → S → List ℕ → Result (Unit {0}) Failed → Type 0} (laws : Appending App) where
+  -- the same call under an equal text
+  pub same : {a b : S} {x y : List ℕ} {r : Result (Unit {0}) Failed} → x ≡ y → App a b x r → App a b y r
+  same {a = a} {b = b} {r = r} e p = let P : List ℕ → Type 0 = λ z. App a b z r in subst P e p
 
-module _ {a b c : Option (List ℕ)} {n m k : ℕ} {text whole : List ℕ} where
+  -- nothing was appended yet
+  pub start : (a : S) (whole : List ℕ) → Going App a a whole whole
+  start a whole = record { done = []; all = refl; appended = laws.nothing a }
+
   -- a call appended what comes next
-  pub next : {x rest : List ℕ} → Going a b n m text whole → text ≡ x ++ rest → Appends b c m k x (Ok tt) → Going a c n k rest whole
-  next {x = x} {rest = rest} p e q = record {
+  pub next : {a b c : S} {text whole x rest : List ℕ} → Going App a b text whole → text ≡ x ++ rest → App b c x (Ok tt) → Going App a c rest whole
+  next {a = a} {b = b} {c = c} {x = x} {rest = rest} p e q = record {
     done = p.done ++ x;
     all = append_assoc p.done x rest ∙ (ap (λ t. p.done ++ t) (sym e) ∙ p.all);
-    appended = Appends-then a b c n m k p.done x (Ok tt) p.appended q;
+    appended = laws.more a b c p.done x (Ok tt) p.appended q;
   }
 
   -- a call failed at what comes next, and its answer is handed on
-  pub stop : {x : List ℕ} (rest : List ℕ) {e : Failed} (Q : Failed → Type 0) (r : Result (Unit {0}) Failed) → Going a b n m text whole → text ≡ x ++ rest → Appends b c m k x (Err e) → IsErrAnd r Q → Appends a c n k whole r
+  pub stop : {a b c : S} {text whole x : List ℕ} (rest : List ℕ) {e : Failed} (Q : Failed → Type 0) (r : Result (Unit {0}) Failed) → Going App a b text whole → text ≡ x ++ rest → App b c x (Err e) → IsErrAnd r Q → App a c whole r
   stop {x = x} rest {e = e} Q (Ok v) p s q f = absurd f
-  stop {x = x} rest {e = e} Q (Err d) p s q f =
-      Appends-same a c n k (p.done ++ text) whole (Err d) p.all (Appends-then a b c n m k p.done text (Err d) p.appended (Appends-same b c m k (x ++ rest) text (Err d) (sym s) (Appends-cut b c m k x rest d q)))
+  stop {a = a} {b = b} {c = c} {text = text} {x = x} rest {e = e} Q (Err d) p s q f =
+      same p.all (laws.more a b c p.done text (Err d) p.appended (same (sym s) (laws.cut b c x rest d q)))
 
   -- the answer of the call for the rest is handed on
-  pub last : {r : Result (Unit {0}) Failed} → Going a b n m text whole → Appends b c m k text r → Appends a c n k whole r
-  last {r = r} p q =
-      Appends-same a c n k (p.done ++ text) whole r p.all (Appends-then a b c n m k p.done text r p.appended q)
+  pub last : {a b c : S} {text whole : List ℕ} {r : Result (Unit {0}) Failed} → Going App a b text whole → App b c text r → App a c whole r
+  last {a = a} {b = b} {c = c} {text = text} {r = r} p q =
+      same p.all (laws.more a b c p.done text r p.appended q)
 
--- nothing is left
-pub finish : {a b : Option (List ℕ)} {n m : ℕ} {text whole : List ℕ} → Going a b n m text whole → text ≡ [] → Appends a b n m whole (Ok tt)
-finish {a = a} {b = b} {n = n} {m = m} {text = text} {whole = whole} p e =
-    Appends-same a b n m p.done whole (Ok tt) (sym (append-nil p.done) ∙ (ap (λ t. p.done ++ t) (sym e) ∙ p.all)) p.appended
+  -- nothing is left
+  pub finish : {a b : S} {text whole : List ℕ} → Going App a b text whole → text ≡ [] → App a b whole (Ok tt)
+  finish p e =
+      same (sym (append-nil p.done) ∙ (ap (λ t. p.done ++ t) (sym e) ∙ p.all)) p.appended

@@ -5,3 +5,4 @@ pub mod OutsideLemmas
 pub mod Gains
 pub mod Meanings
 pub mod Firsts
+pub mod Lists

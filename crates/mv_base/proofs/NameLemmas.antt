@@ -10,6 +10,7 @@ use Rattle.std.proofs.lemmas.Bool.Decides.{nat_tests, same_from_decides, Decides
 use Rattle.std.proofs.lemmas.List.Folds.{list_any-append}
 use Rattle.std.proofs.lemmas.List.Quantifiers.{position-Some}
 use Rattle.std.proofs.lemmas.Option.{slice_get-get_or}
+use Rattle.mv_base.proofs.Lists.{none_from}
 use Rattle.mv_base.specs.Names.{same_word, among, place_of, AreApart, IsDistinct, names_differ}
 
 -- words that the test finds alike are one word
@@ -72,13 +73,9 @@ IsPlace-from_among w ws e =
     let p = some_of (place_of w ws) (is_some-place_of w ws ∙ e) in
     (p.0, IsPlace-from_place w ws p.0 p.1)
 
-none_of : (o : Option ℕ) → is_some o ≡ false → o ≡ None
-none_of None e = refl
-none_of (Some k) e = absurd (false≢true (sym e))
-
 -- a word that isn't among them has none
 pub place_of-none : (w : List ℕ) (ws : List (List ℕ)) → among w ws ≡ false → place_of w ws ≡ None
-place_of-none w ws e = none_of (place_of w ws) (is_some-place_of w ws ∙ e)
+place_of-none w ws e = none_from (place_of w ws) (is_some-place_of w ws ∙ e)
 
 some_is : (a b : List ℕ) → Some a ≡ Some b → a ≡ b
 some_is a b e = cc

@@ -221,7 +221,8 @@ and_false : (p : Bool) → (p && false) ≡ false
 and_false true = refl
 and_false false = refl
 
-taken_out : (s v : ℕ) → has (minus s (one v)) v ≡ false
+-- a set without one of its members hasn't that
+pub taken_out : (s v : ℕ) → has (minus s (one v)) v ≡ false
 taken_out s v =
     let there : has (one v) v ≡ true = has-one v v ∙ (Decides-eqb v v).1 refl in
     has-minus s (one v) v ∙ rw there (and_false (has s v))

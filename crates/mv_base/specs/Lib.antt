@@ -1,8 +1,8 @@
 pub mod Set
 pub mod Names
+pub mod NameBytes
 pub mod Meaning
 pub mod Outside
 pub mod Memory
 pub mod Entries
-pub mod Appends
 pub mod Firsts

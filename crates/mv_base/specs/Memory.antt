@@ -1,7 +1,7 @@
 -- A sink and files that lie in memory and fail where they are told to.
 use Rattle.std.specs.Prelude.{ℕ, ◌+◌, ◌-◌, ◌^◌, min, Bool, not, ◌&&◌, ◌==◌, nat_le, nat_lt, List, [], ◌∷◌, ◌++◌, length, take, drop, Option, Some, None, is_some, is_none, unwrap_or, if◌then◌else◌}
 use Rattle.std.specs.List.{list_any, list_all}
-use Rattle.mv_base.specs.Outside.{Held, file_named}
+use Rattle.mv_base.specs.Outside.{Held, Stored, Written, file_named}
 
 -- one more, for a counter that ends at its last value
 abbrev pub counted : ℕ → ℕ
@@ -17,6 +17,10 @@ pub record Taken : Type 0 where
   pub fails : List (ℕ × ℕ)
   pub calls : ℕ
   pub faults : ℕ
+
+-- its state: it always tells its bytes
+abbrev pub written_of : Taken → Written
+written_of s = record { told = Some s.bytes; faults = s.faults }
 
 -- what the first entry with this number allows
 abbrev pub allowed_at : List (ℕ × ℕ) → ℕ → Option ℕ
@@ -52,8 +56,12 @@ pub record Kept : Type 0 where
   pub faults : ℕ
 
 -- what the files tell: they are sound where every listed call is behind them
-abbrev pub told_of : Kept → Held
-told_of k = record { files = k.files; current = k.current; rest = k.rest; sound = list_all (λ n. nat_lt n k.calls) k.fails }
+abbrev pub held_of : Kept → Held
+held_of k = record { files = k.files; current = k.current; rest = k.rest; sound = list_all (λ n. nat_lt n k.calls) k.fails }
+
+-- their state: they always tell of themselves
+abbrev pub stored_of : Kept → Stored
+stored_of k = record { held = Some (held_of k); faults = k.faults }
 
 -- the next call fails
 abbrev pub is_listed : Kept → Bool

@@ -1,5 +1,5 @@
 -- Files that are read and sinks that are written, as their owner sees them.
-use Rattle.std.specs.Prelude.{◌≡◌, ℕ, ◌+◌, ◌-◌, ◌^◌, ◌<◌, ◌≤◌, min, Bool, IsTrue, List, [], ◌∷◌, ◌++◌, length, take, Option, Some, None, Result, IsOk, IfOk, OnOk, OnErr, if◌then◌else◌}
+use Rattle.std.specs.Prelude.{◌≡◌, ℕ, ◌+◌, ◌-◌, ◌^◌, ◌<◌, ◌≤◌, min, Bool, IsTrue, List, [], ◌∷◌, ◌++◌, length, take, Option, Some, None, Result, IsOk, IfOk, IfSome, IsSomeAnd, OnOk, OnErr, if◌then◌else◌}
 use Rattle.mv_base.specs.Names.{same_word}
 use Rattle.mv_base.specs.declared.outside.Failed.{Failed}
 
@@ -11,10 +11,17 @@ pub record Held : Type 0 where
   pub rest : List ℕ
   pub sound : Bool
 
--- the content of the first file with this name
-abbrev pub file_named : List ℕ → List (List ℕ × List ℕ) → Option (List ℕ)
-file_named name [] = None
-file_named name (f ∷ fs) = if same_word name f.0 then Some f.1 else file_named name fs
+-- the state of a set of files: what it tells of itself, if it does, and its count of faults, which never falls
+pub record Stored : Type 0 where
+  pub held : Option Held
+  pub faults : ℕ
+
+-- the state of a sink: the bytes that it took so far, if it tells them, and its count of faults, which never falls
+pub record Written : Type 0 where
+  pub told : Option (List ℕ)
+  pub faults : ℕ
+
+-- ---- faults
 
 -- a count of faults rose: it is greater than before, or stands at its last value
 abbrev pub Rose : ℕ → ℕ → Type 0
@@ -24,6 +31,13 @@ Rose before now = min (before + 1) (2 ^ 64 - 1) ≤ now
 pub record HasCause {T : Type 0} (before now : ℕ) (result : Result T Failed) : Type 0 where
   pub later : before ≤ now
   pub failed : OnErr result (Rose before now)
+
+-- ---- files
+
+-- the content of the first file with this name
+abbrev pub file_named : List ℕ → List (List ℕ × List ℕ) → Option (List ℕ)
+file_named name [] = None
+file_named name (f ∷ fs) = if same_word name f.0 then Some f.1 else file_named name fs
 
 -- a file is begun: the files stay; at Ok the file is the current one and all of it is left; sound files fail
 -- exactly where none has the name, and stay sound
@@ -43,31 +57,33 @@ pub record Continues (old new : Held) (room : List ℕ) (result : Result ℕ Fai
   pub only : IsTrue old.sound → IsOk result
   pub sound : IsTrue old.sound → IsTrue new.sound
 
--- a file is begun, of files that may tell nothing: what tells before a call tells after it
-abbrev pub Starts : Option Held → Option Held → List ℕ → Result (Unit {0}) Failed → Type 0
-Starts None new name result = Unit {0}
-Starts (Some old) None name result = ⊥
-Starts (Some old) (Some new) name result = Begins old new name result
+-- what was there before is there after, and this holds between the two
+abbrev pub Still : Option Held → Option Held → (Held → Held → Type 0) → Type 0
+Still before after P = IfSome before (λ b. IsSomeAnd after (λ a. P b a))
 
--- the next bytes are given, of files that may tell nothing: what tells before a call tells after it
-abbrev pub Gives : Option Held → Option Held → List ℕ → Result ℕ Failed → Type 0
-Gives None new room result = Unit {0}
-Gives (Some old) None room result = ⊥
-Gives (Some old) (Some new) room result = Continues old new room result
+-- files that tell of themselves before a call tell of themselves after it, and this holds between the two
+abbrev pub StillTell : Stored → Stored → (Held → Held → Type 0) → Type 0
+StillTell old new P = Still old.held new.held P
+
+-- ---- sinks
 
 -- a sink that tells its bytes has gained these
-abbrev pub Gained : Option (List ℕ) → Option (List ℕ) → List ℕ → Type 0
-Gained None new bytes = Unit {0}
-Gained (Some old) new bytes = new ≡ Some (old ++ bytes)
+abbrev pub Gained : Written → Written → List ℕ → Type 0
+Gained old new bytes = IfSome old.told (λ had. new.told ≡ Some (had ++ bytes))
 
--- a sink that had the old bytes has gained some first part of these
-pub record GainedFront (old : List ℕ) (new : Option (List ℕ)) (bytes : List ℕ) : Type 0 where
+-- a sink that had these bytes has gained some first part of those
+pub record GainedFront (had : List ℕ) (told : Option (List ℕ)) (bytes : List ℕ) : Type 0 where
   pub front : List ℕ
   pub back : List ℕ
   pub whole : bytes ≡ front ++ back
-  pub gained : new ≡ Some (old ++ front)
+  pub gained : told ≡ Some (had ++ front)
 
 -- a sink that tells its bytes has gained some first part of these
-abbrev pub GainedPart : Option (List ℕ) → Option (List ℕ) → List ℕ → Type 0
-GainedPart None new bytes = Unit {0}
-GainedPart (Some old) new bytes = GainedFront old new bytes
+abbrev pub GainedPart : Written → Written → List ℕ → Type 0
+GainedPart old new bytes = IfSome old.told (λ had. GainedFront had new.told bytes)
+
+-- a call appends bytes to a sink: at Ok it gained them, else some first part of them, and its count of faults rose
+pub record Appends (old new : Written) (bytes : List ℕ) (result : Result (Unit {0}) Failed) : Type 0 where
+  pub ok : OnOk result (Gained old new bytes)
+  pub part : OnErr result (GainedPart old new bytes)
+  pub cause : HasCause old.faults new.faults result

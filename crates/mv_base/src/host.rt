@@ -1,7 +1,6 @@
 //! The real outside: files by path, standard input, standard output and standard error. None of them tells its bytes.
-ghost use Rattle.std.specs.Prelude.{◌≤◌, ◌≡◌, ◌+◌, ◌++◌, length, take, None, IfOk};
+ghost use Rattle.std.specs.Prelude.{◌≤◌, ◌≡◌, length, IfOk};
 ghost use Rattle.mv_base.specs.Outside.{Rose};
-ghost use Rattle.mv_base.specs.declared.host.TheConstants.{ROOM as room_bytes};
 
 use crate::{Failed, Files, Sink};
 use std::io::Read;
@@ -87,9 +86,9 @@ impl<R: Disk + Input> HostFiles<R> {
 }
 
 impl<R: Disk + Input> Files for HostFiles<R> {
-    ghost held = { λ _. None };
+    ghost use Rattle.std.specs.Prelude.{None};
 
-    ghost faults = { λ f. f };
+    ghost state = { λ f. record { held = None; faults = f } };
 
     fn start(&mut self, name: &str) -> Result<(), Failed> {
         if name == "-" {
@@ -129,46 +128,20 @@ fn write_whole(out: &impl Print, piece: &[u8]) -> bool {
     false
 }
 
-/// How many bytes standard output holds back before it writes them.
-const ROOM: usize = 16_384;
-
-/// Bytes that are held back.
+/// A stream of the process that takes each piece at once, seen by contracts as the count of its faults.
 #[derive(Drop)]
-struct Held {
-    bytes: [u8; ROOM],
-    len: usize,
-    ghost within: { len ≤ room_bytes },
-}
-
-impl Held {
-    /// How many bytes more there is room for.
-    fn room(&self) -> usize
-        ensures { result + self.now.len ≡ ROOM }
-    {
-        ROOM - self.len
-    }
-
-    /// Puts the piece behind the bytes.
-    fn add(&mut self, piece: &[u8])
-        requires { length piece.now + self.old.len ≤ ROOM }
-        ensures { take self.new.len self.new.bytes ≡ take self.old.len self.old.bytes ++ piece.now }
-    {
-        let end = self.len + piece.len();
-        self.bytes[self.len..end].copy_from_slice(piece);
-        self.len = end;
-    }
-}
-
-/// Standard output, seen by contracts as the count of its faults. It writes what it has taken once that is enough for a
-/// write of some size, or at `flush`: who doesn't flush it at the end loses the rest.
-#[derive(Drop)]
-pub struct HostOut<P: Print> {
-    out: P,
-    held: Held,
+pub struct HostSink<P: Print> {
+    stream: P,
     faults: u64,
 }
 
-impl<P: Print> Model for HostOut<P> {
+/// Standard output.
+pub type HostOut<P> = HostSink<P>;
+
+/// Standard error.
+pub type HostErr<P> = HostSink<P>;
+
+impl<P: Print> Model for HostSink<P> {
     ghost use Rattle.std.specs.Prelude.{ℕ};
 
     ghost Value = { ℕ };
@@ -176,91 +149,22 @@ impl<P: Print> Model for HostOut<P> {
     ghost view = { λ s. s.faults };
 }
 
-impl<P: Print> HostOut<P> {
-    ghost use Rattle.mv_base.specs.Outside.{HasCause};
-
-    /// The output that the runtime reaches.
-    pub fn new(out: P) -> Self
+impl<P: Print> HostSink<P> {
+    /// The sink over the handle of a stream.
+    pub fn new(stream: P) -> Self
         ensures { result ≡ 0 }
     {
-        HostOut {
-            out,
-            held: Held {
-                bytes: [0; ROOM],
-                len: 0,
-            },
-            faults: 0,
-        }
-    }
-
-    /// Writes what is held back.
-    fn write_held(&mut self) -> Result<(), Failed>
-        ensures { HasCause self.old self.new result }
-    {
-        let is_written = write_whole(&self.out, &self.held.bytes[..self.held.len]);
-        self.held.len = 0;
-        if is_written {
-            return Ok(());
-        }
-        Err(counted(&mut self.faults))
+        HostSink { stream, faults: 0 }
     }
 }
 
-impl<P: Print> Sink for HostOut<P> {
-    ghost told = { λ _. None };
+impl<P: Print> Sink for HostSink<P> {
+    ghost use Rattle.std.specs.Prelude.{None};
 
-    ghost faults = { λ s. s };
+    ghost state = { λ s. record { told = None; faults = s } };
 
     fn put(&mut self, piece: &[u8]) -> Result<(), Failed> {
-        if piece.len() > self.held.room() {
-            self.write_held()?;
-        }
-        if piece.len() <= self.held.room() {
-            self.held.add(piece);
-            return Ok(());
-        }
-        if write_whole(&self.out, piece) {
-            return Ok(());
-        }
-        Err(counted(&mut self.faults))
-    }
-
-    fn flush(&mut self) -> Result<(), Failed> {
-        self.write_held()
-    }
-}
-
-/// Standard error, seen by contracts as the count of its faults.
-#[derive(Drop)]
-pub struct HostErr<P: Print> {
-    err: P,
-    faults: u64,
-}
-
-impl<P: Print> Model for HostErr<P> {
-    ghost use Rattle.std.specs.Prelude.{ℕ};
-
-    ghost Value = { ℕ };
-
-    ghost view = { λ s. s.faults };
-}
-
-impl<P: Print> HostErr<P> {
-    /// The sink over the handle of standard error.
-    pub fn new(err: P) -> Self
-        ensures { result ≡ 0 }
-    {
-        HostErr { err, faults: 0 }
-    }
-}
-
-impl<P: Print> Sink for HostErr<P> {
-    ghost told = { λ _. None };
-
-    ghost faults = { λ s. s };
-
-    fn put(&mut self, piece: &[u8]) -> Result<(), Failed> {
-        if write_whole(&self.err, piece) {
+        if write_whole(&self.stream, piece) {
             return Ok(());
         }
         Err(counted(&mut self.faults))

@@ -44,6 +44,20 @@ impl<T> Items<T> {
         Items { list }
     }
 
+    /// The vector of the list's elements.
+    pub fn into_vec(self) -> Vec<T>
+        ensures { result.items ≡ self }
+    {
+        self.list
+    }
+
+    /// Gives back the room that no element stands in.
+    pub fn shrink_to_fit(&mut self)
+        ensures { self.new ≡ self.old }
+    {
+        self.list.shrink_to_fit();
+    }
+
     /// The elements.
     pub fn as_slice(&self) -> &[T]
         ensures { result.now ≡ self.now }
@@ -128,7 +142,7 @@ impl Items<Name> {
     pub fn of_names(alloc: Global, names: &[Name]) -> Result<Items<Name>, Memory>
         ensures { IfOk result (λ list. list ≡ names.now) }
     {
-        let mut list = Items::new(alloc);
+        let mut list = Items::with_room(alloc, names.len())?;
         for name in names {
             list.push(name.copy()?)?;
         }

@@ -3,6 +3,7 @@
 #![tactic(auto)]
 
 mod host;
+mod inline_bytes;
 mod items;
 mod limits;
 mod memory;
@@ -13,11 +14,9 @@ mod name_set;
 mod number;
 mod outside;
 mod pieces;
-#[cfg(test)]
-mod tests;
 mod value_set;
 
-pub use host::{HostErr, HostFiles, HostOut};
+pub use host::{HostErr, HostFiles, HostOut, HostSink};
 pub use items::Items;
 pub use limits::{
     DEFAULT_BUDGET, MAX_BRACKETED_BYTES, MAX_BUDGET, MAX_CERTIFICATE_BYTES, MAX_COLUMNS,
@@ -34,5 +33,5 @@ pub use name::Name;
 pub use name_set::NameSet;
 pub use number::{NetId, Value};
 pub use outside::{Failed, Files, Sink};
-pub use pieces::{flush, put_both, put_piece};
+pub use pieces::put_both;
 pub use value_set::{ValueSet, set_laws};

@@ -1,8 +1,8 @@
 ghost use Rattle.std.specs.Prelude.{◌≡◌, ◌==◌, ◌-◌, ◌≤◌, [], ◌++◌, None, Some, length, take, drop, min, map, not, is_ok, IfOk, IfSome, IfNone, OnOk, OnErr};
 ghost use Rattle.std.specs.List.{list_any};
-ghost use Rattle.mv_base.specs.Memory.{told_of, is_listed, starts, after_fault, after_start, after_next};
+ghost use Rattle.mv_base.specs.Memory.{stored_of, is_listed, starts, after_fault, after_start, after_next};
 ghost use Rattle.mv_base.specs.Entries.{entry_of, IsNamed};
-ghost use Rattle.mv_base.specs.Outside.{HasCause, Starts, Gives, file_named};
+ghost use Rattle.mv_base.specs.Outside.{HasCause, StillTell, Begins, Continues, file_named};
 
 use crate::{Failed, Files};
 use std::marker::Model;
@@ -80,15 +80,12 @@ impl MemoryFiles {
 }
 
 impl Files for MemoryFiles {
-    ghost use Rattle.std.specs.Prelude.{Some};
-    ghost use Rattle.mv_base.specs.Memory.{told_of};
+    ghost use Rattle.mv_base.specs.Memory.{stored_of};
 
-    ghost held = { λ k. Some (told_of k) };
-
-    ghost faults = { λ k. k.faults };
+    ghost state = { λ k. stored_of k };
 
     fn start(&mut self, name: &str) -> Result<(), Failed>
-        ensures begun { Starts (Some (told_of self.old)) (Some (told_of self.new)) name.now result }
+        ensures begun { StillTell (stored_of self.old) (stored_of self.new) (λ old new. Begins old new name.now result) }
         ensures cause { HasCause self.old.faults self.new.faults result }
         ensures answer { is_ok result ≡ starts self.old name.now }
         ensures ok { OnOk result (self.new ≡ after_start self.old name.now) }
@@ -111,7 +108,7 @@ impl Files for MemoryFiles {
 
     fn next(&mut self, room: &mut [u8]) -> Result<usize, Failed>
         ensures bound { IfOk result (λ n. n ≤ length room.new) }
-        ensures given { Gives (Some (told_of self.old)) (Some (told_of self.new)) room.new result }
+        ensures given { StillTell (stored_of self.old) (stored_of self.new) (λ old new. Continues old new room.new result) }
         ensures cause { HasCause self.old.faults self.new.faults result }
         ensures answer { is_ok result ≡ not (is_listed self.old) }
         ensures count { IfOk result (λ n. n ≡ min (length room.old) (length self.old.rest)) }

@@ -1,6 +1,6 @@
-ghost use Rattle.std.specs.Prelude.{◌≡◌, [], Some, length, is_ok, IfOk, OnOk, OnErr};
-ghost use Rattle.mv_base.specs.Memory.{allowed_at, takes_all, after_put};
-ghost use Rattle.mv_base.specs.Outside.{HasCause, Gained, GainedPart};
+ghost use Rattle.std.specs.Prelude.{◌≡◌, [], length, is_ok, IfOk};
+ghost use Rattle.mv_base.specs.Memory.{written_of, allowed_at, takes_all, after_put};
+ghost use Rattle.mv_base.specs.Outside.{Appends};
 
 use crate::{Failed, Memory, Sink};
 use std::alloc::Global;
@@ -64,16 +64,12 @@ impl MemorySink {
 }
 
 impl Sink for MemorySink {
-    ghost use Rattle.std.specs.Prelude.{Some};
+    ghost use Rattle.mv_base.specs.Memory.{written_of};
 
-    ghost told = { λ s. Some s.bytes };
-
-    ghost faults = { λ s. s.faults };
+    ghost state = { λ s. written_of s };
 
     fn put(&mut self, piece: &[u8]) -> Result<(), Failed>
-        ensures ok { OnOk result (Gained (Some self.old.bytes) (Some self.new.bytes) piece.now) }
-        ensures part { OnErr result (GainedPart (Some self.old.bytes) (Some self.new.bytes) piece.now) }
-        ensures cause { HasCause self.old.faults self.new.faults result }
+        ensures appends { Appends (written_of self.old) (written_of self.new) piece.now result }
         ensures answer { is_ok result ≡ takes_all self.old (length piece.now) }
         ensures after { self.new ≡ after_put self.old piece.now }
     {

@@ -1,19 +1,26 @@
 ghost use Rattle.std.specs.Prelude.{◌≡◌, IfOk};
+ghost use Rattle.mv_base.specs.NameBytes.{bytes_of};
 
 use crate::Memory;
-use smallvec::SmallVec;
+use crate::inline_bytes::{INLINE, InlineBytes};
 use std::alloc::Global;
 use std::cmp::Ordering;
 use std::hash::{Hash, Hasher};
 use std::marker::Model;
 
-/// How many bytes a name keeps in itself. A longer one takes memory of its own.
-const INLINE: usize = 16;
-
-/// A text, seen as its list of bytes.
+/// A text, seen as its list of bytes. A short one stands in the name itself, of which there are very many, and a long one
+/// in memory of its own.
 #[derive(Debug, Drop)]
 pub struct Name {
-    bytes: SmallVec<u8, INLINE>,
+    alloc: Global,
+    storage: Storage,
+}
+
+/// Where the bytes of a name stand.
+#[derive(Debug, Drop)]
+enum Storage {
+    Inline(InlineBytes),
+    Heap(Box<Vec<u8>>),
 }
 
 impl Model for Name {
@@ -21,7 +28,9 @@ impl Model for Name {
 
     ghost Value = { List ℕ };
 
-    ghost view = { λ n. n.bytes.items };
+    ghost use Rattle.mv_base.specs.NameBytes.{bytes_of};
+
+    ghost view = { λ n. bytes_of n.storage };
 }
 
 impl Name {
@@ -30,7 +39,8 @@ impl Name {
         ensures { IfOk result (λ n. n ≡ bytes.now) }
     {
         Ok(Name {
-            bytes: SmallVec::from_slice(alloc, bytes)?,
+            alloc,
+            storage: stored(alloc, bytes)?,
         })
     }
 
@@ -38,17 +48,29 @@ impl Name {
     pub fn bytes(&self) -> &[u8]
         ensures { result.now ≡ self.now }
     {
-        self.bytes.as_slice()
+        match &self.storage {
+            Storage::Inline(inline) => inline.as_slice(),
+            Storage::Heap(heap) => heap.as_slice(),
+        }
     }
 
     /// An equal name.
     pub fn copy(&self) -> Result<Name, Memory>
         ensures { IfOk result (λ n. n ≡ self.now) }
     {
-        Ok(Name {
-            bytes: SmallVec::from_slice(*self.bytes.allocator(), self.bytes.as_slice())?,
-        })
+        Name::new(self.alloc, self.bytes())
     }
+}
+
+/// These bytes, with memory of their own if they are many.
+fn stored(alloc: Global, bytes: &[u8]) -> Result<Storage, Memory>
+    ensures { IfOk result (λ storage. bytes_of storage ≡ bytes.now) }
+{
+    if bytes.len() <= INLINE {
+        return Ok(Storage::Inline(InlineBytes::of(bytes)));
+    }
+    let heap = Vec::from_slice(alloc, bytes)?;
+    Ok(Storage::Heap(Box::new(alloc, heap)?))
 }
 
 impl PartialEq for Name {
@@ -62,7 +84,7 @@ impl PartialEq for Name {
     ghost laws = { Prim.search (comparing, rules) };
 
     fn eq(&self, other: &Name) -> bool {
-        self.bytes == other.bytes
+        self.bytes() == other.bytes()
     }
 }
 
@@ -88,7 +110,7 @@ impl Ord for Name {
     ghost matches_eq = { Prim.search (comparing, rules) };
 
     fn cmp(&self, other: &Name) -> Ordering {
-        self.bytes.cmp(&other.bytes)
+        self.bytes().cmp(other.bytes())
     }
 }
 
@@ -118,6 +140,6 @@ impl Hash for Name {
     ghost respects_eq = { Prim.search (hashing, rules) };
 
     fn hash<H: Hasher>(&self, state: &mut H) {
-        self.bytes.hash(state);
+        self.bytes().hash(state);
     }
 }

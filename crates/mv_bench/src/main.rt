@@ -14,8 +14,6 @@ mod stop;
 mod symbols;
 mod task;
 mod tasks;
-#[cfg(test)]
-mod tests;
 
 use std::env;
 use std::process::ExitCode;

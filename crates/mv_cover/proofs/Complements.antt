@@ -14,7 +14,7 @@ use Rattle.mv_cover.specs.Covers.{some_matches}
 use Rattle.mv_cover.specs.Covering.{IsPoint}
 use Rattle.mv_cover.specs.Cofactors.{cubes_match}
 use Rattle.mv_cover.specs.Containing.{FitsCube}
-use Rattle.mv_cover.specs.Sharp.{Suits, IsCubeOver, AreApart, sharp_of}
+use Rattle.mv_cover.specs.Sharp.{Suits, IsCubeOver, AreDisjoint, sharp_of}
 use Rattle.mv_cover.specs.Complement.{sharps_of, complement_of, IsWide, StaysWithin}
 use Rattle.mv_cover.proofs.Points.{some_matches-append}
 use Rattle.mv_cover.proofs.Meets.{Rises-cube, order}
@@ -160,7 +160,7 @@ pub record IsComplement (counts : List ℕ) (lines : List Line) (cubes : List (L
   pub list : cubes ≡ complement_of counts lines
   pub narrow : StaysWithin counts lines
   pub points : (at : ℕ → ℕ) → IsPoint counts at → cubes_match at cubes ≡ not (some_matches at lines)
-  pub apart : AllPairs (AreApart counts) cubes
+  pub apart : AllPairs (AreDisjoint counts) cubes
   pub suited : All (IsCubeOver counts) cubes
 
 -- after the last line the list is the complement

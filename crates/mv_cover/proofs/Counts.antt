@@ -6,7 +6,7 @@ use Rattle.std.proofs.lemmas.List.Recursion.{is_sum_by}
 use Rattle.mv_cover.specs.declared.cube.Lit.{Lit}
 use Rattle.mv_cover.specs.declared.line.Line.{Line}
 use Rattle.mv_cover.specs.Cubes.{nets_ascend, IsCube}
-use Rattle.mv_cover.specs.Covers.{literals_of}
+use Rattle.mv_cover.specs.Covers.{literal_count}
 
 -- ascending nets leave room for one another up to the last
 pub ascend_last : (l : Lit) (ls : List Lit) (d : Lit) → nets_ascend (l ∷ ls) ≡ true → l.net.0 + length ls ≤ (get_or (l ∷ ls) (length ls) d).net.0
@@ -18,8 +18,8 @@ ascend_last l (m ∷ ls) d h =
     omega arith
 
 -- the literals are a sum over the lines
-pub literals-sum : (ls : List Line) → literals_of ls ≡ sum_by (λ (l : Line). length l.cube) ls
-literals-sum = is_sum_by literals_of (λ (l : Line). length l.cube) refl (λ _ _. refl)
+pub literals-sum : (ls : List Line) → literal_count ls ≡ sum_by (λ (l : Line). length l.cube) ls
+literals-sum = is_sum_by literal_count (λ (l : Line). length l.cube) refl (λ _ _. refl)
 
 -- a cube whose last net is below k has at most k literals
 pub cube_ends : (k : ℕ) (cube : List Lit) (last : Lit) → IsCube cube → last ≡ get_or cube (length cube - 1) last → last.net.0 < k → length cube ≤ k

@@ -9,7 +9,7 @@ use Rattle.mv_cover.specs.declared.line.Line.{Line}
 use Rattle.mv_cover.specs.Cubes.{matches}
 use Rattle.mv_cover.specs.Covers.{some_matches, cube_reads, lines_read}
 use Rattle.mv_cover.specs.Covering.{IsPoint, AreWithin, CoversAll, MissesSome}
-use Rattle.mv_cover.specs.Cofactors.{MatchEach, cubes_match, cubes_read, AreCubesWithin, CubesCover, CubesMiss, CoverBelow, cube_allows, cube_without, cofactor_of, cubes_of, literals_in}
+use Rattle.mv_cover.specs.Cofactors.{MatchEach, cubes_match, cubes_read, AreCubesWithin, CubesCover, CubesMiss, cube_allows, cube_without, cofactor_of, cubes_of}
 
 pub same_number : (a b : ℕ) → nat_eq a b ≡ true → a ≡ b
 same_number a b h = (unsigned_Decides a b).0 h
@@ -103,7 +103,12 @@ without-shorter n (l ∷ ls) h =
       | inr f ↦ let k = without-shorter n ls (rw f at h) in rw f (omega arith)
     ]
 
-pub cofactor-short : (n value : ℕ) (cs : List (List Lit)) → literals_in (cofactor_of n value cs) ≤ literals_in cs
+-- the literals of the cubes, each of which counts one
+abbrev pub literals_of_cubes : List (List Lit) → ℕ
+literals_of_cubes [] = 0
+literals_of_cubes (c ∷ cs) = length c + literals_of_cubes cs
+
+pub cofactor-short : (n value : ℕ) (cs : List (List Lit)) → literals_of_cubes (cofactor_of n value cs) ≤ literals_of_cubes cs
 cofactor-short n value [] = omega arith
 cofactor-short n value (c ∷ cs) =
     let ih = cofactor-short n value cs in
@@ -113,7 +118,7 @@ cofactor-short n value (c ∷ cs) =
       | inr f ↦ rw f (omega arith)
     ]
 
-first-shorter : (n value : ℕ) (c : List Lit) (cs : List (List Lit)) → cube_reads c n ≡ true → literals_in (cofactor_of n value (c ∷ cs)) < literals_in (c ∷ cs)
+first-shorter : (n value : ℕ) (c : List Lit) (cs : List (List Lit)) → cube_reads c n ≡ true → literals_of_cubes (cofactor_of n value (c ∷ cs)) < literals_of_cubes (c ∷ cs)
 first-shorter n value c cs h =
     let ih = cofactor-short n value cs in
     let k = without-shorter n c h in
@@ -123,7 +128,7 @@ first-shorter n value c cs h =
     ]
 
 -- where some cube reads the net, there are fewer
-pub cofactor-shorter : (n value : ℕ) (cs : List (List Lit)) → cubes_read cs n ≡ true → literals_in (cofactor_of n value cs) < literals_in cs
+pub cofactor-shorter : (n value : ℕ) (cs : List (List Lit)) → cubes_read cs n ≡ true → literals_of_cubes (cofactor_of n value cs) < literals_of_cubes cs
 cofactor-shorter n value [] h = absurd (false≢true h)
 cofactor-shorter n value (c ∷ cs) h =
     elim (cases_Bool (cube_reads c n)) [
@@ -168,6 +173,10 @@ pub missed_by_none : (counts : List ℕ) (cs : List (List Lit)) → cs ≡ [] �
 missed_by_none counts [] e = record { at = λ _. 0; point = record { below = λ n some. some }; missed = refl }
 missed_by_none counts (c ∷ cs) e = cc
 
+-- the cubes match every point at which the net has a value below this one
+pub record CoverBelow (counts : List ℕ) (cubes : List (List Lit)) (n value : ℕ) : Type 0 where
+  pub each : (at : ℕ → ℕ) → IsPoint counts at → at n < value → cubes_match at cubes ≡ true
+
 -- no value is below 0
 pub cover_start : (counts : List ℕ) (cs : List (List Lit)) (n : ℕ) → CoverBelow counts cs n 0
 cover_start counts cs n = record { each = λ at p low. absurd (omega arith) }
@@ -209,8 +218,8 @@ lines_answer false counts ls h = lines_miss counts ls h
 pub part_within : (counts : List ℕ) (part cs : List (List Lit)) (n value : ℕ) → part ≡ cofactor_of n value cs → AreCubesWithin counts cs → AreCubesWithin counts part
 part_within counts part cs n value e w = subst (λ (p : List (List Lit)). AreCubesWithin counts p) (sym e) (cofactor-within counts n value cs w)
 
-pub part_smaller : (part cs : List (List Lit)) (n value : ℕ) → part ≡ cofactor_of n value cs → cubes_read cs n ≡ true → literals_in part < literals_in cs
-part_smaller part cs n value e h = subst (λ (p : List (List Lit)). literals_in p < literals_in cs) (sym e) (cofactor-shorter n value cs h)
+pub part_smaller : (part cs : List (List Lit)) (n value : ℕ) → part ≡ cofactor_of n value cs → cubes_read cs n ≡ true → literals_of_cubes part < literals_of_cubes cs
+part_smaller part cs n value e h = subst (λ (p : List (List Lit)). literals_of_cubes p < literals_of_cubes cs) (sym e) (cofactor-shorter n value cs h)
 
 pub part_covered : (counts : List ℕ) (part : List (List Lit)) (all : Bool) → all ≡ true → MatchBool all (CubesCover counts part) (CubesMiss counts part) → CubesCover counts part
 part_covered counts part true t m = m

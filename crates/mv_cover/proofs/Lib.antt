@@ -1,3 +1,4 @@
+pub mod Walking
 pub mod Meeting
 pub mod Single
 pub mod Counts

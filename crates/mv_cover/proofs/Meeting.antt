@@ -1,5 +1,5 @@
 -- Cubes whose literals meet hold together at a point.
-use Rattle.std.proofs.Common.{◌≡◌, ◌∙◌, ℕ, ◌+◌, ◌<◌, ◌≤◌, Bool, true, false, not, ◌&&◌, ◌||◌, List, [], ◌∷◌, length, drop, get_or, nat_eq, nat_lt, inl, inr, ◌⊎◌, refl, sym, ap, arith, suc, IsTrue, drop-cons, add-one}
+use Rattle.std.proofs.Common.{◌≡◌, ◌∙◌, ℕ, ◌+◌, ◌<◌, ◌≤◌, Bool, true, false, not, ◌&&◌, ◌||◌, List, [], ◌∷◌, length, drop, get_or, nat_eq, nat_lt, inl, inr, ◌⊎◌, refl, sym, ap, arith, IsTrue, add-one}
 use Rattle.std.proofs.lemmas.List.Folds.{list_all_at}
 use Rattle.std.proofs.lemmas.List.{drop_all}
 use Rattle.std.specs.Prelude.{◌↔◌}
@@ -15,6 +15,7 @@ use Rattle.mv_cover.specs.Cofactors.{cube_allows}
 use Rattle.mv_cover.specs.Overlap.{lits_meet, cubes_meet}
 use Rattle.mv_cover.specs.Plain.{Agree}
 use Rattle.mv_cover.proofs.Members.{member_of}
+use Rattle.mv_cover.proofs.Walking.{ascend_tail, drop_true, Walked, ascends_first, ascends_second, past_first, past_second, past_both}
 
 -- a test of each element passes at each
 pub list_all-Contains : {X : Type 0} (p : X → Bool) (xs : List X) (x : X) → Contains xs x → list_all p xs ≡ true → p x ≡ true
@@ -23,10 +24,6 @@ list_all-Contains p xs x c all =
       | inl t ↦ t
       | inr f ↦ absurd (false≢true (sym (list_all_at p xs c.0 x c.1 (ap p c.2 ∙ f)) ∙ all))
     ]
-
-pub ascend_tail : (l : Lit) (ls : List Lit) → nets_ascend (l ∷ ls) ≡ true → nets_ascend ls ≡ true
-ascend_tail l [] h = refl
-ascend_tail l (m ∷ ls) h = (and_parts (nat_lt l.net.0 m.net.0) (nets_ascend (m ∷ ls)) h).1
 
 -- behind a net the literals are on later ones
 unfoldable pub above : ℕ → List Lit → Bool
@@ -219,10 +216,6 @@ clear_first l (m ∷ ys) h =
     (or_left (not (nat_eq l.net.0 m.net.0)) (not (nat_eq (meet l.set m.set) empty)) (not_from_false (nat_eq l.net.0 m.net.0) (other_net_back l.net.0 m.net.0 p.0)))
     (clear_first l ys p.1)
 
-pub drop_true : (p q r : Bool) → p ≡ true → q ≡ r → (p && q) ≡ r
-drop_true true q r e h = h
-drop_true false q r e h = absurd (false≢true e)
-
 same_rest : (p q r s : Bool) → p ≡ true → r ≡ s → ((p && q) && r) ≡ (q && s)
 same_rest true q r s e h = rw h refl
 same_rest false q r s e h = absurd (false≢true e)
@@ -241,19 +234,6 @@ pub meet_none : (xs : List Lit) → cubes_meet xs [] ≡ true
 meet_none [] = refl
 meet_none (l ∷ xs) = meet_none xs
 
--- what is behind the two places meets as the cubes do
-pub record Walked (a b : List Lit) (i j : ℕ) : Type 0 where
-  pub same : cubes_meet (drop i a) (drop j b) ≡ cubes_meet a b
-  pub first : nets_ascend (drop i a) ≡ true
-  pub second : nets_ascend (drop j b) ≡ true
-
-pub walked_none : (a b : List Lit) → nets_ascend a ≡ true → nets_ascend b ≡ true → Walked a b 0 0
-walked_none a b p q = record { same = refl; first = p; second = q }
-
--- the rest of a list from its place
-pub rest_at : (a : List Lit) (i : ℕ) (l : Lit) → i < length a → l ≡ get_or a i l → drop i a ≡ l ∷ drop (i + 1) a
-rest_at a i l in_a here = rw add-one (drop-cons a i l in_a ∙ ap (λ (x : Lit). x ∷ drop (suc i) a) (sym here))
-
 step_first : (l m : Lit) (xs ys : List Lit) → nets_ascend (m ∷ ys) ≡ true → l.net.0 < m.net.0 → cubes_meet (l ∷ xs) (m ∷ ys) ≡ cubes_meet xs (m ∷ ys)
 step_first l m xs ys q low =
     drop_true (list_all (lits_meet l) (m ∷ ys)) (cubes_meet xs (m ∷ ys)) (cubes_meet xs (m ∷ ys)) (clear_first l (m ∷ ys) (above_all l.net.0 m ys q low)) refl
@@ -268,51 +248,27 @@ step_both l m xs ys p q e t =
     (and_from (lits_meet l m) (list_all (lits_meet l) ys) t row)
     (clear_second m ys xs (above_tail m.net.0 l xs p (omega arith)))
 
-pub walked_first : (a b : List Lit) (i j : ℕ) (l m : Lit) → i < length a → j < length b → l ≡ get_or a i l → m ≡ get_or b j m → l.net.0 < m.net.0 → Walked a b i j → Walked a b (i + 1) j
+pub walked_first : (a b : List Lit) (i j : ℕ) (l m : Lit) → i < length a → j < length b → l ≡ get_or a i l → m ≡ get_or b j m → l.net.0 < m.net.0 → Walked cubes_meet a b i j → Walked cubes_meet a b (i + 1) j
 walked_first a b i j l m in_a in_b at_i at_j low w =
-    let ea = rest_at a i l in_a at_i in
-    let eb = rest_at b j m in_b at_j in
-    let xs = drop (i + 1) a in
-    let ys = drop (j + 1) b in
-    let q : nets_ascend (m ∷ ys) ≡ true = ap nets_ascend (sym eb) ∙ w.second in
-    record {
-      same = ap (λ (z : List Lit). cubes_meet xs z) eb ∙ (sym (step_first l m xs ys q low) ∙ ((λ k. cubes_meet (sym ea k) (sym eb k)) ∙ w.same));
-      first = ascend_tail l xs (ap nets_ascend (sym ea) ∙ w.first);
-      second = w.second;
-    }
+    past_first cubes_meet a b i j l m in_a in_b at_i at_j w
+    (step_first l m (drop (i + 1) a) (drop (j + 1) b) (ascends_second cubes_meet a b i j l m in_a in_b at_i at_j w) low)
 
-pub walked_second : (a b : List Lit) (i j : ℕ) (l m : Lit) → i < length a → j < length b → l ≡ get_or a i l → m ≡ get_or b j m → m.net.0 < l.net.0 → Walked a b i j → Walked a b i (j + 1)
+pub walked_second : (a b : List Lit) (i j : ℕ) (l m : Lit) → i < length a → j < length b → l ≡ get_or a i l → m ≡ get_or b j m → m.net.0 < l.net.0 → Walked cubes_meet a b i j → Walked cubes_meet a b i (j + 1)
 walked_second a b i j l m in_a in_b at_i at_j low w =
-    let ea = rest_at a i l in_a at_i in
-    let eb = rest_at b j m in_b at_j in
-    let xs = drop (i + 1) a in
-    let ys = drop (j + 1) b in
-    let p : nets_ascend (l ∷ xs) ≡ true = ap nets_ascend (sym ea) ∙ w.first in
-    record {
-      same = ap (λ (z : List Lit). cubes_meet z ys) ea ∙ (sym (step_second l m xs ys p low) ∙ ((λ k. cubes_meet (sym ea k) (sym eb k)) ∙ w.same));
-      first = w.first;
-      second = ascend_tail m ys (ap nets_ascend (sym eb) ∙ w.second);
-    }
+    past_second cubes_meet a b i j l m in_a in_b at_i at_j w
+    (step_second l m (drop (i + 1) a) (drop (j + 1) b) (ascends_first cubes_meet a b i j l m in_a in_b at_i at_j w) low)
 
-pub walked_both : (a b : List Lit) (i j : ℕ) (l m : Lit) → i < length a → j < length b → l ≡ get_or a i l → m ≡ get_or b j m → l.net.0 ≡ m.net.0 → lits_meet l m ≡ true → Walked a b i j → Walked a b (i + 1) (j + 1)
+pub walked_both : (a b : List Lit) (i j : ℕ) (l m : Lit) → i < length a → j < length b → l ≡ get_or a i l → m ≡ get_or b j m → l.net.0 ≡ m.net.0 → lits_meet l m ≡ true → Walked cubes_meet a b i j → Walked cubes_meet a b (i + 1) (j + 1)
 walked_both a b i j l m in_a in_b at_i at_j n t w =
-    let ea = rest_at a i l in_a at_i in
-    let eb = rest_at b j m in_b at_j in
-    let xs = drop (i + 1) a in
-    let ys = drop (j + 1) b in
-    let p : nets_ascend (l ∷ xs) ≡ true = ap nets_ascend (sym ea) ∙ w.first in
-    let q : nets_ascend (m ∷ ys) ≡ true = ap nets_ascend (sym eb) ∙ w.second in
-    record {
-      same = sym (step_both l m xs ys p q n t) ∙ ((λ k. cubes_meet (sym ea k) (sym eb k)) ∙ w.same);
-      first = ascend_tail l xs p;
-      second = ascend_tail m ys q;
-    }
+    let p = ascends_first cubes_meet a b i j l m in_a in_b at_i at_j w in
+    let q = ascends_second cubes_meet a b i j l m in_a in_b at_i at_j w in
+    past_both cubes_meet a b i j l m in_a in_b at_i at_j w (step_both l m (drop (i + 1) a) (drop (j + 1) b) p q n t)
 
 -- at the end of either the cubes meet
-pub walked_all_first : (a b : List Lit) (i j : ℕ) → length a ≤ i → Walked a b i j → cubes_meet a b ≡ true
+pub walked_all_first : (a b : List Lit) (i j : ℕ) → length a ≤ i → Walked cubes_meet a b i j → cubes_meet a b ≡ true
 walked_all_first a b i j end w = sym w.same ∙ ap (λ (z : List Lit). cubes_meet z (drop j b)) (drop_all i a end)
 
-pub walked_all_second : (a b : List Lit) (i j : ℕ) → length b ≤ j → Walked a b i j → cubes_meet a b ≡ true
+pub walked_all_second : (a b : List Lit) (i j : ℕ) → length b ≤ j → Walked cubes_meet a b i j → cubes_meet a b ≡ true
 walked_all_second a b i j end w = sym w.same ∙ (ap (λ (z : List Lit). cubes_meet (drop i a) z) (drop_all j b end) ∙ meet_none (drop i a))
 
 -- what the code tests of two literals on one net

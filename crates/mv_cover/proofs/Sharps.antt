@@ -17,11 +17,12 @@ use Rattle.mv_cover.specs.Cofactors.{cubes_match, cube_allows, cube_without}
 use Rattle.mv_cover.specs.Overlap.{cubes_meet}
 use Rattle.mv_cover.specs.Meets.{literal_at}
 use Rattle.mv_cover.specs.Containing.{FitsNet, FitsCube}
-use Rattle.mv_cover.specs.Sharp.{Suits, IsCubeOver, AreApart, values_at, literals_below, with_literal, inside_of, outside_of, parts_outside, sharp_of}
+use Rattle.mv_cover.specs.Sharp.{Suits, IsCubeOver, AreDisjoint, values_left, literals_below, with_literal, inside_of, outside_of, parts_outside, sharp_of}
 use Rattle.mv_cover.proofs.Covering.{same_number, swap, matches-without}
 use Rattle.mv_cover.proofs.Meets.{Rises, Rises-cube, ascend-Rises, order, nothing_below}
 use Rattle.mv_cover.proofs.Containing.{fits_at}
-use Rattle.mv_cover.proofs.Meeting.{HoldTogether, together, meet_from_point, rest_at}
+use Rattle.mv_cover.proofs.Meeting.{HoldTogether, together, meet_from_point}
+use Rattle.mv_cover.proofs.Walking.{rest_at}
 
 -- ---- a literal put on its net
 
@@ -190,10 +191,10 @@ with_literal-twice l m (x ∷ xs) e =
 -- ---- what a cube leaves a net
 
 -- a value of the net is allowed where it is left
-allows-values_at : (counts : List ℕ) (k n v : ℕ) (c : List Lit) → Rises k c → v < get_or counts n 0 → cube_allows n v c ≡ has (values_at counts c n) v
-allows-values_at counts k n v [] r low = sym (has-full (get_or counts n 0) v ∙ lt-ltb v (get_or counts n 0) low)
-allows-values_at counts k n v (l ∷ ls) r low =
-    let rest = allows-values_at counts (l.net.0 + 1) n v ls r.1 low in
+allows-values_left : (counts : List ℕ) (k n v : ℕ) (c : List Lit) → Rises k c → v < get_or counts n 0 → cube_allows n v c ≡ has (values_left counts c n) v
+allows-values_left counts k n v [] r low = sym (has-full (get_or counts n 0) v ∙ lt-ltb v (get_or counts n 0) low)
+allows-values_left counts k n v (l ∷ ls) r low =
+    let rest = allows-values_left counts (l.net.0 + 1) n v ls r.1 low in
     elim (cases_Bool (nat_eq l.net.0 n)) [
       | inl t ↦
           let here : l.net.0 ≡ n = same_number l.net.0 n t in
@@ -204,9 +205,9 @@ allows-values_at counts k n v (l ∷ ls) r low =
     ]
 
 -- a cube holds where its value on a net is left, and the rest holds
-matches-values_at : (counts : List ℕ) (at : ℕ → ℕ) (n : ℕ) (c : List Lit) → Rises 0 c → at n < get_or counts n 0 → matches at c ≡ (has (values_at counts c n) (at n) && matches at (cube_without n c))
-matches-values_at counts at n c r low =
-    matches-without n (at n) at at (record { here = refl; others = λ m f. refl }) c ∙ ap (λ b. b && matches at (cube_without n c)) (allows-values_at counts 0 n (at n) c r low)
+matches-values_left : (counts : List ℕ) (at : ℕ → ℕ) (n : ℕ) (c : List Lit) → Rises 0 c → at n < get_or counts n 0 → matches at c ≡ (has (values_left counts c n) (at n) && matches at (cube_without n c))
+matches-values_left counts at n c r low =
+    matches-without n (at n) at at (record { here = refl; others = λ m f. refl }) c ∙ ap (λ b. b && matches at (cube_without n c)) (allows-values_left counts 0 n (at n) c r low)
 
 -- a test more of three
 also : (m v s w : Bool) → m ≡ (v && w) → ((v && s) && w) ≡ (m && s)
@@ -224,18 +225,18 @@ matches-inside_of : (counts : List ℕ) (at : ℕ → ℕ) (c : List Lit) (l : L
 unfolding inside_of
 matches-inside_of counts at c l r low =
     let n = l.net.0 in
-    let v = values_at counts c n in
-    matches-with_literal at 0 (record { net = l.net; set = meet v l.set }) c r ∙ (ap (λ b. b && matches at (cube_without n c)) (has-meet v l.set (at n)) ∙ also (matches at c) (has v (at n)) (has l.set (at n)) (matches at (cube_without n c)) (matches-values_at counts at n c r low))
+    let v = values_left counts c n in
+    matches-with_literal at 0 (record { net = l.net; set = meet v l.set }) c r ∙ (ap (λ b. b && matches at (cube_without n c)) (has-meet v l.set (at n)) ∙ also (matches at c) (has v (at n)) (has l.set (at n)) (matches at (cube_without n c)) (matches-values_left counts at n c r low))
 
 -- the cube outside a literal
 abbrev rest_of : List ℕ → List Lit → Lit → Lit
-rest_of counts c l = record { net = l.net; set = minus (values_at counts c l.net.0) l.set }
+rest_of counts c l = record { net = l.net; set = minus (values_left counts c l.net.0) l.set }
 
 matches-outside : (counts : List ℕ) (at : ℕ → ℕ) (c : List Lit) (l : Lit) → Rises 0 c → at l.net.0 < get_or counts l.net.0 0 → matches at (with_literal (rest_of counts c l) c) ≡ (matches at c && not (holds at l))
 matches-outside counts at c l r low =
     let n = l.net.0 in
-    let v = values_at counts c n in
-    matches-with_literal at 0 (rest_of counts c l) c r ∙ (ap (λ b. b && matches at (cube_without n c)) (has-minus v l.set (at n)) ∙ also (matches at c) (has v (at n)) (not (has l.set (at n))) (matches at (cube_without n c)) (matches-values_at counts at n c r low))
+    let v = values_left counts c n in
+    matches-with_literal at 0 (rest_of counts c l) c r ∙ (ap (λ b. b && matches at (cube_without n c)) (has-minus v l.set (at n)) ∙ also (matches at c) (has v (at n)) (not (has l.set (at n))) (matches at (cube_without n c)) (matches-values_left counts at n c r low))
 
 -- ---- how many cubes hold
 
@@ -284,17 +285,17 @@ apart_two true false n h = refl
 apart_two false b n h = refl
 
 -- the first cube shares no point with a later one
-apart_all : (counts : List ℕ) (c : List Lit) (cs : List (List Lit)) → HoldOnce counts (c ∷ cs) → All (AreApart counts c) cs
-apart_all counts c [] h = All-nil (AreApart counts c)
+apart_all : (counts : List ℕ) (c : List Lit) (cs : List (List Lit)) → HoldOnce counts (c ∷ cs) → All (AreDisjoint counts c) cs
+apart_all counts c [] h = All-nil (AreDisjoint counts c)
 apart_all counts c (x ∷ xs) h =
-    All-cons (AreApart counts c) x xs (record { each = λ at p. apart_two (matches at c) (matches at x) (held at xs) (h.most at p) })
+    All-cons (AreDisjoint counts c) x xs (record { each = λ at p. apart_two (matches at c) (matches at x) (held at xs) (h.most at p) })
     (apart_all counts c xs (record { most = λ at p. let k = h.most at p in omega arith }))
 
 -- then no point is in two of them
-pub apart-from_HoldOnce : (counts : List ℕ) (cs : List (List Lit)) → HoldOnce counts cs → AllPairs (AreApart counts) cs
+pub apart-from_HoldOnce : (counts : List ℕ) (cs : List (List Lit)) → HoldOnce counts cs → AllPairs (AreDisjoint counts) cs
 apart-from_HoldOnce counts [] h = λ i j d low in_list. absurd (omega arith)
 apart-from_HoldOnce counts (c ∷ cs) h =
-    AllPairs-cons (AreApart counts) c cs (apart_all counts c cs h)
+    AllPairs-cons (AreDisjoint counts) c cs (apart_all counts c cs h)
     (apart-from_HoldOnce counts cs (record { most = λ at p. let k = h.most at p in omega arith }))
 
 -- ---- the parts outside a cube
@@ -304,7 +305,7 @@ held-outside_of : (counts : List ℕ) (at : ℕ → ℕ) (c : List Lit) (l : Lit
 unfolding outside_of
 held-outside_of counts at c l r low =
     let n = l.net.0 in
-    let set = minus (values_at counts c n) l.set in
+    let set = minus (values_left counts c n) l.set in
     let holds_where = matches-outside counts at c l r low in
     elim (cases_Bool (nat_eq set empty)) [
       | inl t ↦
@@ -328,7 +329,7 @@ held-parts_outside counts at p c (l ∷ ls) r fits =
     let low = p.below l.net.0 fits.0.valued in
     let first = held-outside_of counts at c l r low in
     let inside = matches-inside_of counts at c l r low in
-    let rest = held-parts_outside counts at p (inside_of counts c l) ls (Rises-with_literal 0 (record { net = l.net; set = meet (values_at counts c l.net.0) l.set }) c (omega arith) r) fits.1 in
+    let rest = held-parts_outside counts at p (inside_of counts c l) ls (Rises-with_literal 0 (record { net = l.net; set = meet (values_left counts c l.net.0) l.set }) c (omega arith) r) fits.1 in
     held-append at (outside_of counts c l) (parts_outside counts (inside_of counts c l) ls) ∙ ((λ i. first i + rest i) ∙ outside_more (matches at c) (holds at l) (matches at ls) (matches at (inside_of counts c l)) inside)
 
 -- the sharp holds once where the first cube does and the second doesn't
@@ -348,7 +349,7 @@ held-sharp_of counts at p c d r fits =
 -- ---- the parts suit the counts
 
 -- what a cube that fits leaves a net is some of the net's values
-values_within : (counts : List ℕ) (c : List Lit) (n : ℕ) → FitsCube counts c → Within (values_at counts c n) (full (get_or counts n 0))
+values_within : (counts : List ℕ) (c : List Lit) (n : ℕ) → FitsCube counts c → Within (values_left counts c n) (full (get_or counts n 0))
 values_within counts c n fits = by_literal (literal_at c n) refl
   where
     by_literal : (o : Option ℕ) → literal_at c n ≡ o → Within (unwrap_or o (full (get_or counts n 0))) (full (get_or counts n 0))
@@ -376,15 +377,15 @@ not_empty : (s v : ℕ) → has s v ≡ true → nat_eq s empty ≡ false
 not_empty s v h = ne_eqb s empty (λ e. false≢true (sym (has-empty v) ∙ (ap (λ t. has t v) (sym e) ∙ h)))
 
 -- the value that a cube has on a net is left there
-value_left : (counts : List ℕ) (at : ℕ → ℕ) (c : List Lit) (n : ℕ) → Rises 0 c → at n < get_or counts n 0 → matches at c ≡ true → has (values_at counts c n) (at n) ≡ true
+value_left : (counts : List ℕ) (at : ℕ → ℕ) (c : List Lit) (n : ℕ) → Rises 0 c → at n < get_or counts n 0 → matches at c ≡ true → has (values_left counts c n) (at n) ≡ true
 value_left counts at c n r low h =
-    (and_parts (has (values_at counts c n) (at n)) (matches at (cube_without n c)) (sym (matches-values_at counts at n c r low) ∙ h)).0
+    (and_parts (has (values_left counts c n) (at n)) (matches at (cube_without n c)) (sym (matches-values_left counts at n c r low) ∙ h)).0
 
 -- the values inside a literal are some of its own
-fits_inside : (counts : List ℕ) (c : List Lit) (l : Lit) → FitsNet counts l.net.0 l.set → FitsNet counts l.net.0 (meet (values_at counts c l.net.0) l.set)
+fits_inside : (counts : List ℕ) (c : List Lit) (l : Lit) → FitsNet counts l.net.0 l.set → FitsNet counts l.net.0 (meet (values_left counts c l.net.0) l.set)
 fits_inside counts c l fits =
     let n = l.net.0 in
-    let v = values_at counts c n in
+    let v = values_left counts c n in
     record {
       valued = fits.valued;
       within = λ u h. fits.within u (and_parts (has v u) (has l.set u) (sym (has-meet v l.set u) ∙ h)).1;
@@ -396,16 +397,16 @@ inside_suits : (counts : List ℕ) (at : ℕ → ℕ) (c : List Lit) (l : Lit) �
 unfolding inside_of
 inside_suits counts at c l is fits few p q =
     let n = l.net.0 in
-    let v = values_at counts c n in
+    let v = values_left counts c n in
     let left = value_left counts at c n (Rises-cube c is.cube.ascending) (value_below counts at l fits q) p in
     IsCubeOver-with_literal counts (record { net = l.net; set = meet v l.set }) c is (fits_inside counts c l fits) few
     (not_empty (meet v l.set) (at n) (has-meet v l.set (at n) ∙ and_from (has v (at n)) (has l.set (at n)) left q))
 
 -- the values outside a literal lack one that the literal has
-fits_outside : (counts : List ℕ) (at : ℕ → ℕ) (c : List Lit) (l : Lit) → FitsCube counts c → FitsNet counts l.net.0 l.set → holds at l ≡ true → FitsNet counts l.net.0 (minus (values_at counts c l.net.0) l.set)
+fits_outside : (counts : List ℕ) (at : ℕ → ℕ) (c : List Lit) (l : Lit) → FitsCube counts c → FitsNet counts l.net.0 l.set → holds at l ≡ true → FitsNet counts l.net.0 (minus (values_left counts c l.net.0) l.set)
 fits_outside counts at c l is fits q =
     let n = l.net.0 in
-    let v = values_at counts c n in
+    let v = values_left counts c n in
     let k = get_or counts n 0 in
     record {
       valued = fits.valued;
@@ -420,7 +421,7 @@ fits_outside counts at c l is fits q =
 outside_suits : (counts : List ℕ) (at : ℕ → ℕ) (c : List Lit) (l : Lit) → IsCubeOver counts c → FitsNet counts l.net.0 l.set → get_or counts l.net.0 0 ≤ MAX_VALUES → holds at l ≡ true → All (IsCubeOver counts) (outside_of counts c l)
 unfolding outside_of
 outside_suits counts at c l is fits few q =
-    let set = minus (values_at counts c l.net.0) l.set in
+    let set = minus (values_left counts c l.net.0) l.set in
     elim (cases_Bool (nat_eq set empty)) [
       | inl t ↦ rw t (All-nil (IsCubeOver counts))
       | inr f ↦
@@ -480,7 +481,7 @@ one_if-most true = omega arith
 one_if-most false = omega arith
 
 -- no point is in two cubes of the sharp
-sharp-apart : (counts : List ℕ) (c d : List Lit) → IsCube c → Suits counts d → AllPairs (AreApart counts) (sharp_of counts c d)
+sharp-apart : (counts : List ℕ) (c d : List Lit) → IsCube c → Suits counts d → AllPairs (AreDisjoint counts) (sharp_of counts c d)
 sharp-apart counts c d is s =
     apart-from_HoldOnce counts (sharp_of counts c d)
     (record {
@@ -560,14 +561,14 @@ possible_inside : (counts : List ℕ) (at : ℕ → ℕ) (c : List Lit) (l : Lit
 unfolding inside_of
 possible_inside counts at c l r some fits p q =
     let n = l.net.0 in
-    let v = values_at counts c n in
+    let v = values_left counts c n in
     let left = value_left counts at c n r (value_below counts at l fits q) p in
     possible-with_literal (record { net = l.net; set = meet v l.set }) c (not_from_false (nat_eq (meet v l.set) empty) (not_empty (meet v l.set) (at n) (has-meet v l.set (at n) ∙ and_from (has v (at n)) (has l.set (at n)) left q))) some
 
 -- inside a literal the list ascends as before
 Rises-inside_of : (counts : List ℕ) (c : List Lit) (l : Lit) → Rises 0 c → Rises 0 (inside_of counts c l)
 unfolding inside_of
-Rises-inside_of counts c l r = Rises-with_literal 0 (record { net = l.net; set = meet (values_at counts c l.net.0) l.set }) c (omega arith) r
+Rises-inside_of counts c l r = Rises-with_literal 0 (record { net = l.net; set = meet (values_left counts c l.net.0) l.set }) c (omega arith) r
 
 -- one literal more
 pub cut_more : (counts : List ℕ) (c d : List Lit) (before list now : List (List Lit)) (lits left : List Lit) (i : ℕ) (l : Lit) → i < length d → l ≡ get_or d i l → now ≡ list ++ outside_of counts lits l → left ≡ inside_of counts lits l → Cut counts c d before list lits i → Cut counts c d before now left (i + 1)
@@ -598,27 +599,27 @@ cut_all counts c d before list lits i end w =
 -- ---- one step of the walk
 
 -- a literal that has all of the values leaves nothing outside
-pub outside_none : (counts : List ℕ) (c : List Lit) (l : Lit) (list : List (List Lit)) (v s none : ℕ) → v ≡ values_at counts c l.net.0 → s ≡ minus v l.set → none ≡ empty → nat_eq s none ≡ true → list ≡ list ++ outside_of counts c l
+pub outside_none : (counts : List ℕ) (c : List Lit) (l : Lit) (list : List (List Lit)) (v s none : ℕ) → v ≡ values_left counts c l.net.0 → s ≡ minus v l.set → none ≡ empty → nat_eq s none ≡ true → list ≡ list ++ outside_of counts c l
 unfolding outside_of
 outside_none counts c l list v s none e f g t =
-    let all : nat_eq (minus (values_at counts c l.net.0) l.set) empty ≡ true = ap (λ x. nat_eq (minus x l.set) empty) (sym e) ∙ ((λ i. nat_eq (sym f i) (sym g i)) ∙ t) in
+    let all : nat_eq (minus (values_left counts c l.net.0) l.set) empty ≡ true = ap (λ x. nat_eq (minus x l.set) empty) (sym e) ∙ ((λ i. nat_eq (sym f i) (sym g i)) ∙ t) in
     rw all (sym (append-nil list))
 
 -- else the cube with the others is outside
-pub outside_one : (counts : List ℕ) (c outside : List Lit) (l : Lit) (list now : List (List Lit)) (v s none : ℕ) → v ≡ values_at counts c l.net.0 → s ≡ minus v l.set → none ≡ empty → nat_eq s none ≡ false → outside ≡ with_literal (record { net = l.net; set = s }) c → now ≡ list ++ outside ∷ [] → now ≡ list ++ outside_of counts c l
+pub outside_one : (counts : List ℕ) (c outside : List Lit) (l : Lit) (list now : List (List Lit)) (v s none : ℕ) → v ≡ values_left counts c l.net.0 → s ≡ minus v l.set → none ≡ empty → nat_eq s none ≡ false → outside ≡ with_literal (record { net = l.net; set = s }) c → now ≡ list ++ outside ∷ [] → now ≡ list ++ outside_of counts c l
 unfolding outside_of
 outside_one counts c outside l list now v s none e f g t at_net put =
-    let set : s ≡ minus (values_at counts c l.net.0) l.set = f ∙ ap (λ x. minus x l.set) e in
-    let some : nat_eq (minus (values_at counts c l.net.0) l.set) empty ≡ false = (λ i. nat_eq (sym set i) (sym g i)) ∙ t in
+    let set : s ≡ minus (values_left counts c l.net.0) l.set = f ∙ ap (λ x. minus x l.set) e in
+    let some : nat_eq (minus (values_left counts c l.net.0) l.set) empty ≡ false = (λ i. nat_eq (sym set i) (sym g i)) ∙ t in
     rw some (put ∙ ap (λ x. list ++ x ∷ []) (at_net ∙ ap (λ x. with_literal (record { net = l.net; set = x }) c) set))
 
 -- what is put first is put again
-pub inside_first : (counts : List ℕ) (c lits : List Lit) (l : Lit) (v s : ℕ) → v ≡ values_at counts c l.net.0 → s ≡ meet v l.set → lits ≡ with_literal (record { net = l.net; set = s }) c → lits ≡ inside_of counts c l
+pub inside_first : (counts : List ℕ) (c lits : List Lit) (l : Lit) (v s : ℕ) → v ≡ values_left counts c l.net.0 → s ≡ meet v l.set → lits ≡ with_literal (record { net = l.net; set = s }) c → lits ≡ inside_of counts c l
 unfolding inside_of
 inside_first counts c lits l v s e f g = g ∙ ap (λ x. with_literal (record { net = l.net; set = x }) c) (f ∙ ap (λ x. meet x l.set) e)
 
 -- what was put for the part outside is replaced by the part inside
-pub inside_again : (counts : List ℕ) (c between lits : List Lit) (l : Lit) (u v s : ℕ) → v ≡ values_at counts c l.net.0 → s ≡ meet v l.set → between ≡ with_literal (record { net = l.net; set = u }) c → lits ≡ with_literal (record { net = l.net; set = s }) between → lits ≡ inside_of counts c l
+pub inside_again : (counts : List ℕ) (c between lits : List Lit) (l : Lit) (u v s : ℕ) → v ≡ values_left counts c l.net.0 → s ≡ meet v l.set → between ≡ with_literal (record { net = l.net; set = u }) c → lits ≡ with_literal (record { net = l.net; set = s }) between → lits ≡ inside_of counts c l
 inside_again counts c between lits l u v s e f g h =
     inside_first counts c lits l v s e f (h ∙ (ap (with_literal (record { net = l.net; set = s })) g ∙ with_literal-twice (record { net = l.net; set = s }) (record { net = l.net; set = u }) c refl))
 
@@ -651,7 +652,7 @@ sharp_parts counts c d list now meets put = rw meets put
 pub record IsSharp (counts : List ℕ) (c d : List Lit) (cubes : List (List Lit)) : Type 0 where
   pub list : cubes ≡ sharp_of counts c d
   pub points : (at : ℕ → ℕ) → IsPoint counts at → cubes_match at cubes ≡ (matches at c && not (matches at d))
-  pub apart : AllPairs (AreApart counts) cubes
+  pub apart : AllPairs (AreDisjoint counts) cubes
   pub suited : All (IsCubeOver counts) cubes
 
 -- the sharp promises all that

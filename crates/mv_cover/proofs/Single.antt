@@ -11,7 +11,7 @@ use Rattle.mv_cover.specs.declared.line.Line.{Line}
 use Rattle.mv_cover.specs.declared.cover.Cover.{Cover}
 use Rattle.mv_cover.specs.Cubes.{matches}
 use Rattle.mv_cover.specs.Covers.{some_matches, some_gives, default_gives, allowed}
-use Rattle.mv_cover.specs.Plain.{Agree, GivesOne, IsOneDefault, IsPlain, AllowsOne}
+use Rattle.mv_cover.specs.Plain.{Agree, GivesOne, IsOneDefault, IsPlainlyDeterministic, AllowsOne}
 
 -- a set of one member has no two
 single_member : (s u v : ℕ) → count_ones s ≡ 1 → has s u ≡ true → has s v ≡ true → u ≡ v
@@ -51,7 +51,7 @@ default_one : (o : Option ℕ) (u v : ℕ) → IsOneDefault o → default_gives 
 default_one None u v is p q = absurd (false≢true p)
 default_one (Some out) u v is p q = single_member out u v is p q
 
-lines_one : (c : Cover) → IsPlain c → (at : ℕ → ℕ) (u v : ℕ) → Giver at u c.lines → Giver at v c.lines → u ≡ v
+lines_one : (c : Cover) → IsPlainlyDeterministic c → (at : ℕ → ℕ) (u v : ℕ) → Giver at u c.lines → Giver at v c.lines → u ≡ v
 lines_one c plain at u v g k =
     let row = All-contains (λ (l : Line). All (Agree l) c.lines) c.lines g.line plain.apart g.member in
     let agree = All-contains (Agree g.line) c.lines k.line row k.member in
@@ -62,7 +62,7 @@ lines_one c plain at u v g k =
 default_alone : (at : ℕ → ℕ) (v : ℕ) (ls : List Line) (b : Bool) → some_gives at v ls ≡ true → (not (some_matches at ls) && b) ≡ true → true ≡ false
 default_alone at v ls b g d = sym (gives-matches at v ls g) ∙ not-true (some_matches at ls) (and_parts (not (some_matches at ls)) b d).0
 
-pub allows_one : (c : Cover) → IsPlain c → AllowsOne c
+pub allows_one : (c : Cover) → IsPlainlyDeterministic c → AllowsOne c
 unfolding allowed
 allows_one c plain = record {
   one = λ at u v p q.

@@ -5,8 +5,8 @@ use Rattle.std.proofs.lemmas.List.{take_more}
 use Rattle.mv_base.specs.Set.{has, empty, meet, minus, join}
 use Rattle.mv_base.proofs.Sets.{has-empty, has-meet, has-minus, has-join}
 use Rattle.mv_cover.specs.declared.cube.Lit.{Lit}
-use Rattle.mv_cover.specs.Cofactors.{CubesCover, CoverBelow, lit_allows, cube_allows, cube_without, cofactor_of}
-use Rattle.mv_cover.proofs.Covering.{cover_start, cover_more}
+use Rattle.mv_cover.specs.Cofactors.{CubesCover, lit_allows, cube_allows, cube_without, cofactor_of}
+use Rattle.mv_cover.proofs.Covering.{CoverBelow, cover_start, cover_more}
 
 -- the one cube's cofactor comes last
 cofactor-push : (n v : ℕ) (cs : List (List Lit)) (c : List Lit) → cofactor_of n v (cs ++ c ∷ []) ≡ cofactor_of n v cs ++ (if cube_allows n v c then cube_without n c ∷ [] else [])

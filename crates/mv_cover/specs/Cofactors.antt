@@ -1,5 +1,5 @@
 -- Cubes as lists of literals, by which a cover is decided: what they ask where a net has a value.
-use Rattle.std.specs.Prelude.{◌≡◌, ◌<◌, ℕ, ◌+◌, Bool, true, false, ◌||◌, not, nat_eq, List, [], ◌∷◌, length, slice_index, filter, if◌then◌else◌}
+use Rattle.std.specs.Prelude.{◌≡◌, ◌<◌, ℕ, ◌+◌, Bool, true, false, ◌||◌, not, nat_eq, List, [], ◌∷◌, slice_index, filter, if◌then◌else◌}
 use Rattle.std.specs.List.{list_all}
 use Rattle.mv_base.specs.Set.{has}
 use Rattle.mv_cover.specs.declared.cube.Lit.{Lit}
@@ -14,6 +14,8 @@ use Rattle.mv_cover.specs.Covering.{IsPoint}
 abbrev pub cubes_match : (ℕ → ℕ) → List (List Lit) → Bool
 cubes_match at [] = false
 cubes_match at (c ∷ cs) = matches at c || cubes_match at cs
+
+-- ---- what private functions alone cite
 
 -- some cube has a literal on the net
 abbrev pub cubes_read : List (List Lit) → ℕ → Bool
@@ -44,10 +46,6 @@ IsChoice Every cubes = MatchEach cubes
 IsChoice Nowhere cubes = cubes ≡ []
 IsChoice (On net) cubes = cubes_read cubes net.0 ≡ true
 
--- the cubes match every point at which the net has a value below this one
-pub record CoverBelow (counts : List ℕ) (cubes : List (List Lit)) (n value : ℕ) : Type 0 where
-  pub each : (at : ℕ → ℕ) → IsPoint counts at → at n < value → cubes_match at cubes ≡ true
-
 -- the literal, if it is on the net, has the value
 abbrev pub lit_allows : ℕ → ℕ → Lit → Bool
 lit_allows n value l = not (nat_eq l.net.0 n) || has l.set value
@@ -69,8 +67,3 @@ cofactor_of n value (c ∷ cs) = if cube_allows n value c then cube_without n c 
 abbrev pub cubes_of : List Line → List (List Lit)
 cubes_of [] = []
 cubes_of (l ∷ ls) = l.cube ∷ cubes_of ls
-
--- the literals of the cubes, each of which counts one
-abbrev pub literals_in : List (List Lit) → ℕ
-literals_in [] = 0
-literals_in (c ∷ cs) = length c + literals_in cs

@@ -27,9 +27,9 @@ unfoldable pub allowed : Cover → (ℕ → ℕ) → ℕ → Bool
 allowed c at value = some_gives at value c.lines || (not (some_matches at c.lines) && default_gives c.default value)
 
 -- the literals of the lines, each of which counts one
-abbrev pub literals_of : List Line → ℕ
-literals_of [] = 0
-literals_of (l ∷ ls) = length l.cube + literals_of ls
+abbrev pub literal_count : List Line → ℕ
+literal_count [] = 0
+literal_count (l ∷ ls) = length l.cube + literal_count ls
 
 -- the cube has a literal on this net
 abbrev pub cube_reads : List Lit → ℕ → Bool

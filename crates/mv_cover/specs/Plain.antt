@@ -19,7 +19,7 @@ IsOneDefault None = Unit {0}
 IsOneDefault (Some out) = count_ones out ≡ 1
 
 -- each line and the default give one value, and lines that can hold together the same one
-pub record IsPlain (c : Cover) : Type 0 where
+pub record IsPlainlyDeterministic (c : Cover) : Type 0 where
   pub single : All GivesOne c.lines
   pub default : IsOneDefault c.default
   pub apart : All (λ l. All (Agree l) c.lines) c.lines

@@ -10,11 +10,6 @@ use Rattle.mv_cover.specs.Overlap.{cubes_meet}
 use Rattle.mv_cover.specs.Meets.{literal_at}
 use Rattle.mv_cover.specs.Containing.{FitsNet, FitsCube}
 
--- a literal's set is some of the values that its net has, but not all, and the net has no more than a net may have
-pub record SuitsNet (counts : List ℕ) (l : Lit) : Type 0 where
-  pub fits : FitsNet counts l.net.0 l.set
-  pub few : slice_index counts l.net.0 ≤ MAX_VALUES
-
 -- each literal's set is some of the values that its net has, but not all, and no net has more than a net may have
 pub record Suits (counts : List ℕ) (c : List Lit) : Type 0 where
   pub fits : FitsCube counts c
@@ -26,17 +21,12 @@ pub record IsCubeOver (counts : List ℕ) (c : List Lit) : Type 0 where
   pub suits : Suits counts c
 
 -- no point is one of both cubes
-pub record AreApart (counts : List ℕ) (a b : List Lit) : Type 0 where
+pub record AreDisjoint (counts : List ℕ) (a b : List Lit) : Type 0 where
   pub each : (at : ℕ → ℕ) → IsPoint counts at → (matches at a && matches at b) ≡ false
 
 -- the values that the cube leaves the net: its literal's set there, or all that the net has
-abbrev pub values_at : List ℕ → List Lit → ℕ → ℕ
-values_at counts c n = unwrap_or (literal_at c n) (full (slice_index counts n))
-
--- how many literals stand before the first on this net or a later one
-abbrev pub literals_below : ℕ → List Lit → ℕ
-literals_below n [] = 0
-literals_below n (l ∷ ls) = if nat_lt l.net.0 n then literals_below n ls + 1 else 0
+abbrev pub values_left : List ℕ → List Lit → ℕ → ℕ
+values_left counts c n = unwrap_or (literal_at c n) (full (slice_index counts n))
 
 -- the cube with this literal on its net, in place of one that is there
 unfoldable pub with_literal : Lit → List Lit → List Lit
@@ -45,11 +35,11 @@ with_literal l (m ∷ ms) = if nat_lt l.net.0 m.net.0 then l ∷ m ∷ ms else i
 
 -- the cube c with, on the net of the literal, only those of c's values that the literal has
 unfoldable pub inside_of : List ℕ → List Lit → Lit → List Lit
-inside_of counts c l = with_literal (record { net = l.net; set = meet (values_at counts c l.net.0) l.set }) c
+inside_of counts c l = with_literal (record { net = l.net; set = meet (values_left counts c l.net.0) l.set }) c
 
 -- the cube c with, on the net of the literal, only those of c's values that the literal hasn't: none where it has all
 unfoldable pub outside_of : List ℕ → List Lit → Lit → List (List Lit)
-outside_of counts c l = if nat_eq (minus (values_at counts c l.net.0) l.set) empty then [] else with_literal (record { net = l.net; set = minus (values_at counts c l.net.0) l.set }) c ∷ []
+outside_of counts c l = if nat_eq (minus (values_left counts c l.net.0) l.set) empty then [] else with_literal (record { net = l.net; set = minus (values_left counts c l.net.0) l.set }) c ∷ []
 
 -- for each literal of the second cube the first outside that literal and inside those before it
 unfoldable pub parts_outside : List ℕ → List Lit → List Lit → List (List Lit)
@@ -59,3 +49,15 @@ parts_outside counts c (l ∷ ls) = outside_of counts c l ++ parts_outside count
 -- the disjoint sharp of the first cube by the second: the first alone where the two don't meet
 unfoldable pub sharp_of : List ℕ → List Lit → List Lit → List (List Lit)
 sharp_of counts c d = if cubes_meet c d then parts_outside counts c d else c ∷ []
+
+-- ---- what private functions alone cite
+
+-- a literal's set is some of the values that its net has, but not all, and the net has no more than a net may have
+pub record SuitsNet (counts : List ℕ) (l : Lit) : Type 0 where
+  pub fits : FitsNet counts l.net.0 l.set
+  pub few : slice_index counts l.net.0 ≤ MAX_VALUES
+
+-- how many literals stand before the first on this net or a later one
+abbrev pub literals_below : ℕ → List Lit → ℕ
+literals_below n [] = 0
+literals_below n (l ∷ ls) = if nat_lt l.net.0 n then literals_below n ls + 1 else 0

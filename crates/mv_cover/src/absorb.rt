@@ -21,7 +21,6 @@ impl Cover {
         ensures same { OnOk result ((at : ℕ → ℕ) (value : ℕ) → allowed self.new at value ≡ allowed self.old at value) }
         ensures err { OnErr result (self.new ≡ self.old) }
     {
-        are_formed(self.lines.as_slice());
         let lines = lines_left(self.lines.allocator(), self.lines.as_slice())?;
         let default = default_beside(lines.as_slice(), self.default);
         self.lines = lines;
@@ -30,18 +29,10 @@ impl Cover {
     }
 }
 
-/// The nets of each line's cube ascend, and no set in it is empty.
-fn are_formed(lines: &[Line])
-    ensures { All (λ l. IsCube l.cube) lines.now }
-{
-    for line in lines {
-        let _ = line.cube.lits();
-    }
-}
-
 /// The lines without those that are equal to an earlier one, and then without those that lie in another.
 fn lines_left(alloc: Global, lines: &[Line]) -> Result<Items<Line>, Memory>
-    ensures { IfOk result (λ left. left ≡ unswallowed (firsts lines.now)) }
+    ensures left { IfOk result (λ left. left ≡ unswallowed (firsts lines.now)) }
+    ensures formed { OnOk result (All (λ l. IsCube l.cube) lines.now) }
 {
     let distinct = distinct(alloc, lines)?;
     without_swallowed(alloc, distinct.as_slice())
@@ -49,7 +40,8 @@ fn lines_left(alloc: Global, lines: &[Line]) -> Result<Items<Line>, Memory>
 
 /// The lines without those that are equal to an earlier one.
 fn distinct(alloc: Global, lines: &[Line]) -> Result<IndexSet<Line>, Memory>
-    ensures { IfOk result (λ set. set.keys ≡ firsts lines.now) }
+    ensures keys { IfOk result (λ set. set.keys ≡ firsts lines.now) }
+    ensures formed { OnOk result (All (λ l. IsCube l.cube) lines.now) }
 {
     let mut set = IndexSet::new(alloc);
     for line in lines {

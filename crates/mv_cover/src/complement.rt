@@ -4,7 +4,7 @@ ghost use Rattle.mv_cover.specs.Cubes.{IsCube};
 ghost use Rattle.mv_cover.specs.Covers.{some_matches};
 ghost use Rattle.mv_cover.specs.Covering.{IsPoint};
 ghost use Rattle.mv_cover.specs.Cofactors.{cubes_match};
-ghost use Rattle.mv_cover.specs.Sharp.{Suits, IsCubeOver, AreApart};
+ghost use Rattle.mv_cover.specs.Sharp.{Suits, IsCubeOver, AreDisjoint};
 ghost use Rattle.mv_cover.specs.Complement.{LinesSuit, IsWide, StaysWithin, sharps_of, complement_of};
 
 use crate::sharp::put_sharp;
@@ -24,7 +24,7 @@ impl Cover {
         ensures wide { IfErr result (λ stop. stop ≡ CoverStop.Wide → IsWide counts.now self.now.lines) }
 
         ensures points { IfOk result (λ cubes. (at : ℕ → ℕ) → IsPoint counts.now at → cubes_match at cubes.items ≡ not (some_matches at self.now.lines)) }
-        ensures apart { IfOk result (λ cubes. AllPairs (AreApart counts.now) cubes.items) }
+        ensures apart { IfOk result (λ cubes. AllPairs (AreDisjoint counts.now) cubes.items) }
         ensures suited { IfOk result (λ cubes. All (IsCubeOver counts.now) cubes.items) }
     {
         let mut cubes = Vec::new(alloc);

@@ -1,5 +1,5 @@
 ghost use Rattle.std.specs.Prelude.{◌≡◌, ◌≤◌, ◌^◌, IfOk};
-ghost use Rattle.mv_cover.specs.Covers.{literals_of};
+ghost use Rattle.mv_cover.specs.Covers.{literal_count};
 
 use crate::Line;
 use mv_base::{Items, Memory, ValueSet};
@@ -24,7 +24,7 @@ impl Cover {
 
     /// The literals of the lines, each of which counts one. It takes no memory.
     pub fn literals(&self) -> u128
-        ensures value { result ≡ literals_of self.now.lines }
+        ensures value { result ≡ literal_count self.now.lines }
         ensures few { result ≤ 2 ^ 96 }
     {
         let mut total: u128 = 0;
@@ -39,7 +39,7 @@ impl Cover {
 fn copied_lines(lines: &Items<Line>) -> Result<Items<Line>, Memory>
     ensures { IfOk result (λ copies. copies ≡ lines.now) }
 {
-    let mut copies = Items::new(lines.allocator());
+    let mut copies = Items::with_room(lines.allocator(), lines.len())?;
     for line in lines.as_slice() {
         copies.push(line.copy()?)?;
     }

@@ -1,7 +1,6 @@
 ghost use Rattle.std.specs.Prelude.{◌≡◌, ◌<◌, ◌≤◌, ◌^◌, length, IfOk};
 
 use mv_base::{Memory, NetId, ValueSet};
-use smallvec::SmallVec;
 use std::alloc::Global;
 use std::hash::{Hash, Hasher};
 use std::marker::Model;
@@ -58,10 +57,11 @@ impl Hash for Lit {
     }
 }
 
-/// A cube: all of its literals hold. Their nets ascend, and no set is empty.
+/// A cube: all of its literals hold. Their nets ascend, and no set is empty. The literals stand in memory of their own, with
+/// room for no more, so that a cube is small wherever it is kept or moved, however large a set is.
 #[derive(Drop)]
 pub struct Cube {
-    lits: SmallVec<Lit, 4>,
+    lits: Vec<Lit>,
 }
 
 impl Model for Cube {
@@ -86,7 +86,7 @@ impl Cube {
         ensures { IfOk result (λ cube. cube ≡ lits.now) }
     {
         Ok(Cube {
-            lits: SmallVec::from_slice(alloc, lits)?,
+            lits: Vec::from_slice(alloc, lits)?,
         })
     }
 
@@ -105,7 +105,8 @@ impl Cube {
 
     /// An equal cube.
     pub fn copy(&self) -> Result<Cube, Memory>
-        ensures { IfOk result (λ cube. cube ≡ self.now) }
+        ensures copy { IfOk result (λ cube. cube ≡ self.now) }
+        ensures formed { IsCube self.now }
     {
         Cube::new(self.allocator(), self.lits())
     }

@@ -1,4 +1,5 @@
 ghost use Rattle.std.specs.Prelude.{◌≡◌, IfOk};
+ghost use Rattle.mv_cover.specs.Cubes.{IsCube};
 
 use crate::Cube;
 use mv_base::{Memory, ValueSet};
@@ -14,7 +15,8 @@ pub struct Line {
 impl Line {
     /// An equal line.
     pub fn copy(&self) -> Result<Line, Memory>
-        ensures { IfOk result (λ line. line ≡ self.now) }
+        ensures copy { IfOk result (λ line. line ≡ self.now) }
+        ensures formed { IsCube self.now.cube }
     {
         Ok(Line {
             cube: self.cube.copy()?,

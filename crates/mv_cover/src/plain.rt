@@ -1,5 +1,5 @@
 ghost use Rattle.std.specs.Prelude.{◌≡◌, ◌==◌, ◌↔◌, IsTrue, MatchBool, All, count_ones};
-ghost use Rattle.mv_cover.specs.Plain.{Agree, GivesOne, IsOneDefault, IsPlain, AllowsOne};
+ghost use Rattle.mv_cover.specs.Plain.{Agree, GivesOne, IsOneDefault, IsPlainlyDeterministic, AllowsOne};
 
 use crate::{Cover, Line, overlap};
 use mv_base::ValueSet;
@@ -10,16 +10,16 @@ impl Cover {
     /// It looks at each two lines, with one walk along both cubes, and takes no memory.
     #[tactic(auto, using(crate::proofs::Single::allows_one))]
     pub fn plainly_deterministic(&self) -> bool
-        ensures plain { MatchBool result (IsPlain self.now) (IsPlain self.now → ⊥) }
+        ensures plain { MatchBool result (IsPlainlyDeterministic self.now) (IsPlainlyDeterministic self.now → ⊥) }
         ensures value { IsTrue result → AllowsOne self.now }
     {
-        is_plain(self)
+        is_plainly_deterministic(self)
     }
 }
 
 /// Whether the cover is plain, by its default, its lines and each two of them.
-fn is_plain(cover: &Cover) -> bool
-    ensures { IsTrue result ↔ IsPlain cover.now }
+fn is_plainly_deterministic(cover: &Cover) -> bool
+    ensures { IsTrue result ↔ IsPlainlyDeterministic cover.now }
 {
     let lines = cover.lines.as_slice();
     default_is_one(&cover.default) && all_give_one(lines) && all_agree(lines)

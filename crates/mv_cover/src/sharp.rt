@@ -3,7 +3,7 @@ ghost use Rattle.mv_cover.specs.Cubes.{matches, IsCube};
 ghost use Rattle.mv_cover.specs.Covering.{IsPoint};
 ghost use Rattle.mv_cover.specs.Cofactors.{cubes_match};
 ghost use Rattle.mv_cover.specs.Overlap.{cubes_meet};
-ghost use Rattle.mv_cover.specs.Sharp.{Suits, IsCubeOver, AreApart, values_at, literals_below, with_literal, inside_of, outside_of, parts_outside, sharp_of};
+ghost use Rattle.mv_cover.specs.Sharp.{Suits, IsCubeOver, AreDisjoint, values_left, literals_below, with_literal, inside_of, outside_of, parts_outside, sharp_of};
 
 use crate::count::count_of;
 use crate::{Cube, Lit, overlap};
@@ -17,7 +17,7 @@ impl Cube {
         requires other { Suits counts.now other.now }
         ensures list { IfOk result (λ cubes. cubes.items ≡ sharp_of counts.now self.now other.now) }
         ensures points { IfOk result (λ cubes. (at : ℕ → ℕ) → IsPoint counts.now at → cubes_match at cubes.items ≡ (matches at self.now && not (matches at other.now))) }
-        ensures apart { IfOk result (λ cubes. AllPairs (AreApart counts.now) cubes.items) }
+        ensures apart { IfOk result (λ cubes. AllPairs (AreDisjoint counts.now) cubes.items) }
         ensures suited { IfOk result (λ cubes. All (IsCubeOver counts.now) cubes.items) }
     {
         let mut cubes = Vec::new(self.allocator());
@@ -69,7 +69,7 @@ fn put_part(list: &mut Vec<Cube>, lits: &mut Vec<Lit>, l: Lit, counts: &[u16]) -
     ensures outside { OnOk result (list.new.items ≡ list.old.items ++ outside_of counts.now lits.old.items l) }
     ensures inside { OnOk result (lits.new.items ≡ inside_of counts.now lits.old.items l) }
 {
-    let values = values_at(lits.as_slice(), l.net, counts);
+    let values = values_left(lits.as_slice(), l.net, counts);
     let outside = Lit {
         net: l.net,
         set: values.minus(l.set),
@@ -87,9 +87,9 @@ fn put_part(list: &mut Vec<Cube>, lits: &mut Vec<Lit>, l: Lit, counts: &[u16]) -
 }
 
 /// The values that the cube leaves the net: its literal's set there, or all that the net has.
-fn values_at(lits: &[Lit], net: NetId, counts: &[u16]) -> ValueSet
+fn values_left(lits: &[Lit], net: NetId, counts: &[u16]) -> ValueSet
     requires { slice_index counts.now net.0 ≤ MAX_VALUES }
-    ensures { result ≡ values_at counts.now lits.now net.0 }
+    ensures { result ≡ values_left counts.now lits.now net.0 }
 {
     for l in lits {
         if l.net == net {

@@ -1,16 +1,17 @@
 -- The declaration of a net, found by its place among the names.
-use Rattle.std.proofs.Common.{◌≡◌, ℕ, suc, zero, ◌<◌, ◌≤◌, true, false, List, [], ◌∷◌, ◌++◌, length, Option, Some, None, Ok, Err, refl, sym, subst, ◌∙◌, ⊎_elim, arith}
+use Rattle.std.proofs.Common.{◌≡◌, ℕ, suc, zero, ◌<◌, ◌≤◌, true, false, List, [], ◌∷◌, ◌++◌, length, take, Option, Some, None, Ok, Err, refl, sym, ap, subst, ◌∙◌, ⊎_elim, arith}
 use Rattle.std.specs.List.{slice_get, AllByRecursion}
 use Rattle.std.specs.Option.{option_map, IfSome}
-use Rattle.std.specs.Prelude.{Result, OnOk, OnErr, All}
-use Rattle.std.proofs.lemmas.Bool.{cases_Bool, cond-true, cond-false}
+use Rattle.std.specs.Prelude.{Result, OnOk, OnErr, All, if◌then◌else◌}
+use Rattle.std.proofs.lemmas.Bool.{cases_Bool, cond-true, cond-false, cond_both}
+use Rattle.std.proofs.lemmas.List.{length-take, map-append, take-map, take-append-le}
 use Rattle.std.proofs.lemmas.List.Elements.{All-head, All-tail}
-use Rattle.mv_base.specs.Names.{same_word, place_of}
+use Rattle.mv_base.specs.Names.{same_word, among, place_of}
 use Rattle.mv_base.proofs.NameLemmas.{place_of-cons}
 use Rattle.mv_base.specs.declared.limits.TheConstants.{MAX_VALUES}
 use Rattle.mv_base.specs.declared.memory.Memory.{Memory}
 use Rattle.mv_design.specs.declared.design.Decl.{Decl}
-use Rattle.mv_decl.specs.Nets.{values_of, declared_of, two_values, HasValues}
+use Rattle.mv_decl.specs.Nets.{values_of, declared_of, two_values, with_decl, HasValues}
 
 -- the declaration at the place is the net's
 pub record IsFound (ds : List Decl) (net : List ℕ) (k : ℕ) : Type 0 where
@@ -102,7 +103,11 @@ values_two ds net values e h = record {
   within = rw h (omega arith);
 }
 
--- no declaration has more values than a net may have
+-- each declaration has a value
+pub values_some : (ds : List Decl) (k : ℕ) (d : Decl) (values : List (List ℕ)) → AllByRecursion HasValues ds → slice_get ds k ≡ Some d → values ≡ d.values → 0 < length values
+values_some ds k d values all e h = rw h (counts_at ds k d all e).0
+
+-- and no more than a net may have
 pub values_few : (ds : List Decl) (k : ℕ) (d : Decl) (values : List (List ℕ)) → AllByRecursion HasValues ds → slice_get ds k ≡ Some d → values ≡ d.values → length values ≤ MAX_VALUES
 values_few ds k d values all e h = rw h (counts_at ds k d all e).1
 
@@ -119,3 +124,25 @@ counts_after (Err e) old new d ok err all has = subst (λ ds. AllByRecursion Has
 pub counts_all : (ds : List Decl) → All HasValues ds → AllByRecursion HasValues ds
 counts_all [] all = tt
 counts_all (d ∷ ds) all = (All-head HasValues d ds all, counts_all ds (All-tail HasValues d ds all))
+
+-- one more declaration of a new net, and the first of them
+pub listed_push : (nets new : List (List ℕ)) (list : List Decl) (d : Decl) → nets ≡ declared_of list → among d.net (declared_of list) ≡ false → new ≡ (if among d.net nets then nets else nets ++ d.net ∷ []) → new ≡ declared_of (list ++ d ∷ [])
+listed_push nets new list d e absent is =
+    is ∙ (cond-false _ _ _ (ap (among d.net) e ∙ absent) ∙ (ap (λ ws. ws ++ d.net ∷ []) e ∙ sym (map-append (λ (x : Decl). x.net) list (d ∷ []))))
+
+pub listed_take : (n : ℕ) (nets : List (List ℕ)) (list : List Decl) → nets ≡ declared_of list → take n nets ≡ declared_of (take n list)
+listed_take n nets list e = ap (take n) e ∙ take-map (λ (d : Decl). d.net) n list
+
+pub counts_take : (n : ℕ) (ds : List Decl) → AllByRecursion HasValues ds → AllByRecursion HasValues (take n ds)
+counts_take zero ds all = tt
+counts_take (suc n) [] all = tt
+counts_take (suc n) (d ∷ ds) all = (all.0, counts_take n ds all.1)
+
+pub ruleset listed = (listed_push, listed_take, counts_take)
+
+-- the declarations that were there stay in front
+pub front_stays : (n : ℕ) (old ds : List Decl) (d : Decl) → n ≡ length old → take n ds ≡ old → take n (with_decl ds d) ≡ old
+unfolding with_decl
+front_stays n old ds d size front =
+    let many : n ≤ length ds = let taken = length-take n ds in let same = ap length front in omega arith in
+    cond_both (among d.net (declared_of ds)) ds (ds ++ d ∷ []) (λ (x : List Decl). take n x ≡ old) (λ y. front) (λ new. take-append-le n ds (d ∷ []) many ∙ front)

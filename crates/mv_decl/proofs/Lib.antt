@@ -5,3 +5,4 @@ pub mod Numbers
 pub mod Said
 pub mod Words
 pub mod Plain
+pub mod Fronts

@@ -10,13 +10,6 @@ use Rattle.mv_base.proofs.NameLemmas.{same_word_is}
 use Rattle.mv_word.proofs.LawfulNames.{net_name-has, value_name-has}
 use Rattle.mv_decl.specs.Line.{is_comma, word_or_none, comma_and, pieces_of, commas_apart, value_names}
 
--- what passes one test passes another that follows from it
-pub all-weaker : {X : Type 0} (p q : X → Bool) → ((x : X) → p x ≡ true → q x ≡ true) → (xs : List X) → list_all p xs ≡ true → list_all q xs ≡ true
-all-weaker p q h [] e = refl
-all-weaker p q h (x ∷ xs) e =
-    let r = and_parts (p x) (list_all p xs) e in
-    and_from (q x) (list_all q xs) (h x r.0) (all-weaker p q h xs r.1)
-
 -- the word has no comma
 abbrev pub commaless : List ℕ → Bool
 commaless w = not (list_any (λ b. b == 44) w)

@@ -1,6 +1,6 @@
 -- The line that declares nets, `.mv NAMES COUNT VALUES`, after the description of BLIF-MV by Kukimoto: its faults in the
 -- order in which they are told, and what it declares.
-use Rattle.std.specs.Prelude.{ℕ, ◌+◌, ◌*◌, ◌-◌, ◌^◌, Bool, true, false, not, ◌&&◌, ◌==◌, nat_lt, nat_le, nat_eq, min, List, [], ◌∷◌, ◌++◌, length, map, drop, filter, codes, decimal, if◌then◌else◌}
+use Rattle.std.specs.Prelude.{ℕ, ◌+◌, ◌*◌, ◌-◌, ◌^◌, Bool, not, ◌&&◌, ◌==◌, nat_lt, nat_le, nat_eq, min, List, [], ◌∷◌, ◌++◌, length, map, drop, filter, codes, decimal, if◌then◌else◌}
 use Rattle.std.specs.List.{list_all, flat_map, slice_split, range_with_len}
 use Rattle.std.specs.Cmp.Lexicographic.{pointwise}
 use Rattle.mv_base.specs.Names.{same_word, among, is_net_name, is_value_name}
@@ -35,44 +35,52 @@ pieces_of w = drop 1 (flat_map comma_and (slice_split (λ b. b == 44) w))
 unfoldable pub commas_apart : List (List ℕ) → List (List ℕ)
 commas_apart words = flat_map pieces_of words
 
--- ---- the nets, up to the count. In front, and behind a comma, a name has to stand (`must`), whatever the word is; else a
--- word of digits is the count
+-- ---- the nets, up to the count
 
 -- a word of digits only
 abbrev pub is_digits : List ℕ → Bool
 is_digits w = list_all (λ b. nat_le 48 b && nat_le b 57) w
 
--- the word is the count, where no name has to stand
-abbrev pub is_count : Bool → List ℕ → Bool
-is_count must w = not must && is_digits w
+-- what the front of a line says: the nets that it names, and the words from the count on, none where a name or the count is
+-- lacking
+pub record Front : Type 0 where
+  pub nets : List (List ℕ)
+  pub rest : List (List ℕ)
+
+-- the front of a line where a name or the count is lacking
+abbrev pub lacking : Front
+lacking = record { nets = []; rest = [] }
+
+-- a front with one more net before the others
+abbrev pub with_net : List ℕ → Front → Front
+with_net w front = record { nets = w ∷ front.nets; rest = front.rest }
+
+abbrev mutual
+  -- a line begins with a name, whatever the word is, unless it is a comma
+  pub front_of : List (List ℕ) → Front
+  front_of [] = lacking
+  front_of (w ∷ ws) = if is_comma w then lacking else with_net w (behind_name ws)
+
+  -- behind a name a comma stands, with which the line begins anew, or the count, which has digits only, or a further name
+  pub behind_name : List (List ℕ) → Front
+  behind_name [] = lacking
+  behind_name (w ∷ ws) =
+      if is_comma w then front_of ws
+      else if is_digits w then record { nets = []; rest = w ∷ ws }
+      else with_net w (behind_name ws)
 
 -- a name of a net has to be lawful
-unfoldable pub net_faults : ℕ → List ℕ → List ParseFault
-net_faults n w = when (not (is_net_name w)) (BadName n w)
+unfoldable pub net_name_faults : ℕ → List ℕ → List ParseFault
+net_name_faults n w = when (not (is_net_name w)) (BadName n w)
 
--- the faults of the words up to the count: a comma where a name has to stand, no count, and names that are not lawful
-abbrev pub head_faults : ℕ → List ℕ → Bool → List (List ℕ) → List ParseFault
-head_faults n word must [] = Missing n word ∷ []
-head_faults n word must (w ∷ ws) =
-    if is_comma w then (if must then Missing n word ∷ [] else head_faults n word true ws)
-    else if is_count must w then []
-    else net_faults n w ++ head_faults n word false ws
+-- a name or the count is lacking, where no word is left
+abbrev pub lacking_faults : ℕ → List ℕ → List (List ℕ) → List ParseFault
+lacking_faults n word [] = Missing n word ∷ []
+lacking_faults n word (w ∷ ws) = []
 
--- the nets that these words name
-abbrev pub head_nets : Bool → List (List ℕ) → List (List ℕ)
-head_nets must [] = []
-head_nets must (w ∷ ws) =
-    if is_comma w then (if must then [] else head_nets true ws)
-    else if is_count must w then []
-    else w ∷ head_nets false ws
-
--- the words from the count on; none where there is no count
-abbrev pub from_count : Bool → List (List ℕ) → List (List ℕ)
-from_count must [] = []
-from_count must (w ∷ ws) =
-    if is_comma w then (if must then [] else from_count true ws)
-    else if is_count must w then w ∷ ws
-    else from_count false ws
+-- the faults of the front of a line: names that are not lawful, and a name or the count that is lacking
+abbrev pub front_faults : ℕ → List ℕ → Front → List ParseFault
+front_faults n word front = flat_map (net_name_faults n) front.nets ++ lacking_faults n word front.rest
 
 -- ---- the count and the names of values behind it
 
@@ -136,13 +144,17 @@ abbrev pub values_from : List (List ℕ) → List (List ℕ)
 values_from [] = []
 values_from (w ∷ ws) = named_values (number_of w) (value_names ws)
 
+-- the front of a line
+abbrev pub front_said : List (List ℕ) → Front
+front_said words = front_of (commas_apart words)
+
 -- the nets of a line
 unfoldable pub nets_said : List (List ℕ) → List (List ℕ)
-nets_said words = head_nets true (commas_apart words)
+nets_said words = (front_said words).nets
 
 -- the values that a line gives its nets
 unfoldable pub values_said : List (List ℕ) → List (List ℕ)
-values_said words = values_from (from_count true (commas_apart words))
+values_said words = values_from (front_said words).rest
 
 -- these nets, each with these values
 abbrev pub decls_for : List (List ℕ) → List (List ℕ) → List Decl
@@ -162,4 +174,4 @@ count_line_faults n ds nets (w ∷ ws) =
 -- all faults of the words behind `.mv`, which is `word`, on the line n, behind these declarations
 unfoldable pub decl_faults : ℕ → List ℕ → List Decl → List (List ℕ) → List ParseFault
 decl_faults n word ds words =
-    head_faults n word true (commas_apart words) ++ count_line_faults n ds (nets_said words) (from_count true (commas_apart words))
+    front_faults n word (front_said words) ++ count_line_faults n ds (front_said words).nets (front_said words).rest

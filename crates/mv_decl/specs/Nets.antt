@@ -37,6 +37,12 @@ HasValues d = (0 < length d.values) × (length d.values ≤ MAX_VALUES)
 pub record AreFirst {S : Type 0} (places : IndexMap (List ℕ) ℕ S) (list : List Decl) : Type 0 where
   pub place : (net : List ℕ) → get (pointwise nat_eq) places net ≡ place_of net (declared_of list)
 
+-- the declared nets, the declaration of each at the same place, and the values of a net without one
+pub record AreListed (nets : List (List ℕ)) (list : List Decl) (two : List (List ℕ)) : Type 0 where
+  pub listed : nets ≡ declared_of list
+  pub plain : two ≡ two_values
+  pub counts : AllByRecursion HasValues list
+
 -- the places of the declared nets, their declarations, and the values of a net without one
 pub record IsKept {S : Type 0} (places : IndexMap (List ℕ) ℕ S) (list : List Decl) (two : List (List ℕ)) : Type 0 where
   pub first : AreFirst places list

@@ -1,22 +1,22 @@
-ghost use Rattle.std.specs.Prelude.{◌≡◌, ◌<◌, ◌≤◌, ℕ, List, [], ◌∷◌, ◌++◌, length, slice_get, IfOk, IfSome, OnOk, OnErr};
+ghost use Rattle.std.specs.Prelude.{◌≡◌, ◌<◌, ◌≤◌, ℕ, List, [], ◌∷◌, ◌++◌, false, length, take, IfOk, OnOk, OnErr};
 ghost use Rattle.mv_base.specs.declared.limits.TheConstants.{MAX_VALUES as most_values};
 ghost use Rattle.mv_base.specs.Names.{among, place_of};
-ghost use Rattle.mv_decl.specs.Nets.{values_of, with_decl, declared_of, two_values, HasValues, AreFirst};
+ghost use Rattle.mv_decl.specs.Nets.{values_of, with_decl, declared_of, two_values, HasValues};
 ghost use Rattle.mv_decl.specs.Line.{same_values, is_redeclared};
 ghost use Rattle.mv_design.specs.declared.design.Decl.{Decl};
 
-use indexmap::IndexMap;
+use indexmap::IndexSet;
 use mv_base::{Items, Memory, Name};
 use mv_design::Decl;
 use std::alloc::Global;
 use std::marker::Model;
 
-/// Declared nets in the order of their declarations, with the names of their values. The first declaration of a net counts,
-/// and is found by the net's name without a walk along the others.
+/// Declared nets in the order of their declarations, with the names of their values. Each has one declaration, which is
+/// found by the net's name without a walk along the others.
 #[derive(Drop)]
 pub struct Decls {
-    /// The place of the first declaration of each net.
-    places: IndexMap<Name, usize>,
+    /// The declared nets, each at the place of its declaration.
+    nets: IndexSet<Name>,
     list: Items<Decl>,
     /// The values of a net without a declaration.
     two: Items<Name>,
@@ -24,14 +24,14 @@ pub struct Decls {
 
 impl Model for Decls {
     ghost use Rattle.std.specs.Prelude.{List};
-    ghost use Rattle.mv_decl.specs.Nets.{IsKept};
+    ghost use Rattle.mv_decl.specs.Nets.{AreListed};
     ghost use Rattle.mv_design.specs.declared.design.Decl.{Decl};
 
     ghost Value = { List Decl };
 
     ghost view = { λ d. d.list };
 
-    ghost invariant = { λ d. IsKept d.places d.list d.two };
+    ghost invariant = { λ d. AreListed d.nets.keys d.list d.two };
 }
 
 impl Decls {
@@ -40,7 +40,7 @@ impl Decls {
         ensures { IfOk result (λ decls. decls ≡ []) }
     {
         Ok(Decls {
-            places: IndexMap::new(alloc),
+            nets: IndexSet::new(alloc),
             list: Items::new(alloc),
             two: zero_and_one(alloc)?,
         })
@@ -52,10 +52,7 @@ impl Decls {
         ensures some { 0 < length result.now }
         ensures within { length result.now ≤ most_values }
     {
-        match self.place(net) {
-            Some(at) => declared_at(self.list.as_slice(), at),
-            None => self.two.as_slice(),
-        }
+        self.values_at(self.place(net))
     }
 
     /// Whether the net is declared.
@@ -65,17 +62,18 @@ impl Decls {
         self.place(net).is_some()
     }
 
-    /// The place of the net's first declaration, if it has one.
+    /// The place of the net's declaration, if it has one.
     pub fn place(&self, net: &Name) -> Option<usize>
         ensures { result ≡ place_of net.now (declared_of self.now) }
     {
-        self.places.get(net).copied()
+        self.nets.get_index_of(net)
     }
 
     /// The names of the values of the nets with a declaration at this place: for many questions after one net, whose place
     /// is looked up once.
     pub fn values_at(&self, place: Option<usize>) -> &[Name]
         ensures value { (net : List ℕ) → place ≡ place_of net (declared_of self.now) → result.now ≡ values_of self.now net }
+        ensures some { 0 < length result.now }
         ensures within { length result.now ≤ most_values }
     {
         let Some(at) = place else {
@@ -114,11 +112,28 @@ impl Decls {
 
     /// Puts a declaration behind the others. On an error nothing has changed.
     fn push(&mut self, decl: Decl) -> Result<(), Memory>
-        requires { HasValues decl }
+        requires new { among decl.net (declared_of self.old) ≡ false }
+        requires values { HasValues decl }
         ensures ok { OnOk result (self.new ≡ self.old ++ decl ∷ []) }
         ensures err { OnErr result (self.new ≡ self.old) }
     {
-        push_to(&mut self.places, &mut self.list, decl)
+        push_to(&mut self.nets, &mut self.list, decl)
+    }
+
+    /// How many nets are declared.
+    pub(crate) fn len(&self) -> usize
+        ensures { result ≡ length self.now }
+    {
+        self.list.len()
+    }
+
+    /// Keeps the first `len` declarations.
+    #[tactic(auto, using(crate::proofs::Kept::listed))]
+    pub(crate) fn truncate(&mut self, len: usize)
+        ensures { self.new ≡ take len self.old }
+    {
+        self.nets.truncate(len);
+        self.list.truncate(len);
     }
 
     /// The declarations in order.
@@ -139,14 +154,6 @@ pub(crate) fn zero_and_one(alloc: Global) -> Result<Items<Name>, Memory>
     Ok(two)
 }
 
-/// The values of the declaration at the place.
-pub(crate) fn declared_at(list: &[Decl], at: usize) -> &[Name]
-    requires { at < length list.now }
-    ensures { IfSome (slice_get list.now at) (λ d. result.now ≡ d.values) }
-{
-    list[at].values.as_slice()
-}
-
 /// Whether these are the same names in the same order.
 fn same_values(a: &[Name], b: &[Name]) -> bool
     ensures { result ≡ same_values a.now b.now }
@@ -154,27 +161,20 @@ fn same_values(a: &[Name], b: &[Name]) -> bool
     a == b
 }
 
-/// Puts a declaration behind the others, and its place to those of first declarations, if it is its net's first. On an error
-/// both are as before.
-#[tactic(auto, using(crate::proofs::Firsts::firsts))]
-fn push_to(
-    places: &mut IndexMap<Name, usize>,
-    list: &mut Items<Decl>,
-    decl: Decl,
-) -> Result<(), Memory>
-    requires { AreFirst places.old list.old }
+/// Puts the declaration of a new net behind the others, and the net behind theirs. On an error the declarations are as
+/// before, and so are the nets.
+#[tactic(auto, using(crate::proofs::Kept::listed))]
+fn push_to(nets: &mut IndexSet<Name>, list: &mut Items<Decl>, decl: Decl) -> Result<(), Memory>
+    requires listed { nets.old.keys ≡ declared_of list.old }
+    requires new { among decl.net (declared_of list.old) ≡ false }
     ensures list { OnOk result (list.new ≡ list.old ++ decl ∷ []) }
-    ensures places { AreFirst places.new list.new }
+    ensures nets { nets.new.keys ≡ declared_of list.new }
     ensures err { OnErr result (list.new ≡ list.old) }
 {
     let net = decl.net.copy()?;
-    let place = list.len();
     list.push(decl)?;
-    if places.contains_key(&net) {
-        return Ok(());
-    }
-    match places.insert(net, place) {
-        Ok(_before) => Ok(()),
+    match nets.insert(net) {
+        Ok(_new) => Ok(()),
         Err(_failed) => {
             list.pop();
             Err(Memory)

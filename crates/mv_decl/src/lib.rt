@@ -7,8 +7,6 @@ mod decls;
 mod laws;
 mod line;
 mod lookup;
-#[cfg(test)]
-mod tests;
 
 pub use decls::Decls;
 pub use laws::line_laws;

@@ -1,10 +1,10 @@
-ghost use Rattle.std.specs.Prelude.{◌≡◌, ◌<◌, ◌≤◌, ◌||◌, ◌⊎◌, not, true, ℕ, List, length, drop, IfOk, IfErr, OnOk};
+ghost use Rattle.std.specs.Prelude.{◌≡◌, ◌<◌, ◌≤◌, ◌||◌, not, true, ℕ, List, length, drop, IfOk, OnOk, OnErr};
 ghost use Rattle.mv_base.specs.declared.limits.TheConstants.{MAX_VALUES as most_values};
 ghost use Rattle.mv_base.specs.Names.{among};
 ghost use Rattle.mv_fault.specs.declared.fault.ParseFault.{ParseFault};
 ghost use Rattle.mv_fault.specs.Tells.{Tells};
 ghost use Rattle.mv_decl.specs.Nets.{values_of, declared_of, with_decls};
-ghost use Rattle.mv_decl.specs.Line.{net_faults, head_faults, head_nets, from_count, redeclared_faults, decls_for, decl_faults, decls_said, nets_said, values_said};
+ghost use Rattle.mv_decl.specs.Line.{net_name_faults, front_of, front_faults, redeclared_faults, decls_for, decl_faults, decls_said, nets_said, values_said};
 
 use crate::Decls;
 use crate::commas::{apart, is_comma};
@@ -17,8 +17,8 @@ use std::alloc::Global;
 /// Reads the words behind `.mv`, which is `word`, on the line of this number, as the description of BLIF-MV by Kukimoto has
 /// it: the names of nets, with or without commas between them, the count of their values, from 1 to the most that a net may
 /// have, and the names of these, if they aren't the numbers from 0. Each net that isn't declared yet is declared so.
-/// A fault is the first of the line: Missing, BadName, BadCount, Limit, Repeated, ValueNames or Redeclared. Then nothing
-/// is declared; where memory is short, some first nets of the line may be.
+/// A fault is the first of the line: Missing, BadName, BadCount, Limit, Repeated, ValueNames or Redeclared. Then, and where
+/// memory is short, nothing is declared.
 #[tactic(auto, using(mv_fault::proofs::Firsts::firsts), unfolding(crate::specs::Line::decl_faults, crate::specs::Line::decls_said, crate::specs::Line::nets_said, crate::specs::Line::values_said))]
 pub fn declare(
     alloc: Global,
@@ -29,7 +29,7 @@ pub fn declare(
 ) -> Result<(), ParseFault>
     ensures fault { Tells result (decl_faults number word.now decls.old words.now) }
     ensures ok { OnOk result (decls.new ≡ with_decls decls.old (decls_said words.now)) }
-    ensures err { IfErr result (λ f. (f ≡ ParseFault.Memory) ⊎ (decls.new ≡ decls.old)) }
+    ensures err { OnErr result (decls.new ≡ decls.old) }
     ensures said { OnOk result ((net : List ℕ) → among net (nets_said words.now) ≡ true → values_of decls.new net ≡ values_said words.now) }
     ensures kept { OnOk result ((net : List ℕ) → (among net (declared_of decls.old) || not (among net (nets_said words.now))) ≡ true → values_of decls.new net ≡ values_of decls.old net) }
 {
@@ -50,9 +50,9 @@ struct Head {
 /// Reads the words up to the count.
 #[tactic(auto, using(mv_fault::proofs::Firsts::firsts))]
 fn read_head(alloc: Global, line: u32, word: &Name, words: &[Name]) -> Result<Head, ParseFault>
-    ensures fault { Tells result (head_faults line word.now true words.now) }
-    ensures nets { IfOk result (λ head. head.nets ≡ head_nets true words.now) }
-    ensures count { IfOk result (λ head. drop head.count words.now ≡ from_count true words.now) }
+    ensures fault { Tells result (front_faults line word.now (front_of words.now)) }
+    ensures nets { IfOk result (λ head. head.nets ≡ (front_of words.now).nets) }
+    ensures count { IfOk result (λ head. drop head.count words.now ≡ (front_of words.now).rest) }
     ensures within { IfOk result (λ head. head.count < length words.now) }
 {
     let mut nets = Items::new(alloc);
@@ -80,9 +80,9 @@ fn read_head(alloc: Global, line: u32, word: &Name, words: &[Name]) -> Result<He
 }
 
 /// The word as the name of a net.
-#[tactic(auto, unfolding(crate::specs::Line::net_faults))]
+#[tactic(auto, unfolding(crate::specs::Line::net_name_faults))]
 fn net_name(line: u32, word: &Name) -> Result<Name, ParseFault>
-    ensures fault { Tells result (net_faults line word.now) }
+    ensures fault { Tells result (net_name_faults line word.now) }
     ensures ok { IfOk result (λ name. name ≡ word.now) }
 {
     if !is_net_name(word.bytes()) {
@@ -105,7 +105,7 @@ fn declare_nets(
     requires within { length values.now ≤ most_values }
     ensures fault { Tells result (redeclared_faults line decls.old values.now nets.now) }
     ensures ok { OnOk result (decls.new ≡ with_decls decls.old (decls_for values.now nets.now)) }
-    ensures err { IfErr result (λ f. (f ≡ ParseFault.Memory) ⊎ (decls.new ≡ decls.old)) }
+    ensures err { OnErr result (decls.new ≡ decls.old) }
     ensures said { OnOk result ((net : List ℕ) → among net nets.now ≡ true → values_of decls.new net ≡ values.now) }
     ensures kept { OnOk result ((net : List ℕ) → (among net (declared_of decls.old) || not (among net nets.now)) ≡ true → values_of decls.new net ≡ values_of decls.old net) }
 {
@@ -129,14 +129,19 @@ fn check_known(decls: &Decls, line: u32, nets: &[Name], values: &[Name]) -> Resu
     Ok(())
 }
 
-/// Declares the nets with these values.
+/// Declares the nets with these values. On an error nothing has changed.
 fn declare_all(decls: &mut Decls, nets: &[Name], values: &Items<Name>) -> Result<(), Memory>
     requires some { 0 < length values.now }
     requires within { length values.now ≤ most_values }
-    ensures { OnOk result (decls.new ≡ with_decls decls.old (decls_for values.now nets.now)) }
+    ensures ok { OnOk result (decls.new ≡ with_decls decls.old (decls_for values.now nets.now)) }
+    ensures err { OnErr result (decls.new ≡ decls.old) }
 {
+    let before = decls.len();
     for net in nets {
-        decls.add(net, values)?;
+        if let Err(failed) = decls.add(net, values) {
+            decls.truncate(before);
+            return Err(failed);
+        }
     }
     Ok(())
 }

@@ -1,10 +1,10 @@
 //! Declarations that stand elsewhere, found by name.
-ghost use Rattle.std.specs.Prelude.{◌≡◌, ◌<◌, ◌≤◌, ◌++◌, ◌∷◌, [], length, IfOk, OnOk, All};
+ghost use Rattle.std.specs.Prelude.{◌≡◌, ◌<◌, ◌≤◌, ◌++◌, ◌∷◌, [], length, slice_get, IfOk, IfSome, OnOk, All};
 ghost use Rattle.mv_base.specs.Names.{place_of};
 ghost use Rattle.mv_base.specs.declared.limits.TheConstants.{MAX_VALUES as most_values};
 ghost use Rattle.mv_decl.specs.Nets.{values_of, declared_of, HasValues, AreFirst};
 
-use crate::decls::{declared_at, zero_and_one};
+use crate::decls::zero_and_one;
 use indexmap::IndexMap;
 use mv_base::{Items, Memory, Name};
 use mv_design::Decl;
@@ -64,6 +64,14 @@ impl<'a> Declared<'a> {
     {
         self.places.get(net).copied()
     }
+}
+
+/// The values of the declaration at the place.
+fn declared_at(list: &[Decl], at: usize) -> &[Name]
+    requires { at < length list.now }
+    ensures { IfSome (slice_get list.now at) (λ d. result.now ≡ d.values) }
+{
+    list[at].values.as_slice()
 }
 
 /// The place of the first declaration of each net.

@@ -9,7 +9,7 @@ use mv_base::{Items, Memory};
 pub fn copy_rows(rows: &Items<Row>) -> Result<Items<Row>, Memory>
     ensures { IfOk result (λ c. c ≡ rows.now) }
 {
-    let mut copied = Items::new(rows.allocator());
+    let mut copied = Items::with_room(rows.allocator(), rows.len())?;
     for row in rows.as_slice() {
         copied.push(row.copy()?)?;
     }
@@ -20,7 +20,7 @@ pub fn copy_rows(rows: &Items<Row>) -> Result<Items<Row>, Memory>
 pub fn copy_tables(tables: &Items<FileTable>) -> Result<Items<FileTable>, Memory>
     ensures { IfOk result (λ c. c ≡ tables.now) }
 {
-    let mut copied = Items::new(tables.allocator());
+    let mut copied = Items::with_room(tables.allocator(), tables.len())?;
     for table in tables.as_slice() {
         copied.push(table.copy()?)?;
     }
@@ -31,7 +31,7 @@ pub fn copy_tables(tables: &Items<FileTable>) -> Result<Items<FileTable>, Memory
 pub fn copy_decls(decls: &Items<Decl>) -> Result<Items<Decl>, Memory>
     ensures { IfOk result (λ c. c ≡ decls.now) }
 {
-    let mut copied = Items::new(decls.allocator());
+    let mut copied = Items::with_room(decls.allocator(), decls.len())?;
     for decl in decls.as_slice() {
         copied.push(decl.copy()?)?;
     }
@@ -42,7 +42,7 @@ pub fn copy_decls(decls: &Items<Decl>) -> Result<Items<Decl>, Memory>
 pub fn copy_latches(latches: &Items<FileLatch>) -> Result<Items<FileLatch>, Memory>
     ensures { IfOk result (λ c. c ≡ latches.now) }
 {
-    let mut copied = Items::new(latches.allocator());
+    let mut copied = Items::with_room(latches.allocator(), latches.len())?;
     for latch in latches.as_slice() {
         copied.push(latch.copy()?)?;
     }
@@ -53,7 +53,7 @@ pub fn copy_latches(latches: &Items<FileLatch>) -> Result<Items<FileLatch>, Memo
 pub fn copy_binds(binds: &Items<Bind>) -> Result<Items<Bind>, Memory>
     ensures { IfOk result (λ c. c ≡ binds.now) }
 {
-    let mut copied = Items::new(binds.allocator());
+    let mut copied = Items::with_room(binds.allocator(), binds.len())?;
     for bind in binds.as_slice() {
         copied.push(bind.copy()?)?;
     }
@@ -64,7 +64,7 @@ pub fn copy_binds(binds: &Items<Bind>) -> Result<Items<Bind>, Memory>
 pub fn copy_parts(parts: &Items<Part>) -> Result<Items<Part>, Memory>
     ensures { IfOk result (λ c. c ≡ parts.now) }
 {
-    let mut copied = Items::new(parts.allocator());
+    let mut copied = Items::with_room(parts.allocator(), parts.len())?;
     for part in parts.as_slice() {
         copied.push(part.copy()?)?;
     }
@@ -75,7 +75,7 @@ pub fn copy_parts(parts: &Items<Part>) -> Result<Items<Part>, Memory>
 pub fn copy_models(models: &Items<FileModel>) -> Result<Items<FileModel>, Memory>
     ensures { IfOk result (λ c. c ≡ models.now) }
 {
-    let mut copied = Items::new(models.allocator());
+    let mut copied = Items::with_room(models.allocator(), models.len())?;
     for model in models.as_slice() {
         copied.push(model.copy()?)?;
     }

@@ -4,8 +4,6 @@
 mod copies;
 mod design;
 mod table;
-#[cfg(test)]
-mod tests;
 
 pub use design::{Bind, Decl, Design, FileLatch, FileModel, Part};
 pub use table::{Entry, FileTable, Row};

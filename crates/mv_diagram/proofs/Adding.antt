@@ -4,18 +4,18 @@ use Rattle.mv_pool.specs.Places.{Contents, with_item}
 use Rattle.mv_diagram.specs.declared.node.Node.{Node}
 use Rattle.mv_diagram.specs.declared.table.Table.{Table}
 use Rattle.mv_diagram.specs.Sets.{Point, InRange, node_at, holds, is_held}
-use Rattle.mv_diagram.specs.Sound.{AreCounts, IsNode, IsSound}
-use Rattle.mv_diagram.specs.Works.{Adds, HasPut, IsAbsent}
+use Rattle.mv_diagram.specs.Sound.{AreCounts, IsNode, IsReduced}
+use Rattle.mv_diagram.specs.Works.{AddsNodes, HasPut, IsAbsent}
 use Rattle.mv_diagram.specs.Parts.{no_variable, IsRestriction, AddsParts}
 use Rattle.mv_diagram.proofs.Following.{holds_node, if_same}
-use Rattle.mv_diagram.proofs.Growing.{Grows-with, each_with, held_low, holds_stays, IsSound-with}
+use Rattle.mv_diagram.proofs.Growing.{Grows-with, each_with, held_low, holds_stays, IsReduced-with}
 use Rattle.mv_diagram.proofs.Lacking.{Reads, Agree-more}
 use Rattle.mv_diagram.proofs.Reclaiming.{held_by, held_from, item_some, node_there}
 use Rattle.mv_diagram.proofs.Restricting.{restriction_whole, restriction_same, restriction_no}
 use Rattle.mv_base.specs.Set.{has}
 use Rattle.mv_diagram.proofs.Points.{beside}
 use Rattle.mv_diagram.proofs.Literals.{literal_from, literal_reads, literal_step, literal_past, seen_all}
-use Rattle.mv_diagram.proofs.Tables.{Adds-more, table_holds, table_held, table_parted}
+use Rattle.mv_diagram.proofs.Tables.{AddsNodes-more, table_holds, table_held, table_parted}
 use Rattle.mv_diagram.specs.declared.node.Test.{Test}
 use Rattle.mv_diagram.specs.declared.memo.Operation.{Operation}
 use Rattle.mv_diagram.specs.First.{AreParted}
@@ -38,13 +38,13 @@ parts_same counts old new whole whole' are same parts = record {
 pub Reads-all : (counts : List ℕ) (from : ℕ) (whole : Point → Bool) → Reads counts from whole → Reads counts 0 whole
 Reads-all counts from whole reads = record { each = λ p q agree. reads.each p q (Agree-more counts 0 from p q (omega arith) agree) }
 
-module _ (counts : List ℕ) (ns : List (Option Node)) (n : Node) (from : ℕ) (s : IsSound counts ns) (is : IsNode counts ns n) (absent : IsAbsent ns n)
+module _ (counts : List ℕ) (ns : List (Option Node)) (n : Node) (from : ℕ) (s : IsReduced counts ns) (is : IsNode counts ns n) (absent : IsAbsent ns n)
     (reads : Reads counts from (λ p. if p n.test.var == n.test.value then holds counts ns n.yes.0 p else holds counts ns n.no.0 p)) where
   abbrev set : Point → Bool
   set p = if p n.test.var == n.test.value then holds counts ns n.yes.0 p else holds counts ns n.no.0 p
 
   new_set : (d : ℕ) → node_at (with_item ns n) d ≡ Some n → (p : Point) → set p ≡ holds counts (with_item ns n) d p
-  new_set d e p = sym (holds_node counts (with_item ns n) (IsSound-with counts ns n s is absent) d n p e
+  new_set d e p = sym (holds_node counts (with_item ns n) (IsReduced-with counts ns n s is absent) d n p e
       ∙ if_same _ _ _ _ _ _ refl (holds_stays counts ns (with_item ns n) (Grows-with ns n) s n.yes.0 p is.yes_held) (holds_stays counts ns (with_item ns n) (Grows-with ns n) s n.no.0 p is.no_held))
 
   -- a node is added
@@ -61,7 +61,7 @@ module _ (counts : List ℕ) (ns : List (Option Node)) (n : Node) (from : ℕ) (
   }
 
 -- a node is added, if anything
-pub parts_put : (counts : List ℕ) (old new : Contents Node) (n : Node) (d from : ℕ) → IsSound counts old.places → IsNode counts old.places n → HasPut old new n d
+pub parts_put : (counts : List ℕ) (old new : Contents Node) (n : Node) (d from : ℕ) → IsReduced counts old.places → IsNode counts old.places n → HasPut old new n d
     → Reads counts from (λ p. if p n.test.var == n.test.value then holds counts old.places n.yes.0 p else holds counts old.places n.no.0 p)
     → AddsParts counts old.places new.places (λ p. if p n.test.var == n.test.value then holds counts old.places n.yes.0 p else holds counts old.places n.no.0 p)
 parts_put counts old new n d from s is put reads = elim put.change [
@@ -69,18 +69,18 @@ parts_put counts old new n d from s is put reads = elim put.change [
   | inr added ↦ rw added.0 (parts_with counts old.places n from s is added.1 reads)
 ]
 
-module _ (old new : Table) (s : IsSound old.counts.items old.pool.places) (adds : Adds old new) where
+module _ (old new : Table) (s : IsReduced old.counts.items old.pool.places) (adds : AddsNodes old new) where
   -- a restriction stays one
   pub table_part : (d : ℕ) (whole : Point → Bool) → is_held old.pool.places d ≡ true → IsRestriction old.counts.items no_variable whole (λ p. holds old.counts.items old.pool.places d p) → IsRestriction new.counts.items no_variable whole (λ p. holds new.counts.items new.pool.places d p)
   table_part d whole held r = restriction_same new.counts.items adds.sound.values no_variable whole whole _ _ (λ p range. refl) (λ p. sym (table_holds old new s adds d p held))
       (subst (λ v. IsRestriction v no_variable whole (λ p. holds old.counts.items old.pool.places d p)) (sym (ap (λ v. v.items) adds.counts)) r)
 
-module _ (operation : Operation) (old new : Table) (s : IsSound old.counts.items old.pool.places) (adds : Adds old new) (a b : ℕ) (t : Test) (ay an by bn : ℕ) (parted : AreParted old.counts.items old.pool.places a b t ay an by bn) where
+module _ (operation : Operation) (old new : Table) (s : IsReduced old.counts.items old.pool.places) (adds : AddsNodes old new) (a b : ℕ) (t : Test) (ay an by bn : ℕ) (parted : AreParted old.counts.items old.pool.places a b t ay an by bn) where
   abbrev whole : Point → Bool
   whole p = result_of operation (holds new.counts.items new.pool.places a p) (holds new.counts.items new.pool.places b p)
 
   -- a restriction of the result of two diagrams stays one
-  operands_part : (mid : Table) → IsSound mid.counts.items mid.pool.places → Adds mid new → (x y d : ℕ) → is_held mid.pool.places x ≡ true → is_held mid.pool.places y ≡ true → is_held mid.pool.places d ≡ true
+  operands_part : (mid : Table) → IsReduced mid.counts.items mid.pool.places → AddsNodes mid new → (x y d : ℕ) → is_held mid.pool.places x ≡ true → is_held mid.pool.places y ≡ true → is_held mid.pool.places d ≡ true
       → IsRestriction mid.counts.items no_variable (λ p. result_of operation (holds mid.counts.items mid.pool.places x p) (holds mid.counts.items mid.pool.places y p)) (λ p. holds mid.counts.items mid.pool.places d p)
       → IsRestriction new.counts.items no_variable (λ p. result_of operation (holds new.counts.items new.pool.places x p) (holds new.counts.items new.pool.places y p)) (λ p. holds new.counts.items new.pool.places d p)
   operands_part mid sm more x y d hx hy hd r = restriction_same new.counts.items adds.sound.values no_variable _ _ _ _
@@ -88,14 +88,14 @@ module _ (operation : Operation) (old new : Table) (s : IsSound old.counts.items
       (table_part mid new sm more d _ hd r)
 
   -- what the results of the two sides add
-  pub from_yes : (mid : Table) → Adds old mid → Adds mid new → (d : ℕ) → is_held mid.pool.places d ≡ true
+  pub from_yes : (mid : Table) → AddsNodes old mid → AddsNodes mid new → (d : ℕ) → is_held mid.pool.places d ≡ true
       → IsRestriction mid.counts.items no_variable (λ p. result_of operation (holds mid.counts.items mid.pool.places ay p) (holds mid.counts.items mid.pool.places by p)) (λ p. holds mid.counts.items mid.pool.places d p)
       → IsRestriction new.counts.items no_variable whole (λ p. holds new.counts.items new.pool.places d p)
   from_yes mid first more d hd r =
       parts_yes new.counts.items new.pool.places adds.sound operation a b t ay an by bn (table_parted old new s adds a b t ay an by bn parted) _
       (operands_part mid first.sound more ay by d (table_held old mid s first ay parted.left.yes_held) (table_held old mid s first by parted.right.yes_held) hd r)
 
-  from_no : (mid : Table) → Adds old mid → Adds mid new → (d : ℕ) → is_held mid.pool.places d ≡ true
+  from_no : (mid : Table) → AddsNodes old mid → AddsNodes mid new → (d : ℕ) → is_held mid.pool.places d ≡ true
       → IsRestriction mid.counts.items no_variable (λ p. result_of operation (holds mid.counts.items mid.pool.places an p) (holds mid.counts.items mid.pool.places bn p)) (λ p. holds mid.counts.items mid.pool.places d p)
       → IsRestriction new.counts.items no_variable whole (λ p. holds new.counts.items new.pool.places d p)
   from_no mid first more d hd r =
@@ -103,20 +103,20 @@ module _ (operation : Operation) (old new : Table) (s : IsSound old.counts.items
       (operands_part mid first.sound more an bn d (table_held old mid s first an parted.left.no_held) (table_held old mid s first bn parted.right.no_held) hd r)
 
   -- what both add, the one for yes first
-  pub from_both : (one two : Table) → Adds old one → Adds one two → Adds two new
+  pub from_both : (one two : Table) → AddsNodes old one → AddsNodes one two → AddsNodes two new
       → AddsParts one.counts.items old.pool.places one.pool.places (λ p. result_of operation (holds one.counts.items one.pool.places ay p) (holds one.counts.items one.pool.places by p))
       → AddsParts two.counts.items one.pool.places two.pool.places (λ p. result_of operation (holds two.counts.items two.pool.places an p) (holds two.counts.items two.pool.places bn p))
       → (d : ℕ) → is_held two.pool.places d ≡ true → (is_held old.pool.places d ≡ true) ⊎ IsRestriction new.counts.items no_variable whole (λ p. holds new.counts.items new.pool.places d p)
   from_both one two first second third ones twos d held = elim (twos.each d held) [
-    | inr r ↦ inr (from_no two (Adds-more old one two first second) third d held r)
+    | inr r ↦ inr (from_no two (AddsNodes-more old one two first second) third d held r)
     | inl before ↦ elim (ones.each d before) [
-      | inr r ↦ inr (from_yes one first (Adds-more one two new second third) d before r)
+      | inr r ↦ inr (from_yes one first (AddsNodes-more one two new second third) d before r)
       | inl was ↦ inl was
     ]
   ]
 
 -- a test more of a literal
-literal_parts : (base : List (Option Node)) (old new : Table) → IsSound old.counts.items old.pool.places → Adds old new → (var set low : ℕ) (whole : Point → Bool) → var < length old.counts.items → low + 1 < slice_index old.counts.items var
+literal_parts : (base : List (Option Node)) (old new : Table) → IsReduced old.counts.items old.pool.places → AddsNodes old new → (var set low : ℕ) (whole : Point → Bool) → var < length old.counts.items → low + 1 < slice_index old.counts.items var
     → AddsParts old.counts.items base old.pool.places (literal_from old.counts.items var set (low + 1)) → AddsParts new.counts.items old.pool.places new.pool.places whole → ((p : Point) → whole p ≡ literal_from new.counts.items var set low p)
     → AddsParts new.counts.items base new.pool.places (literal_from new.counts.items var set low)
 literal_parts base old new s adds var set low whole variable below before now is =
@@ -144,7 +144,7 @@ pub literal_whole : (counts : List ℕ) (base ns : List (Option Node)) → AreCo
 literal_whole counts base ns are var set within parts = parts_same counts base ns _ (λ p. has set (p var)) are (λ p range. ap (has set) (seen_all (slice_index counts var) (p var) (range.below var within))) parts
 
 -- what the later tests see is a restriction of the whole literal
-pub literal_down : (counts : List ℕ) (base ns : List (Option Node)) → IsSound counts ns → (var set low : ℕ) → var < length counts → low < slice_index counts var → AddsParts counts base ns (literal_from counts var set low) → AddsParts counts base ns (λ p. has set (p var))
+pub literal_down : (counts : List ℕ) (base ns : List (Option Node)) → IsReduced counts ns → (var set low : ℕ) → var < length counts → low < slice_index counts var → AddsParts counts base ns (literal_from counts var set low) → AddsParts counts base ns (λ p. has set (p var))
 literal_down counts base ns s var set zero within below parts = literal_whole counts base ns s.values var set within parts
 literal_down counts base ns s var set (suc low) within below parts = literal_down counts base ns s var set low within (omega arith) (record {
   each = λ d held. elim (parts.each d held) [
@@ -156,7 +156,7 @@ literal_down counts base ns s var set (suc low) within below parts = literal_dow
 })
 
 -- a test more of a literal, of the value before the last one
-module _ (old new : Table) (s : IsSound old.counts.items old.pool.places) (adds : Adds old new) (var set value : ℕ) (within : var < length old.counts.items) (below : value < slice_index old.counts.items var) (some : 0 < value)
+module _ (old new : Table) (s : IsReduced old.counts.items old.pool.places) (adds : AddsNodes old new) (var set value : ℕ) (within : var < length old.counts.items) (below : value < slice_index old.counts.items var) (some : 0 < value)
     (y rest : ℕ) (here : (p : Point) → holds old.counts.items old.pool.places y p ≡ has set (value - 1)) (later : (p : Point) → holds old.counts.items old.pool.places rest p ≡ literal_from old.counts.items var set value p) where
   next : value - 1 + 1 ≡ value
   next = omega arith

@@ -5,7 +5,7 @@ use Rattle.mv_diagram.specs.declared.node.Node.{Node}
 use Rattle.mv_diagram.specs.declared.node.Test.{Test}
 use Rattle.mv_diagram.specs.declared.memo.Operation.{Operation}
 use Rattle.mv_diagram.specs.Sets.{Point, node_at, with_value, holds, is_held}
-use Rattle.mv_diagram.specs.Sound.{order, first, IsSound}
+use Rattle.mv_diagram.specs.Sound.{order, first, IsReduced}
 use Rattle.mv_diagram.specs.Works.{IsLacking}
 use Rattle.mv_diagram.specs.First.{AreParted, IsSplit}
 use Rattle.mv_diagram.specs.Results.{IsResult, result_of}
@@ -19,7 +19,7 @@ use Rattle.mv_diagram.proofs.Lacking.{Reads, Reads-diagram, lacking_yes, lacking
 pub both_same : (operation : Operation) (x y u v : Bool) → x ≡ u → y ≡ v → result_of operation x y ≡ result_of operation u v
 both_same operation x y u v e f = ap (λ z. result_of operation z y) e ∙ ap (result_of operation u) f
 
-module _ (counts : List ℕ) (ns : List (Option Node)) (s : IsSound counts ns) (operation : Operation) (a b : ℕ) (ha : is_held ns a ≡ true) (hb : is_held ns b ≡ true) where
+module _ (counts : List ℕ) (ns : List (Option Node)) (s : IsReduced counts ns) (operation : Operation) (a b : ℕ) (ha : is_held ns a ≡ true) (hb : is_held ns b ≡ true) where
   -- a result that is known at once
   pub result_at_once : (d : ℕ) → ((f : ℕ → Bool) → f 0 ≡ false → f 1 ≡ true → f d ≡ result_of operation (f a) (f b))
       → ((f : ℕ → Bool) → f 0 ≡ true → f 1 ≡ true → f a ≡ true → f b ≡ true → f d ≡ true) → IsResult counts ns operation a b d
@@ -55,7 +55,7 @@ module _ (counts : List ℕ) (ns : List (Option Node)) (s : IsSound counts ns) (
       one true e = ap (λ n. n == 1) e
       one false e = ap (λ n. n == 1) e
 
-module _ (counts : List ℕ) (ns : List (Option Node)) (s : IsSound counts ns) (operation : Operation) (a b : ℕ) (t : Test) (ay an by bn : ℕ) (parted : AreParted counts ns a b t ay an by bn) where
+module _ (counts : List ℕ) (ns : List (Option Node)) (s : IsReduced counts ns) (operation : Operation) (a b : ℕ) (t : Test) (ay an by bn : ℕ) (parted : AreParted counts ns a b t ay an by bn) where
   abbrev pub combined : Point → Bool
   combined p = result_of operation (holds counts ns a p) (holds counts ns b p)
 

@@ -5,7 +5,7 @@ use Rattle.std.proofs.lemmas.Bool.Decides.{nat_tests}
 use Rattle.mv_diagram.specs.declared.node.Node.{Node}
 use Rattle.mv_diagram.specs.declared.node.Test.{Test}
 use Rattle.mv_diagram.specs.Sets.{Point, InRange, SameSet, with_value, greatest, node_at, is_held, holds}
-use Rattle.mv_diagram.specs.Sound.{order, first, IsTest, AreCounts, IsSound}
+use Rattle.mv_diagram.specs.Sound.{order, first, IsTest, AreCounts, IsReduced}
 use Rattle.mv_diagram.proofs.Following.{steps, holds_end, ended, node_is, node_placed, first-node, first-end, first-le, order-lt, yes-later, no-later}
 use Rattle.mv_diagram.proofs.Points.{beside, InRange-with, InRange-beside, greatest_lt, holds_both, holds_yes, holds_no, holds_no_beside, value_there, value-lt_greatest}
 
@@ -56,7 +56,7 @@ node_is_made n m e f g =
     let make : Test → ℕ → ℕ → Node = λ t y x. record { test = t; yes = record { 0 = y }; no = record { 0 = x } } in
     ap (λ t. make t n.yes.0 n.no.0) e ∙ ap (λ y. make m.test y n.no.0) f ∙ ap (make m.test m.yes.0) g
 
-module _ (counts : List ℕ) (ns : List (Option Node)) (s : IsSound counts ns) where
+module _ (counts : List ℕ) (ns : List (Option Node)) (s : IsReduced counts ns) where
   abbrev pub set_of : ℕ → Point → Bool
   set_of d p = holds counts ns d p
 

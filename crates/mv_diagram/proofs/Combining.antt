@@ -6,16 +6,16 @@ use Rattle.mv_diagram.specs.declared.node.Node.{Node}
 use Rattle.mv_diagram.specs.declared.node.Test.{Test}
 use Rattle.mv_diagram.specs.declared.table.Table.{Table}
 use Rattle.mv_diagram.specs.Sets.{Point, InRange, with_value, greatest, node_at, holds, is_held}
-use Rattle.mv_diagram.specs.Sound.{order, IsTest, IsSound, AreCounts}
-use Rattle.mv_diagram.specs.Works.{Adds}
-use Rattle.mv_diagram.specs.Quantified.{Agrees, IsQuantified, joined_set}
+use Rattle.mv_diagram.specs.Sound.{order, IsTest, IsReduced, AreCounts}
+use Rattle.mv_diagram.specs.Works.{AddsNodes}
+use Rattle.mv_diagram.specs.Quantified.{AgreesOutside, IsQuantified, joined_set}
 use Rattle.mv_diagram.specs.Parts.{restricted, no_variable, IsRestriction, IsCombined, AddsParts, AddsCombined}
 use Rattle.mv_diagram.proofs.Following.{node_is, first-node}
 use Rattle.mv_diagram.proofs.Points.{beside, holds_yes, holds_no_beside}
 use Rattle.mv_diagram.proofs.Lacking.{Reads, Reads-diagram}
 use Rattle.mv_diagram.proofs.Restricting.{InRange-restricted, restriction_same, restriction_yes, restriction_no}
-use Rattle.mv_diagram.proofs.Tables.{Adds-more, table_held, table_holds, table_node}
-use Rattle.mv_diagram.proofs.Quantifying.{Answers, answers_joined, table_quantified}
+use Rattle.mv_diagram.proofs.Tables.{AddsNodes-more, table_held, table_holds, table_node}
+use Rattle.mv_diagram.proofs.Quantifying.{Answers, answers_joined, MadeOfBoth, adds_all, yes_in_all, no_in_all}
 
 module _ (counts : List ℕ) (are : AreCounts counts) (chosen : ℕ → Bool) (answer : Bool) where
   -- the same sets in other words
@@ -46,7 +46,7 @@ module _ (counts : List ℕ) (are : AreCounts counts) (chosen : ℕ → Bool) (a
     abbrev given : Point → Point
     given q v = if chosen v then q v else r.given v
 
-    outside : (q p : Point) → Agrees chosen (restricted counts no_variable r.given r.var r.below p) (restricted counts chosen (given q) r.var r.below p)
+    outside : (q p : Point) → AgreesOutside chosen (restricted counts no_variable r.given r.var r.below p) (restricted counts chosen (given q) r.var r.below p)
     outside q p = record {
       each = λ v out.
           sym (ap (λ b. if b || nat_lt v r.var then (if b then q v else r.given v) else (if v == r.var && nat_lt (p v) r.below then greatest counts v else p v)) out);
@@ -61,7 +61,7 @@ module _ (counts : List ℕ) (are : AreCounts counts) (chosen : ℕ → Bool) (a
     }
 
     -- a point that agrees is the restricted one
-    same_point : (q p : Point) → Agrees chosen (restricted counts no_variable r.given r.var r.below p) q → (v : ℕ) → restricted counts chosen (given q) r.var r.below p v ≡ q v
+    same_point : (q p : Point) → AgreesOutside chosen (restricted counts no_variable r.given r.var r.below p) q → (v : ℕ) → restricted counts chosen (given q) r.var r.below p v ≡ q v
     same_point q p agrees v = elim (cases_Bool (chosen v)) [
       | inl in' ↦ ap (λ b. if b || nat_lt v r.var then (if b then q v else r.given v) else (if v == r.var && nat_lt (p v) r.below then greatest counts v else p v)) in'
       | inr out ↦ sym ((outside q p).each v out) ∙ agrees.each v out
@@ -87,7 +87,7 @@ or_before (inl a) before = before a
 or_before (inr c) before = inr c
 
 -- what is added for the two children of a node, and what joins them, is combined of the set of its diagram
-module _ (chosen : ℕ → Bool) (answer : Bool) (old new : Table) (s : IsSound old.counts.items old.pool.places) (adds : Adds old new) (d : ℕ) (n : Node) (e : node_at old.pool.places d ≡ Some n) where
+module _ (chosen : ℕ → Bool) (answer : Bool) (old new : Table) (s : IsReduced old.counts.items old.pool.places) (adds : AddsNodes old new) (d : ℕ) (n : Node) (e : node_at old.pool.places d ≡ Some n) where
   abbrev whole : Point → Bool
   whole p = holds new.counts.items new.pool.places d p
 
@@ -101,14 +101,14 @@ module _ (chosen : ℕ → Bool) (answer : Bool) (old new : Table) (s : IsSound 
   test = (node_is new.counts.items new.pool.places adds.sound d n there).test
 
   -- what is combined stays so as nodes are added
-  combined_later : (mid : Table) → IsSound mid.counts.items mid.pool.places → Adds mid new → (c x : ℕ) → is_held mid.pool.places c ≡ true → is_held mid.pool.places x ≡ true
+  combined_later : (mid : Table) → IsReduced mid.counts.items mid.pool.places → AddsNodes mid new → (c x : ℕ) → is_held mid.pool.places c ≡ true → is_held mid.pool.places x ≡ true
       → IsCombined mid.counts.items chosen answer (λ p. holds mid.counts.items mid.pool.places c p) (λ p. holds mid.counts.items mid.pool.places x p)
       → IsCombined new.counts.items chosen answer (λ p. holds new.counts.items new.pool.places c p) (λ p. holds new.counts.items new.pool.places x p)
   combined_later mid sm more c x hc hx m = combined_same new.counts.items adds.sound.values chosen answer _ _ _ _
       (λ p range. sym (table_holds mid new sm more c p hc)) (λ p. sym (table_holds mid new sm more x p hx))
       (subst (λ v. IsCombined v chosen answer (λ p. holds mid.counts.items mid.pool.places c p) (λ p. holds mid.counts.items mid.pool.places x p)) (sym (ap (λ v. v.items) more.counts)) m)
 
-  pub added_yes : (base : List (Option Node)) (mid : Table) → Adds old mid → Adds mid new
+  pub added_yes : (base : List (Option Node)) (mid : Table) → AddsNodes old mid → AddsNodes mid new
       → AddsCombined mid.counts.items chosen answer base mid.pool.places (λ p. holds mid.counts.items mid.pool.places n.yes.0 p)
       → (x : ℕ) → is_held mid.pool.places x ≡ true → (is_held base x ≡ true) ⊎ IsCombined new.counts.items chosen answer whole (λ p. holds new.counts.items new.pool.places x p)
   added_yes base mid first more added x held = elim (added.each x held) [
@@ -118,7 +118,7 @@ module _ (chosen : ℕ → Bool) (answer : Bool) (old new : Table) (s : IsSound 
         (combined_later mid first.sound more n.yes.0 x (table_held old mid s first n.yes.0 (node_is old.counts.items old.pool.places s d n e).yes_held) held m)))
   ]
 
-  pub added_no : (base : List (Option Node)) (mid : Table) → Adds old mid → Adds mid new
+  pub added_no : (base : List (Option Node)) (mid : Table) → AddsNodes old mid → AddsNodes mid new
       → AddsCombined mid.counts.items chosen answer base mid.pool.places (λ p. holds mid.counts.items mid.pool.places n.no.0 p)
       → (x : ℕ) → is_held mid.pool.places x ≡ true → (is_held base x ≡ true) ⊎ IsCombined new.counts.items chosen answer whole (λ p. holds new.counts.items new.pool.places x p)
   added_no base mid first more added x held = elim (added.each x held) [
@@ -139,20 +139,19 @@ module _ (chosen : ℕ → Bool) (answer : Bool) (old new : Table) (s : IsSound 
   ]
 
 -- what is added in all
-pub added_all : (chosen : ℕ → Bool) (answer : Bool) (old one two new : Table) → IsSound old.counts.items old.pool.places → Adds old one → Adds one two → Adds two new
-    → (d : ℕ) (n : Node) → node_at old.pool.places d ≡ Some n → (joined : Bool) (y m : ℕ) → joined ≡ chosen n.test.var
-    → IsQuantified one.counts.items one.pool.places chosen answer n.yes.0 y → IsQuantified two.counts.items two.pool.places chosen answer n.no.0 m
+pub added_all : (chosen : ℕ → Bool) (answer : Bool) (old one two new : Table) (d : ℕ) (n : Node) (joined : Bool) (y m : ℕ) → MadeOfBoth chosen answer old one two new d n joined y m
     → AddsCombined one.counts.items chosen answer old.pool.places one.pool.places (λ p. holds one.counts.items one.pool.places n.yes.0 p)
     → AddsCombined two.counts.items chosen answer one.pool.places two.pool.places (λ p. holds two.counts.items two.pool.places n.no.0 p)
     → AddsParts new.counts.items two.pool.places new.pool.places (λ p. joined_set new.counts.items new.pool.places joined answer n.test y m p)
     → AddsCombined new.counts.items chosen answer old.pool.places new.pool.places (λ p. holds new.counts.items new.pool.places d p)
-added_all chosen answer old one two new s first second third d n e joined y m is iy im yes' no' last =
-    let both = Adds-more old one two first second in
-    let adds = Adds-more old two new both third in
+added_all chosen answer old one two new d n joined y m made yes' no' last =
+    let both = AddsNodes-more old one two made.first made.second in
+    let adds = adds_all chosen answer old one two new d n joined y m made in
+    let iy = yes_in_all chosen answer old one two new d n joined y m made in
+    let im = no_in_all chosen answer old one two new d n joined y m made in
     record {
       each = λ x held. or_before
-          (added_join chosen answer old new s adds d n e two.pool.places joined y m is
-          (table_quantified one new first.sound (Adds-more one two new second third) chosen answer n.yes.0 y iy) (table_quantified two new second.sound third chosen answer n.no.0 m im) last x held)
-          (λ in-two. or_before (added_no chosen answer old new s adds d n e one.pool.places two both third no' x in-two)
-          (added_yes chosen answer old new s adds d n e old.pool.places one first (Adds-more one two new second third) yes' x));
+          (added_join chosen answer old new made.sound adds d n made.node two.pool.places joined y m made.chosen iy im last x held)
+          (λ in-two. or_before (added_no chosen answer old new made.sound adds d n made.node one.pool.places two both made.third no' x in-two)
+          (added_yes chosen answer old new made.sound adds d n made.node old.pool.places one made.first (AddsNodes-more one two new made.second made.third) yes' x));
     }

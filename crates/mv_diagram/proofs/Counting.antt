@@ -4,8 +4,7 @@ use Rattle.std.proofs.lemmas.Bool.{and_parts, ltb-true, leb-true}
 use Rattle.mv_base.specs.declared.limits.TheConstants.{MAX_VALUES}
 use Rattle.mv_base.specs.declared.number.Value.{Value}
 use Rattle.mv_diagram.specs.Sound.{AreCounts}
-use Rattle.mv_diagram.specs.Diagrams.{Contents, IsHeld, IsPoint, Keeps, point_of}
-use Rattle.mv_diagram.specs.declared.node.Dd.{Dd}
+use Rattle.mv_diagram.specs.Diagrams.{IsPoint, point_of}
 use Rattle.std.specs.List.{All, list_all, slice_index}
 use Rattle.std.proofs.lemmas.List.Elements.{All-weaker}
 use Rattle.std.proofs.lemmas.List.Sums.{AllPass-from_list_all}
@@ -53,7 +52,3 @@ point_tested counts values h = record { long = long counts values h; range = rec
 -- each is a variable
 pub vars_tested : (counts vars : List ℕ) → list_all (λ v. nat_lt v (length counts)) vars ≡ true → All (λ v. v < length counts) vars
 vars_tested counts vars h = All-weaker _ (λ v. v < length counts) (λ v less. ltb-true v (length counts) less) vars (AllPass-from_list_all (λ v. nat_lt v (length counts)) vars h)
-
--- what was held at a mark is held after a release
-pub still_held : (old mid new : Contents) (mark : ℕ) (d : Dd) → Keeps old mid → ((d : Dd) → IsHeld old d → d.0 < mark + 2) → ((d : Dd) → IsHeld mid d → d.0 < mark + 2 → IsHeld new d) → IsHeld old d → IsHeld new d
-still_held old mid new mark d keeps earlier kept held = kept d (keeps.held d held) (earlier d held)

@@ -4,15 +4,15 @@ use Rattle.mv_base.specs.declared.limits.TheConstants.{MAX_VALUES}
 use Rattle.mv_diagram.specs.declared.node.Node.{Node}
 use Rattle.mv_diagram.specs.declared.node.Test.{Test}
 use Rattle.mv_diagram.specs.Sets.{node_at}
-use Rattle.mv_diagram.specs.Sound.{order, IsTest, IsSound}
-use Rattle.mv_diagram.specs.First.{IsEarlier, IsFirst}
+use Rattle.mv_diagram.specs.Sound.{order, IsTest, IsReduced}
+use Rattle.mv_diagram.specs.First.{IsEarlier, IsFirstTest}
 use Rattle.mv_diagram.proofs.Following.{node_is, first-node, first-end, order-lt}
 
-module _ (counts : List ℕ) (ns : List (Option Node)) (s : IsSound counts ns) where
+module _ (counts : List ℕ) (ns : List (Option Node)) (s : IsReduced counts ns) where
   pub value_small : (d : ℕ) (n : Node) → node_at ns d ≡ Some n → n.test.value < MAX_VALUES
   value_small d n e = let is = (node_is counts ns s d n e).test in let low = is.value in let few = s.values.few n.test.var is.variable in omega arith
 
-  pub first_both : (a b : ℕ) (n m : Node) (t : Test) → node_at ns a ≡ Some n → node_at ns b ≡ Some m → IsEarlier n.test m.test t → IsFirst counts ns a b t
+  pub first_both : (a b : ℕ) (n m : Node) (t : Test) → node_at ns a ≡ Some n → node_at ns b ≡ Some m → IsEarlier n.test m.test t → IsFirstTest counts ns a b t
   first_both a b n m t ea eb is =
       let there = first-node counts ns a n ea in
       let here = first-node counts ns b m eb in
@@ -29,14 +29,14 @@ module _ (counts : List ℕ) (ns : List (Option Node)) (s : IsSound counts ns) w
         ];
       }
 
-  pub first_left : (a b : ℕ) (n : Node) → node_at ns a ≡ Some n → node_at ns b ≡ None → IsFirst counts ns a b n.test
+  pub first_left : (a b : ℕ) (n : Node) → node_at ns a ≡ Some n → node_at ns b ≡ None → IsFirstTest counts ns a b n.test
   first_left a b n ea eb =
       let there = first-node counts ns a n ea in
       let end = first-end counts ns b eb in
       let before = order-lt counts ns s n.test (node_is counts ns s a n ea).test in
       record { test = (node_is counts ns s a n ea).test; left = omega arith; right = omega arith; one = inl (sym there) }
 
-  pub first_right : (a b : ℕ) (m : Node) → node_at ns a ≡ None → node_at ns b ≡ Some m → IsFirst counts ns a b m.test
+  pub first_right : (a b : ℕ) (m : Node) → node_at ns a ≡ None → node_at ns b ≡ Some m → IsFirstTest counts ns a b m.test
   first_right a b m ea eb =
       let here = first-node counts ns b m eb in
       let end = first-end counts ns a ea in

@@ -9,7 +9,7 @@ use Rattle.mv_diagram.specs.declared.node.Node.{Node}
 use Rattle.mv_diagram.specs.declared.node.Test.{Test}
 use Rattle.mv_pool.specs.declared.pool.Id.{Id}
 use Rattle.mv_diagram.specs.Sets.{Point, node_at, holds, holds_within}
-use Rattle.mv_diagram.specs.Sound.{order, first, IsTest, IsNode, IsSound}
+use Rattle.mv_diagram.specs.Sound.{order, first, IsTest, IsNode, IsReduced}
 
 -- how many steps are enough for all tests
 abbrev pub steps : List ℕ → ℕ
@@ -50,7 +50,7 @@ module _ (counts : List ℕ) (ns : List (Option Node)) where
       by false t = absurd (none-some n (sym (at false t) ∙ e))
       by true t = (d - 2, sym (at true t) ∙ e, grind (arith, nat_tests, t))
 
-  module _ (s : IsSound counts ns) where
+  module _ (s : IsReduced counts ns) where
     pub node_is : (d : ℕ) (n : Node) → node_at ns d ≡ Some n → IsNode counts ns n
     node_is d n e = let placed = node_placed d n e in s.nodes placed.0 n placed.1
 
@@ -107,7 +107,7 @@ module _ (counts : List ℕ) (ns : List (Option Node)) where
   unfolding holds
   holds_end d p e = within-end (steps counts) d p e
 
-  module _ (s : IsSound counts ns) (p q : Point) where
+  module _ (s : IsReduced counts ns) (p q : Point) where
     -- points that answer the tests of a diagram alike are both in its set or both not
     same_points : (k d from : ℕ) → steps counts ≤ first counts ns d + k → from ≤ first counts ns d → Agree counts from p q → holds counts ns d p ≡ holds counts ns d q
     same_points zero d from enough later agree = let e = ended s d (omega arith) in holds_end d p e ∙ sym (holds_end d q e)

@@ -12,7 +12,7 @@ use Rattle.mv_pool.proofs.Placing.{item_at-with, item_at-with_other, free_there,
 use Rattle.mv_diagram.specs.declared.node.Node.{Node}
 use Rattle.mv_diagram.specs.Links.{place_of}
 use Rattle.mv_diagram.specs.Sets.{Point, with_value, greatest, node_at, is_held, holds, holds_within}
-use Rattle.mv_diagram.specs.Sound.{order, first, IsNode, IsSound, Ascends}
+use Rattle.mv_diagram.specs.Sound.{order, first, IsNode, IsReduced, Ascends}
 use Rattle.mv_diagram.specs.Works.{Grows, IsAbsent}
 use Rattle.mv_diagram.proofs.Following.{if_same, node_is, within-node, within-end, node_placed}
 use Rattle.mv_diagram.proofs.Canonical.{ends}
@@ -36,7 +36,7 @@ pub record IsClosed (ns : List (Option Node)) : Type 0 where
   pub yes : (d : ℕ) (n : Node) → node_at ns d ≡ Some n → is_held ns n.yes.0 ≡ true
   pub no : (d : ℕ) (n : Node) → node_at ns d ≡ Some n → is_held ns n.no.0 ≡ true
 
-closed_sound : (counts : List ℕ) (ns : List (Option Node)) → IsSound counts ns → IsClosed ns
+closed_sound : (counts : List ℕ) (ns : List (Option Node)) → IsReduced counts ns → IsClosed ns
 closed_sound counts ns s = record { yes = λ d n e. (node_is counts ns s d n e).yes_held; no = λ d n e. (node_is counts ns s d n e).no_held }
 
 module _ (counts : List ℕ) (old new : List (Option Node)) (g : Grows old new) where
@@ -70,7 +70,7 @@ module _ (counts : List ℕ) (old new : List (Option Node)) (g : Grows old new) 
     unfolding holds
     set_stays d p held = within_stays (length counts * MAX_VALUES) d p held
 
-  module _ (s : IsSound counts old) where
+  module _ (s : IsReduced counts old) where
     pub holds_stays : (d : ℕ) (p : Point) → is_held old d ≡ true → holds counts new d p ≡ holds counts old d p
     holds_stays d p held = set_stays (closed_sound counts old s) d p held
 
@@ -101,7 +101,7 @@ longer_with (Some m ∷ ns) n = let rest = longer_with ns n in omega arith
 pub Grows-with : (ns : List (Option Node)) (n : Node) → Grows ns (with_item ns n)
 Grows-with ns n = record { keeps = λ place m e. item_at-with_other ns n place (λ same. none-some m (sym (free_there ns) ∙ ap (item_at ns) (sym same) ∙ e)) ∙ e }
 
-module _ (counts : List ℕ) (ns : List (Option Node)) (n : Node) (s : IsSound counts ns) (is : IsNode counts ns n) (fresh : IsAbsent ns n) where
+module _ (counts : List ℕ) (ns : List (Option Node)) (n : Node) (s : IsReduced counts ns) (is : IsNode counts ns n) (fresh : IsAbsent ns n) where
   pub each_with : (place : ℕ) (m : Node) → item_at (with_item ns n) place ≡ Some m → ((place ≡ least_free ns) × (n ≡ m)) ⊎ (item_at ns place ≡ Some m)
   each_with place m e = elim (cases_eq place (least_free ns)) [
     | inl same ↦ inl (same, same_Some n m (sym (item_at-with ns n) ∙ ap (item_at (with_item ns n)) (sym same) ∙ e))
@@ -109,8 +109,8 @@ module _ (counts : List ℕ) (ns : List (Option Node)) (n : Node) (s : IsSound c
   ]
 
   -- a new node that is right
-  pub IsSound-with : IsSound counts (with_item ns n)
-  IsSound-with = record { values = s.values; nodes = nodes; distinct = distinct }
+  pub IsReduced-with : IsReduced counts (with_item ns n)
+  IsReduced-with = record { values = s.values; nodes = nodes; distinct = distinct }
     where
       nodes : (place : ℕ) (m : Node) → item_at (with_item ns n) place ≡ Some m → IsNode counts (with_item ns n) m
       nodes place m e = elim (each_with place m e) [
@@ -135,7 +135,7 @@ pub record Fewer (ns fewer : List (Option Node)) : Type 0 where
   pub grows : Grows fewer ns
   pub closed : (place : ℕ) (n : Node) → item_at fewer place ≡ Some n → (is_held fewer n.yes.0 ≡ true) × (is_held fewer n.no.0 ≡ true)
 
-module _ (counts : List ℕ) (ns fewer : List (Option Node)) (s : IsSound counts ns) (f : Fewer ns fewer) where
+module _ (counts : List ℕ) (ns fewer : List (Option Node)) (s : IsReduced counts ns) (f : Fewer ns fewer) where
   closed_fewer : IsClosed fewer
   closed_fewer = record {
     yes = λ d n e. let at = node_placed counts fewer d n e in (f.closed at.0 n at.1).0;
@@ -147,8 +147,8 @@ module _ (counts : List ℕ) (ns fewer : List (Option Node)) (s : IsSound counts
   set_fewer d p held = sym (set_stays counts fewer ns f.grows closed_fewer d p held)
 
   -- they are sound
-  pub IsSound-fewer : IsSound counts fewer
-  IsSound-fewer = record {
+  pub IsReduced-fewer : IsReduced counts fewer
+  IsReduced-fewer = record {
     values = s.values;
     nodes = nodes;
     distinct = λ i j n e g. s.distinct i j n (f.grows.keeps i n e) (f.grows.keeps j n g);

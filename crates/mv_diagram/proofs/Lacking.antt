@@ -5,7 +5,7 @@ use Rattle.mv_base.specs.declared.limits.TheConstants.{MAX_VALUES}
 use Rattle.mv_diagram.specs.declared.node.Node.{Node}
 use Rattle.mv_diagram.specs.declared.node.Test.{Test}
 use Rattle.mv_diagram.specs.Sets.{Point, SameSet, with_value, greatest, node_at, is_held, holds}
-use Rattle.mv_diagram.specs.Sound.{order, first, IsTest, IsSound}
+use Rattle.mv_diagram.specs.Sound.{order, first, IsTest, IsReduced}
 use Rattle.mv_diagram.specs.Works.{IsLacking}
 use Rattle.mv_diagram.proofs.Following.{Agree, holds_agree, holds_end, steps, node_is, first-node, first-end, no-later, ended}
 use Rattle.mv_diagram.proofs.Points.{beside, Agree-both, InRange-with, InRange-beside, greatest_lt, holds_both, holds_beside, holds_yes, holds_no_beside, holds_later, rest_next, rest_later}
@@ -18,7 +18,7 @@ pub record Reads (counts : List ℕ) (from : ℕ) (set : Point → Bool) : Type 
 pub Agree-more : (counts : List ℕ) (from more : ℕ) (p q : Point) → from ≤ more → Agree counts from p q → Agree counts more p q
 Agree-more counts from more p q less agree = record { each = λ t is later. agree.each t is (omega arith) }
 
-module _ (counts : List ℕ) (ns : List (Option Node)) (s : IsSound counts ns) where
+module _ (counts : List ℕ) (ns : List (Option Node)) (s : IsReduced counts ns) where
   pub Reads-diagram : (d from : ℕ) → from ≤ first counts ns d → Reads counts from (λ p. holds counts ns d p)
   Reads-diagram d from later = record { each = λ p q agree. holds_agree counts ns s p q d from later agree }
 

@@ -6,7 +6,7 @@ use Rattle.mv_base.specs.Set.{has}
 use Rattle.mv_diagram.specs.declared.node.Node.{Node}
 use Rattle.mv_diagram.specs.declared.node.Test.{Test}
 use Rattle.mv_diagram.specs.Sets.{Point, greatest, is_held, holds}
-use Rattle.mv_diagram.specs.Sound.{order, first, IsTest, IsSound}
+use Rattle.mv_diagram.specs.Sound.{order, first, IsTest, IsReduced}
 use Rattle.mv_diagram.specs.Works.{IsLacking}
 use Rattle.mv_diagram.proofs.Following.{Agree, first-end, holds_end}
 use Rattle.mv_diagram.proofs.Points.{beside, beside_there, beside_elsewhere, value_there}
@@ -81,7 +81,7 @@ literal_last counts var set low p e = ap (has set) (elim (cases_lt (p var) low) 
   | inr more ↦ e ∙ sym (seen_past (slice_index counts var) low (p var) (omega arith))
 ])
 
-module _ (counts : List ℕ) (ns : List (Option Node)) (s : IsSound counts ns) (var set : ℕ) (variable : var < length counts) where
+module _ (counts : List ℕ) (ns : List (Option Node)) (s : IsReduced counts ns) (var set : ℕ) (variable : var < length counts) where
   -- a test more
   pub literal_step : (low : ℕ) (p : Point) (y n : Bool) → low + 1 < slice_index counts var → y ≡ has set low → n ≡ literal_from counts var set (low + 1) p
       → (if p var == low then y else n) ≡ literal_from counts var set low p

@@ -7,7 +7,7 @@ use Rattle.std.proofs.lemmas.List.{get_or-set_same, get_or-set_other}
 use Rattle.mv_base.specs.declared.number.Value.{Value}
 use Rattle.mv_diagram.specs.declared.node.Node.{Node}
 use Rattle.mv_diagram.specs.Sets.{Point, with_value, greatest, node_at, holds}
-use Rattle.mv_diagram.specs.Sound.{IsSound}
+use Rattle.mv_diagram.specs.Sound.{IsReduced}
 use Rattle.mv_diagram.specs.Diagrams.{point_of}
 use Rattle.mv_diagram.proofs.Following.{Agree-equal, holds_agree, holds_end, holds_node, node_is}
 use Rattle.mv_diagram.proofs.Points.{value_there, value_elsewhere, holds_yes, holds_no, holds_past, rest_next}
@@ -32,7 +32,7 @@ pub on_true : (r : Bool) (P Q : Type 0) → OnTrue r P → OnFalse r Q → (Q �
 on_true true P Q p q never = p
 on_true false P Q p q never = absurd (never q)
 
-module _ (counts : List ℕ) (ns : List (Option Node)) (s : IsSound counts ns) where
+module _ (counts : List ℕ) (ns : List (Option Node)) (s : IsReduced counts ns) where
   -- zero and one by their answer
   pub end_some : (d : ℕ) (p : Point) (r : Bool) → node_at ns d ≡ None → r ≡ (d == 1) → OnTrue r (holds counts ns d p ≡ true)
   end_some d p true none is = holds_end counts ns d p none ∙ sym is

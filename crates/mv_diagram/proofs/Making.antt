@@ -13,15 +13,15 @@ use Rattle.mv_diagram.specs.declared.node.Node.{Node}
 use Rattle.mv_diagram.specs.declared.node.Test.{Test}
 use Rattle.mv_diagram.specs.Links.{place_of}
 use Rattle.mv_diagram.specs.Sets.{Point, SameSet, with_value, greatest, node_at, is_held, holds}
-use Rattle.mv_diagram.specs.Sound.{order, first, IsTest, IsNode, IsSound, Ascends}
+use Rattle.mv_diagram.specs.Sound.{order, first, IsTest, IsNode, IsReduced, Ascends}
 use Rattle.mv_diagram.specs.Works.{Grows, IsLacking, IsAbsent, HasPut}
 use Rattle.mv_diagram.proofs.Following.{if_same, holds_node, node_is, node_placed}
 use Rattle.mv_diagram.proofs.Points.{beside, InRange-with, InRange-beside, greatest_lt, holds_both, holds_beside, holds_yes, holds_no_beside, holds_later, value_there, value-lt_greatest, beside_fails}
 use Rattle.mv_diagram.proofs.Canonical.{same_number, node_is_made, test_here}
-use Rattle.mv_diagram.proofs.Growing.{Grows-same, Grows-with, longer_with, IsSound-with, Ascends-with, holds_stays}
+use Rattle.mv_diagram.proofs.Growing.{Grows-same, Grows-with, longer_with, IsReduced-with, Ascends-with, holds_stays}
 use Rattle.mv_diagram.proofs.Lacking.{Reads, Reads-diagram, first_reads}
 
-module _ (counts : List ℕ) (ns : List (Option Node)) (s : IsSound counts ns) (n : Node) (q : Dd) (test : IsTest counts n.test)
+module _ (counts : List ℕ) (ns : List (Option Node)) (s : IsReduced counts ns) (n : Node) (q : Dd) (test : IsTest counts n.test)
     (yes_held : is_held ns n.yes.0 ≡ true) (no_held : is_held ns n.no.0 ≡ true)
     (yes_later : order (n.test.var + 1) 0 ≤ first counts ns n.yes.0) (no_later : order n.test.var n.test.value < first counts ns n.no.0)
     (q_held : is_held ns q.0 ≡ true) (rest : (p : Point) → holds counts ns q.0 p ≡ holds counts ns n.no.0 (with_value p n.test.var (greatest counts n.test.var)))
@@ -119,12 +119,12 @@ module _ (counts : List ℕ) (ns : List (Option Node)) (s : IsSound counts ns) (
   pub lacking_made : IsAbsent ns n → IsLacking counts ns set
   lacking_made absent = record { none = λ d held same. let at = node_placed counts ns d n (is_made d held same) in absent.nowhere at.0 at.1 }
 
-module _ (counts : List ℕ) (old new : Contents Node) (n : Node) (d : ℕ) (s : IsSound counts old.places) (is : IsNode counts old.places n) (put : HasPut old new n d) where
+module _ (counts : List ℕ) (old new : Contents Node) (n : Node) (d : ℕ) (s : IsReduced counts old.places) (is : IsNode counts old.places n) (put : HasPut old new n d) where
   -- the nodes with this one are sound
-  pub put_adds : Grows old.places new.places × IsSound counts new.places
+  pub put_adds : Grows old.places new.places × IsReduced counts new.places
   put_adds = elim put.change [
     | inl same ↦ (rw same (Grows-same old.places), rw same s)
-    | inr added ↦ (rw added.0 (Grows-with old.places n), rw added.0 (IsSound-with counts old.places n s is added.1))
+    | inr added ↦ (rw added.0 (Grows-with old.places n), rw added.0 (IsReduced-with counts old.places n s is added.1))
   ]
 
   pub put_ascends : Ascends old.places → Ascends new.places

@@ -4,7 +4,7 @@ use Rattle.std.proofs.lemmas.Bool.{cases_eq, cases_order, eq-eqb, ne_eqb}
 use Rattle.mv_diagram.specs.declared.node.Node.{Node}
 use Rattle.mv_diagram.specs.declared.node.Test.{Test}
 use Rattle.mv_diagram.specs.Sets.{Point, InRange, with_value, greatest, node_at, is_held, holds}
-use Rattle.mv_diagram.specs.Sound.{order, first, IsTest, IsSound}
+use Rattle.mv_diagram.specs.Sound.{order, first, IsTest, IsReduced}
 use Rattle.mv_diagram.specs.First.{IsSplit}
 use Rattle.mv_diagram.proofs.Following.{Agree, holds_agree, holds_node, node_is, first-node, first-end, order-lt}
 
@@ -49,7 +49,7 @@ module _ (counts : List ℕ) (t : Test) (is : IsTest counts t) where
     | inr other ↦ rw (beside_elsewhere counts t p other) range
   ]
 
-module _ (counts : List ℕ) (ns : List (Option Node)) (s : IsSound counts ns) where
+module _ (counts : List ℕ) (ns : List (Option Node)) (s : IsReduced counts ns) where
   -- later tests don't see the variable
   pub Agree-later : (p : Point) (var value : ℕ) → Agree counts (order (var + 1) 0) (with_value p var value) p
   Agree-later p var value = record {

@@ -9,14 +9,14 @@ use Rattle.mv_diagram.specs.declared.memo.Key.{Key}
 use Rattle.mv_diagram.specs.declared.memo.Operation.{Operation}
 use Rattle.mv_diagram.specs.declared.table.Table.{Table}
 use Rattle.mv_diagram.specs.Sets.{Point, InRange, with_value, greatest, node_at, holds, is_held}
-use Rattle.mv_diagram.specs.Sound.{order, first, IsTest, IsSound}
-use Rattle.mv_diagram.specs.Works.{Adds}
+use Rattle.mv_diagram.specs.Sound.{order, first, IsTest, IsReduced}
+use Rattle.mv_diagram.specs.Works.{AddsNodes}
 use Rattle.mv_diagram.specs.Results.{IsResult, IsKept, result_of}
-use Rattle.mv_diagram.specs.Quantified.{Agrees, Agreeing, IsQuantified, Quantifies, IsJoined, joined_set, joining}
+use Rattle.mv_diagram.specs.Quantified.{AgreesOutside, Agreeing, IsQuantified, Quantifies, IsJoined, joined_set, joining}
 use Rattle.mv_diagram.proofs.Following.{if_same, node_is, holds_end, first-node}
 use Rattle.mv_diagram.proofs.Points.{beside, beside_there, beside_elsewhere, InRange-with, InRange-beside, value_elsewhere, holds_yes, holds_no_beside}
 use Rattle.mv_diagram.proofs.Looking.{step_yes, step_no}
-use Rattle.mv_diagram.proofs.Tables.{Adds-more, table_held, table_first, table_holds, table_node}
+use Rattle.mv_diagram.proofs.Tables.{AddsNodes-more, table_held, table_first, table_holds, table_node}
 
 -- the joining operation has the answer where one side has it
 one_answers : (answer x y : Bool) → result_of (joining answer) x y ≡ answer → (x ≡ answer) ⊎ (y ≡ answer)
@@ -38,10 +38,10 @@ right_answers false false y e = refl
 right_answers false true y e = e
 
 -- another value of a chosen variable, or the greatest beside a test of it
-agrees_with : (vars : ℕ → Bool) (p q : Point) (var value : ℕ) → vars var ≡ true → Agrees vars p q → Agrees vars p (with_value q var value)
+agrees_with : (vars : ℕ → Bool) (p q : Point) (var value : ℕ) → vars var ≡ true → AgreesOutside vars p q → AgreesOutside vars p (with_value q var value)
 agrees_with vars p q var value chosen agrees = record { each = λ v out. agrees.each v out ∙ sym (value_elsewhere q var value v (λ same. true≢false (sym chosen ∙ ap vars (sym same) ∙ out))) }
 
-agrees_beside : (counts : List ℕ) (vars : ℕ → Bool) (p q : Point) (t : Test) → vars t.var ≡ true → Agrees vars p q → Agrees vars p (beside counts t q)
+agrees_beside : (counts : List ℕ) (vars : ℕ → Bool) (p q : Point) (t : Test) → vars t.var ≡ true → AgreesOutside vars p q → AgreesOutside vars p (beside counts t q)
 agrees_beside counts vars p q t chosen agrees = elim (cases_eq (q t.var) t.value) [
   | inl same ↦ rw (beside_there counts t q same) (agrees_with vars p q t.var (greatest counts t.var) chosen agrees)
   | inr other ↦ rw (beside_elsewhere counts t q other) agrees
@@ -50,9 +50,9 @@ agrees_beside counts vars p q t chosen agrees = elim (cases_eq (q t.var) t.value
 -- a set has the answer exactly where another has it at some point that agrees
 pub record Answers (counts : List ℕ) (vars : ℕ → Bool) (answer : Bool) (whole set : Point → Bool) : Type 0 where
   pub some : (p : Point) → InRange counts p → set p ≡ answer → Agreeing counts vars whole answer p
-  pub all : (p q : Point) → InRange counts q → Agrees vars p q → whole q ≡ answer → set p ≡ answer
+  pub all : (p q : Point) → InRange counts q → AgreesOutside vars p q → whole q ≡ answer → set p ≡ answer
 
-module _ (counts : List ℕ) (ns : List (Option Node)) (s : IsSound counts ns) (vars : ℕ → Bool) (answer : Bool) where
+module _ (counts : List ℕ) (ns : List (Option Node)) (s : IsReduced counts ns) (vars : ℕ → Bool) (answer : Bool) where
   -- a diagram without tests
   pub quantified_end : (d : ℕ) → is_held ns d ≡ true → node_at ns d ≡ None → IsQuantified counts ns vars answer d d
   quantified_end d held e = record {
@@ -109,7 +109,7 @@ module _ (counts : List ℕ) (ns : List (Option Node)) (s : IsSound counts ns) (
       }
     ]
 
-    all : (b : Bool) → joined ≡ b → (p q : Point) → InRange counts q → Agrees vars p q → holds counts ns d q ≡ answer → set p ≡ answer
+    all : (b : Bool) → joined ≡ b → (p q : Point) → InRange counts q → AgreesOutside vars p q → holds counts ns d q ≡ answer → set p ≡ answer
     all true j p q range agrees is = by_joined true j p ∙ elim (cases_eq (q n.test.var) n.test.value) [
       | inl at ↦ left_answers answer _ _ (iy.all p q range agrees (sym (step_yes counts ns s d n q e at) ∙ is))
       | inr apart ↦ right_answers answer _ _ (im.all p q range agrees (sym (step_no counts ns s d n q e apart) ∙ is))
@@ -133,7 +133,7 @@ module _ (counts : List ℕ) (ns : List (Option Node)) (s : IsSound counts ns) (
     all = is.all;
   }
 
-module _ (old new : Table) (s : IsSound old.counts.items old.pool.places) (adds : Adds old new) (vars : ℕ → Bool) (answer : Bool) where
+module _ (old new : Table) (s : IsReduced old.counts.items old.pool.places) (adds : AddsNodes old new) (vars : ℕ → Bool) (answer : Bool) where
   same_counts : new.counts.items ≡ old.counts.items
   same_counts = ap (λ v. v.items) adds.counts
 
@@ -151,15 +151,33 @@ module _ (old new : Table) (s : IsSound old.counts.items old.pool.places) (adds 
   pub table_quantifies : (entries : List (Key × Dd)) → Quantifies old.counts.items old.pool.places vars answer entries → Quantifies new.counts.items new.pool.places vars answer entries
   table_quantifies entries are = record { each = λ k d there. table_quantified k.left.0 d.0 (are.each k d there) }
 
--- what is joined of the results for the two children of a node, each in the table that it left
-pub quantified_all : (vars : ℕ → Bool) (answer : Bool) (old one two new : Table) → IsSound old.counts.items old.pool.places → Adds old one → Adds one two → Adds two new
-    → (d r y m : ℕ) (n : Node) (joined : Bool) → node_at old.pool.places d ≡ Some n → is_held old.pool.places d ≡ true → joined ≡ vars n.test.var
-    → IsQuantified one.counts.items one.pool.places vars answer n.yes.0 y → IsQuantified two.counts.items two.pool.places vars answer n.no.0 m
-    → IsJoined new.counts.items new.pool.places joined answer n.test y m r → IsQuantified new.counts.items new.pool.places vars answer d r
-quantified_all vars answer old one two new s first second third d r y m n joined e held chosen iy im ij =
-    let adds = Adds-more old two new (Adds-more old one two first second) third in
-    quantified_node new.counts.items new.pool.places adds.sound vars answer d r y m n joined (table_node old new adds d n e) (table_held old new s adds d held) chosen
-    (table_quantified one new first.sound (Adds-more one two new second third) vars answer n.yes.0 y iy) (table_quantified two new second.sound third vars answer n.no.0 m im) ij
+-- what was made of the two children of a node, each in the table that its call left, before the table that has both joined
+pub record MadeOfBoth (vars : ℕ → Bool) (answer : Bool) (old one two new : Table) (d : ℕ) (n : Node) (joined : Bool) (y m : ℕ) : Type 0 where
+  pub sound : IsReduced old.counts.items old.pool.places
+  pub first : AddsNodes old one
+  pub second : AddsNodes one two
+  pub third : AddsNodes two new
+  pub node : node_at old.pool.places d ≡ Some n
+  pub chosen : joined ≡ vars n.test.var
+  pub yes : IsQuantified one.counts.items one.pool.places vars answer n.yes.0 y
+  pub no : IsQuantified two.counts.items two.pool.places vars answer n.no.0 m
+
+module _ (vars : ℕ → Bool) (answer : Bool) (old one two new : Table) (d : ℕ) (n : Node) (joined : Bool) (y m : ℕ) (made : MadeOfBoth vars answer old one two new d n joined y m) where
+  pub adds_all : AddsNodes old new
+  adds_all = AddsNodes-more old two new (AddsNodes-more old one two made.first made.second) made.third
+
+  -- the two in the last table
+  pub yes_in_all : IsQuantified new.counts.items new.pool.places vars answer n.yes.0 y
+  yes_in_all = table_quantified one new made.first.sound (AddsNodes-more one two new made.second made.third) vars answer n.yes.0 y made.yes
+
+  pub no_in_all : IsQuantified new.counts.items new.pool.places vars answer n.no.0 m
+  no_in_all = table_quantified two new made.second.sound made.third vars answer n.no.0 m made.no
+
+  -- what is joined of them
+  pub quantified_all : (r : ℕ) → is_held old.pool.places d ≡ true → IsJoined new.counts.items new.pool.places joined answer n.test y m r → IsQuantified new.counts.items new.pool.places vars answer d r
+  quantified_all r held ij =
+      quantified_node new.counts.items new.pool.places adds_all.sound vars answer d r y m n joined (table_node old new adds_all d n made.node) (table_held old new made.sound adds_all d held) made.chosen
+      yes_in_all no_in_all ij
 
 -- with one result more what is remembered is right
 pub quantifies_more : (counts : List ℕ) (ns : List (Option Node)) (vars : ℕ → Bool) (answer : Bool) (old new : List (Key × Dd)) (key : Key) (d : Dd) → Quantifies counts ns vars answer old → IsKept old new key d → IsQuantified counts ns vars answer key.left.0 d.0 → Quantifies counts ns vars answer new
@@ -177,7 +195,7 @@ set_operation counts ns joined answer operation t y n j o p =
     ap (λ o. result_of o (holds counts ns y p) (holds counts ns n p)) o ∙ ap (λ b. joined_set counts ns b answer t y n p) (sym j)
 
 -- the set that the test makes
-pub set_test : (old new : Table) → IsSound old.counts.items old.pool.places → Adds old new → (joined answer : Bool) (t : Test) (y n : ℕ) → joined ≡ false → is_held old.pool.places y ≡ true → is_held old.pool.places n ≡ true
+pub set_test : (old new : Table) → IsReduced old.counts.items old.pool.places → AddsNodes old new → (joined answer : Bool) (t : Test) (y n : ℕ) → joined ≡ false → is_held old.pool.places y ≡ true → is_held old.pool.places n ≡ true
     → (p : Point) → (if p t.var == t.value then holds old.counts.items old.pool.places y p else holds old.counts.items old.pool.places n p) ≡ joined_set new.counts.items new.pool.places joined answer t y n p
 set_test old new s adds joined answer t y n j hy hn p =
     sym (if_same _ _ _ _ _ _ refl (table_holds old new s adds y p hy) (table_holds old new s adds n p hn)) ∙ ap (λ b. joined_set new.counts.items new.pool.places b answer t y n p) (sym j)
@@ -193,7 +211,7 @@ joined_result counts ns joined answer operation t y n (Ok d) j o ly ln is = reco
 }
 
 -- what is made by the test
-pub joined_test : (old new : Table) → IsSound old.counts.items old.pool.places → Adds old new → (joined answer : Bool) (t : Test) (y n : ℕ) (r : Result Dd Nodes) → joined ≡ false → is_held old.pool.places y ≡ true → is_held old.pool.places n ≡ true
+pub joined_test : (old new : Table) → IsReduced old.counts.items old.pool.places → AddsNodes old new → (joined answer : Bool) (t : Test) (y n : ℕ) (r : Result Dd Nodes) → joined ≡ false → is_held old.pool.places y ≡ true → is_held old.pool.places n ≡ true
     → IfOk r (λ d. is_held new.pool.places d.0 ≡ true) → IfOk r (λ d. order t.var t.value ≤ first new.counts.items new.pool.places d.0)
     → IfOk r (λ d. (p : Point) → holds new.counts.items new.pool.places d.0 p ≡ (if p t.var == t.value then holds old.counts.items old.pool.places y p else holds old.counts.items old.pool.places n p))
     → IfOk r (λ d. IsJoined new.counts.items new.pool.places joined answer t y n d.0)

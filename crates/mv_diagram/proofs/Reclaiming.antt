@@ -13,7 +13,7 @@ use Rattle.mv_diagram.specs.declared.node.Dd.{Dd}
 use Rattle.mv_diagram.specs.declared.node.Node.{Node}
 use Rattle.mv_diagram.specs.Links.{place_of}
 use Rattle.mv_diagram.specs.Sets.{node_at, is_held}
-use Rattle.mv_diagram.specs.Sound.{Ascends, IsSound}
+use Rattle.mv_diagram.specs.Sound.{Ascends, IsReduced}
 use Rattle.mv_diagram.specs.Works.{Grows}
 use Rattle.mv_diagram.specs.Roots.{AreGathered}
 use Rattle.mv_diagram.specs.Diagrams.{Reaches}
@@ -68,7 +68,7 @@ item_some ns place h = by (item_at ns place) refl h
     by None e some = absurd (true≢false (sym some ∙ ap is_some e))
     by (Some n) e some = (n, e)
 
-module _ (counts : List ℕ) (ns : List (Option Node)) (s : IsSound counts ns) (up : Ascends ns) (m : ℕ) where
+module _ (counts : List ℕ) (ns : List (Option Node)) (s : IsReduced counts ns) (up : Ascends ns) (m : ℕ) where
   before : (place : ℕ) (n : Node) → item_at (take m ns) place ≡ Some n → place < m
   before place n e = elim (cases_lt place m) [ inl less ↦ less | inr more ↦ absurd (none-some n (sym (item_at-take_past ns m place more) ∙ e)) ]
 
@@ -103,7 +103,7 @@ module _ (counts : List ℕ) (ns : List (Option Node)) (s : IsSound counts ns) (
 abbrev pub link_of : Node → ℕ → Option Id
 link_of n k = place_of (if k == 0 then n.yes.0 else n.no.0)
 
-module _ (counts : List ℕ) (ns : List (Option Node)) (s : IsSound counts ns) where
+module _ (counts : List ℕ) (ns : List (Option Node)) (s : IsReduced counts ns) where
   pub links_held : LinksAreHeld link_of ns
   links_held = record { each = λ n k item id there low is. by (k == 0) n item id there is }
     where

@@ -7,14 +7,14 @@ use Rattle.mv_diagram.specs.declared.node.Dd.{Dd}
 use Rattle.mv_diagram.specs.declared.node.Node.{Node}
 use Rattle.mv_diagram.specs.declared.table.Table.{Table}
 use Rattle.mv_diagram.specs.Sets.{Point, holds, is_held}
-use Rattle.mv_diagram.specs.Sound.{AreCounts, IsSound}
-use Rattle.mv_diagram.specs.Works.{Adds, IsLacking}
+use Rattle.mv_diagram.specs.Sound.{AreCounts, IsReduced}
+use Rattle.mv_diagram.specs.Works.{AddsNodes, IsLacking}
 use Rattle.mv_diagram.specs.Diagrams.{Contents, IsHeld, Keeps, AddsRestrictions, Lacks, Loses, has}
 use Rattle.mv_diagram.specs.declared.node.Nodes.{Nodes}
 use Rattle.mv_diagram.specs.declared.memo.Key.{Key}
 use Rattle.mv_diagram.specs.declared.memo.Operation.{Operation}
 use Rattle.mv_diagram.specs.Results.{IsResult, Remembers, result_of}
-use Rattle.mv_diagram.specs.Quantified.{AddsAnswers, Agrees, IsQuantified, Forall, Spreads, is_one_of}
+use Rattle.mv_diagram.specs.Quantified.{AddsAnswers, AgreesOutside, IsQuantified, Forall, Spreads, is_one_of}
 use Rattle.mv_diagram.specs.Whole.{IsWhole}
 use Rattle.mv_diagram.specs.Parts.{no_variable, AddsParts, IsCombined, AddsCombined}
 use Rattle.mv_diagram.proofs.Restricting.{restriction_same}
@@ -33,7 +33,7 @@ zero_empty counts ns p = holds_end counts ns 0 p (no_node ns 0 (omega arith))
 pub one_full : (counts : List ℕ) (ns : List (Option Node)) (p : Point) → holds counts ns 1 p ≡ true
 one_full counts ns p = holds_end counts ns 1 p (no_node ns 1 (omega arith))
 
-pub Keeps-adds : (old new : Table) (n : ℕ) → IsSound old.counts.items old.pool.places → Adds old new → Keeps (shown old n) (shown new n)
+pub Keeps-adds : (old new : Table) (n : ℕ) → IsReduced old.counts.items old.pool.places → AddsNodes old new → Keeps (shown old n) (shown new n)
 Keeps-adds old new n s adds = record {
   counts = ap (λ v. v.items) adds.counts;
   cap = adds.cap;
@@ -44,7 +44,7 @@ Keeps-adds old new n s adds = record {
 }
 
 -- what is always true of the fields stays so as nodes are added
-pub whole_adds : (old new : Table) (entries entries' : List (Key × Dd)) (reclaims marks ids chosen chosen' : ℕ) → Adds old new → chosen ≤ chosen' → Remembers new.counts.items new.pool.places entries'
+pub whole_adds : (old new : Table) (entries entries' : List (Key × Dd)) (reclaims marks ids chosen chosen' : ℕ) → AddsNodes old new → chosen ≤ chosen' → Remembers new.counts.items new.pool.places entries'
     → IsWhole old.counts.items old.pool.places entries old.pool.cap reclaims marks ids chosen → IsWhole new.counts.items new.pool.places entries' new.pool.cap reclaims marks ids chosen'
 whole_adds old new entries entries' reclaims marks ids chosen chosen' adds more remembers whole = record {
   sound = adds.sound;
@@ -55,7 +55,7 @@ whole_adds old new entries entries' reclaims marks ids chosen chosen' adds more 
   room = omega (arith, ap (λ v. length v.items) adds.counts, whole.room);
 }
 
-module _ (operation : Operation) (old new : Table) (n : ℕ) (a b : Dd) (s : IsSound old.counts.items old.pool.places) (adds : Adds old new)
+module _ (operation : Operation) (old new : Table) (n : ℕ) (a b : Dd) (s : IsReduced old.counts.items old.pool.places) (adds : AddsNodes old new)
     (ha : IsHeld (shown old n) a) (hb : IsHeld (shown old n) b) where
   -- the operands have the sets that they had
   same_operands : (p : Point) → result_of operation (holds new.counts.items new.pool.places a.0 p) (holds new.counts.items new.pool.places b.0 p)
@@ -113,7 +113,7 @@ pub picked_none : (counts : List ℕ) (ns : List (Option Node)) (d : ℕ) (r : B
 picked_none counts ns d true is = tt
 picked_none counts ns d false is = λ p. ap (λ c. holds counts ns c p) is ∙ zero_empty counts ns p
 
-pub Loses-fewer : (old new : Table) (n k : ℕ) → IsSound old.counts.items old.pool.places → Fewer old.pool.places new.pool.places → new.counts ≡ old.counts → new.pool.cap ≡ old.pool.cap → Loses (shown old n) (shown new k)
+pub Loses-fewer : (old new : Table) (n k : ℕ) → IsReduced old.counts.items old.pool.places → Fewer old.pool.places new.pool.places → new.counts ≡ old.counts → new.pool.cap ≡ old.pool.cap → Loses (shown old n) (shown new k)
 Loses-fewer old new n k s f counts cap = record {
   counts = ap (λ v. v.items) counts;
   cap = cap;
@@ -124,11 +124,11 @@ Loses-fewer old new n k s f counts cap = record {
 pub all_held : (c : Contents) (roots : List Dd) → All (IsHeld c) roots → All (λ (root : Dd). is_held c.nodes root.0 ≡ true) roots
 all_held c roots held = All-weaker (IsHeld c) (λ (root : Dd). is_held c.nodes root.0 ≡ true) (λ root h. h.is) roots held
 
-module _ (old new : Table) (n : ℕ) (a : Dd) (vars : List ℕ) (chosen : ℕ → Bool) (same : (v : ℕ) → chosen v ≡ is_one_of vars v) (s : IsSound old.counts.items old.pool.places) (adds : Adds old new) (ha : IsHeld (shown old n) a) where
-  agrees_chosen : (p q : Point) → Agrees (is_one_of vars) p q → Agrees chosen p q
+module _ (old new : Table) (n : ℕ) (a : Dd) (vars : List ℕ) (chosen : ℕ → Bool) (same : (v : ℕ) → chosen v ≡ is_one_of vars v) (s : IsReduced old.counts.items old.pool.places) (adds : AddsNodes old new) (ha : IsHeld (shown old n) a) where
+  agrees_chosen : (p q : Point) → AgreesOutside (is_one_of vars) p q → AgreesOutside chosen p q
   agrees_chosen p q agrees = record { each = λ v out. agrees.each v (sym (same v) ∙ out) }
 
-  agrees_vars : (p q : Point) → Agrees chosen p q → Agrees (is_one_of vars) p q
+  agrees_vars : (p q : Point) → AgreesOutside chosen p q → AgreesOutside (is_one_of vars) p q
   agrees_vars p q agrees = record { each = λ v out. agrees.each v (same v ∙ out) }
 
   was : (q : Point) → holds new.counts.items new.pool.places a.0 q ≡ holds old.counts.items old.pool.places a.0 q

@@ -5,8 +5,8 @@ use Rattle.mv_diagram.specs.declared.node.Test.{Test}
 use Rattle.mv_diagram.specs.declared.table.Table.{Table}
 use Rattle.mv_diagram.specs.declared.memo.Operation.{Operation}
 use Rattle.mv_diagram.specs.Sets.{Point, holds, is_held}
-use Rattle.mv_diagram.specs.Sound.{order, first, IsSound}
-use Rattle.mv_diagram.specs.Works.{Adds}
+use Rattle.mv_diagram.specs.Sound.{order, first, IsReduced}
+use Rattle.mv_diagram.specs.Works.{AddsNodes}
 use Rattle.mv_diagram.specs.Results.{AreSides, IsResult, result_of}
 use Rattle.mv_diagram.proofs.Following.{if_same}
 use Rattle.mv_diagram.proofs.Applying.{result_whole, result_parted}
@@ -24,7 +24,7 @@ module _ (counts : List ℕ) (ns : List (Option Node)) (operation : Operation) (
       let most = sides.no.later (order t.var t.value + 1) (omega arith) (omega arith) in
       omega arith
 
-module _ (old new : Table) (s : IsSound old.counts.items old.pool.places) (adds : Adds old new) (operation : Operation) (a b : ℕ) (t : Test) (y n : ℕ) (sides : AreSides old.counts.items old.pool.places operation a b t y n) where
+module _ (old new : Table) (s : IsReduced old.counts.items old.pool.places) (adds : AddsNodes old new) (operation : Operation) (a b : ℕ) (t : Test) (y n : ℕ) (sides : AreSides old.counts.items old.pool.places operation a b t y n) where
   -- the test of the two sides is the whole
   pub sides_whole : (p : Point) → (if p t.var == t.value then holds old.counts.items old.pool.places y p else holds old.counts.items old.pool.places n p)
       ≡ result_of operation (holds new.counts.items new.pool.places a p) (holds new.counts.items new.pool.places b p)

@@ -8,20 +8,20 @@ use Rattle.mv_diagram.specs.declared.memo.Key.{Key}
 use Rattle.mv_diagram.specs.declared.memo.Operation.{Operation}
 use Rattle.mv_diagram.specs.declared.table.Table.{Table}
 use Rattle.mv_diagram.specs.Sets.{Point, holds, is_held, node_at}
-use Rattle.mv_diagram.specs.Sound.{first, IsTest, IsSound}
-use Rattle.mv_diagram.specs.Works.{Adds}
-use Rattle.mv_diagram.specs.First.{AreParted, IsFirst, IsSplit}
+use Rattle.mv_diagram.specs.Sound.{first, IsTest, IsReduced}
+use Rattle.mv_diagram.specs.Works.{AddsNodes}
+use Rattle.mv_diagram.specs.First.{AreParted, IsFirstTest, IsSplit}
 use Rattle.mv_diagram.specs.Results.{IsKept, IsResult, Remembers, result_of}
 use Rattle.mv_diagram.proofs.Following.{if_same}
 use Rattle.mv_diagram.proofs.Growing.{Grows-same, Grows-more, held_node, node_stays, held_stays, first_stays, holds_stays}
 
-pub Adds-same : (t : Table) → IsSound t.counts.items t.pool.places → Adds t t
-Adds-same t s = record { counts = refl; cap = refl; grows = Grows-same t.pool.places; sound = s; ascends = λ a. a; longer = omega arith }
+pub AddsNodes-same : (t : Table) → IsReduced t.counts.items t.pool.places → AddsNodes t t
+AddsNodes-same t s = record { counts = refl; cap = refl; grows = Grows-same t.pool.places; sound = s; ascends = λ a. a; longer = omega arith }
 
-pub Adds-more : (a b c : Table) → Adds a b → Adds b c → Adds a c
-Adds-more a b c g h = record { counts = h.counts ∙ g.counts; cap = h.cap ∙ g.cap; grows = Grows-more a.pool.places b.pool.places c.pool.places g.grows h.grows; sound = h.sound; ascends = λ x. h.ascends (g.ascends x); longer = let first = g.longer in let second = h.longer in omega arith }
+pub AddsNodes-more : (a b c : Table) → AddsNodes a b → AddsNodes b c → AddsNodes a c
+AddsNodes-more a b c g h = record { counts = h.counts ∙ g.counts; cap = h.cap ∙ g.cap; grows = Grows-more a.pool.places b.pool.places c.pool.places g.grows h.grows; sound = h.sound; ascends = λ x. h.ascends (g.ascends x); longer = let first = g.longer in let second = h.longer in omega arith }
 
-module _ (old new : Table) (s : IsSound old.counts.items old.pool.places) (adds : Adds old new) where
+module _ (old new : Table) (s : IsReduced old.counts.items old.pool.places) (adds : AddsNodes old new) where
   pub table_held : (d : ℕ) → is_held old.pool.places d ≡ true → is_held new.pool.places d ≡ true
   table_held d held = held_stays old.counts.items old.pool.places new.pool.places adds.grows d held
 
@@ -59,7 +59,7 @@ module _ (old new : Table) (s : IsSound old.counts.items old.pool.places) (adds 
   pub table_remembers : (entries : List (Key × Dd)) → Remembers old.counts.items old.pool.places entries → Remembers new.counts.items new.pool.places entries
   table_remembers entries are = record { each = λ k d there. table_result k.operation k.left.0 k.right.0 d.0 (are.each k d there) }
 
-  table_first_of : (a b : ℕ) (t : Test) → is_held old.pool.places a ≡ true → is_held old.pool.places b ≡ true → IsFirst old.counts.items old.pool.places a b t → IsFirst new.counts.items new.pool.places a b t
+  table_first_of : (a b : ℕ) (t : Test) → is_held old.pool.places a ≡ true → is_held old.pool.places b ≡ true → IsFirstTest old.counts.items old.pool.places a b t → IsFirstTest new.counts.items new.pool.places a b t
   table_first_of a b t ha hb is = record {
     test = table_test t is.test;
     left = rw (table_first a ha) is.left;
@@ -89,5 +89,5 @@ remembers_more counts ns old new key d are kept is = record {
 pub remembers_none : (counts : List ℕ) (ns : List (Option Node)) → Remembers counts ns []
 remembers_none counts ns = record { each = λ k d there. absurd (Contains-nil (k, d) there) }
 
-pub table_node : (old new : Table) → Adds old new → (d : ℕ) (n : Node) → node_at old.pool.places d ≡ Some n → node_at new.pool.places d ≡ Some n
+pub table_node : (old new : Table) → AddsNodes old new → (d : ℕ) (n : Node) → node_at old.pool.places d ≡ Some n → node_at new.pool.places d ≡ Some n
 table_node old new adds d n e = node_stays old.counts.items old.pool.places new.pool.places adds.grows d (held_node old.pool.places d n e) ∙ e

@@ -12,7 +12,7 @@ pub record IsEarlier (t u first : Test) : Type 0 where
   pub one : (first ≡ t) ⊎ (first ≡ u)
 
 -- it is the first of one of the two diagrams, and not behind the first of the other
-pub record IsFirst (counts : List ℕ) (ns : List (Option Node)) (a b : ℕ) (t : Test) : Type 0 where
+pub record IsFirstTest (counts : List ℕ) (ns : List (Option Node)) (a b : ℕ) (t : Test) : Type 0 where
   pub test : IsTest counts t
   pub left : order t.var t.value ≤ first counts ns a
   pub right : order t.var t.value ≤ first counts ns b
@@ -30,6 +30,6 @@ pub record IsSplit (counts : List ℕ) (ns : List (Option Node)) (d : ℕ) (t : 
 pub record AreParted (counts : List ℕ) (ns : List (Option Node)) (a b : ℕ) (t : Test) (a_yes a_no b_yes b_no : ℕ) : Type 0 where
   pub left_held : is_held ns a ≡ true
   pub right_held : is_held ns b ≡ true
-  pub test : IsFirst counts ns a b t
+  pub test : IsFirstTest counts ns a b t
   pub left : IsSplit counts ns a t a_yes a_no
   pub right : IsSplit counts ns b t b_yes b_no

@@ -1,11 +1,12 @@
 pub mod Links
 pub mod Sets
 pub mod Sound
-pub mod Works
 pub mod Results
-pub mod First
 pub mod Diagrams
-pub mod Roots
 pub mod Whole
 pub mod Quantified
 pub mod Parts
+-- what private functions alone cite
+pub mod Works
+pub mod First
+pub mod Roots

@@ -25,10 +25,6 @@ pub record IsRestriction (counts : List ℕ) (chosen : ℕ → Bool) (whole part
 abbrev pub no_variable : ℕ → Bool
 no_variable v = false
 
--- each diagram that is held now and wasn't has a restriction of the set
-pub record AddsParts (counts : List ℕ) (old new : List (Option Node)) (whole : Point → Bool) : Type 0 where
-  pub each : (d : ℕ) → is_held new d ≡ true → (is_held old d ≡ true) ⊎ IsRestriction counts no_variable whole (λ p. holds counts new d p)
-
 -- a restriction has the answer at a point, and the part has it wherever the restriction has it
 pub record Piece (counts : List ℕ) (chosen : ℕ → Bool) (answer : Bool) (whole part : Point → Bool) (p : Point) : Type 0 where
   pub piece : Point → Bool
@@ -41,6 +37,12 @@ pub record Piece (counts : List ℕ) (chosen : ℕ → Bool) (answer : Bool) (wh
 -- in which it lies
 pub record IsCombined (counts : List ℕ) (chosen : ℕ → Bool) (answer : Bool) (whole part : Point → Bool) : Type 0 where
   pub each : (p : Point) → InRange counts p → part p ≡ answer → Piece counts chosen answer whole part p
+
+-- ---- what private functions alone cite
+
+-- each diagram that is held now and wasn't has a restriction of the set
+pub record AddsParts (counts : List ℕ) (old new : List (Option Node)) (whole : Point → Bool) : Type 0 where
+  pub each : (d : ℕ) → is_held new d ≡ true → (is_held old d ≡ true) ⊎ IsRestriction counts no_variable whole (λ p. holds counts new d p)
 
 -- each diagram that is held now and wasn't has the answer where one of some restrictions of the set has it
 pub record AddsCombined (counts : List ℕ) (chosen : ℕ → Bool) (answer : Bool) (old new : List (Option Node)) (whole : Point → Bool) : Type 0 where

@@ -24,6 +24,12 @@ pub record IsResult (counts : List ℕ) (ns : List (Option Node)) (operation : O
   pub later : (from : ℕ) → from ≤ first counts ns a → from ≤ first counts ns b → from ≤ first counts ns d
   pub set : (p : ℕ → ℕ) → holds counts ns d p ≡ result_of operation (holds counts ns a p) (holds counts ns b p)
 
+-- what is remembered is right
+pub record Remembers (counts : List ℕ) (ns : List (Option Node)) (entries : List (Key × Dd)) : Type 0 where
+  pub each : (k : Key) (d : Dd) → Contains entries (k, d) → IsResult counts ns k.operation k.left.0 k.right.0 d.0
+
+-- ---- what private functions alone cite
+
 -- the results of what two diagrams are where their first test says yes, and where it says no
 pub record AreSides (counts : List ℕ) (ns : List (Option Node)) (operation : Operation) (a b : ℕ) (t : Test) (y n : ℕ) : Type 0 where
   pub a_yes : ℕ
@@ -33,10 +39,6 @@ pub record AreSides (counts : List ℕ) (ns : List (Option Node)) (operation : O
   pub parted : AreParted counts ns a b t a_yes a_no b_yes b_no
   pub yes : IsResult counts ns operation a_yes b_yes y
   pub no : IsResult counts ns operation a_no b_no n
-
--- what is remembered is right
-pub record Remembers (counts : List ℕ) (ns : List (Option Node)) (entries : List (Key × Dd)) : Type 0 where
-  pub each : (k : Key) (d : Dd) → Contains entries (k, d) → IsResult counts ns k.operation k.left.0 k.right.0 d.0
 
 -- nothing is remembered besides what was and this one
 pub record IsKept (old new : List (Key × Dd)) (key : Key) (d : Dd) : Type 0 where

@@ -36,7 +36,7 @@ pub record AreCounts (counts : List ℕ) : Type 0 where
   pub few : (v : ℕ) → v < length counts → slice_index counts v ≤ MAX_VALUES
 
 -- the nodes are ordered, reduced and distinct, and each variable has as many values as a net may have
-pub record IsSound (counts : List ℕ) (ns : List (Option Node)) : Type 0 where
+pub record IsReduced (counts : List ℕ) (ns : List (Option Node)) : Type 0 where
   pub values : AreCounts counts
   pub nodes : (place : ℕ) (n : Node) → item_at ns place ≡ Some n → IsNode counts ns n
   pub distinct : (i j : ℕ) (n : Node) → item_at ns i ≡ Some n → item_at ns j ≡ Some n → i ≡ j

@@ -5,18 +5,18 @@ use Rattle.mv_diagram.specs.declared.node.Node.{Node}
 use Rattle.mv_diagram.specs.declared.node.Nodes.{Nodes}
 use Rattle.mv_diagram.specs.declared.table.Table.{Table}
 use Rattle.mv_diagram.specs.Sets.{Point, SameSet, holds, is_held, node_at}
-use Rattle.mv_diagram.specs.Sound.{Ascends, IsSound}
+use Rattle.mv_diagram.specs.Sound.{Ascends, IsReduced}
 
 -- each node stays where it is
 pub record Grows (old new : List (Option Node)) : Type 0 where
   pub keeps : (place : ℕ) (n : Node) → item_at old place ≡ Some n → item_at new place ≡ Some n
 
 -- nodes were added, if anything
-pub record Adds (old new : Table) : Type 0 where
+pub record AddsNodes (old new : Table) : Type 0 where
   pub counts : new.counts ≡ old.counts
   pub cap : new.pool.cap ≡ old.pool.cap
   pub grows : Grows old.pool.places new.pool.places
-  pub sound : IsSound new.counts.items new.pool.places
+  pub sound : IsReduced new.counts.items new.pool.places
   pub ascends : Ascends old.pool.places → Ascends new.pool.places
   pub longer : length old.pool.places ≤ length new.pool.places
 

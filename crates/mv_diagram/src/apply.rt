@@ -1,11 +1,11 @@
 ghost use Rattle.std.specs.Prelude.{◌≡◌, ◌+◌, ◌<◌, ◌≤◌, ℕ, Bool, true, false, None, IfOk, IfErr, IfSome, IfNone, if◌then◌else◌};
 ghost use Rattle.mv_base.specs.declared.limits.TheConstants.{MAX_VALUES};
 ghost use Rattle.mv_diagram.specs.Sets.{Point, holds, is_held, node_at};
-ghost use Rattle.mv_diagram.specs.Sound.{IsSound};
-ghost use Rattle.mv_diagram.specs.Works.{Adds, IsFull, IsLacking};
+ghost use Rattle.mv_diagram.specs.Sound.{IsReduced};
+ghost use Rattle.mv_diagram.specs.Works.{AddsNodes, IsFull, IsLacking};
 ghost use Rattle.mv_diagram.specs.Results.{AreSides, IsResult, Remembers, result_of};
 ghost use Rattle.mv_diagram.specs.Parts.{AddsParts};
-ghost use Rattle.mv_diagram.specs.First.{AreParted, IsEarlier, IsFirst};
+ghost use Rattle.mv_diagram.specs.First.{AreParted, IsEarlier, IsFirstTest};
 
 use crate::memo::{Key, Memo, Operation, keep, recall};
 use crate::node::{ONE, ZERO};
@@ -59,10 +59,10 @@ fn earlier(t: Test, u: Test) -> Test
 
 /// The first test of two diagrams, or None where neither has one.
 fn first_test(table: &Table, a: Dd, b: Dd) -> Option<Test>
-    requires sound { IsSound table.now.counts.items table.now.pool.places }
+    requires sound { IsReduced table.now.counts.items table.now.pool.places }
     requires left { is_held table.now.pool.places a.0 ≡ true }
     requires right { is_held table.now.pool.places b.0 ≡ true }
-    ensures some { IfSome result (IsFirst table.now.counts.items table.now.pool.places a.0 b.0) }
+    ensures some { IfSome result (IsFirstTest table.now.counts.items table.now.pool.places a.0 b.0) }
     ensures left { IfNone result (node_at table.now.pool.places a.0 ≡ None) }
     ensures right { IfNone result (node_at table.now.pool.places b.0 ≡ None) }
 {
@@ -84,7 +84,7 @@ struct Parted {
 
 /// Parts two diagrams by their first test, or answers None where neither has one.
 fn part(table: &Table, a: Dd, b: Dd) -> Option<Parted>
-    requires sound { IsSound table.now.counts.items table.now.pool.places }
+    requires sound { IsReduced table.now.counts.items table.now.pool.places }
     requires left { is_held table.now.pool.places a.0 ≡ true }
     requires right { is_held table.now.pool.places b.0 ≡ true }
     ensures some { IfSome result (λ at. AreParted table.now.counts.items table.now.pool.places a.0 b.0 at.test at.yes.0.0 at.no.0.0 at.yes.1.0 at.no.1.0) }
@@ -119,10 +119,10 @@ fn whole(
     yes: Dd,
     no: Dd,
 ) -> Result<Dd, Nodes>
-    requires sound { IsSound table.old.counts.items table.old.pool.places }
+    requires sound { IsReduced table.old.counts.items table.old.pool.places }
     requires remembers { Remembers table.old.counts.items table.old.pool.places memo.old.entries }
     requires sides { AreSides table.old.counts.items table.old.pool.places key.operation key.left.0 key.right.0 test yes.0 no.0 }
-    ensures adds { Adds table.old table.new }
+    ensures adds { AddsNodes table.old table.new }
     ensures remembers { Remembers table.new.counts.items table.new.pool.places memo.new.entries }
     ensures ok { IfOk result (λ d. IsResult table.new.counts.items table.new.pool.places key.operation key.left.0 key.right.0 d.0) }
     ensures added { AddsParts table.new.counts.items table.old.pool.places table.new.pool.places (λ p.
@@ -149,11 +149,11 @@ pub fn apply(
     a: Dd,
     b: Dd,
 ) -> Result<Dd, Nodes>
-    requires sound { IsSound table.old.counts.items table.old.pool.places }
+    requires sound { IsReduced table.old.counts.items table.old.pool.places }
     requires remembers { Remembers table.old.counts.items table.old.pool.places memo.old.entries }
     requires left { is_held table.old.pool.places a.0 ≡ true }
     requires right { is_held table.old.pool.places b.0 ≡ true }
-    ensures adds { Adds table.old table.new }
+    ensures adds { AddsNodes table.old table.new }
     ensures remembers { Remembers table.new.counts.items table.new.pool.places memo.new.entries }
     ensures ok { IfOk result (λ d. IsResult table.new.counts.items table.new.pool.places operation a.0 b.0 d.0) }
     ensures added { AddsParts table.new.counts.items table.old.pool.places table.new.pool.places (λ p.

@@ -3,8 +3,6 @@
 
 mod apply;
 mod diagrams;
-#[cfg(test)]
-mod drawn;
 mod literal;
 mod look;
 mod memo;
@@ -12,8 +10,6 @@ mod node;
 mod quantify;
 mod roots;
 mod table;
-#[cfg(test)]
-mod tests;
 
 pub use diagrams::Diagrams;
 pub use node::{Dd, Node, Nodes, Test};

@@ -1,7 +1,7 @@
 ghost use Rattle.std.specs.Prelude.{◌≡◌, ◌+◌, ◌<◌, ◌≤◌, ◌==◌, ℕ, true, length, IfOk, IfErr, OnErr, if◌then◌else◌};
 ghost use Rattle.mv_diagram.specs.Sets.{Point, greatest, holds, is_held, node_at, with_value};
-ghost use Rattle.mv_diagram.specs.Sound.{IsSound, IsTest, first, order};
-ghost use Rattle.mv_diagram.specs.Works.{Adds, HasPut, IsAbsent, IsFull, IsLacking};
+ghost use Rattle.mv_diagram.specs.Sound.{IsReduced, IsTest, first, order};
+ghost use Rattle.mv_diagram.specs.Works.{AddsNodes, HasPut, IsAbsent, IsFull, IsLacking};
 ghost use Rattle.mv_diagram.specs.First.{IsSplit};
 ghost use Rattle.mv_pool.specs.Places.{held_in};
 ghost use Rattle.mv_diagram.specs.Parts.{AddsParts};
@@ -30,7 +30,7 @@ pub fn node(table: &Table, d: Dd) -> Option<Node>
 /// What a diagram without tests of earlier variables is at the greatest value of this variable: where all its tests
 /// of the variable say no. The time grows with the values of the variable.
 pub fn otherwise(table: &Table, d: Dd, var: u32) -> Dd
-    requires sound { IsSound table.now.counts.items table.now.pool.places }
+    requires sound { IsReduced table.now.counts.items table.now.pool.places }
     requires variable { var < length table.now.counts.items }
     requires held { is_held table.now.pool.places d.0 ≡ true }
     requires later { order var 0 ≤ first table.now.counts.items table.now.pool.places d.0 }
@@ -50,7 +50,7 @@ pub fn otherwise(table: &Table, d: Dd, var: u32) -> Dd
 
 /// What a diagram is where the test says yes, and where it says no. The diagram has no earlier test.
 pub fn split(table: &Table, d: Dd, test: Test) -> (Dd, Dd)
-    requires sound { IsSound table.now.counts.items table.now.pool.places }
+    requires sound { IsReduced table.now.counts.items table.now.pool.places }
     requires test { IsTest table.now.counts.items test }
     requires held { is_held table.now.pool.places d.0 ≡ true }
     requires later { order test.var test.value ≤ first table.now.counts.items table.now.pool.places d.0 }
@@ -81,13 +81,13 @@ fn put(pool: &mut Pool<Node>, node: Node) -> Result<Dd, Full>
 /// The diagram of the points that pass the test and are in `yes`, and of those that don't and are in `no`. It takes a
 /// node unless such a diagram is held.
 pub fn make(table: &mut Table, test: Test, yes: Dd, no: Dd) -> Result<Dd, Nodes>
-    requires sound { IsSound table.old.counts.items table.old.pool.places }
+    requires sound { IsReduced table.old.counts.items table.old.pool.places }
     requires test { IsTest table.old.counts.items test }
     requires yes_held { is_held table.old.pool.places yes.0 ≡ true }
     requires no_held { is_held table.old.pool.places no.0 ≡ true }
     requires yes_later { order (test.var + 1) 0 ≤ first table.old.counts.items table.old.pool.places yes.0 }
     requires no_later { order test.var test.value < first table.old.counts.items table.old.pool.places no.0 }
-    ensures adds { Adds table.old table.new }
+    ensures adds { AddsNodes table.old table.new }
     ensures held { IfOk result (λ d. is_held table.new.pool.places d.0 ≡ true) }
     ensures later { IfOk result (λ d. order test.var test.value ≤ first table.new.counts.items table.new.pool.places d.0) }
     ensures set { IfOk result (λ d. (p : Point) → holds table.new.counts.items table.new.pool.places d.0 p ≡

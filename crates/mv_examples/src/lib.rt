@@ -1,17 +1,15 @@
-//! Examples: what the crates under this one answer for networks that are read from text. It has tests alone.
+//! Examples: what the crates under this one answer, mostly for networks that are read from text. It has tests alone.
 #![tactic(auto)]
 
 #[cfg(test)]
+mod copies;
+#[cfg(test)]
 mod covers;
 #[cfg(test)]
-mod dropping;
+mod diagrams;
 #[cfg(test)]
-mod flattening;
-#[cfg(test)]
-mod models;
+mod kernels;
 #[cfg(test)]
 mod networks;
 #[cfg(test)]
 mod text;
-#[cfg(test)]
-mod writing;

@@ -1,6 +1,5 @@
 -- Lists with nothing in them, and faults that aren't there.
 use Rattle.std.proofs.Common.{◌≡◌, Bool, true, false, List, [], ◌∷◌, ◌++◌, refl}
-use Rattle.mv_fault.specs.declared.fault.ParseFault.{ParseFault}
 use Rattle.mv_fault.specs.Tells.{when}
 
 -- nothing of two parts together is nothing of either
@@ -13,6 +12,6 @@ right-nothing [] b e = e
 right-nothing (x ∷ a) b e = cc
 
 -- no fault where a test fails
-pub when-nothing : (t : Bool) (f : ParseFault) → when t f ≡ [] → t ≡ false
+pub when-nothing : {F : Type 0} (t : Bool) (f : F) → when t f ≡ [] → t ≡ false
 when-nothing true f e = cc
 when-nothing false f e = refl

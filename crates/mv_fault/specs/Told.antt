@@ -18,9 +18,13 @@ which_name NetName = codes "NetName"
 which_name FlatLines = codes "FlatLines"
 which_name FlatEntries = codes "FlatEntries"
 
--- what each line begins with: the number and the name of the fault, and the number of its line
+-- what the line of a fault of a network begins with: its number and name
+abbrev pub fault_name : List ℕ → List ℕ
+fault_name name = codes "# fault network " ++ name
+
+-- what the line of a fault of lines begins with: the number of the line too
 unfoldable pub head : List ℕ → ℕ → List ℕ
-head name line = (codes "# fault network " ++ name) ++ (codes " line " ++ decimal line)
+head name line = fault_name name ++ (codes " line " ++ decimal line)
 
 -- words up to the end of a line, each behind a blank
 abbrev pub tail : List (List ℕ) → List ℕ

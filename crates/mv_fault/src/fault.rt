@@ -2,7 +2,7 @@ ghost use Rattle.std.specs.Prelude.{◌≡◌};
 ghost use Rattle.mv_fault.specs.declared.fault.ParseFault.TheVariants.{Memory as out_of_memory};
 
 use mv_base::{Memory, Name};
-use std::alloc::{AllocError, AllocFailed};
+use std::alloc::AllocFailed;
 
 /// A limit of the program that a network passes.
 #[derive(Clone, Copy, Debug, PartialEq, Eq)]
@@ -134,14 +134,6 @@ impl From<Memory> for ParseFault {
     ghost from_gives = { λ _ e. e ≡ out_of_memory };
 
     fn from(_memory: Memory) -> ParseFault {
-        ParseFault::Memory
-    }
-}
-
-impl From<AllocError> for ParseFault {
-    ghost from_gives = { λ _ e. e ≡ out_of_memory };
-
-    fn from(_error: AllocError) -> ParseFault {
         ParseFault::Memory
     }
 }

@@ -3,8 +3,6 @@
 
 mod fault;
 mod tell;
-#[cfg(test)]
-mod tests;
 
 pub use fault::{ParseFault, Which};
-pub use tell::{put_parse_fault, which_name};
+pub use tell::{put_fault_name, put_parse_fault, which_name};

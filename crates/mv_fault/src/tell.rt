@@ -1,10 +1,10 @@
 ghost use Rattle.std.specs.Prelude.{◌≡◌, [], ◌∷◌, decimal};
-ghost use Rattle.mv_base.specs.Appends.{Appends};
-ghost use Rattle.mv_fault.specs.Told.{which_name, head, told, parse_line};
+ghost use Rattle.mv_base.specs.Outside.{Appends};
+ghost use Rattle.mv_fault.specs.Told.{which_name, fault_name, head, told, parse_line};
 
 use crate::fault::{ParseFault as Fault, Which};
 use itoa::Buffer;
-use mv_base::{Failed, Name, Sink, put_both, put_piece};
+use mv_base::{Failed, Name, Sink, put_both};
 
 /// The name of a limit, as it is told.
 pub fn which_name(which: Which) -> &'static [u8]
@@ -24,30 +24,37 @@ pub fn which_name(which: Which) -> &'static [u8]
     }
 }
 
+/// Puts what the line of a fault of a network begins with: its number and name.
+pub fn put_fault_name<K: Sink>(name: &[u8], out: &mut K) -> Result<(), Failed>
+    ensures { Appends (K.state out.old) (K.state out.new) (fault_name name.now) result }
+{
+    put_both(b"# fault network ", name, out)
+}
+
 /// Puts what each line begins with.
 fn put_head<K: Sink>(name: &[u8], line: u32, out: &mut K) -> Result<(), Failed>
-    ensures { Appends (K.told out.old) (K.told out.new) (K.faults out.old) (K.faults out.new) (head name.now line) result }
+    ensures { Appends (K.state out.old) (K.state out.new) (head name.now line) result }
 {
     let mut buffer = Buffer::new();
-    put_both(b"# fault network ", name, out)?;
+    put_fault_name(name, out)?;
     put_both(b" line ", buffer.format(line).as_bytes(), out)
 }
 
 /// Puts a line without words.
 fn put_bare<K: Sink>(name: &[u8], line: u32, out: &mut K) -> Result<(), Failed>
-    ensures { Appends (K.told out.old) (K.told out.new) (K.faults out.old) (K.faults out.new) (told name.now line []) result }
+    ensures { Appends (K.state out.old) (K.state out.new) (told name.now line []) result }
 {
     put_head(name, line, out)?;
-    put_piece(b"\n", out)
+    out.put(b"\n")
 }
 
 /// Puts a line with one word.
 fn put_word<K: Sink>(name: &[u8], line: u32, word: &Name, out: &mut K) -> Result<(), Failed>
-    ensures { Appends (K.told out.old) (K.told out.new) (K.faults out.old) (K.faults out.new) (told name.now line (word.now ∷ [])) result }
+    ensures { Appends (K.state out.old) (K.state out.new) (told name.now line (word.now ∷ [])) result }
 {
     put_head(name, line, out)?;
     put_both(b" ", word.bytes(), out)?;
-    put_piece(b"\n", out)
+    out.put(b"\n")
 }
 
 /// Puts a line with two words.
@@ -58,12 +65,12 @@ fn put_words<K: Sink>(
     second: &[u8],
     out: &mut K,
 ) -> Result<(), Failed>
-    ensures { Appends (K.told out.old) (K.told out.new) (K.faults out.old) (K.faults out.new) (told name.now line (first.now ∷ second.now ∷ [])) result }
+    ensures { Appends (K.state out.old) (K.state out.new) (told name.now line (first.now ∷ second.now ∷ [])) result }
 {
     put_head(name, line, out)?;
     put_both(b" ", first, out)?;
     put_both(b" ", second, out)?;
-    put_piece(b"\n", out)
+    out.put(b"\n")
 }
 
 /// Puts a line with a word and a number.
@@ -74,7 +81,7 @@ fn put_number<K: Sink>(
     number: u64,
     out: &mut K,
 ) -> Result<(), Failed>
-    ensures { Appends (K.told out.old) (K.told out.new) (K.faults out.old) (K.faults out.new) (told name.now line (word.now ∷ decimal number ∷ [])) result }
+    ensures { Appends (K.state out.old) (K.state out.new) (told name.now line (word.now ∷ decimal number ∷ [])) result }
 {
     let mut buffer = Buffer::new();
     put_words(name, line, word, buffer.format(number).as_bytes(), out)
@@ -88,7 +95,7 @@ fn put_pair<K: Sink>(
     second: u64,
     out: &mut K,
 ) -> Result<(), Failed>
-    ensures { Appends (K.told out.old) (K.told out.new) (K.faults out.old) (K.faults out.new) (told name.now line (decimal first ∷ decimal second ∷ [])) result }
+    ensures { Appends (K.state out.old) (K.state out.new) (told name.now line (decimal first ∷ decimal second ∷ [])) result }
 {
     let mut buffer = Buffer::new();
     put_number(name, line, buffer.format(first).as_bytes(), second, out)
@@ -96,7 +103,7 @@ fn put_pair<K: Sink>(
 
 /// Puts the line that tells a fault. At Failed some first part of it was taken. It takes no memory.
 pub fn put_parse_fault<K: Sink>(fault: &Fault, out: &mut K) -> Result<(), Failed>
-    ensures { Appends (K.told out.old) (K.told out.new) (K.faults out.old) (K.faults out.new) (parse_line fault.now) result }
+    ensures { Appends (K.state out.old) (K.state out.new) (parse_line fault.now) result }
 {
     match fault {
         Fault::UnknownCommand { line, word } => put_word(b"5 UnknownCommand", *line, word, out),
@@ -130,6 +137,6 @@ pub fn put_parse_fault<K: Sink>(fault: &Fault, out: &mut K) -> Result<(), Failed
             output,
         } => put_words(b"38 LatchValues", *line, input.bytes(), output.bytes(), out),
         Fault::NotBuilt { line } => put_bare(b"39 NotBuilt", *line, out),
-        Fault::Memory => put_piece(b"# fault memory\n", out),
+        Fault::Memory => out.put(b"# fault memory\n"),
     }
 }

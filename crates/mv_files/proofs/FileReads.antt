@@ -1,12 +1,19 @@
 -- Files that are read piece by piece, whether they tell their contents or not.
 use Rattle.std.proofs.Common.{◌≡◌, ℕ, ◌+◌, ◌<◌, ◌≤◌, true, false, List, [], ◌++◌, length, take, Option, Some, None, Result, Ok, refl, sym, ◌∙◌, ap, subst, arith, append_assoc, length-append, ◌-◌}
-use Rattle.std.specs.Prelude.{nat_lt}
+use Rattle.std.specs.Prelude.{nat_lt, IsTrue, IfSome}
 use Rattle.std.proofs.lemmas.Bool.{ltb-true, ltb-false}
 use Rattle.std.proofs.lemmas.List.{length-take-le}
 use Rattle.mv_base.specs.declared.outside.Failed.{Failed}
-use Rattle.mv_base.specs.Outside.{Held, Starts, Gives}
-use Rattle.mv_files.specs.FileReading.{Stay, Lacks}
+use Rattle.mv_base.specs.Outside.{Held, Stored, file_named, Still, Begins, Continues}
+use Rattle.mv_files.specs.FileReading.{StaySame, Stay, Lacks}
 use Rattle.mv_files.specs.Pieces.{Passed, Ended, Unsound, GotPiece, ReadOn}
+
+-- a file is begun, and bytes are given, where the files tell of themselves
+abbrev pub Starts : Option Held → Option Held → List ℕ → Result (Unit {0}) Failed → Type 0
+Starts old new name result = Still old new (λ o n. Begins o n name result)
+
+abbrev pub Gives : Option Held → Option Held → List ℕ → Result ℕ Failed → Type 0
+Gives old new room result = Still old new (λ o n. Continues o n room result)
 
 -- ---- nothing was read, and then one piece more
 
@@ -28,26 +35,32 @@ passed_more (Some a) (Some b) (Some c) xs ys p q =
 
 -- ---- files that stay
 
-pub stay_passed : (a b : Option Held) (xs : List ℕ) → Passed a b xs → Stay a b
-stay_passed None b xs p = tt
-stay_passed (Some a) None xs p = absurd p
-stay_passed (Some a) (Some b) xs p = record { files = p.files; sound = p.sound }
+same_passed : (a b : Option Held) (xs : List ℕ) → Passed a b xs → Still a b StaySame
+same_passed None b xs p = tt
+same_passed (Some a) None xs p = absurd p
+same_passed (Some a) (Some b) xs p = record { files = p.files; sound = p.sound }
 
-pub stay_started : (old new : Option Held) (name : List ℕ) (result : Result (Unit {0}) Failed) → Starts old new name result → Stay old new
+pub stay_passed : (a b : Stored) (xs : List ℕ) → Passed a.held b.held xs → a.faults ≤ b.faults → Stay a b
+stay_passed a b xs p later = record { same = same_passed a.held b.held xs p; later = later }
+
+pub stay_started : (old new : Option Held) (name : List ℕ) (result : Result (Unit {0}) Failed) → Starts old new name result → Still old new StaySame
 stay_started None new name result s = tt
 stay_started (Some o) None name result s = absurd s
 stay_started (Some o) (Some n) name result s = record { files = s.files; sound = s.sound }
 
 -- ---- failures
 
-pub unsound_earlier : (a b : Option Held) → Stay a b → Unsound b → Unsound a
+pub unsound_earlier : (a b : Option Held) → Still a b StaySame → Unsound b → Unsound a
 unsound_earlier None b p u = tt
 unsound_earlier (Some a) None p u = absurd p
 unsound_earlier (Some a) (Some b) p u = λ s. u (p.sound s)
 
-pub lacks_unsound : (old : Option Held) (name : List ℕ) → Unsound old → Lacks old name
-lacks_unsound None name u = tt
-lacks_unsound (Some o) name u = λ t. absurd (u t)
+lacked : (old : Option Held) (name : List ℕ) → Unsound old → IfSome old (λ h. IsTrue h.sound → file_named name h.files ≡ None)
+lacked None name u = tt
+lacked (Some o) name u = λ t. absurd (u t)
+
+pub lacks_unsound : (old : Stored) (name : List ℕ) → Unsound old.held → Lacks old name
+lacks_unsound old name u = lacked old.held name u
 
 -- ---- a piece
 
@@ -83,7 +96,7 @@ got_piece old new room before after most n given fits long some added =
 
 -- ---- the whole file
 
-ended_earlier : (a b c : Option Held) (xs : List ℕ) → Passed a b xs → Ended b c → Ended a c
+pub ended_earlier : (a b c : Option Held) (xs : List ℕ) → Passed a b xs → Ended b c → Ended a c
 ended_earlier None b c xs p q = tt
 ended_earlier (Some a) None c xs p q = absurd p
 ended_earlier (Some a) (Some b) None xs p q = absurd q

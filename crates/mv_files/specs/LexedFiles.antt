@@ -1,11 +1,12 @@
 -- A network file that was lexed while it was read.
-use Rattle.std.specs.Prelude.{◌≡◌, ◌⊎◌, ℕ, Option, Some, None, List, []}
-use Rattle.mv_base.specs.Outside.{Held, Rose, file_named}
+use Rattle.std.specs.Prelude.{◌≡◌, ◌⊎◌, ℕ, ◌≤◌, IfSome, Some, None, List, [], ◌++◌, length}
+use Rattle.mv_base.specs.Outside.{Held, Stored, StillTell, Rose, file_named}
 use Rattle.mv_base.specs.declared.limits.TheConstants.{MAX_NETWORK_BYTES}
 use Rattle.mv_lex.specs.declared.fault.LexFault.{LexFault}
 use Rattle.mv_lex.specs.declared.fault.LexFault.TheVariants.{Memory as out_of_memory}
 use Rattle.mv_lex.specs.declared.lines.LexLine.{LexLine}
-use Rattle.mv_lex.specs.Lines.{lines_of, lex_fault}
+use Rattle.mv_lex.specs.Lines.{lines_of, first_fault, lex_fault}
+use Rattle.mv_files.specs.declared.read.TheConstants.{PIECE}
 use Rattle.mv_files.specs.declared.lines.LinesStop.{LinesStop}
 use Rattle.mv_files.specs.declared.lines.LinesStop.TheVariants.{Failed, Lex}
 use Rattle.mv_files.specs.FileReading.{Lacks}
@@ -17,32 +18,40 @@ pub record HasReadAll (before after : Held) (name content : List ℕ) : Type 0 w
   pub current : after.current ≡ Some name
   pub ended : after.rest ≡ []
 
--- the same of files that may tell nothing; what tells before a call tells after it
-abbrev pub ReadAll : Option Held → Option Held → List ℕ → List ℕ → Type 0
-ReadAll None after name content = Unit {0}
-ReadAll (Some before) None name content = ⊥
-ReadAll (Some before) (Some after) name content = HasReadAll before after name content
+-- the same where the files tell of themselves
+abbrev pub ReadAll : Stored → Stored → List ℕ → List ℕ → Type 0
+ReadAll old new name content = StillTell old new (λ before after. HasReadAll before after name content)
 
 -- the named file was read to its end, its content has no fault of bytes, and these are its lines
-pub record WasLexed (before after : Option Held) (name : List ℕ) (lines : List LexLine) : Type 0 where
+pub record WasLexed (old new : Stored) (name : List ℕ) (lines : List LexLine) : Type 0 where
   pub content : List ℕ
-  pub read : ReadAll before after name content
+  pub read : ReadAll old new name content
   pub lexed : lex_fault MAX_NETWORK_BYTES content ≡ None
   pub lines_are : lines ≡ lines_of content
 
--- the named file has this content, where the files tell it
-abbrev pub HasContent : Option Held → List ℕ → List ℕ → Type 0
-HasContent None name content = Unit {0}
-HasContent (Some held) name content = file_named name held.files ≡ Some content
-
--- the content of the named file has this fault of bytes, and none before it
-pub record HasFault (held : Option Held) (name : List ℕ) (fault : LexFault) : Type 0 where
+-- the content of the named file, where the files tell it, has this fault of bytes, and none before it
+pub record HasFault (files : Stored) (name : List ℕ) (fault : LexFault) : Type 0 where
   pub content : List ℕ
-  pub named : HasContent held name content
+  pub named : IfSome files.held (λ held. file_named name held.files ≡ Some content)
   pub fault_is : lex_fault MAX_NETWORK_BYTES content ≡ Some fault
+
+-- of the named file, which is the current one, no more was read than bytes without a fault, within the limit, and one
+-- piece behind them
+pub record HasReadFront (before after : Held) (name : List ℕ) : Type 0 where
+  pub front : List ℕ
+  pub piece : List ℕ
+  pub content : file_named name before.files ≡ Some (front ++ (piece ++ after.rest))
+  pub current : after.current ≡ Some name
+  pub clear : first_fault MAX_NETWORK_BYTES [] front ≡ None
+  pub within : length front ≤ MAX_NETWORK_BYTES
+  pub few : length piece ≤ PIECE
+
+-- the same where the files tell of themselves
+abbrev pub ReadFront : Stored → Stored → List ℕ → Type 0
+ReadFront old new name = StillTell old new (λ before after. HasReadFront before after name)
 
 -- why there are no lines of the named file: a call failed, so that the count of faults rose, and sound files lack the name;
 -- memory ran out; or the content has a fault
-abbrev pub LinesCause : Option Held → List ℕ → ℕ → ℕ → LinesStop → Type 0
-LinesCause held name before now Failed = Rose before now × Lacks held name
-LinesCause held name before now (Lex fault) = (fault ≡ out_of_memory) ⊎ HasFault held name fault
+abbrev pub LinesCause : Stored → Stored → List ℕ → LinesStop → Type 0
+LinesCause old new name Failed = Rose old.faults new.faults × Lacks old name
+LinesCause old new name (Lex fault) = (fault ≡ out_of_memory) ⊎ HasFault old name fault

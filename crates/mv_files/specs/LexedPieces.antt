@@ -1,12 +1,13 @@
--- A file that is lexed piece by piece, while it is read.
-use Rattle.std.specs.Prelude.{◌≡◌, ◌⊎◌, ℕ, ◌<◌, Bool, true, false, Option, Some, List, [], ◌++◌, length}
-use Rattle.mv_base.specs.Outside.{Held, Rose}
+-- A file that is lexed piece by piece, while it is read. For private functions.
+use Rattle.std.specs.Prelude.{◌≡◌, ◌⊎◌, ℕ, ◌<◌, ◌≤◌, Bool, true, false, Option, Some, None, List, [], ◌++◌, length}
+use Rattle.mv_base.specs.Outside.{Held, Stored, Rose}
 use Rattle.mv_base.specs.declared.limits.TheConstants.{MAX_NETWORK_BYTES}
 use Rattle.mv_lex.specs.declared.fault.LexFault.{LexFault}
 use Rattle.mv_lex.specs.declared.fault.LexFault.TheVariants.{Memory as out_of_memory}
 use Rattle.mv_lex.specs.declared.lines.LexLine.{LexLine}
 use Rattle.mv_lex.specs.Lines.{complete, first_fault}
-use Rattle.mv_lex.specs.Reading.{Reading, IsAfter}
+use Rattle.mv_lex.specs.Reading.{Reading, IsAfter, GainsLines}
+use Rattle.mv_files.specs.declared.read.TheConstants.{PIECE}
 use Rattle.mv_files.specs.declared.lines.LinesStop.{LinesStop}
 use Rattle.mv_files.specs.declared.lines.LinesStop.TheVariants.{Failed, Lex}
 use Rattle.mv_files.specs.Pieces.{Passed, Ended, Unsound}
@@ -20,19 +21,21 @@ pub record FedPiece (before after : Option Held) (old new : Reading) (earlier la
   pub ended : more ≡ false → Ended before after
   pub passed : Passed before after piece
   pub stands : (bytes : List ℕ) → IsAfter old bytes → IsAfter new (bytes ++ piece)
-  pub lines : (bytes : List ℕ) → IsAfter old bytes → earlier ≡ complete bytes → later ≡ complete (bytes ++ piece)
+  pub lines : GainsLines old earlier later (λ bytes. complete (bytes ++ piece))
   pub limit : new.limit ≡ old.limit
 
--- a piece was read that has this fault, the first behind all that was before
-pub record FaultyPiece (before after : Option Held) (old : Reading) (fault : LexFault) : Type 0 where
+-- a piece of at most so many bytes was read, in which the lexer stopped: for want of memory, or at this fault, the first
+-- behind all that was before
+pub record StoppedPiece (before after : Option Held) (old : Reading) (most : ℕ) (fault : LexFault) : Type 0 where
   pub piece : List ℕ
+  pub few : length piece ≤ most
   pub passed : Passed before after piece
-  pub told : (bytes : List ℕ) → IsAfter old bytes → first_fault old.limit [] (bytes ++ piece) ≡ Some fault
+  pub told : (bytes : List ℕ) → IsAfter old bytes → (fault ≡ out_of_memory) ⊎ (first_fault old.limit [] (bytes ++ piece) ≡ Some fault)
 
--- why the reading stops at a piece: the count of faults rose from a to b, memory ran out, or the piece has a fault
-abbrev pub PieceCause : Option Held → Option Held → ℕ → ℕ → Reading → LinesStop → Type 0
-PieceCause before after a b old Failed = Rose a b × Unsound before
-PieceCause before after a b old (Lex fault) = (fault ≡ out_of_memory) ⊎ FaultyPiece before after old fault
+-- why the reading stops at a piece: the count of faults rose, or the lexer stopped in it
+abbrev pub PieceCause : Stored → Stored → Reading → ℕ → LinesStop → Type 0
+PieceCause before after old most Failed = Rose before.faults after.faults × Unsound before.held
+PieceCause before after old most (Lex fault) = StoppedPiece before.held after.held old most fault
 
 -- ---- all that is left of the current file
 
@@ -45,13 +48,17 @@ pub record FedAll (before after : Option Held) (now : Reading) (lines : List Lex
   pub lines_are : lines ≡ complete bytes
   pub limit : now.limit ≡ MAX_NETWORK_BYTES
 
--- bytes were read that have this fault first
-pub record FaultyBytes (before after : Option Held) (fault : LexFault) : Type 0 where
-  pub bytes : List ℕ
-  pub passed : Passed before after bytes
-  pub told : first_fault MAX_NETWORK_BYTES [] bytes ≡ Some fault
+-- bytes without a fault were read and one piece behind them, in which the lexer stopped: for want of memory, or at this
+-- fault, the first of them
+pub record StoppedBytes (before after : Option Held) (fault : LexFault) : Type 0 where
+  pub front : List ℕ
+  pub piece : List ℕ
+  pub clear : first_fault MAX_NETWORK_BYTES [] front ≡ None
+  pub few : length piece ≤ PIECE
+  pub passed : Passed before after (front ++ piece)
+  pub told : (fault ≡ out_of_memory) ⊎ (first_fault MAX_NETWORK_BYTES [] (front ++ piece) ≡ Some fault)
 
--- why the reading stops before the end: the count of faults rose from a to b, memory ran out, or the bytes have a fault
-abbrev pub FeedCause : Option Held → Option Held → ℕ → ℕ → LinesStop → Type 0
-FeedCause before after a b Failed = Rose a b × Unsound before
-FeedCause before after a b (Lex fault) = (fault ≡ out_of_memory) ⊎ FaultyBytes before after fault
+-- why the reading stops before the end: the count of faults rose, or the lexer stopped
+abbrev pub FeedCause : Stored → Stored → LinesStop → Type 0
+FeedCause before after Failed = Rose before.faults after.faults × Unsound before.held
+FeedCause before after (Lex fault) = StoppedBytes before.held after.held fault

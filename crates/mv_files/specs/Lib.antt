@@ -1,4 +1,5 @@
 pub mod FileReading
 pub mod LexedFiles
-pub mod LexedPieces
+-- what private functions alone cite
 pub mod Pieces
+pub mod LexedPieces

@@ -1,6 +1,6 @@
--- A file that is read piece by piece.
-use Rattle.std.specs.Prelude.{◌≡◌, ℕ, ◌+◌, ◌<◌, ◌≤◌, Bool, true, false, IsTrue, Option, Some, None, List, [], ◌++◌, length}
-use Rattle.mv_base.specs.Outside.{Held}
+-- A file that is read piece by piece. For private functions.
+use Rattle.std.specs.Prelude.{◌≡◌, ℕ, ◌+◌, ◌<◌, ◌≤◌, Bool, true, false, IsTrue, IfSome, Option, List, [], ◌++◌, length}
+use Rattle.mv_base.specs.Outside.{Held, Still}
 
 -- between two states these bytes of the current file were read
 pub record HasPassed (before after : Held) (bytes : List ℕ) : Type 0 where
@@ -9,22 +9,17 @@ pub record HasPassed (before after : Held) (bytes : List ℕ) : Type 0 where
   pub sound : IsTrue before.sound → IsTrue after.sound
   pub passed : before.rest ≡ bytes ++ after.rest
 
--- the same of files that may tell nothing; what tells before a call tells after it
+-- the same where the files tell of themselves
 abbrev pub Passed : Option Held → Option Held → List ℕ → Type 0
-Passed None after bytes = Unit {0}
-Passed (Some before) None bytes = ⊥
-Passed (Some before) (Some after) bytes = HasPassed before after bytes
+Passed before after bytes = Still before after (λ b a. HasPassed b a bytes)
 
--- nothing of the current file is left
+-- nothing of the current file is left, where the files tell of themselves
 abbrev pub Ended : Option Held → Option Held → Type 0
-Ended None after = Unit {0}
-Ended (Some before) None = ⊥
-Ended (Some before) (Some after) = after.rest ≡ []
+Ended before after = Still before after (λ b a. a.rest ≡ [])
 
 -- the files do not tell that they are sound
 abbrev pub Unsound : Option Held → Type 0
-Unsound None = Unit {0}
-Unsound (Some held) = IsTrue held.sound → ⊥
+Unsound held = IfSome held (λ h. IsTrue h.sound → ⊥)
 
 -- a piece was read behind the bytes: it has a byte, or the file has ended
 pub record GotPiece (before after : Option Held) (old new : List ℕ) (most : ℕ) (more : Bool) : Type 0 where

@@ -3,8 +3,6 @@
 
 mod lines;
 mod read;
-#[cfg(test)]
-mod tests;
 
 pub use lines::{LinesStop, read_lines};
 pub use read::{ReadStop, read_file};

@@ -1,8 +1,9 @@
-ghost use Rattle.std.specs.Prelude.{◌≡◌, ◌<◌, ◌≤◌, [], length, IfOk, OnOk, IfErr};
+ghost use Rattle.std.specs.Prelude.{◌≡◌, ◌<◌, [], length, Err, IfOk, OnOk, IfErr};
 ghost use Rattle.mv_base.specs.declared.limits.TheConstants.{MAX_NETWORK_BYTES as most_bytes};
+ghost use Rattle.mv_lex.specs.declared.fault.LexFault.{LexFault};
 ghost use Rattle.mv_lex.specs.Reading.{IsAfter};
 ghost use Rattle.mv_files.specs.FileReading.{Stay};
-ghost use Rattle.mv_files.specs.LexedFiles.{WasLexed, LinesCause};
+ghost use Rattle.mv_files.specs.LexedFiles.{WasLexed, ReadFront, LinesCause};
 ghost use Rattle.mv_files.specs.LexedPieces.{FedPiece, PieceCause, FedAll, FeedCause};
 
 use crate::read::PIECE;
@@ -27,10 +28,9 @@ fn feed_piece<F: Files>(
     lines: &mut Lines,
 ) -> Result<bool, LinesStop>
     requires { 0 < length room.old }
-    ensures fed { IfOk result (λ more. FedPiece (F.held files.old) (F.held files.new) lexer.old lexer.new lines.old lines.new more) }
-    ensures stay { Stay (F.held files.old) (F.held files.new) }
-    ensures later { F.faults files.old ≤ F.faults files.new }
-    ensures stopped { IfErr result (PieceCause (F.held files.old) (F.held files.new) (F.faults files.old) (F.faults files.new) lexer.old) }
+    ensures fed { IfOk result (λ more. FedPiece (F.state files.old).held (F.state files.new).held lexer.old lexer.new lines.old lines.new more) }
+    ensures stay { Stay (F.state files.old) (F.state files.new) }
+    ensures stopped { IfErr result (PieceCause (F.state files.old) (F.state files.new) lexer.old (length room.old)) }
 {
     let count = match files.next(room) {
         Ok(count) => count,
@@ -47,10 +47,9 @@ fn feed_all<F: Files>(files: &mut F, lexer: &mut Lexer, lines: &mut Lines) -> Re
     requires start { IsAfter lexer.old [] }
     requires limit { lexer.old.limit ≡ most_bytes }
     requires empty { lines.old ≡ [] }
-    ensures fed { OnOk result (FedAll (F.held files.old) (F.held files.new) lexer.new lines.new) }
-    ensures stay { Stay (F.held files.old) (F.held files.new) }
-    ensures later { F.faults files.old ≤ F.faults files.new }
-    ensures stopped { IfErr result (FeedCause (F.held files.old) (F.held files.new) (F.faults files.old) (F.faults files.new)) }
+    ensures fed { OnOk result (FedAll (F.state files.old).held (F.state files.new).held lexer.new lines.new) }
+    ensures stay { Stay (F.state files.old) (F.state files.new) }
+    ensures stopped { IfErr result (FeedCause (F.state files.old) (F.state files.new)) }
 {
     let mut room = [0u8; PIECE];
     for _turn in 0..MAX_NETWORK_BYTES + 1 {
@@ -63,12 +62,13 @@ fn feed_all<F: Files>(files: &mut F, lexer: &mut Lexer, lines: &mut Lines) -> Re
     unreachable!()
 }
 
-/// The lines of a network file. It is lexed while it is read, and the reading stops at its first fault.
+/// The lines of a network file. It is lexed while it is read, and the reading stops at its first fault: no piece is read
+/// behind the one in which that is told, and no more than the limit and one piece.
 pub fn read_lines<F: Files>(alloc: Global, files: &mut F, name: &str) -> Result<Lines, LinesStop>
-    ensures lexed { IfOk result (WasLexed (F.held files.old) (F.held files.new) name.now) }
-    ensures stay { Stay (F.held files.old) (F.held files.new) }
-    ensures later { F.faults files.old ≤ F.faults files.new }
-    ensures stopped { IfErr result (LinesCause (F.held files.old) name.now (F.faults files.old) (F.faults files.new)) }
+    ensures lexed { IfOk result (WasLexed (F.state files.old) (F.state files.new) name.now) }
+    ensures stay { Stay (F.state files.old) (F.state files.new) }
+    ensures stopped { IfErr result (LinesCause (F.state files.old) (F.state files.new) name.now) }
+    ensures in_time { (fault : LexFault) → result ≡ Err (LinesStop.Lex fault) → ReadFront (F.state files.old) (F.state files.new) name.now }
 {
     match files.start(name) {
         Ok(()) => {}

@@ -2,10 +2,9 @@ ghost use Rattle.std.specs.Prelude.{◌≡◌, ◌+◌, ◌<◌, ◌≤◌, ◌^
 ghost use Rattle.mv_base.specs.Outside.{Rose};
 ghost use Rattle.mv_files.specs.FileReading.{Read, Stay, Lacks};
 ghost use Rattle.mv_files.specs.Pieces.{GotPiece, ReadOn, Unsound};
-ghost use Rattle.mv_files.specs.declared.read.ReadStop.TheVariants.{Failed as failed_reading, Memory as short_of_memory};
 
-use mv_base::{Failed, Files};
-use std::alloc::{AllocError, Global};
+use mv_base::Files;
+use std::alloc::Global;
 
 /// How many bytes are asked for at once.
 pub const PIECE: usize = 4_096;
@@ -19,22 +18,6 @@ pub enum ReadStop {
     Memory,
 }
 
-impl From<Failed> for ReadStop {
-    ghost from_gives = { λ _ e. e ≡ failed_reading };
-
-    fn from(_error: Failed) -> ReadStop {
-        ReadStop::Failed
-    }
-}
-
-impl From<AllocError> for ReadStop {
-    ghost from_gives = { λ _ e. e ≡ short_of_memory };
-
-    fn from(_error: AllocError) -> ReadStop {
-        ReadStop::Memory
-    }
-}
-
 /// Puts the next bytes of the file behind those read, and answers whether there were any.
 fn read_piece<F: Files>(
     files: &mut F,
@@ -42,11 +25,10 @@ fn read_piece<F: Files>(
     bytes: &mut Vec<u8>,
 ) -> Result<bool, ReadStop>
     requires { 0 < length room.old }
-    ensures got { IfOk result (λ more. GotPiece (F.held files.old) (F.held files.new) bytes.old.items bytes.new.items (length room.old) more) }
-    ensures stay { Stay (F.held files.old) (F.held files.new) }
-    ensures later { F.faults files.old ≤ F.faults files.new }
-    ensures failed { result ≡ Err ReadStop.Failed → Rose (F.faults files.old) (F.faults files.new) }
-    ensures unsound { result ≡ Err ReadStop.Failed → Unsound (F.held files.old) }
+    ensures got { IfOk result (λ more. GotPiece (F.state files.old).held (F.state files.new).held bytes.old.items bytes.new.items (length room.old) more) }
+    ensures stay { Stay (F.state files.old) (F.state files.new) }
+    ensures failed { result ≡ Err ReadStop.Failed → Rose (F.state files.old).faults (F.state files.new).faults }
+    ensures unsound { result ≡ Err ReadStop.Failed → Unsound (F.state files.old).held }
 {
     let count = match files.next(room) {
         Ok(count) => count,
@@ -62,11 +44,10 @@ fn read_piece<F: Files>(
 fn read_on<F: Files>(files: &mut F, bytes: &mut Vec<u8>, limit: u64) -> Result<(), ReadStop>
     requires small { limit < 2 ^ 32 }
     requires empty { bytes.old.items ≡ [] }
-    ensures ok { OnOk result (ReadOn (F.held files.old) (F.held files.new) limit bytes.new.items) }
-    ensures stay { Stay (F.held files.old) (F.held files.new) }
-    ensures later { F.faults files.old ≤ F.faults files.new }
-    ensures failed { result ≡ Err ReadStop.Failed → Rose (F.faults files.old) (F.faults files.new) }
-    ensures unsound { result ≡ Err ReadStop.Failed → Unsound (F.held files.old) }
+    ensures ok { OnOk result (ReadOn (F.state files.old).held (F.state files.new).held limit bytes.new.items) }
+    ensures stay { Stay (F.state files.old) (F.state files.new) }
+    ensures failed { result ≡ Err ReadStop.Failed → Rose (F.state files.old).faults (F.state files.new).faults }
+    ensures unsound { result ≡ Err ReadStop.Failed → Unsound (F.state files.old).held }
 {
     let mut room = [0u8; PIECE];
     for _turn in 0..limit + 1 {
@@ -91,11 +72,10 @@ pub fn read_file<F: Files>(
     limit: u64,
 ) -> Result<Vec<u8>, ReadStop>
     requires { limit < 2 ^ 32 }
-    ensures read { IfOk result (λ bytes. Read (F.held files.old) (F.held files.new) name.now limit bytes.items) }
-    ensures stay { Stay (F.held files.old) (F.held files.new) }
-    ensures later { F.faults files.old ≤ F.faults files.new }
-    ensures failed { result ≡ Err ReadStop.Failed → Rose (F.faults files.old) (F.faults files.new) }
-    ensures lacks { result ≡ Err ReadStop.Failed → Lacks (F.held files.old) name.now }
+    ensures read { IfOk result (λ bytes. Read (F.state files.old) (F.state files.new) name.now limit bytes.items) }
+    ensures stay { Stay (F.state files.old) (F.state files.new) }
+    ensures failed { result ≡ Err ReadStop.Failed → Rose (F.state files.old).faults (F.state files.new).faults }
+    ensures lacks { result ≡ Err ReadStop.Failed → Lacks (F.state files.old) name.now }
 {
     match files.start(name) {
         Ok(()) => {}

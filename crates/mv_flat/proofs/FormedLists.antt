@@ -10,8 +10,8 @@ use Rattle.mv_net.specs.declared.parts.NetParts.{NetParts}
 use Rattle.mv_net.specs.declared.parts.Kind.{Kind}
 use Rattle.mv_net.specs.declared.parts.Kind.TheVariants.{Input, Table}
 use Rattle.mv_net.specs.Nets.{slot}
-use Rattle.mv_net.specs.Formed.{all_differ, IsKind, IsReadable, AreKind}
-use Rattle.mv_net.specs.Index.{has_id}
+use Rattle.mv_graph.specs.Nets.{all_differ, has_id}
+use Rattle.mv_net.specs.Formed.{IsKind, IsReadable, AreKind}
 use Rattle.mv_model.specs.Nets.{nets_named}
 use Rattle.mv_model.specs.Numbers.{places, net_in, number_in}
 use Rattle.mv_flat.proofs.Numbered.{same_number}

@@ -14,7 +14,7 @@ use Rattle.mv_net.specs.Nets.{slot, net_reads}
 use Rattle.mv_net.specs.Formed.{Acyclic}
 use Rattle.mv_model.specs.Nets.{nets_named}
 use Rattle.mv_model.specs.Numbers.{places, may_mark, mark_name, number_in}
-use Rattle.mv_model.specs.Sound.{table_reads, reads, HasRank}
+use Rattle.mv_model.specs.Sound.{reads_through, reads, HasRank}
 use Rattle.mv_flat.specs.Numbers.{output_of, mark_at}
 use Rattle.mv_model.proofs.Listed.{name_at}
 use Rattle.mv_model.proofs.Distinct.{is_dotted, lawful_undotted}
@@ -53,7 +53,7 @@ mark_rank m net is rank k t e may =
 
 reads_column : (m : FileModel) (k : ℕ) (t : FileTable) (w : List ℕ) → slice_get m.tables k ≡ Some t → length t.outputs ≡ 1 → among w t.inputs ≡ true → reads m (output_of t) w ≡ true
 unfolding reads
-reads_column m k t w e one h = any_passes_from_place (table_reads (output_of t) w) m.tables k t e (and_from _ _ (output_of_among t one) h)
+reads_column m k t w e one h = any_passes_from_place (reads_through (output_of t) w) m.tables k t e (and_from _ _ (output_of_among t one) h)
 
 -- a column is below its table's output, by the rank
 record IsColumnBelow (m : FileModel) (rank : List ℕ → ℕ) (t : FileTable) (n : ℕ) : Type 0 where

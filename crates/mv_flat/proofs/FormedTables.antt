@@ -19,7 +19,7 @@ use Rattle.mv_design.specs.declared.table.Row.{Row}
 use Rattle.mv_rows.specs.declared.column.Column.{Column}
 use Rattle.mv_rows.specs.Covers.{FitOutput, FitOutputs, MarkHas}
 use Rattle.mv_rows.specs.Cubes.{CountBy}
-use Rattle.mv_rows.specs.Flat.{entry_of}
+use Rattle.mv_rows.specs.Flat.{only_entry}
 use Rattle.mv_rows.specs.Lines.{count_at}
 use Rattle.mv_net.specs.declared.parts.FlatNet.{FlatNet}
 use Rattle.mv_net.specs.declared.parts.NetParts.{NetParts}
@@ -108,7 +108,7 @@ fit_entry ds names ins w (Same k) entries fit =
     ap (λ (c : Column). c.count) (get_or-map (column_of ds names) ins k [] (record { net = record { 0 = 0 }; count = 0 }) same.within) ∙ same.counts in
     omega arith
 
-fit_entries : (ds : List Decl) (names ins os : List (List ℕ)) (entries : List Entry) → length os ≡ 1 → FitEntries ds ins os entries → FitOutput (map (column_of ds names) ins) (count_of ds (slice_index_or os 0 [])) (entry_of entries)
+fit_entries : (ds : List Decl) (names ins os : List (List ℕ)) (entries : List Entry) → length os ≡ 1 → FitEntries ds ins os entries → FitOutput (map (column_of ds names) ins) (count_of ds (slice_index_or os 0 [])) (only_entry entries)
 fit_entries ds names ins [] entries one fit = absurd (omega arith)
 fit_entries ds names ins (w ∷ []) [] one fit = absurd fit
 fit_entries ds names ins (w ∷ []) (entry ∷ entries) one fit = fit_entry ds names ins w entry entries fit
@@ -116,7 +116,7 @@ fit_entries ds names ins (w ∷ u ∷ ws) entries one fit = absurd (omega arith)
 
 fits : (ds : List Decl) (names : List (List ℕ)) (t : FileTable) → IsFileTable ds t → FitOutputs (columns_at ds names t) (count_of ds (output_of t)) t
 fits ds names t is = record {
-  rows = All-weaker (IsFileRow ds t) (λ (r : Row). FitOutput (columns_at ds names t) (count_of ds (output_of t)) (entry_of r.outs)) (λ r row. fit_entries ds names t.inputs t.outputs r.outs is.single row.outs) t.rows is.rows;
+  rows = All-weaker (IsFileRow ds t) (λ (r : Row). FitOutput (columns_at ds names t) (count_of ds (output_of t)) (only_entry r.outs)) (λ r row. fit_entries ds names t.inputs t.outputs r.outs is.single row.outs) t.rows is.rows;
   default = λ entries e. fit_entries ds names t.inputs t.outputs entries is.single (is.default entries e);
 }
 

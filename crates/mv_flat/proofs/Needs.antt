@@ -17,7 +17,7 @@ use Rattle.mv_design.specs.declared.table.FileTable.{FileTable}
 use Rattle.mv_rows.specs.declared.column.Column.{Column}
 use Rattle.mv_rows.specs.declared.table.FlatTable.{FlatTable}
 use Rattle.mv_rows.specs.Lines.{OneLine, EachValue, EntryLines}
-use Rattle.mv_rows.specs.Flat.{entry_of, says_nothing, RowsLines, default_left, plain_default, unmarked, FlatBy, FlatOf, IsMade}
+use Rattle.mv_rows.specs.Flat.{only_entry, says_nothing, RowsLines, default_left, plain_default, unmarked, FlatBy, FlatOf, IsMade}
 use Rattle.mv_model.specs.Numbers.{some_silent, default_needs, some_needs, may_mark}
 
 -- some line has no output
@@ -52,8 +52,8 @@ rows_silent : (columns : List Column) (rows : List Row) (lines : List Line) → 
 rows_silent columns [] lines h e = absurd (false≢true (sym (ap some_empty h) ∙ e))
 rows_silent columns (r ∷ rows) lines h e =
     ⊎_elim
-    (λ (y : some_empty h.before ≡ true). or_left _ _ (entry_silent columns r.ins (entry_of r.outs) h.before h.are_before y))
-    (λ (y : some_empty h.here ≡ true). or_right (says_nothing (entry_of r.outs)) _ (rows_silent columns rows h.here h.are_here y))
+    (λ (y : some_empty h.before ≡ true). or_left _ _ (entry_silent columns r.ins (only_entry r.outs) h.before h.are_before y))
+    (λ (y : some_empty h.here ≡ true). or_right (says_nothing (only_entry r.outs)) _ (rows_silent columns rows h.here h.are_here y))
     (or_cases _ _ (joined_empty h.before h.here lines h.joined e))
 
 -- ---- the mark
@@ -76,7 +76,7 @@ left_needs columns mark rows lines entry flat cover false h f m = entry_needs co
 default_needed : (columns : List Column) (mark : NetId) (rows : List Row) (lines : List Line) (default : Option (List Entry)) (flat : FlatTable) (cover : Cover) → RowsLines columns rows lines → FlatOf columns mark lines (default_left default lines) flat → flat.mark ≡ Some cover → some_needs default rows ≡ true
 default_needed columns mark rows lines None flat cover h f m = absurd (no_mark flat lines None cover f m)
 default_needed columns mark rows lines (Some entries) flat cover h f m =
-    left_needs columns mark rows lines (entry_of entries) flat cover (says_nothing (entry_of entries) || some_bare lines) h f m
+    left_needs columns mark rows lines (only_entry entries) flat cover (says_nothing (only_entry entries) || some_bare lines) h f m
 
 pub mark_needed : (columns : List Column) (t : FileTable) (mark : NetId) (flat : FlatTable) (cover : Cover) → IsMade columns t mark flat → flat.mark ≡ Some cover → may_mark t ≡ true
 unfolding may_mark

@@ -21,7 +21,8 @@ use Rattle.mv_model.specs.Numbers.{places, table_places, may_mark, mark_name, nu
 use Rattle.mv_model.specs.Proper.{IsProperModel, IsFileTable}
 use Rattle.mv_flat.specs.Numbers.{output_of, mark_at}
 use Rattle.mv_flat.specs.Built.{file_net, IsBuilt}
-use Rattle.mv_model.proofs.Listed.{get_front, number_at}
+use Rattle.mv_base.proofs.Lists.{get_front}
+use Rattle.mv_model.proofs.Listed.{number_at}
 use Rattle.mv_flat.proofs.Numbered.{number_of_name, mark_number}
 use Rattle.mv_flat.proofs.Blocks.{AreSingle, marks_of, places_of, blocks_size, block_at}
 use Rattle.mv_flat.proofs.Slots.{IsTableAt, table_at}

@@ -15,7 +15,7 @@ use Rattle.mv_net.proofs.Latchless.{no_values, values_from, no_resets, resets_fr
 use Rattle.mv_model.specs.Nets.{count_of, nets_named}
 use Rattle.mv_model.specs.Numbers.{places, net_in, number_in}
 use Rattle.mv_model.specs.Meaning.{table_holds, AllowsModel, of_model}
-use Rattle.mv_model.proofs.Listed.{all_from}
+use Rattle.mv_base.proofs.Lists.{all_from}
 use Rattle.mv_model.proofs.Names.{all_from_among}
 use Rattle.mv_flat.specs.Numbers.{output_of}
 use Rattle.mv_flat.proofs.Places.{IsModelNet, table_of, named_file}

@@ -15,7 +15,7 @@ use Rattle.mv_design.specs.declared.table.FileTable.{FileTable}
 use Rattle.mv_rows.specs.declared.column.Column.{Column}
 use Rattle.mv_rows.specs.Cubes.{IsColumn, AreColumns, CountBy, FitRow}
 use Rattle.mv_rows.specs.Lines.{FitEntry}
-use Rattle.mv_rows.specs.Flat.{entry_of, with_mark, IsRow, IsTable}
+use Rattle.mv_rows.specs.Flat.{only_entry, with_mark, IsRow, IsTable}
 use Rattle.mv_model.specs.Nets.{count_of}
 use Rattle.mv_model.specs.Numbers.{number_in}
 use Rattle.mv_model.specs.Proper.{FitSets, FitOutput, FitOutputs, IsFileDecl, IsFileRow, IsFileTable}
@@ -107,7 +107,7 @@ entry_fits ds names t out (Same k) h = let l = h.within in let e = length-map t.
 -- one entry that fits
 record IsOne (ds : List Decl) (names : List (List ℕ)) (t : FileTable) (entries : List Entry) : Type 0 where
   single : length entries ≡ 1
-  entry : FitEntry (columns_at ds names t) (entry_of entries)
+  entry : FitEntry (columns_at ds names t) (only_entry entries)
 
 one_fits : (ds : List Decl) (names : List (List ℕ)) (t : FileTable) (outs : List (List ℕ)) (entries : List Entry) → length outs ≡ 1 → FitOutputs ds t.inputs outs entries → IsOne ds names t entries
 one_fits ds names t [] entries single h = absurd (omega (arith, single))

@@ -12,7 +12,7 @@ use Rattle.mv_design.specs.declared.design.Decl.{Decl}
 use Rattle.mv_design.specs.declared.design.FileModel.{FileModel}
 use Rattle.mv_design.specs.declared.table.FileTable.{FileTable}
 use Rattle.mv_rows.specs.declared.column.Column.{Column}
-use Rattle.mv_rows.specs.Cubes.{values_at, in_range}
+use Rattle.mv_rows.specs.Cubes.{column_values, in_range}
 use Rattle.mv_rows.specs.Covers.{mark_value, MarkHas}
 use Rattle.mv_rows.specs.Tables.{some_row_matches, table_allows}
 use Rattle.mv_net.specs.declared.parts.FlatNet.{FlatNet}
@@ -33,7 +33,7 @@ pub record Follows (m : FileModel) (at : ℕ → ℕ) (value : List ℕ → ℕ)
   pub each : (w : List ℕ) → among w (nets_named m) ≡ true → value w ≡ at (number_in (places m) w)
   pub range : (w : List ℕ) → among w (nets_named m) ≡ true → nat_lt (at (number_in (places m) w)) (count_of m.decls w) ≡ true
 
-pub values_follow : (m : FileModel) (at : ℕ → ℕ) (value : List ℕ → ℕ) (k : ℕ) (t : FileTable) → Follows m at value → slice_get m.tables k ≡ Some t → values_at at (columns_at m.decls (places m) t) ≡ map value t.inputs
+pub values_follow : (m : FileModel) (at : ℕ → ℕ) (value : List ℕ → ℕ) (k : ℕ) (t : FileTable) → Follows m at value → slice_get m.tables k ≡ Some t → column_values at (columns_at m.decls (places m) t) ≡ map value t.inputs
 values_follow m at value k t f e =
     map_same (column_of m.decls (places m)) (λ (c : Column). at c.net.0) value t.inputs (λ w h. sym (f.each w (table_input_named m k t w e h)))
 
@@ -48,7 +48,7 @@ true_and a b e = ap (λ x. x && b) e
 
 -- the value that tells whether some row matches the columns
 abbrev pub mark_at_columns : FileModel → (ℕ → ℕ) → FileTable → ℕ
-mark_at_columns m at t = mark_value t.rows (values_at at (columns_at m.decls (places m) t))
+mark_at_columns m at t = mark_value t.rows (column_values at (columns_at m.decls (places m) t))
 
 -- it takes its value exactly where the table allows the values of its columns
 pub output_allows : (m : FileModel) (net : NetParts) (is : IsModelNet m net) (at : ℕ → ℕ) (value : List ℕ → ℕ) (k : ℕ) (t : FileTable) (e : slice_get m.tables k ≡ Some t) → Follows m at value → MarkHas (table_of m net is k t e).flat.mark (mark_at (places m) t) at (mark_at_columns m at t) → net_allows (slot net.nets (number_in (places m) (output_of t))) at (at (number_in (places m) (output_of t))) ≡ table_holds value t
@@ -77,21 +77,21 @@ marked_may ds names nets t here c e =
 pub mark_slot : (ds : List Decl) (names : List (List ℕ)) (nets : List (Option FlatNet)) (t : FileTable) (here : IsTableAt ds names nets t) (c : Cover) → here.flat.mark ≡ Some c → slot nets (mark_at names t).0 ≡ made_net here.name c
 mark_slot ds names nets t here c e = here.mark (marked_may ds names nets t here c e) ∙ ap (mark_net here.name) e
 
-mark_allows : (ds : List Decl) (names : List (List ℕ)) (nets : List (Option FlatNet)) (t : FileTable) (here : IsTableAt ds names nets t) (c : Cover) → here.flat.mark ≡ Some c → (at : ℕ → ℕ) → in_range at (columns_at ds names t) ≡ true → net_allows (slot nets (mark_at names t).0) at (at (mark_at names t).0) ≡ (nat_lt (at (mark_at names t).0) 2 && nat_eq (at (mark_at names t).0) (mark_value t.rows (values_at at (columns_at ds names t))))
+mark_allows : (ds : List Decl) (names : List (List ℕ)) (nets : List (Option FlatNet)) (t : FileTable) (here : IsTableAt ds names nets t) (c : Cover) → here.flat.mark ≡ Some c → (at : ℕ → ℕ) → in_range at (columns_at ds names t) ≡ true → net_allows (slot nets (mark_at names t).0) at (at (mark_at names t).0) ≡ (nat_lt (at (mark_at names t).0) 2 && nat_eq (at (mark_at names t).0) (mark_value t.rows (column_values at (columns_at ds names t))))
 mark_allows ds names nets t here c e at range =
     let k : ℕ = (mark_at names t).0 in
     ap (λ s. net_allows s at (at k)) (mark_slot ds names nets t here c e) ∙ ap (λ b. nat_lt (at k) 2 && b) (here.relation.marks c e at range (at k))
 
 -- where the assignment agrees with the nets, a mark has its value
-pub mark_down : (ds : List Decl) (names : List (List ℕ)) (nets : List (Option FlatNet)) (t : FileTable) (here : IsTableAt ds names nets t) (at : ℕ → ℕ) → Agrees nets at → in_range at (columns_at ds names t) ≡ true → MarkHas here.flat.mark (mark_at names t) at (mark_value t.rows (values_at at (columns_at ds names t)))
+pub mark_down : (ds : List Decl) (names : List (List ℕ)) (nets : List (Option FlatNet)) (t : FileTable) (here : IsTableAt ds names nets t) (at : ℕ → ℕ) → Agrees nets at → in_range at (columns_at ds names t) ≡ true → MarkHas here.flat.mark (mark_at names t) at (mark_value t.rows (column_values at (columns_at ds names t)))
 mark_down ds names nets t here at agrees range = by_mark here.flat.mark refl
   where
-    by_mark : (o : Option Cover) → here.flat.mark ≡ o → MarkHas o (mark_at names t) at (mark_value t.rows (values_at at (columns_at ds names t)))
+    by_mark : (o : Option Cover) → here.flat.mark ≡ o → MarkHas o (mark_at names t) at (mark_value t.rows (column_values at (columns_at ds names t)))
     by_mark None e = tt
     by_mark (Some c) e = eqb-true _ _ (and_parts _ _ (sym (mark_allows ds names nets t here c e at range) ∙ agrees.each (mark_at names t).0)).1
 
 -- and where it has its value, the assignment agrees with the mark's net
-pub mark_up : (ds : List Decl) (names : List (List ℕ)) (nets : List (Option FlatNet)) (t : FileTable) (here : IsTableAt ds names nets t) (c : Cover) → here.flat.mark ≡ Some c → (at : ℕ → ℕ) → in_range at (columns_at ds names t) ≡ true → at (mark_at names t).0 ≡ mark_value t.rows (values_at at (columns_at ds names t)) → net_allows (slot nets (mark_at names t).0) at (at (mark_at names t).0) ≡ true
+pub mark_up : (ds : List Decl) (names : List (List ℕ)) (nets : List (Option FlatNet)) (t : FileTable) (here : IsTableAt ds names nets t) (c : Cover) → here.flat.mark ≡ Some c → (at : ℕ → ℕ) → in_range at (columns_at ds names t) ≡ true → at (mark_at names t).0 ≡ mark_value t.rows (column_values at (columns_at ds names t)) → net_allows (slot nets (mark_at names t).0) at (at (mark_at names t).0) ≡ true
 mark_up ds names nets t here c e at range v =
-    let below = mark_below (some_row_matches t.rows (values_at at (columns_at ds names t))) in
+    let below = mark_below (some_row_matches t.rows (column_values at (columns_at ds names t))) in
     mark_allows ds names nets t here c e at range ∙ and_from _ _ (lt-ltb _ 2 (omega (arith, v, below))) (eq-eqb _ _ v)

@@ -11,7 +11,8 @@ use Rattle.mv_cover.specs.declared.cube.Lit.{Lit}
 use Rattle.mv_cover.specs.Cubes.{nets_ascend, IsCube}
 use Rattle.mv_cover.specs.Equal.{lit_eq}
 use Rattle.mv_cover.specs.Keys.{lit_eq-Decides}
-use Rattle.mv_cover.proofs.Meeting.{above, above_tail, ascend_tail}
+use Rattle.mv_cover.proofs.Meeting.{above, above_tail}
+use Rattle.mv_cover.proofs.Walking.{ascend_tail}
 use Rattle.mv_kernels.specs.Symbols.{has_symbol, has_each, without, quotient, SameCubes}
 use Rattle.mv_kernels.specs.Order.{lit_cmp}
 use Rattle.mv_kernels.proofs.Lists.{Contains-map, Contains-from_map, Contains-filter, Contains-from_filter, All-Contains, filter_twice}

@@ -158,8 +158,3 @@ kernel_below cover c kernel d below k b =
       two = b.two;
       free = b.free;
     }
-
--- the cubes of a kernel are cubes
-pub formed_kernel : (cover : List (List Lit)) (c : List Lit) (kernel : List (List Lit)) → All IsCube cover → IsKernelBy cover c kernel → All IsCube kernel
-formed_kernel cover c kernel formed k =
-    All-weaker (Contains kernel) IsCube (λ q i. formed_quotient cover c q formed (to_back kernel (quotient cover c) q k.quotient i)) kernel (All-contains_itself kernel)

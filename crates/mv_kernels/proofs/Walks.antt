@@ -23,7 +23,7 @@ use Rattle.mv_kernels.specs.Keys.{same_kernel, kernel_eq-Decides, kernel_eq-equi
 use Rattle.mv_kernels.proofs.Lists.{insert_all-grows, insert_all-keeps, insert_all-has, insert_all-each}
 use Rattle.mv_kernels.proofs.Orders.{cube_total, same_sorted}
 use Rattle.mv_kernels.proofs.Quotients.{symbol_in, symbol_left, each_at, each_of_left, has_each-append, without-append, without-same, same_row, row_of, row_in, to_back, to_there, same_cubes, SameCubes-trans, SameCubes-sym}
-use Rattle.mv_kernels.proofs.Steps.{all_have_from, two_of, kernel_below, formed_kernel}
+use Rattle.mv_kernels.proofs.Steps.{all_have_from, two_of, kernel_below}
 
 -- ---- what is found when the walk has ended
 
@@ -278,11 +278,6 @@ below_all cover symbols below all by = record {
 kernel_at : (cover : List (List Lit)) (found : List Kernel) (passed n : ℕ) (k : Kernel) → slice_get found n ≡ Some k → Walked cover found passed → IsKernelOf cover k.cubes
 kernel_at cover found passed n k at w =
     subst (λ (x : Kernel). IsKernelOf cover x.cubes) (get_or_from_slice_get found n k k at) (All-get_or (λ (x : Kernel). IsKernelOf cover x.cubes) found n k (slice_get_within found n k at) w.each)
-
-pub formed_at_place : (cover : List (List Lit)) (found : List Kernel) (passed n : ℕ) (k : Kernel) → All IsCube cover → slice_get found n ≡ Some k → Walked cover found passed → All IsCube k.cubes
-formed_at_place cover found passed n k formed at w =
-    let is = kernel_at cover found passed n k at w in
-    formed_kernel cover is.by k.cubes formed is.is
 
 -- behind the next kernel those below it are there too
 pub walked_more : (cover : List (List Lit)) (found : List Kernel) (n : ℕ) (k : Kernel) (below new : List Kernel) → slice_get found n ≡ Some k → AreBelow k.cubes below → new ≡ insert_all kernel_eq found below → Walked cover found n → Walked cover new (n + 1)

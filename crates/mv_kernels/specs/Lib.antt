@@ -1,6 +1,7 @@
 pub mod Symbols
 pub mod Order
 pub mod Kernels
-pub mod Below
 pub mod Equal
 pub mod Keys
+-- what private functions alone cite
+pub mod Below

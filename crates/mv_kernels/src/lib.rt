@@ -11,6 +11,3 @@ mod walk;
 pub use kernel::Kernel;
 pub use stop::KernelStop;
 pub use walk::kernels;
-
-#[cfg(test)]
-mod tests;

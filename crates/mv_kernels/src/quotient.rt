@@ -1,4 +1,4 @@
-ghost use Rattle.std.specs.Prelude.{◌≡◌, IfOk, IfSome, IfNone, All};
+ghost use Rattle.std.specs.Prelude.{◌≡◌, IfOk, IfSome, IfNone, OnOk, All};
 ghost use Rattle.mv_cover.specs.Cubes.{IsCube};
 ghost use Rattle.mv_kernels.specs.Symbols as spec;
 ghost use Rattle.mv_kernels.specs.Below.{IsBelow, HasOneCube};
@@ -13,9 +13,9 @@ use std::alloc::Global;
 /// The kernel that the quotient by these symbols becomes without the symbols that all of its cubes have, or None where it
 /// has fewer than two cubes.
 pub fn kernel_by(alloc: Global, cubes: &[Cube], symbols: &[Lit]) -> Result<Option<Kernel>, Memory>
-    requires { All IsCube cubes.now }
     ensures some { IfOk result (λ found. IfSome found (λ kernel. IsBelow cubes.now symbols.now kernel.cubes)) }
     ensures none { IfOk result (λ found. IfNone found (HasOneCube (spec.quotient cubes.now symbols.now))) }
+    ensures formed { OnOk result (All IsCube cubes.now) }
 {
     let part = quotient(alloc, cubes, symbols)?;
     if part.len() < 2 {
@@ -33,7 +33,8 @@ pub fn kernel_by(alloc: Global, cubes: &[Cube], symbols: &[Lit]) -> Result<Optio
 
 /// The quotient of the cubes by these symbols.
 fn quotient(alloc: Global, cubes: &[Cube], symbols: &[Lit]) -> Result<Vec<Cube>, Memory>
-    ensures { IfOk result (λ part. part.items ≡ spec.quotient cubes.now symbols.now) }
+    ensures part { IfOk result (λ part. part.items ≡ spec.quotient cubes.now symbols.now) }
+    ensures formed { OnOk result (All IsCube cubes.now) }
 {
     let mut part = Vec::new(alloc);
     for cube in cubes {

@@ -27,7 +27,6 @@ pub fn kernels(alloc: Global, cubes: &[Cube]) -> Result<Vec<Kernel>, KernelStop>
     ensures few { IfOk result (λ _. HasFew cubes.now) }
     ensures many { IfErr result (λ stop. stop ≡ KernelStop.TooMany → HasMany cubes.now) }
 {
-    are_formed(cubes);
     let mut found = first(alloc, cubes)?;
     let mut next = 0;
     while let Some(kernel) = found.get_index(next) {
@@ -41,20 +40,11 @@ pub fn kernels(alloc: Global, cubes: &[Cube]) -> Result<Vec<Kernel>, KernelStop>
     Ok(listed(alloc, found)?)
 }
 
-/// The nets of each cube ascend, and no set in it is empty.
-fn are_formed(cubes: &[Cube])
-    ensures { All IsCube cubes.now }
-{
-    for cube in cubes {
-        let _ = cube.lits();
-    }
-}
-
 /// The kernel of the cover itself, unless all of its cubes are equal.
 fn first(alloc: Global, cubes: &[Cube]) -> Result<IndexSet<Kernel>, Memory>
-    requires { All IsCube cubes.now }
     ensures walked { IfOk result (λ found. Walked cubes.now found.keys 0) }
     ensures few { IfOk result (λ found. length found.keys ≤ 1) }
+    ensures formed { OnOk result (All IsCube cubes.now) }
 {
     let mut found = IndexSet::new(alloc);
     if let Some(kernel) = kernel_by(alloc, cubes, &[])? {
@@ -65,7 +55,6 @@ fn first(alloc: Global, cubes: &[Cube]) -> Result<IndexSet<Kernel>, Memory>
 
 /// The kernels to which single symbols lead down from the cubes.
 fn below(alloc: Global, cubes: &[Cube]) -> Result<Vec<Kernel>, Memory>
-    requires { All IsCube cubes.now }
     ensures { IfOk result (λ below. AreBelow cubes.now below.items) }
 {
     let symbols = symbols(alloc, cubes)?;
@@ -74,7 +63,6 @@ fn below(alloc: Global, cubes: &[Cube]) -> Result<Vec<Kernel>, Memory>
 
 /// The kernels to which each of these symbols leads down from the cubes.
 fn below_by(alloc: Global, cubes: &[Cube], symbols: &[Lit]) -> Result<Vec<Kernel>, Memory>
-    requires { All IsCube cubes.now }
     ensures { IfOk result (λ below. AreBelowBy cubes.now symbols.now below.items) }
 {
     let mut below = Vec::new(alloc);

@@ -2,6 +2,7 @@
 use Rattle.std.proofs.Common.{◌≡◌, ℕ, ◌+◌, ◌<◌, ◌⊎◌, Bool, true, false, not, ◌&&◌, ◌||◌, ◌==◌, List, [], ◌∷◌, ◌++◌, length, take, drop, Option, Some, None, if◌then◌else◌, refl, ap, sym, ◌∙◌, subst, arith, append_assoc, length-append, get_or, inl, inr, suc, ⊎_elim}
 use Rattle.std.specs.Prelude.{nat_le}
 use Rattle.std.specs.Option.{option_or}
+use Rattle.std.specs.List.{slice_split}
 use Rattle.std.proofs.lemmas.List.{append-nil, take-append-drop}
 use Rattle.std.proofs.lemmas.List.Concat.{flat_map-append}
 use Rattle.std.proofs.lemmas.Bool.{cases_Bool, cond_both, cond-true, cond-false, and_from, and_left, and_right, and_parts, or_right, or_from, not_from_true, not_from_false, eqb-true, false≢true}
@@ -13,14 +14,14 @@ use Rattle.mv_lex.specs.declared.fault.LexFault.TheVariants.{BadByte, LongWord, 
 use Rattle.mv_lex.specs.declared.parts.Place.{Place}
 use Rattle.mv_lex.specs.declared.parts.Place.TheVariants.{Text, Backslash, Return, Comment}
 use Rattle.mv_lex.specs.Words.{Cut, cut_of, finished, has_long}
-use Rattle.mv_lex.specs.Cuts.{pieces}
-use Rattle.mv_lex.specs.Lines.{is_line_feed, is_hash, has_hash, is_empty, tail_of, certain, joins, text_of, texts, joined, unended, ended_lines, open_line, words_of, line_at, numbered, all_joined, lines_of, complete, is_acceptable, line_number, in_comment, text_before, text_with, ends_with_byte, words_fault, fault_at, first_fault, end_fault}
-use Rattle.mv_lex.specs.Reading.{Reading, IsAfter, HasRead, with_byte, with_bytes, long_with, long_with_bytes, held, is_backslash, settled, long_fault, end_fault_of, text_fault, place_fault, fault_now, text_step, new_line, next_line, place_step, stepped, ends_line, ended, place_end_fault, end_now, place_end_cut, end_cut, place_of_tail, text_behind}
-use Rattle.mv_lex.proofs.Cuts.{closed-end, closed-more, open_piece-end, open_piece-more}
+use Rattle.mv_lex.specs.Lines.{is_line_feed, is_hash, has_hash, is_empty, tail_of, certain, joins, text_of, texts, joined, unended, ended_lines, open_line, words_of, line_at, numbered, all_joined, lines_of, complete, is_acceptable, line_number, in_comment, text_before, open_text, text_with, ends_with_byte, words_fault, fault_at, first_fault, end_fault}
+use Rattle.mv_lex.specs.Reading.{Reading, IsAfter, GainsLines, place_of, place_of_tail, text_behind}
+use Rattle.mv_lex.specs.Steps.{HasRead, with_byte, with_bytes, long_with, long_with_bytes, held, is_backslash, settled, long_fault, end_fault_of, text_fault, place_fault, fault_now, text_step, new_line, next_line, place_step, stepped, ends_line, ended, blank_at, is_comment, end_now, end_cut}
+use Rattle.mv_lex.proofs.Cuts.{split_all, closed-end, closed-more, open_piece-end, open_piece-more}
 use Rattle.mv_lex.proofs.Cutting.{cut_of-append, with_bytes-append}
 use Rattle.mv_lex.proofs.Tails.{held-tail, place_of-clear, place_of-commented, Stands, whole_certain, stands-commented, stands-hash, stands-return, stands-backslash, stands-other, tail-backslash, backslash-tail}
 use Rattle.mv_lex.proofs.Groups.{joined-more, unended-more, joined-end, unended-end, lines_in, lines_in-joined}
-use Rattle.mv_lex.proofs.Longs.{IsKnown, IsKnown-cut, has_long-byte, has_long-bytes, words_fault-end}
+use Rattle.mv_lex.proofs.Longs.{IsKnown, IsKnown-cut, has_long-bytes, has_long-front, words_fault-end}
 
 -- ---- the first fault of two lists
 
@@ -63,28 +64,61 @@ joins-clear line e = rw e refl
 joins-tail : (line : List ℕ) {b : ℕ} {tail : List ℕ} → has_hash line ≡ false → tail_of line ≡ b ∷ tail → joins line ≡ true
 joins-tail line e t = joins-clear line e ∙ ap (λ l. not (is_empty l)) t
 
-pub text-ends : (bytes : List ℕ) → joins (open_line bytes) ≡ false → text_before bytes ++ text_of (open_line bytes) ≡ text_behind bytes
+pub text-ends : (bytes : List ℕ) → joins (open_line bytes) ≡ false → open_text bytes ≡ text_behind bytes
 text-ends bytes e = rw (e, append-nil (certain (open_line bytes))) refl
 
-text-joins : (bytes : List ℕ) → joins (open_line bytes) ≡ true → text_before bytes ++ text_of (open_line bytes) ≡ text_behind bytes ++ 32 ∷ []
+text-joins : (bytes : List ℕ) → joins (open_line bytes) ≡ true → open_text bytes ≡ text_behind bytes ++ 32 ∷ []
 text-joins bytes e = rw e (sym (append_assoc (text_before bytes) (certain (open_line bytes)) (32 ∷ [])))
 
--- the cut of a joined line with the whole open line
-cut-ends : (r : Reading) (bytes : List ℕ) → IsAfter r bytes → joins (open_line bytes) ≡ false → cut_of (text_before bytes ++ text_of (open_line bytes)) ≡ r.cut
+-- what is certain of a line, and the blank for the `\` at its end, is its text
+text_of-place : (line : List ℕ) → text_of line ≡ certain line ++ blank_at (place_of line)
+text_of-place line =
+    ap (λ t. certain line ++ t) (⊎_elim
+    (λ (e : has_hash line ≡ true). rw (joins-commented line e, place_of-commented line e) refl)
+    (λ (e : has_hash line ≡ false). rw (joins-clear line e, place_of-clear line e) (by_tail (tail_of line)))
+    (cases_Bool (has_hash line))) where
+      by_tail : (tail : List ℕ) → (if not (is_empty tail) then 32 ∷ [] else []) ≡ blank_at (place_of_tail tail)
+      by_tail [] = refl
+      by_tail (x ∷ []) = refl
+      by_tail (x ∷ y ∷ tail) = refl
+
+pub open_text-place : (bytes : List ℕ) → open_text bytes ≡ text_behind bytes ++ blank_at (place_of (open_line bytes))
+open_text-place bytes =
+    ap (λ t. text_before bytes ++ t) (text_of-place (open_line bytes))
+    ∙ sym (append_assoc (text_before bytes) (certain (open_line bytes)) (blank_at (place_of (open_line bytes))))
+
+-- the cut of the joined line with the whole open line
+cut-open : (r : Reading) (bytes : List ℕ) → IsAfter r bytes → cut_of (open_text bytes) ≡ with_bytes r.cut (blank_at r.place)
+cut-open r bytes h = cut-gains r bytes _ (blank_at r.place) h (open_text-place bytes ∙ ap (λ p. text_behind bytes ++ blank_at p) (sym h.place))
+
+cut-ends : (r : Reading) (bytes : List ℕ) → IsAfter r bytes → joins (open_line bytes) ≡ false → cut_of (open_text bytes) ≡ r.cut
 cut-ends r bytes h e = ap cut_of (text-ends bytes e) ∙ sym h.cut
 
-cut-joins : (r : Reading) (bytes : List ℕ) → IsAfter r bytes → joins (open_line bytes) ≡ true → cut_of (text_before bytes ++ text_of (open_line bytes)) ≡ with_byte r.cut 32
+cut-joins : (r : Reading) (bytes : List ℕ) → IsAfter r bytes → joins (open_line bytes) ≡ true → cut_of (open_text bytes) ≡ with_byte r.cut 32
 cut-joins r bytes h e = cut-gains r bytes _ (32 ∷ []) h (text-joins bytes e)
 
--- the text with a byte that is no line feed
-text_with-feed : (bytes : List ℕ) (b : ℕ) → is_line_feed b ≡ true → text_with bytes b ≡ text_before bytes ++ text_of (open_line bytes)
-text_with-feed bytes b e = ap (λ t. text_before bytes ++ t) (cond-true (is_line_feed b) _ _ e)
+-- no word is too long, with the blank and without
+short-open : (r : Reading) (bytes : List ℕ) → IsAfter r bytes → has_long false (with_bytes r.cut (blank_at r.place)) ≡ false
+short-open r bytes h = sym (ap (has_long false) (cut-open r bytes h)) ∙ h.short
 
-text_with-other : (bytes more : List ℕ) (b : ℕ) (place : Place) → is_line_feed b ≡ false → Stands (open_line bytes ++ b ∷ []) (certain (open_line bytes) ++ more) place → text_with bytes b ≡ text_behind bytes ++ more
-text_with-other bytes more b place e s =
-    ap (λ t. text_before bytes ++ t) (cond-false (is_line_feed b) _ _ e ∙ s.text_is) ∙ sym (append_assoc (text_before bytes) (certain (open_line bytes)) more)
+short-cut : (r : Reading) (bytes : List ℕ) → IsAfter r bytes → has_long false r.cut ≡ false
+short-cut r bytes h = has_long-front r.cut (blank_at r.place) (known r bytes h) (short-open r bytes h)
 
--- ---- what a byte adds to the text, outside a comment
+-- the text with a byte
+pub text_with-feed : (bytes : List ℕ) (b : ℕ) → is_line_feed b ≡ true → text_with bytes b ≡ open_text bytes
+text_with-feed bytes b e = ap open_text (cond-true (is_line_feed b) _ _ e)
+
+pub text_with-other : (bytes : List ℕ) (b : ℕ) → is_line_feed b ≡ false → text_with bytes b ≡ open_text (bytes ++ b ∷ [])
+text_with-other bytes b n = ap open_text (cond-false (is_line_feed b) _ _ n)
+
+-- a byte that is no line feed goes to the open line
+text_behind-more : (bytes : List ℕ) (b : ℕ) → is_line_feed b ≡ false → text_behind (bytes ++ b ∷ []) ≡ text_before bytes ++ certain (open_line bytes ++ b ∷ [])
+text_behind-more bytes b n = rw (closed-more is_line_feed bytes b n, open_piece-more is_line_feed bytes b n) refl
+
+-- ---- what a byte adds to the text
+
+hash-return : (b : ℕ) → (b == 13) ≡ true → is_hash b ≡ false
+hash-return b e = let P : ℕ → Type 0 = λ n. is_hash n ≡ false in subst P (sym (eqb-true b 13 e)) refl
 
 -- the bytes that it adds, and where the next byte stands
 pub record Adds (bytes : List ℕ) (b : ℕ) (more : List ℕ) (place : Place) : Type 0 where
@@ -107,24 +141,73 @@ adds-other bytes b e h n other =
     let whole : certain (open_line bytes) ++ (tail_of (open_line bytes) ++ b ∷ []) ≡ open_line bytes ++ b ∷ [] = sym (append_assoc (certain (open_line bytes)) (tail_of (open_line bytes)) (b ∷ [])) ∙ ap (λ l. l ++ b ∷ []) (whole_certain (open_line bytes) e) in
     record { stands = standing _ _ _ Text (sym whole) (stands-other (open_line bytes) b e h n other) }
 
+pub adds-comment : (bytes : List ℕ) (b : ℕ) → in_comment bytes ≡ true → Adds bytes b [] Comment
+adds-comment bytes b e = record { stands = standing _ _ _ Comment (sym (append-nil (certain (open_line bytes)))) (stands-commented (open_line bytes) b e) }
+
+-- the text with it
+pub text-adds : (bytes more : List ℕ) (b : ℕ) (place : Place) → is_line_feed b ≡ false → Adds bytes b more place → text_behind (bytes ++ b ∷ []) ≡ text_behind bytes ++ more
+text-adds bytes more b place n a =
+    text_behind-more bytes b n ∙ (ap (λ t. text_before bytes ++ t) a.stands.text_is ∙ sym (append_assoc (text_before bytes) (certain (open_line bytes)) more))
+
+pub open_text-adds : (bytes more : List ℕ) (b : ℕ) (place : Place) → is_line_feed b ≡ false → Adds bytes b more place → open_text (bytes ++ b ∷ []) ≡ text_behind bytes ++ (more ++ blank_at place)
+open_text-adds bytes more b place n a =
+    open_text-place (bytes ++ b ∷ [])
+    ∙ (ap (λ l. text_behind (bytes ++ b ∷ []) ++ blank_at (place_of l)) (open_piece-more is_line_feed bytes b n)
+    ∙ (ap (λ p. text_behind (bytes ++ b ∷ []) ++ blank_at p) a.stands.place_is
+    ∙ (ap (λ t. t ++ blank_at place) (text-adds bytes more b place n a) ∙ append_assoc (text_behind bytes) more (blank_at place))))
+
+-- a byte of a comment adds nothing
+pub text-comment : (bytes : List ℕ) (b : ℕ) → in_comment bytes ≡ true → is_line_feed b ≡ false → text_behind (bytes ++ b ∷ []) ≡ text_behind bytes
+text-comment bytes b e n = text-adds bytes [] b Comment n (adds-comment bytes b e) ∙ append-nil (text_behind bytes)
+
+pub open_text-comment : (bytes : List ℕ) (b : ℕ) → in_comment bytes ≡ true → is_line_feed b ≡ false → open_text (bytes ++ b ∷ []) ≡ open_text bytes
+open_text-comment bytes b e n =
+    open_text-adds bytes [] b Comment n (adds-comment bytes b e) ∙ (append-nil (text_behind bytes) ∙ sym (text-ends bytes (joins-commented (open_line bytes) e)))
+
+-- a `#` settles what was held back
+pub open_text-hash : (bytes : List ℕ) (b : ℕ) → in_comment bytes ≡ false → is_line_feed b ≡ false → is_hash b ≡ true → open_text (bytes ++ b ∷ []) ≡ text_behind bytes ++ tail_of (open_line bytes)
+open_text-hash bytes b e n hash =
+    open_text-adds bytes (tail_of (open_line bytes)) b Comment n (adds-hash bytes b e hash) ∙ ap (λ bs. text_behind bytes ++ bs) (append-nil (tail_of (open_line bytes)))
+
+-- a carriage return behind a `\` settles nothing
+pub open_text-return : (bytes : List ℕ) (b : ℕ) → in_comment bytes ≡ false → is_line_feed b ≡ false → (b == 13) ≡ true → tail_of (open_line bytes) ≡ 92 ∷ [] → open_text (bytes ++ b ∷ []) ≡ text_behind bytes ++ 32 ∷ []
+open_text-return bytes b e n returns there = open_text-adds bytes [] b Return n (adds-return bytes b e (hash-return b returns) returns there)
+
+-- any other byte settles it, and is added, or the blank for a `\`
+pub open_text-solid : (bytes : List ℕ) (b : ℕ) → in_comment bytes ≡ false → is_line_feed b ≡ false → is_hash b ≡ false → ((b == 13) ≡ true → tail_of (open_line bytes) ≡ 92 ∷ [] → ⊥) → open_text (bytes ++ b ∷ []) ≡ text_behind bytes ++ (tail_of (open_line bytes) ++ (if b == 92 then 32 else b) ∷ [])
+open_text-solid bytes b e n clear alone =
+    let tail = tail_of (open_line bytes) in
+    let behind : ℕ → List ℕ = λ x. text_behind bytes ++ (tail ++ x ∷ []) in
+    ⊎_elim
+    (λ (back : (b == 92) ≡ true). open_text-adds bytes tail b Backslash n (adds-backslash bytes b e clear back) ∙ ap behind (sym (cond-true (b == 92) 32 b back)))
+    (λ (other : (b == 92) ≡ false). (
+    open_text-adds bytes (tail ++ b ∷ []) b Text n (adds-other bytes b e clear other alone)
+    ∙ (ap (λ bs. text_behind bytes ++ bs) (append-nil (tail ++ b ∷ [])) ∙ ap behind (sym (cond-false (b == 92) 32 b other)))
+    ))
+    (cases_Bool (b == 92))
+
 -- ---- the fault of a byte
 
-ends-other : (bytes : List ℕ) (b : ℕ) → is_line_feed b ≡ false → ends_with_byte bytes b ≡ is_hash b
+pub ends-other : (bytes : List ℕ) (b : ℕ) → is_line_feed b ≡ false → ends_with_byte bytes b ≡ is_hash b
 ends-other bytes b e = rw e (or-false (is_hash b))
 
 hash-feed : (b : ℕ) → is_line_feed b ≡ true → is_hash b ≡ false
 hash-feed b e = let P : ℕ → Type 0 = λ n. is_hash n ≡ false in subst P (sym (eqb-true b 10 e)) refl
 
-hash-return : (b : ℕ) → (b == 13) ≡ true → is_hash b ≡ false
-hash-return b e = let P : ℕ → Type 0 = λ n. is_hash n ≡ false in subst P (sym (eqb-true b 13 e)) refl
+-- a line feed ends the joined line, or joins the next line to it
+pub feed_ends : (bytes : List ℕ) (b : ℕ) → is_line_feed b ≡ true → joins (open_line bytes) ≡ false → ends_with_byte bytes b ≡ true
+feed_ends bytes b f stops = or_right (is_hash b) (is_line_feed b && not (joins (open_line bytes))) (and_from (is_line_feed b) (not (joins (open_line bytes))) f (not_from_false (joins (open_line bytes)) stops))
 
-acceptable-feed : (b : ℕ) → is_line_feed b ≡ true → is_acceptable b ≡ true
+pub feed_goes : (bytes : List ℕ) (b : ℕ) → is_line_feed b ≡ true → joins (open_line bytes) ≡ true → ends_with_byte bytes b ≡ false
+feed_goes bytes b f goes = or_from (is_hash b) (is_line_feed b && not (joins (open_line bytes))) (hash-feed b f) (and_right (is_line_feed b) (not (joins (open_line bytes))) (not_from_true (joins (open_line bytes)) goes))
+
+pub acceptable-feed : (b : ℕ) → is_line_feed b ≡ true → is_acceptable b ≡ true
 acceptable-feed b e = let P : ℕ → Type 0 = λ n. is_acceptable n ≡ true in subst P (sym (eqb-true b 10 e)) refl
 
 -- a byte of a text that is no line feed: the words tell the fault, cut with what it adds
-fault-text : (r : Reading) (bytes more : List ℕ) (b : ℕ) (place : Place) → IsAfter r bytes → is_line_feed b ≡ false → Adds bytes b more place → words_fault (line_number bytes) (ends_with_byte bytes b) (cut_of (text_with bytes b)) ≡ words_fault r.here (is_hash b) (with_bytes r.cut more)
-fault-text r bytes more b place h n a =
-    rw (ends-other bytes b n, cut-gains r bytes (text_with bytes b) more h (text_with-other bytes more b place n a.stands), ← h.here) refl
+fault-text : (r : Reading) (bytes more : List ℕ) (b : ℕ) → IsAfter r bytes → is_line_feed b ≡ false → open_text (bytes ++ b ∷ []) ≡ text_behind bytes ++ more → words_fault (line_number bytes) (ends_with_byte bytes b) (cut_of (text_with bytes b)) ≡ words_fault r.here (is_hash b) (with_bytes r.cut more)
+fault-text r bytes more b h n adds =
+    rw (ends-other bytes b n, cut-gains r bytes (text_with bytes b) more h (text_with-other bytes b n ∙ adds), ← h.here) refl
 
 -- the long words of what was held back and of one more byte
 long_with_bytes-push : (cut : Cut) (bs : List ℕ) (b : ℕ) → long_with_bytes cut (bs ++ b ∷ []) ≡ (long_with_bytes cut bs || long_with (with_bytes cut bs) b)
@@ -142,7 +225,7 @@ unfolding text_fault settled
 text_fault-words r bytes b h e n =
     let tail = tail_of (open_line bytes) in
     let holds = held-clear r bytes h e in
-    let long : (more : List ℕ) → has_long false (with_bytes r.cut more) ≡ long_with_bytes r.cut more = λ more. has_long-bytes r.cut more (known r bytes h) h.short in
+    let long : (more : List ℕ) → has_long false (with_bytes r.cut more) ≡ long_with_bytes r.cut more = λ more. has_long-bytes r.cut more (known r bytes h) (short-cut r bytes h) in
     ⊎_elim
     (λ (bad : not (is_acceptable b) ≡ true). cond-true (not (is_acceptable b)) _ _ bad ∙ (ap (λ l. Some (BadByte l b)) (sym h.here) ∙ sym (cond-true (not (is_acceptable b)) _ _ bad)))
     (λ (good : not (is_acceptable b) ≡ false). cond-false (not (is_acceptable b)) _ _ good ∙ (⊎_elim
@@ -150,35 +233,30 @@ text_fault-words r bytes b h e n =
     let both = and_parts (b == 13) (is_backslash r.place) returns in
     let there = tail-backslash (open_line bytes) (ap is_backslash (sym (place-clear r bytes h e)) ∙ both.1) in
     let clear = hash-return b both.0 in
-    fault-text r bytes [] b Return h n (adds-return bytes b e clear both.0 there) ∙ (rw clear (ap (long_fault r.here) (long [])) ∙ sym (cond-true ((b == 13) && is_backslash r.place) _ _ returns))
+    let stopped : has_long false (with_byte r.cut 32) ≡ false = sym (ap (λ p. has_long false (with_bytes r.cut (blank_at p))) (place-clear r bytes h e ∙ ap place_of_tail there)) ∙ short-open r bytes h in
+    fault-text r bytes (32 ∷ []) b h n (open_text-return bytes b e n both.0 there)
+    ∙ (ap (λ t. words_fault r.here t (with_byte r.cut 32)) clear
+    ∙ (cond-false (has_long false (with_byte r.cut 32)) _ _ stopped ∙ sym (cond-true ((b == 13) && is_backslash r.place) _ _ returns)))
     ))
     (λ (goes : ((b == 13) && is_backslash r.place) ≡ false). ⊎_elim
     (λ (hash : is_hash b ≡ true). (
-    fault-text r bytes tail b Comment h n (adds-hash bytes b e hash)
+    fault-text r bytes tail b h n (open_text-hash bytes b e n hash)
     ∙ (ap (λ t. words_fault r.here t (with_bytes r.cut tail)) hash
     ∙ (words_fault-end r.here (with_bytes r.cut tail)
     ∙ (ap (λ t. if t then Some (LongWord r.here) else end_fault_of r.here (with_bytes r.cut tail)) (long tail)
     ∙ (ap (λ bs. if long_with_bytes r.cut bs then Some (LongWord r.here) else end_fault_of r.here (with_bytes r.cut bs)) (sym holds)
     ∙ sym (cond-false ((b == 13) && is_backslash r.place) _ _ goes ∙ ap (λ f. if long_with_bytes r.cut (held r.place) then Some (LongWord r.here) else f) (cond-true (is_hash b) _ _ hash))))))
     ))
-    (λ (clear : is_hash b ≡ false). ⊎_elim
-    (λ (back : (b == 92) ≡ true). (
-    fault-text r bytes tail b Backslash h n (adds-backslash bytes b e clear back)
-    ∙ (ap (λ t. words_fault r.here t (with_bytes r.cut tail)) clear
-    ∙ (ap (long_fault r.here) (long tail)
-    ∙ (ap (λ bs. long_fault r.here (long_with_bytes r.cut bs)) (sym holds)
-    ∙ sym (cond-false ((b == 13) && is_backslash r.place) _ _ goes ∙ ap (λ f. if long_with_bytes r.cut (held r.place) then Some (LongWord r.here) else f) (cond-false (is_hash b) _ _ clear ∙ cond-true (b == 92) _ _ back)))))
-    ))
-    (λ (other : (b == 92) ≡ false). (
+    (λ (clear : is_hash b ≡ false). (
+    let x : ℕ = if b == 92 then 32 else b in
     let alone = λ (c : (b == 13) ≡ true) (t : tail_of (open_line bytes) ≡ 92 ∷ []). false≢true (sym goes ∙ and_from (b == 13) (is_backslash r.place) c (ap is_backslash (place-clear r bytes h e) ∙ backslash-tail (open_line bytes) t)) in
-    fault-text r bytes (tail ++ b ∷ []) b Text h n (adds-other bytes b e clear other alone)
-    ∙ (ap (λ t. words_fault r.here t (with_bytes r.cut (tail ++ b ∷ []))) clear
-    ∙ (ap (long_fault r.here) (long (tail ++ b ∷ []) ∙ long_with_bytes-push r.cut tail b)
-    ∙ (ap (λ bs. long_fault r.here (long_with_bytes r.cut bs || long_with (with_bytes r.cut bs) b)) (sym holds)
-    ∙ (long_fault-or r.here (long_with_bytes r.cut (held r.place)) (long_with (with_bytes r.cut (held r.place)) b)
-    ∙ sym (cond-false ((b == 13) && is_backslash r.place) _ _ goes ∙ ap (λ f. if long_with_bytes r.cut (held r.place) then Some (LongWord r.here) else f) (cond-false (is_hash b) _ _ clear ∙ cond-false (b == 92) _ _ other))))))
+    fault-text r bytes (tail ++ x ∷ []) b h n (open_text-solid bytes b e n clear alone)
+    ∙ (ap (λ t. words_fault r.here t (with_bytes r.cut (tail ++ x ∷ []))) clear
+    ∙ (ap (long_fault r.here) (long (tail ++ x ∷ []) ∙ long_with_bytes-push r.cut tail x)
+    ∙ (ap (λ bs. long_fault r.here (long_with_bytes r.cut bs || long_with (with_bytes r.cut bs) x)) (sym holds)
+    ∙ (long_fault-or r.here (long_with_bytes r.cut (held r.place)) (long_with (with_bytes r.cut (held r.place)) x)
+    ∙ sym (cond-false ((b == 13) && is_backslash r.place) _ _ goes ∙ ap (λ f. if long_with_bytes r.cut (held r.place) then Some (LongWord r.here) else f) (cond-false (is_hash b) _ _ clear))))))
     ))
-    (cases_Bool (b == 92)))
     (cases_Bool (is_hash b)))
     (cases_Bool ((b == 13) && is_backslash r.place)) ∙ sym (cond-false (not (is_acceptable b)) _ _ good)))
     (cases_Bool (not (is_acceptable b)))
@@ -192,16 +270,14 @@ fault_at-now r bytes b h =
       within t l m x y e f = rw (e, f) refl
 
       -- a line feed that ends the joined line, or joins the next one to it
-      feed_ends : (r : Reading) (bytes : List ℕ) (b : ℕ) → IsAfter r bytes → in_comment bytes ≡ false → is_line_feed b ≡ true → tail_of (open_line bytes) ≡ [] → words_fault (line_number bytes) (ends_with_byte bytes b) (cut_of (text_with bytes b)) ≡ end_fault_of r.here r.cut
-      feed_ends r bytes b h e f none =
+      at_end : (r : Reading) (bytes : List ℕ) (b : ℕ) → IsAfter r bytes → in_comment bytes ≡ false → is_line_feed b ≡ true → tail_of (open_line bytes) ≡ [] → words_fault (line_number bytes) (ends_with_byte bytes b) (cut_of (text_with bytes b)) ≡ end_fault_of r.here r.cut
+      at_end r bytes b h e f none =
           let stops : joins (open_line bytes) ≡ false = joins-clear (open_line bytes) e ∙ ap (λ t. not (is_empty t)) none in
-          let ends : ends_with_byte bytes b ≡ true = or_right (is_hash b) (is_line_feed b && not (joins (open_line bytes))) (and_from (is_line_feed b) (not (joins (open_line bytes))) f (not_from_false (joins (open_line bytes)) stops)) in
-          rw (ends, text_with-feed bytes b f, cut-ends r bytes h stops, ← h.here) (words_fault-end r.here r.cut ∙ cond-false (has_long false r.cut) _ _ h.short)
+          rw (feed_ends bytes b f stops, text_with-feed bytes b f, cut-ends r bytes h stops, ← h.here) (words_fault-end r.here r.cut ∙ cond-false (has_long false r.cut) _ _ (short-cut r bytes h))
 
-      feed_joins : (r : Reading) (bytes : List ℕ) (b : ℕ) → IsAfter r bytes → in_comment bytes ≡ false → is_line_feed b ≡ true → joins (open_line bytes) ≡ true → words_fault (line_number bytes) (ends_with_byte bytes b) (cut_of (text_with bytes b)) ≡ long_fault r.here (long_with r.cut 32)
-      feed_joins r bytes b h e f goes =
-          let ends : ends_with_byte bytes b ≡ false = or_from (is_hash b) (is_line_feed b && not (joins (open_line bytes))) (hash-feed b f) (and_right (is_line_feed b) (not (joins (open_line bytes))) (not_from_true (joins (open_line bytes)) goes)) in
-          rw (ends, text_with-feed bytes b f, cut-joins r bytes h goes, ← h.here) (ap (long_fault r.here) (has_long-byte r.cut 32 (known r bytes h) h.short))
+      at_join : (r : Reading) (bytes : List ℕ) (b : ℕ) → IsAfter r bytes → in_comment bytes ≡ false → is_line_feed b ≡ true → joins (open_line bytes) ≡ true → words_fault (line_number bytes) (ends_with_byte bytes b) (cut_of (text_with bytes b)) ≡ None
+      at_join r bytes b h e f goes =
+          rw (feed_goes bytes b f goes, text_with-feed bytes b f) (cond-false (has_long false (cut_of (open_text bytes))) _ _ h.short)
 
       -- the fault at a line feed is this one
       at_feed : (r : Reading) (bytes : List ℕ) (b : ℕ) (x : Option LexFault) → IsAfter r bytes → in_comment bytes ≡ false → (is_line_feed b ≡ true → words_fault (line_number bytes) (ends_with_byte bytes b) (cut_of (text_with bytes b)) ≡ x) → (if not (is_acceptable b) then Some (BadByte (line_number bytes) b) else words_fault (line_number bytes) (ends_with_byte bytes b) (cut_of (text_with bytes b))) ≡ (if is_line_feed b then x else text_fault r b)
@@ -213,9 +289,9 @@ fault_at-now r bytes b h =
 
       -- by what stands at the end of the open line
       by_tail : (r : Reading) (bytes : List ℕ) (b : ℕ) (tail : List ℕ) → IsAfter r bytes → in_comment bytes ≡ false → tail_of (open_line bytes) ≡ tail → (if not (is_acceptable b) then Some (BadByte (line_number bytes) b) else words_fault (line_number bytes) (ends_with_byte bytes b) (cut_of (text_with bytes b))) ≡ place_fault r (place_of_tail tail) b
-      by_tail r bytes b [] h e t = at_feed r bytes b (end_fault_of r.here r.cut) h e (λ f. feed_ends r bytes b h e f t)
-      by_tail r bytes b (x ∷ []) h e t = at_feed r bytes b (long_fault r.here (long_with r.cut 32)) h e (λ f. feed_joins r bytes b h e f (joins-tail (open_line bytes) e t))
-      by_tail r bytes b (x ∷ y ∷ tail) h e t = at_feed r bytes b (long_fault r.here (long_with r.cut 32)) h e (λ f. feed_joins r bytes b h e f (joins-tail (open_line bytes) e t))
+      by_tail r bytes b [] h e t = at_feed r bytes b (end_fault_of r.here r.cut) h e (λ f. at_end r bytes b h e f t)
+      by_tail r bytes b (x ∷ []) h e t = at_feed r bytes b None h e (λ f. at_join r bytes b h e f (joins-tail (open_line bytes) e t))
+      by_tail r bytes b (x ∷ y ∷ tail) h e t = at_feed r bytes b None h e (λ f. at_join r bytes b h e f (joins-tail (open_line bytes) e t))
 
       fault_in_place : (r : Reading) (bytes : List ℕ) (b : ℕ) → IsAfter r bytes → (if in_comment bytes then None else (if not (is_acceptable b) then Some (BadByte (line_number bytes) b) else words_fault (line_number bytes) (ends_with_byte bytes b) (cut_of (text_with bytes b)))) ≡ place_fault r r.place b
       fault_in_place r bytes b h =
@@ -234,7 +310,7 @@ pub none_else : {A : Type 0} (t : Bool) (x : A) (o : Option A) → (if t then So
 none_else true x o e = cc
 none_else false x o e = (refl, e)
 
-short_words : (line : ℕ) (ended : Bool) (cut : Cut) → words_fault line ended cut ≡ None → has_long false cut ≡ false
+pub short_words : (line : ℕ) (ended : Bool) (cut : Cut) → words_fault line ended cut ≡ None → has_long false cut ≡ false
 short_words line true cut e = (none_else (has_long false cut) (LongWord line) (end_fault_of line cut) (sym (words_fault-end line cut) ∙ e)).0
 short_words line false cut e = (none_else (has_long false cut) (LongWord line) None e).0
 
@@ -249,17 +325,16 @@ short_with r bytes b h e none =
     short_words (line_number bytes) (ends_with_byte bytes b) (cut_of (text_with bytes b)) good
 
 -- behind a byte that is no line feed
-after_byte : (r : Reading) (bytes more : List ℕ) (b : ℕ) (place : Place) → IsAfter r bytes → fault_now r b ≡ None → is_line_feed b ≡ false → Adds bytes b more place → has_long false (with_bytes r.cut more) ≡ false → IsAfter (record r { size = r.size + 1; place = place; cut = with_bytes r.cut more }) (bytes ++ b ∷ [])
+after_byte : (r : Reading) (bytes more : List ℕ) (b : ℕ) (place : Place) → IsAfter r bytes → fault_now r b ≡ None → is_line_feed b ≡ false → Adds bytes b more place → has_long false (cut_of (open_text (bytes ++ b ∷ []))) ≡ false → IsAfter (record r { size = r.size + 1; place = place; cut = with_bytes r.cut more }) (bytes ++ b ∷ [])
 after_byte r bytes more b place h none n a short =
     let lines = closed-more is_line_feed bytes b n in
     let line = open_piece-more is_line_feed bytes b n in
-    let text : text_behind (bytes ++ b ∷ []) ≡ text_with bytes b = rw (lines, line) (ap (λ t. text_before bytes ++ t) (sym (cond-false (is_line_feed b) _ _ n))) in
     record {
       size = rw (h.size, length-append bytes (b ∷ [])) refl;
       here = rw (h.here, lines) refl;
       start = rw lines h.start;
       place = rw line (sym a.stands.place_is);
-      cut = sym (ap cut_of text ∙ cut-gains r bytes (text_with bytes b) more h (text_with-other bytes more b place n a.stands));
+      cut = sym (cut-gains r bytes (text_behind (bytes ++ b ∷ [])) more h (text-adds bytes more b place n a));
       short = short;
       accepted = first_fault-stepped r bytes b h none;
       going = h.going;
@@ -267,8 +342,7 @@ after_byte r bytes more b place h none n a short =
 
 after_text : (r : Reading) (bytes more : List ℕ) (b : ℕ) (place : Place) → IsAfter r bytes → fault_now r b ≡ None → is_line_feed b ≡ false → in_comment bytes ≡ false → Adds bytes b more place → IsAfter (record r { size = r.size + 1; place = place; cut = with_bytes r.cut more }) (bytes ++ b ∷ [])
 after_text r bytes more b place h none n e a =
-    let same = cut-gains r bytes (text_with bytes b) more h (text_with-other bytes more b place n a.stands) in
-    after_byte r bytes more b place h none n a (sym (ap (has_long false) same) ∙ short_with r bytes b h e none)
+    after_byte r bytes more b place h none n a (sym (ap (λ t. has_long false (cut_of t)) (text_with-other bytes b n)) ∙ short_with r bytes b h e none)
 
 -- in a text: by what the byte is
 IsAfter-text : (r : Reading) (bytes : List ℕ) (b : ℕ) → IsAfter r bytes → fault_now r b ≡ None → is_line_feed b ≡ false → in_comment bytes ≡ false → IsAfter (text_step r b) (bytes ++ b ∷ [])
@@ -299,6 +373,23 @@ IsAfter-text r bytes b h none n e =
 nothing_open : (bytes : List ℕ) (b : ℕ) → is_line_feed b ≡ true → text_behind (bytes ++ b ∷ []) ≡ texts (unended (ended_lines bytes ++ open_line bytes ∷ []))
 nothing_open bytes b f = rw (closed-end is_line_feed bytes b f, open_piece-end is_line_feed bytes b f) (append-nil (texts (unended (ended_lines bytes ++ open_line bytes ∷ []))))
 
+nothing_more : (bytes : List ℕ) (b : ℕ) → is_line_feed b ≡ true → open_text (bytes ++ b ∷ []) ≡ text_behind (bytes ++ b ∷ [])
+nothing_more bytes b f = rw (open_piece-end is_line_feed bytes b f) refl
+
+pub texts-push : (lines : List (List ℕ)) (line : List ℕ) → texts (lines ++ line ∷ []) ≡ texts lines ++ text_of line
+texts-push lines line = flat_map-append text_of lines (line ∷ []) ∙ ap (λ t. texts lines ++ t) (append-nil (text_of line))
+
+text_behind-next : (bytes : List ℕ) (b : ℕ) → is_line_feed b ≡ true → joins (open_line bytes) ≡ true → text_behind (bytes ++ b ∷ []) ≡ open_text bytes
+text_behind-next bytes b f goes =
+    nothing_open bytes b f ∙ (ap texts (unended-more (ended_lines bytes) (open_line bytes) goes) ∙ texts-push (unended (ended_lines bytes)) (open_line bytes))
+
+-- the text goes on behind one that joins the next line, and begins anew behind any other
+pub open_text-next : (bytes : List ℕ) (b : ℕ) → is_line_feed b ≡ true → joins (open_line bytes) ≡ true → open_text (bytes ++ b ∷ []) ≡ open_text bytes
+open_text-next bytes b f goes = nothing_more bytes b f ∙ text_behind-next bytes b f goes
+
+pub open_text-new : (bytes : List ℕ) (b : ℕ) → is_line_feed b ≡ true → joins (open_line bytes) ≡ false → open_text (bytes ++ b ∷ []) ≡ []
+open_text-new bytes b f stops = nothing_more bytes b f ∙ (nothing_open bytes b f ∙ ap texts (unended-end (ended_lines bytes) (open_line bytes) stops))
+
 -- that ends the joined line
 IsAfter-new : (r : Reading) (bytes : List ℕ) (b : ℕ) → IsAfter r bytes → fault_now r b ≡ None → is_line_feed b ≡ true → joins (open_line bytes) ≡ false → IsAfter (new_line r) (bytes ++ b ∷ [])
 unfolding cut_of
@@ -311,7 +402,7 @@ IsAfter-new r bytes b h none f stops =
       start = rw (lines, ends) (omega arith);
       place = rw (open_piece-end is_line_feed bytes b f) refl;
       cut = sym (ap cut_of (nothing_open bytes b f ∙ ap texts ends));
-      short = refl;
+      short = ap (λ t. has_long false (cut_of t)) (open_text-new bytes b f stops);
       accepted = first_fault-stepped r bytes b h none;
       going = h.going;
     }
@@ -322,20 +413,16 @@ IsAfter-next r bytes b h none f e goes =
     let lines = closed-end is_line_feed bytes b f in
     let more = unended-more (ended_lines bytes) (open_line bytes) goes in
     let longer = length-append (unended (ended_lines bytes)) (open_line bytes ∷ []) in
-    let text : text_behind (bytes ++ b ∷ []) ≡ text_before bytes ++ text_of (open_line bytes) = nothing_open bytes b f ∙ (ap texts more ∙ (flat_map-append text_of (unended (ended_lines bytes)) (open_line bytes ∷ []) ∙ ap (λ t. text_before bytes ++ t) (append-nil (text_of (open_line bytes))))) in
     record {
       size = rw (h.size, length-append bytes (b ∷ [])) refl;
       here = rw (h.here, lines, length-append (ended_lines bytes) (open_line bytes ∷ [])) refl;
       start = rw (lines, more) (omega (arith, h.start, longer));
       place = rw (open_piece-end is_line_feed bytes b f) refl;
-      cut = sym (ap cut_of text ∙ cut-joins r bytes h goes);
-      short = sym (ap (has_long false) (ap cut_of (text_with-feed bytes b f) ∙ cut-joins r bytes h goes)) ∙ short_with r bytes b h e none;
+      cut = sym (ap cut_of (text_behind-next bytes b f goes) ∙ cut-joins r bytes h goes);
+      short = ap (λ t. has_long false (cut_of t)) (open_text-next bytes b f goes) ∙ h.short;
       accepted = first_fault-stepped r bytes b h none;
       going = h.going;
     }
-
-adds-comment : (bytes : List ℕ) (b : ℕ) → in_comment bytes ≡ true → Adds bytes b [] Comment
-adds-comment bytes b e = record { stands = standing _ _ _ Comment (sym (append-nil (certain (open_line bytes)))) (stands-commented (open_line bytes) b e) }
 
 after_comment : (r : Reading) (bytes : List ℕ) (b : ℕ) → IsAfter r bytes → fault_now r b ≡ None → in_comment bytes ≡ true → IsAfter (place_step r Comment b) (bytes ++ b ∷ [])
 after_comment r bytes b h none e =
@@ -343,7 +430,10 @@ after_comment r bytes b h none e =
     let Q : Place → Type 0 = λ q. P (record r { size = r.size + 1; place = q }) in
     cond_both (is_line_feed b) _ _ P
     (λ f. IsAfter-new r bytes b h none f (joins-commented (open_line bytes) e))
-    (λ n. subst Q (sym (place-commented r bytes h e)) (after_byte r bytes [] b Comment h none n (adds-comment bytes b e) h.short))
+    (λ n. (
+    let short = ap (λ t. has_long false (cut_of t)) (open_text-comment bytes b e n) ∙ h.short in
+    subst Q (sym (place-commented r bytes h e)) (after_byte r bytes [] b Comment h none n (adds-comment bytes b e) short)
+    ))
 
 -- behind a `\`, and behind a carriage return after it
 after_joining : (r : Reading) (bytes : List ℕ) (b : ℕ) → IsAfter r bytes → fault_now r b ≡ None → in_comment bytes ≡ false → joins (open_line bytes) ≡ true → IsAfter (if is_line_feed b then next_line r else text_step r b) (bytes ++ b ∷ [])
@@ -383,11 +473,8 @@ start_is r bytes h =
     let all = lines_in-joined (ended_lines bytes) in
     omega (arith, h.start, h.here)
 
-pub texts-push : (lines : List (List ℕ)) (line : List ℕ) → texts (lines ++ line ∷ []) ≡ texts lines ++ text_of line
-texts-push lines line = flat_map-append text_of lines (line ∷ []) ∙ ap (λ t. texts lines ++ t) (append-nil (text_of line))
-
 -- one more joined line, which the open one ends
-numbered-push : (r : Reading) (bytes : List ℕ) (cut : Cut) → IsAfter r bytes → cut_of (text_before bytes ++ text_of (open_line bytes)) ≡ cut → numbered 1 (joined (ended_lines bytes) ++ (unended (ended_lines bytes) ++ open_line bytes ∷ []) ∷ []) ≡ complete bytes ++ line_at r.start (finished cut)
+numbered-push : (r : Reading) (bytes : List ℕ) (cut : Cut) → IsAfter r bytes → cut_of (open_text bytes) ≡ cut → numbered 1 (joined (ended_lines bytes) ++ (unended (ended_lines bytes) ++ open_line bytes ∷ []) ∷ []) ≡ complete bytes ++ line_at r.start (finished cut)
 unfolding complete
 numbered-push r bytes cut h e =
     numbered-append 1 (joined (ended_lines bytes)) ((unended (ended_lines bytes) ++ open_line bytes ∷ []) ∷ [])
@@ -436,18 +523,18 @@ complete-stepped r bytes b h =
     (cases_Bool (is_line_feed b))
 
 -- at the end of the bytes the open line ends the last joined one
-lines_of-cut : (r : Reading) (bytes : List ℕ) (cut : Cut) → IsAfter r bytes → cut_of (text_before bytes ++ text_of (open_line bytes)) ≡ cut → lines_of bytes ≡ complete bytes ++ line_at r.start (finished cut)
+lines_of-cut : (r : Reading) (bytes : List ℕ) (cut : Cut) → IsAfter r bytes → cut_of (open_text bytes) ≡ cut → lines_of bytes ≡ complete bytes ++ line_at r.start (finished cut)
 unfolding lines_of cut_of
 lines_of-cut r bytes cut h e =
     let line = open_line bytes in
     let lines = ended_lines bytes in
     ⊎_elim
     (λ (goes : joins line ≡ true). (
-    let all : all_joined (pieces is_line_feed bytes) ≡ joined lines ++ (unended lines ++ line ∷ []) ∷ [] = rw (joined-more lines line goes, unended-more lines line goes) refl in
+    let all : all_joined (slice_split is_line_feed bytes) ≡ joined lines ++ (unended lines ++ line ∷ []) ∷ [] = ap all_joined (split_all is_line_feed bytes) ∙ rw (joined-more lines line goes, unended-more lines line goes) refl in
     ap (numbered 1) all ∙ numbered-push r bytes cut h e
     ))
     (λ (stops : joins line ≡ false). (
-    let all : all_joined (pieces is_line_feed bytes) ≡ (joined lines ++ (unended lines ++ line ∷ []) ∷ []) ++ [] ∷ [] = rw (joined-end lines line stops, unended-end lines line stops) refl in
+    let all : all_joined (slice_split is_line_feed bytes) ≡ (joined lines ++ (unended lines ++ line ∷ []) ∷ []) ++ [] ∷ [] = ap all_joined (split_all is_line_feed bytes) ∙ rw (joined-end lines line stops, unended-end lines line stops) refl in
     let groups = joined lines ++ (unended lines ++ line ∷ []) ∷ [] in
     ap (numbered 1) all ∙ (numbered-append 1 groups ([] ∷ []) ∙ (append-nil (numbered 1 groups) ∙ numbered-push r bytes cut h e))
     ))
@@ -455,13 +542,18 @@ lines_of-cut r bytes cut h e =
 
 -- ---- a piece of bytes
 
--- nothing read yet
+-- no lines are gained where no byte is read
+gains_nothing : (r : Reading) (lines : List LexLine) (piece : List ℕ) → piece ≡ [] → GainsLines r lines lines (λ bytes. complete (bytes ++ piece))
+gains_nothing r lines piece e = record {
+  gained = [];
+  added = sym (append-nil lines);
+  adds_up = λ bytes h. rw (e, append-nil bytes) (sym (append-nil (complete bytes)));
+}
+
 pub HasRead-start : (r : Reading) (lines : List LexLine) (piece : List ℕ) → piece ≡ [] → HasRead r r lines lines piece
 HasRead-start r lines piece e = record {
   after = λ bytes h. rw (e, append-nil bytes) h;
-  more = [];
-  added = sym (append-nil lines);
-  closes = λ bytes h. rw (e, append-nil bytes) (sym (append-nil (complete bytes)));
+  lines = gains_nothing r lines piece e;
   limit = refl;
 }
 
@@ -481,20 +573,35 @@ limit-stepped : (r : Reading) (b : ℕ) → (stepped r b).limit ≡ r.limit
 unfolding stepped
 limit-stepped r b = limit-place r r.place b
 
--- one more byte read
-pub HasRead-more : (start now next : Reading) (before later last : List LexLine) (piece longer : List ℕ) (b : ℕ) → HasRead start now before later piece → longer ≡ piece ++ b ∷ [] → fault_now now b ≡ None → next ≡ stepped now b → last ≡ later ++ ended now b → HasRead start next before last longer
-HasRead-more start now next before later last piece longer b h e none n l = record {
-  after = λ bytes k. rw (n, e, ← append_assoc bytes piece (b ∷ [])) (IsAfter-stepped now (bytes ++ piece) b (h.after bytes k) none);
-  more = h.more ++ ended now b;
-  added = rw (l, h.added) (append_assoc before h.more (ended now b));
-  closes = λ bytes k. rw (e, ← append_assoc bytes piece (b ∷ []), complete-stepped now (bytes ++ piece) b (h.after bytes k), h.closes bytes k) (append_assoc (complete bytes) h.more (ended now b));
-  limit = rw n (limit-stepped now b ∙ h.limit);
+-- one byte read
+gains_ended : (r : Reading) (before later : List LexLine) (b : ℕ) → later ≡ before ++ ended r b → GainsLines r before later (λ bytes. complete (bytes ++ b ∷ []))
+gains_ended r before later b l = record { gained = ended r b; added = l; adds_up = λ bytes h. complete-stepped r bytes b h }
+
+pub HasRead-byte : (r next : Reading) (before later : List LexLine) (b : ℕ) → fault_now r b ≡ None → next ≡ stepped r b → later ≡ before ++ ended r b → HasRead r next before later (b ∷ [])
+HasRead-byte r next before later b none n l = record {
+  after = λ bytes h. rw n (IsAfter-stepped r bytes b h none);
+  lines = gains_ended r before later b l;
+  limit = rw n (limit-stepped r b);
 }
 
--- the lines then are all those that have ended
-pub lines_read : (start now : Reading) (before later : List LexLine) (piece bytes : List ℕ) (earlier : List LexLine) → HasRead start now before later piece → IsAfter start bytes → before ≡ earlier ++ complete bytes → later ≡ earlier ++ complete (bytes ++ piece)
-lines_read start now before later piece bytes earlier h k e =
-    rw (h.added, e, h.closes bytes k) (append_assoc earlier (complete bytes) h.more)
+-- behind lines that were complete all of these then stand
+pub gained_all : (r : Reading) (before after : List LexLine) (all : List ℕ → List LexLine) (bytes : List ℕ) → GainsLines r before after all → IsAfter r bytes → before ≡ complete bytes → after ≡ all bytes
+gained_all r before after all bytes g h e = g.added ∙ (ap (λ ls. ls ++ g.gained) e ∙ sym (g.adds_up bytes h))
+
+-- one piece read behind another: the gains add up
+gains_append : (r s : Reading) (x y z : List LexLine) (front back : List ℕ) → ((bytes : List ℕ) → IsAfter r bytes → IsAfter s (bytes ++ front)) → GainsLines r x y (λ bytes. complete (bytes ++ front)) → GainsLines s y z (λ bytes. complete (bytes ++ back)) → GainsLines r x z (λ bytes. complete (bytes ++ (front ++ back)))
+gains_append r s x y z front back after g k = record {
+  gained = g.gained ++ k.gained;
+  added = rw (k.added, g.added) (append_assoc x g.gained k.gained);
+  adds_up = λ bytes h. rw (← append_assoc bytes front back, k.adds_up (bytes ++ front) (after bytes h), g.adds_up bytes h) (append_assoc (complete bytes) g.gained k.gained);
+}
+
+pub HasRead-append : (a b c : Reading) (x y z : List LexLine) (front back : List ℕ) → HasRead a b x y front → HasRead b c y z back → HasRead a c x z (front ++ back)
+HasRead-append a b c x y z front back h k = record {
+  after = λ bytes s. rw (← append_assoc bytes front back) (k.after (bytes ++ front) (h.after bytes s));
+  lines = gains_append a b x y z front back h.after h.lines k.lines;
+  limit = k.limit ∙ h.limit;
+}
 
 -- the fault of the byte that comes is the first of all
 pub first_fault-met : (start now : Reading) (before later : List LexLine) (piece bytes : List ℕ) (i : ℕ) (f : LexFault) → HasRead start now before later (take i piece) → i < length piece → IsAfter start bytes → (f ≡ Memory) ⊎ (fault_now now (get_or piece i 0) ≡ Some f) → (f ≡ Memory) ⊎ (first_fault start.limit [] (bytes ++ piece) ≡ Some f)
@@ -509,48 +616,35 @@ first_fault-met start now before later piece bytes i f h below k (inr some) =
 
 -- ---- the end of the bytes
 
--- it is that of the words with the open line, outside a comment
-end_fault-cut : (r : Reading) (bytes : List ℕ) (cut : Cut) → IsAfter r bytes → in_comment bytes ≡ false → cut_of (text_before bytes ++ text_of (open_line bytes)) ≡ cut → end_fault bytes ≡ (if has_long false cut then Some (LongWord r.here) else end_fault_of r.here cut)
-unfolding end_fault
-end_fault-cut r bytes cut h e c =
-    cond-false (in_comment bytes) _ _ e ∙ (ap (λ l. words_fault l true (cut_of (text_before bytes ++ text_of (open_line bytes)))) (sym h.here) ∙ (ap (words_fault r.here true) c ∙ words_fault-end r.here cut))
+-- the lexer keeps whether the next byte stands in a comment
+comment_is : (r : Reading) (bytes : List ℕ) → IsAfter r bytes → is_comment r.place ≡ in_comment bytes
+comment_is r bytes h =
+    ⊎_elim
+    (λ (e : in_comment bytes ≡ true). ap is_comment (place-commented r bytes h e) ∙ sym e)
+    (λ (e : in_comment bytes ≡ false). ap is_comment (place-clear r bytes h e) ∙ (by_tail (tail_of (open_line bytes)) ∙ sym e))
+    (cases_Bool (in_comment bytes)) where
+      by_tail : (tail : List ℕ) → is_comment (place_of_tail tail) ≡ false
+      by_tail [] = refl
+      by_tail (x ∷ []) = refl
+      by_tail (x ∷ y ∷ tail) = refl
 
--- the state tells the end of the bytes, by where the next byte would stand
-module _ (r : Reading) (bytes : List ℕ) (h : IsAfter r bytes) where
-  end_commented : in_comment bytes ≡ true → (end_fault bytes ≡ place_end_fault r Comment) × (lines_of bytes ≡ complete bytes ++ line_at r.start (finished (place_end_cut r Comment)))
-  unfolding end_fault
-  end_commented e = (cond-true (in_comment bytes) _ _ e, lines_of-cut r bytes r.cut h (cut-ends r bytes h (joins-commented (open_line bytes) e)))
-
-  end_stops : in_comment bytes ≡ false → joins (open_line bytes) ≡ false → (end_fault bytes ≡ place_end_fault r Text) × (lines_of bytes ≡ complete bytes ++ line_at r.start (finished (place_end_cut r Text)))
-  end_stops e stops =
-      let c = cut-ends r bytes h stops in
-      (end_fault-cut r bytes r.cut h e c ∙ cond-false (has_long false r.cut) _ _ h.short, lines_of-cut r bytes r.cut h c)
-
-  end_goes : in_comment bytes ≡ false → joins (open_line bytes) ≡ true → (end_fault bytes ≡ place_end_fault r Backslash) × (lines_of bytes ≡ complete bytes ++ line_at r.start (finished (place_end_cut r Backslash)))
-  end_goes e goes =
-      let c = cut-joins r bytes h goes in
-      (end_fault-cut r bytes (with_byte r.cut 32) h e c ∙ ap (λ t. if t then Some (LongWord r.here) else end_fault_of r.here (with_byte r.cut 32)) (has_long-byte r.cut 32 (known r bytes h) h.short), lines_of-cut r bytes (with_byte r.cut 32) h c)
-
-  end_tail : (tail : List ℕ) → in_comment bytes ≡ false → tail_of (open_line bytes) ≡ tail → (end_fault bytes ≡ place_end_fault r (place_of_tail tail)) × (lines_of bytes ≡ complete bytes ++ line_at r.start (finished (place_end_cut r (place_of_tail tail))))
-  end_tail [] e t = end_stops e (joins-clear (open_line bytes) e ∙ ap (λ l. not (is_empty l)) t)
-  end_tail (x ∷ []) e t = end_goes e (joins-tail (open_line bytes) e t)
-  end_tail (x ∷ y ∷ tail) e t = end_goes e (joins-tail (open_line bytes) e t)
-
-  end_both : (end_fault bytes ≡ end_now r) × (lines_of bytes ≡ complete bytes ++ line_at r.start (finished (end_cut r)))
-  unfolding end_now end_cut
-  end_both =
-      let P : Place → Type 0 = λ p. (end_fault bytes ≡ place_end_fault r p) × (lines_of bytes ≡ complete bytes ++ line_at r.start (finished (place_end_cut r p))) in
-      ⊎_elim
-      (λ (e : in_comment bytes ≡ true). subst P (sym (place-commented r bytes h e)) (end_commented e))
-      (λ (e : in_comment bytes ≡ false). subst P (sym (place-clear r bytes h e)) (end_tail (tail_of (open_line bytes)) e refl))
-      (cases_Bool (in_comment bytes))
-
+-- the fault at the end is that of the words with the open line
 pub end_fault-now : (r : Reading) (bytes : List ℕ) → IsAfter r bytes → end_fault bytes ≡ end_now r
-end_fault-now r bytes h = (end_both r bytes h).0
+unfolding end_fault end_now
+end_fault-now r bytes h =
+    let cut : Cut = with_bytes r.cut (blank_at r.place) in
+    ap (λ t. if t then None else words_fault (line_number bytes) true (cut_of (open_text bytes))) (sym (comment_is r bytes h))
+    ∙ ap (λ f. if is_comment r.place then None else f) (ap (words_fault (line_number bytes) true) (cut-open r bytes h)
+    ∙ (words_fault-end (line_number bytes) cut
+    ∙ (cond-false (has_long false cut) _ _ (short-open r bytes h) ∙ ap (λ l. end_fault_of l cut) (sym h.here))))
 
 -- what the end adds to the lines that had ended gives all lines
-pub finished_lines : (r : Reading) (bytes : List ℕ) (earlier before later : List LexLine) → IsAfter r bytes → before ≡ earlier ++ complete bytes → later ≡ before ++ line_at r.start (finished (end_cut r)) → later ≡ earlier ++ lines_of bytes
-finished_lines r bytes earlier before later h e l =
-    rw (l, e, (end_both r bytes h).1) (append_assoc earlier (complete bytes) (line_at r.start (finished (end_cut r))))
+pub finished_lines : (r : Reading) (before later : List LexLine) → later ≡ before ++ line_at r.start (finished (end_cut r)) → GainsLines r before later lines_of
+unfolding end_cut
+finished_lines r before later e = record {
+  gained = line_at r.start (finished (with_bytes r.cut (blank_at r.place)));
+  added = e;
+  adds_up = λ bytes h. lines_of-cut r bytes (with_bytes r.cut (blank_at r.place)) h (cut-open r bytes h);
+}
 
 pub ruleset finishing = (end_fault-now, finished_lines)

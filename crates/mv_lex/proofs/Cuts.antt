@@ -1,12 +1,26 @@
--- A list cut at its ends: what one more item at the end does, and the piece up to the first end.
-use Rattle.std.proofs.Common.{◌≡◌, Bool, true, false, not, List, [], ◌∷◌, ◌++◌, if◌then◌else◌, refl, ap, ◌∙◌}
-use Rattle.std.specs.List.{list_all}
+-- A list cut at its ends: all parts, what one more item at the end does, and the part up to the first end.
+use Rattle.std.proofs.Common.{◌≡◌, Bool, true, false, not, List, [], ◌∷◌, ◌++◌, if◌then◌else◌, refl, ap, ◌∙◌, cond}
+use Rattle.std.specs.List.{list_all, slice_split, onto_first}
 use Rattle.std.proofs.lemmas.Bool.{and_parts, not-true}
-use Rattle.mv_lex.specs.Cuts.{onto, closed, with_front, open_piece, pieces}
+use Rattle.std.proofs.lemmas.List.Splits.{slice_split-cons_yes, slice_split-cons_no}
+use Rattle.mv_lex.specs.Cuts.{onto, closed, with_front, open_piece}
 
 onto-append : {A : Type 0} (b : A) (front : List (List A)) (last : List A) → onto b (front ++ last ∷ []) ≡ onto b front ++ with_front front b last ∷ []
 onto-append b [] last = refl
 onto-append b (piece ∷ front) last = refl
+
+onto_first-append : {A : Type 0} (b : A) (front : List (List A)) (last : List A) → onto_first b (front ++ last ∷ []) ≡ onto b front ++ with_front front b last ∷ []
+onto_first-append b [] last = refl
+onto_first-append b (piece ∷ front) last = refl
+
+-- all parts are the closed pieces and the open one
+pub split_all : {A : Type 0} (p : A → Bool) (xs : List A) → slice_split p xs ≡ closed p xs ++ open_piece p xs ∷ []
+split_all p [] = refl
+split_all p (x ∷ xs) =
+    elim (p x) as (λ t. cond t ([] ∷ slice_split p xs) (onto_first x (slice_split p xs)) ≡ (if t then [] ∷ closed p xs else onto x (closed p xs)) ++ (if t then open_piece p xs else with_front (closed p xs) x (open_piece p xs)) ∷ []) [
+      | true ↦ ap (λ ps. [] ∷ ps) (split_all p xs)
+      | false ↦ ap (onto_first x) (split_all p xs) ∙ onto_first-append x (closed p xs) (open_piece p xs)
+    ]
 
 with_front-append : {A : Type 0} (front : List (List A)) (b : A) (last piece : List A) → with_front (front ++ last ∷ []) b piece ≡ piece
 with_front-append [] b last piece = refl
@@ -53,23 +67,12 @@ open_piece-more p (x ∷ xs) b h =
 abbrev pub has_none : {A : Type 0} → (A → Bool) → List A → Bool
 has_none p xs = list_all (λ x. not (p x)) xs
 
--- the piece up to the first end
-pub closed-first : {A : Type 0} (p : A → Bool) (w : List A) (b : A) (rest : List A) → has_none p w ≡ true → p b ≡ true → closed p (w ++ b ∷ rest) ≡ w ∷ closed p rest
-closed-first p [] b rest none h = rw h refl
-closed-first p (x ∷ w) b rest none h =
+-- the part up to the first end
+pub split-first : {A : Type 0} (p : A → Bool) (w : List A) (b : A) (rest : List A) → has_none p w ≡ true → p b ≡ true → slice_split p (w ++ b ∷ rest) ≡ w ∷ slice_split p rest
+split-first p [] b rest none h = slice_split-cons_yes p b rest h
+split-first p (x ∷ w) b rest none h =
     let both = and_parts (not (p x)) (has_none p w) none in
-    rw (not-true (p x) both.0) (ap (λ ps. onto x ps) (closed-first p w b rest both.1 h))
-
--- the open piece does not reach over an end
-pub open_piece-first : {A : Type 0} (p : A → Bool) (w : List A) (b : A) (rest : List A) → has_none p w ≡ true → p b ≡ true → open_piece p (w ++ b ∷ rest) ≡ open_piece p rest
-open_piece-first p [] b rest none h = rw h refl
-open_piece-first p (x ∷ w) b rest none h =
-    let both = and_parts (not (p x)) (has_none p w) none in
-    rw (not-true (p x) both.0, closed-first p w b rest both.1 h) (open_piece-first p w b rest both.1 h)
-
-pub pieces-first : {A : Type 0} (p : A → Bool) (w : List A) (b : A) (rest : List A) → has_none p w ≡ true → p b ≡ true → pieces p (w ++ b ∷ rest) ≡ w ∷ pieces p rest
-pieces-first p w b rest none h =
-    rw (closed-first p w b rest none h, open_piece-first p w b rest none h) refl
+    slice_split-cons_no p x (w ++ b ∷ rest) (not-true (p x) both.0) ∙ ap (onto_first x) (split-first p w b rest both.1 h)
 
 -- without an end all of it is one open piece
 pub closed-none : {A : Type 0} (p : A → Bool) (w : List A) → has_none p w ≡ true → closed p w ≡ []

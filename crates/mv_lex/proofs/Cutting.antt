@@ -5,7 +5,7 @@ use Rattle.std.proofs.lemmas.List.{append-nil}
 use Rattle.mv_lex.specs.declared.parts.Kind.{Kind}
 use Rattle.mv_lex.specs.declared.parts.Kind.TheVariants.{Start, Plain, Bracketed}
 use Rattle.mv_lex.specs.Words.{is_blank, is_solid, is_bang, opens, closer, front, behind, Cut, no_words, with_word, bracketed_behind, plain_behind, first_word, cut_words, cut_of, nonempty}
-use Rattle.mv_lex.specs.Reading.{ended_word, with_byte, with_bytes}
+use Rattle.mv_lex.specs.Steps.{ended_word, with_byte, with_bytes}
 
 abbrev pub cut_at : List (List ℕ) → List ℕ → Kind → Cut
 cut_at words word kind = record { words = words; word = word; kind = kind }

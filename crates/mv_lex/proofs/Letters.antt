@@ -11,10 +11,11 @@ use Rattle.mv_lex.specs.declared.lines.LexLine.{LexLine}
 use Rattle.mv_lex.specs.declared.fault.LexFault.{LexFault}
 use Rattle.mv_lex.specs.declared.fault.LexFault.TheVariants.{LongWord, Memory}
 use Rattle.mv_lex.specs.Words.{is_blank}
-use Rattle.mv_lex.specs.Lines.{is_line_feed, is_hash, is_acceptable, complete, first_fault}
-use Rattle.mv_lex.specs.Reading.{Reading, HasRead, is_letter, TakesLetters, with_letters, with_byte, long_with, kind_long, held, is_backslash, settled, IsAfter, with_bytes, long_with_bytes, long_fault, end_fault_of, ends_line, text_fault, place_fault, fault_now, text_step, place_step, stepped, ended}
+use Rattle.mv_lex.specs.Lines.{is_line_feed, is_hash, is_acceptable, first_fault}
+use Rattle.mv_lex.specs.Reading.{Reading, IsAfter}
+use Rattle.mv_lex.specs.Steps.{HasRead, is_letter, TakesLetters, with_letters, with_byte, long_with, kind_long, held, is_backslash, settled, with_bytes, long_with_bytes, long_fault, end_fault_of, ends_line, text_fault, place_fault, fault_now, text_step, place_step, stepped, ended}
 use Rattle.mv_lex.proofs.Cutting.{cut_at, plain-solid}
-use Rattle.mv_lex.proofs.After.{HasRead-start, HasRead-more, first_fault-met}
+use Rattle.mv_lex.proofs.After.{HasRead-start, HasRead-byte, HasRead-append, first_fault-met}
 
 -- what a letter isn't
 record IsLetter (b : ℕ) : Type 0 where
@@ -70,9 +71,9 @@ module _ (r : Reading) (b : ℕ) (more : List ℕ) (h : TakesLetters r (b ∷ mo
       ∙ (cond-false (is_line_feed b) _ _ is.feed
       ∙ (cond-false (not (is_acceptable b)) _ _ (not_from_true (is_acceptable b) is.acceptable)
       ∙ (cond-false ((b == 13) && is_backslash r.place) _ _ no_backslash
-      ∙ (ap (λ p. if long_with_bytes r.cut (held p) then Some (LongWord r.here) else (if is_hash b then end_fault_of r.here (settled r) else (if b == 92 then None else long_fault r.here (long_with (settled r) b)))) h.place
+      ∙ (ap (λ p. if long_with_bytes r.cut (held p) then Some (LongWord r.here) else (if is_hash b then end_fault_of r.here (settled r) else long_fault r.here (long_with (settled r) (if b == 92 then 32 else b)))) h.place
       ∙ (cond-false (is_hash b) _ _ is.hash
-      ∙ (cond-false (b == 92) _ _ is.backslash
+      ∙ (ap (λ x. long_fault r.here (long_with (settled r) x)) (cond-false (b == 92) 32 b is.backslash)
       ∙ (ap (λ c. long_fault r.here (long_with c b)) settled-same ∙ ap (long_fault r.here) long_letter))))))))
 
   letter_step : stepped r b ≡ with_letters r (b ∷ [])
@@ -103,20 +104,6 @@ module _ (r : Reading) (b : ℕ) (more : List ℕ) (h : TakesLetters r (b ∷ mo
 
 -- ---- a piece
 
--- one piece read behind another
-pub HasRead-append : (a b c : Reading) (x y z : List LexLine) (front back : List ℕ) → HasRead a b x y front → HasRead b c y z back → HasRead a c x z (front ++ back)
-HasRead-append a b c x y z front back h k = record {
-  after = λ bytes s. rw (← append_assoc bytes front back) (k.after (bytes ++ front) (h.after bytes s));
-  more = h.more ++ k.more;
-  added = rw (k.added, h.added) (append_assoc x h.more k.more);
-  closes = λ bytes s. rw (← append_assoc bytes front back, k.closes (bytes ++ front) (h.after bytes s), h.closes bytes s) (append_assoc (complete bytes) h.more k.more);
-  limit = k.limit ∙ h.limit;
-}
-
--- one byte
-byte_read : (r next : Reading) (before later : List LexLine) (b : ℕ) → fault_now r b ≡ None → next ≡ stepped r b → later ≡ before ++ ended r b → HasRead r next before later (b ∷ [])
-byte_read r next before later b none n l = HasRead-more r r next before before later [] (b ∷ []) b (HasRead-start r before [] refl) refl none n l
-
 -- many letters
 pub letters_read : (r : Reading) (lines : List LexLine) (letters : List ℕ) → TakesLetters r letters → HasRead r (with_letters r letters) lines lines letters
 letters_read r lines [] h =
@@ -125,7 +112,7 @@ letters_read r lines [] h =
       add_nothing : (n : ℕ) → n ≡ n + 0
       add_nothing n = omega arith
 letters_read r lines (b ∷ more) h =
-    let one = byte_read r (with_letters r (b ∷ [])) lines lines b (letter_fault r b more h) (sym (letter_step r b more h)) (sym (ap (λ e. lines ++ e) (letter_ended r b more h) ∙ append-nil lines)) in
+    let one = HasRead-byte r (with_letters r (b ∷ [])) lines lines b (letter_fault r b more h) (sym (letter_step r b more h)) (sym (ap (λ e. lines ++ e) (letter_ended r b more h) ∙ append-nil lines)) in
     let rest = letters_read (with_letters r (b ∷ [])) lines more (more_letters r b more h) in
     let size : (r.size + 1) + length more ≡ r.size + length (b ∷ more) = omega arith in
     let same : with_letters (with_letters r (b ∷ [])) more ≡ with_letters r (b ∷ more) = ap (λ n. record r { size = n; cut = record r.cut { word = (r.cut.word ++ b ∷ []) ++ more } }) size ∙ ap (λ w. record r { size = r.size + length (b ∷ more); cut = record r.cut { word = w } }) (append_assoc r.cut.word (b ∷ []) more) in
@@ -137,7 +124,7 @@ take_one (x ∷ xs) h = refl
 
 -- the first byte of a rest, or its fault
 pub first_read : (r next : Reading) (before later : List LexLine) (rest : List ℕ) → 0 < length rest → fault_now r (get_or rest 0 0) ≡ None → next ≡ stepped r (get_or rest 0 0) → later ≡ before ++ ended r (get_or rest 0 0) → HasRead r next before later (take 1 rest)
-first_read r next before later rest some none n l = rw (take_one rest some) (byte_read r next before later (get_or rest 0 0) none n l)
+first_read r next before later rest some none n l = rw (take_one rest some) (HasRead-byte r next before later (get_or rest 0 0) none n l)
 
 pub first_told : (r : Reading) (rest bytes : List ℕ) (f : LexFault) → 0 < length rest → IsAfter r bytes → (f ≡ Memory) ⊎ (fault_now r (get_or rest 0 0) ≡ Some f) → (f ≡ Memory) ⊎ (first_fault r.limit [] (bytes ++ rest) ≡ Some f)
 first_told r rest bytes f some h told = first_fault-met r r [] [] rest bytes 0 f (HasRead-start r [] (take 0 rest) refl) some h told

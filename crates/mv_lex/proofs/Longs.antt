@@ -2,17 +2,20 @@
 use Rattle.std.proofs.Common.{◌≡◌, ◌+◌, ◌≤◌, ℕ, Bool, true, false, not, ◌&&◌, ◌||◌, ◌==◌, List, [], ◌∷◌, ◌++◌, length, Some, None, if◌then◌else◌, refl, ap, sym, ◌∙◌, subst, arith, ⊎_elim, length-append}
 use Rattle.std.specs.Prelude.{nat_lt, nat_le}
 use Rattle.std.specs.List.{list_all, list_any}
-use Rattle.std.proofs.lemmas.Bool.{cases_Bool, cond-true, cond-false, and_parts, and_from, or_parts, or_from, or_left, or_right, or_cases, ltb-true, lt-ltb, le-ltb, leb-true, leb-false, le-leb, not_from_false}
+use Rattle.std.proofs.lemmas.Bool.{cases_Bool, cond-true, cond-false, and_parts, and_from, or_parts, or_from, or_left, or_right, or_cases, ltb-true, lt-ltb, le-ltb, leb-true, leb-false, le-leb, not_from_false, false≢true}
+use Rattle.std.proofs.Math.Bool.{or-false}
 use Rattle.std.proofs.lemmas.List.{append-nil}
 use Rattle.std.proofs.lemmas.List.Folds.{list_all-append, list_any-append}
 use Rattle.mv_base.specs.Names.{is_bracketed}
 use Rattle.mv_base.specs.declared.limits.TheConstants.{MAX_WORD_BYTES, MAX_BRACKETED_BYTES}
 use Rattle.mv_lex.specs.declared.parts.Kind.{Kind}
 use Rattle.mv_lex.specs.declared.parts.Kind.TheVariants.{Start, Plain, Bracketed}
+use Rattle.mv_lex.specs.declared.parts.Place.{Place}
+use Rattle.mv_lex.specs.declared.parts.Place.TheVariants.{Text, Backslash, Return, Comment}
 use Rattle.mv_lex.specs.declared.fault.LexFault.TheVariants.{LongWord, OpenBracket}
-use Rattle.mv_lex.specs.Words.{is_blank, is_bang, opens, Cut, no_words, cut_of, is_long, most_bytes, has_long, waits}
+use Rattle.mv_lex.specs.Words.{is_blank, is_bang, opens, Cut, no_words, cut_of, nonempty, finished, is_long, most_bytes, has_long, waits}
 use Rattle.mv_lex.specs.Lines.{words_fault}
-use Rattle.mv_lex.specs.Reading.{ended_word, with_byte, with_bytes, long_with, long_with_bytes, kind_long, kind_end_fault, end_fault_of}
+use Rattle.mv_lex.specs.Steps.{ended_word, with_byte, with_bytes, long_with, long_with_bytes, kind_long, kind_end_fault, end_fault_of, held, blank_at}
 use Rattle.mv_lex.proofs.Cutting.{cut_at, opens-bang, start-blank, start-opens, start-bang, start-plain, plain-blank, plain-solid, bracketed-blank, bracketed-end, bracketed-solid, nonempty-some, cut_of-bytes}
 
 -- ---- what the word at the end is
@@ -264,6 +267,49 @@ has_long-bytes cut (b ∷ bs) k e =
       or_right_only : (s t : Bool) → s ≡ false → (s || t) ≡ t
       or_right_only true t e = cc
       or_right_only false t e = refl
+
+-- bytes without a word too long have none at their front
+pub has_long-front : (cut : Cut) (bs : List ℕ) → IsKnown cut → has_long false (with_bytes cut bs) ≡ false → has_long false cut ≡ false
+has_long-front cut bs k e =
+    ⊎_elim
+    (λ (h : has_long false cut ≡ true). absurd (false≢true (sym e ∙ has_long-stay cut bs k h)))
+    (λ (h : has_long false cut ≡ false). h)
+    (cases_Bool (has_long false cut))
+
+-- where a `\` is short enough as a byte of a word, it is as a blank
+blank_or_back : (words : List (List ℕ)) (word : List ℕ) (kind : Kind) → IsOfKind word kind → has_long false (with_byte (cut_at words word kind) 92) ≡ false → has_long false (with_byte (cut_at words word kind) 32) ≡ false
+blank_or_back words word kind k e =
+    let none = or_parts (list_any is_long words) (long_after (length word) kind 92) (sym (has_long-at words word kind 92 k) ∙ e) in
+    has_long-at words word kind 32 k ∙ or_from (list_any is_long words) (long_after (length word) kind 32) none.0 (by_kind (length word) kind none.1) where
+      less : (most size : ℕ) → nat_le most size ≡ false → nat_lt most size ≡ false
+      less most size h = let l = leb-false most size h in le-ltb most size (omega arith)
+
+      by_kind : (size : ℕ) (kind : Kind) → long_after size kind 92 ≡ false → long_after size kind 32 ≡ false
+      by_kind size Start h = less MAX_WORD_BYTES size h
+      by_kind size Plain h = less MAX_WORD_BYTES size h
+      by_kind size (Bracketed end) h = less MAX_BRACKETED_BYTES size h
+
+-- what was held back is short enough where the line ends if it is where the line goes on
+pub has_long-blank : (cut : Cut) (place : Place) → IsKnown cut → has_long false (with_bytes cut (held place)) ≡ false → has_long false (with_bytes cut (blank_at place)) ≡ false
+has_long-blank cut Text k e = e
+has_long-blank cut Backslash k e = blank_or_back cut.words cut.word cut.kind k.known e
+has_long-blank cut Return k e = blank_or_back cut.words cut.word cut.kind k.known (has_long-front (with_byte cut 92) (13 ∷ []) (IsKnown-byte cut 92 k) e)
+has_long-blank cut Comment k e = e
+
+-- ---- where a text ends
+
+-- its long words are those that the line is cut into
+pub has_long-finished : (cut : Cut) → IsKnown cut → has_long true cut ≡ list_any is_long (finished cut)
+has_long-finished cut k =
+    sym (list_any-append is_long cut.words (nonempty (cut.word ∷ [])) ∙ ap (λ t. list_any is_long cut.words || t) (last cut.word cut.kind k.known)) where
+      one : (most : ℕ) (word : List ℕ) → (is_long word ≡ nat_lt most (length word)) → list_any is_long (nonempty (word ∷ [])) ≡ nat_lt most (length word)
+      one most [] e = sym (le-ltb most 0 (omega arith))
+      one most (b ∷ word) e = ap (list_any is_long) (nonempty-some (b ∷ word) (λ z. cc)) ∙ (or-false (is_long (b ∷ word)) ∙ e)
+
+      last : (word : List ℕ) (kind : Kind) → IsOfKind word kind → list_any is_long (nonempty (word ∷ [])) ≡ nat_lt (most_bytes true kind) (length word)
+      last word Start k = one MAX_WORD_BYTES word (is_long-plain word (not_bracketed-bangs word k))
+      last word Plain k = one MAX_WORD_BYTES word (is_long-plain word (not_bracketed-plain word k))
+      last word (Bracketed end) k = one MAX_BRACKETED_BYTES word (is_long-bracketed word k)
 
 -- ---- faults of a text
 

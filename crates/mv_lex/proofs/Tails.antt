@@ -4,7 +4,8 @@ use Rattle.std.proofs.lemmas.Bool.{cases_Bool, cond-true, cond-false, and_parts,
 use Rattle.mv_lex.specs.declared.parts.Place.{Place}
 use Rattle.mv_lex.specs.declared.parts.Place.TheVariants.{Text, Backslash, Return, Comment}
 use Rattle.mv_lex.specs.Lines.{is_hash, has_hash, before_hash, is_end, tail_of, before_tail, certain}
-use Rattle.mv_lex.specs.Reading.{held, is_backslash, place_of_tail, place_of}
+use Rattle.mv_lex.specs.Reading.{place_of_tail, place_of}
+use Rattle.mv_lex.specs.Steps.{held, is_backslash}
 
 -- ---- the tail
 

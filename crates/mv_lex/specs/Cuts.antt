@@ -1,5 +1,5 @@
 -- A list cut at its ends, the items that pass a test: the pieces before each end, and the open one behind the last.
-use Rattle.std.specs.Prelude.{Bool, List, [], ◌∷◌, ◌++◌, if◌then◌else◌}
+use Rattle.std.specs.Prelude.{Bool, List, [], ◌∷◌, if◌then◌else◌}
 
 -- the item put in front of the first piece, if there is one
 abbrev pub onto : {A : Type 0} → A → List (List A) → List (List A)
@@ -20,7 +20,3 @@ with_front (_ ∷ _) x piece = piece
 abbrev pub open_piece : {A : Type 0} → (A → Bool) → List A → List A
 open_piece is_end [] = []
 open_piece is_end (x ∷ xs) = if is_end x then open_piece is_end xs else with_front (closed is_end xs) x (open_piece is_end xs)
-
--- all pieces: n ends make n + 1 of them
-abbrev pub pieces : {A : Type 0} → (A → Bool) → List A → List (List A)
-pieces is_end xs = closed is_end xs ++ open_piece is_end xs ∷ []

@@ -3,3 +3,5 @@ pub mod Cuts
 pub mod Lines
 pub mod Text
 pub mod Reading
+-- what private functions alone cite
+pub mod Steps

@@ -1,14 +1,14 @@
 -- The lines of a file and the first fault of its bytes, said of the whole list of bytes: the lines of BLIF-MV after its
 -- description by Kukimoto, with this program's profile.
 use Rattle.std.specs.Prelude.{ℕ, Bool, true, false, not, ◌&&◌, ◌||◌, ◌==◌, nat_le, ◌+◌, List, [], ◌∷◌, ◌++◌, length, Option, Some, None, if◌then◌else◌}
-use Rattle.std.specs.List.{list_all, list_any, flat_map}
+use Rattle.std.specs.List.{list_all, list_any, flat_map, slice_split}
 use Rattle.std.specs.Option.{option_or}
 use Rattle.mv_base.specs.Names.{is_visible}
 use Rattle.mv_lex.specs.declared.lines.LexLine.{LexLine}
 use Rattle.mv_lex.specs.declared.fault.LexFault.{LexFault}
 use Rattle.mv_lex.specs.declared.fault.LexFault.TheVariants.{BadByte, LongWord, OpenBracket, TooLarge}
-use Rattle.mv_lex.specs.Cuts.{closed, open_piece, pieces}
-use Rattle.mv_lex.specs.Words.{is_blank, front, Cut, cut_of, finished, has_long, waits}
+use Rattle.mv_lex.specs.Cuts.{closed, open_piece}
+use Rattle.mv_lex.specs.Words.{is_blank, front, Cut, cut_of, finished, is_long, has_long, waits}
 
 -- ---- physical lines: the bytes are cut at each line feed, so n of them make n + 1 physical lines
 
@@ -118,7 +118,7 @@ all_joined lines = joined lines ++ unended lines ∷ []
 
 -- all lines of a file
 unfoldable pub lines_of : List ℕ → List LexLine
-lines_of bytes = numbered 1 (all_joined (pieces is_line_feed bytes))
+lines_of bytes = numbered 1 (all_joined (slice_split is_line_feed bytes))
 
 -- the lines of a file that a line feed has ended
 unfoldable pub complete : List ℕ → List LexLine
@@ -140,7 +140,17 @@ is_closed group = not (waits (cut_of (texts group)).kind)
 
 -- the bytes are accepted: each physical line is readable, and each joined line is closed
 unfoldable pub is_clean : List ℕ → Bool
-is_clean bytes = list_all is_readable (pieces is_line_feed bytes) && list_all is_closed (all_joined (pieces is_line_feed bytes))
+is_clean bytes = list_all is_readable (slice_split is_line_feed bytes) && list_all is_closed (all_joined (slice_split is_line_feed bytes))
+
+-- ---- the limits
+
+-- a word of the line is past its limit
+abbrev pub has_long_word : LexLine → Bool
+has_long_word line = list_any is_long line.words
+
+-- a file has at most so many bytes, and no word of its lines is past its limit
+unfoldable pub is_within : ℕ → List ℕ → Bool
+is_within limit bytes = nat_le (length bytes) limit && not (list_any has_long_word (lines_of bytes))
 
 -- ---- the first fault, limits among them
 
@@ -156,9 +166,14 @@ in_comment seen = has_hash (open_line seen)
 abbrev pub text_before : List ℕ → List ℕ
 text_before seen = texts (unended (ended_lines seen))
 
--- the text of the joined line, as far as it is certain with this byte
+-- the text of the joined line that is open: a `\` at its end counts as a blank
+abbrev pub open_text : List ℕ → List ℕ
+open_text bytes = text_before bytes ++ text_of (open_line bytes)
+
+-- the text that tells the faults at this byte. A `\` at its end may still become a byte of a word, but as such it ends a
+-- run of `!` as a blank does: there is no bracketed word
 abbrev pub text_with : List ℕ → ℕ → List ℕ
-text_with seen b = text_before seen ++ (if is_line_feed b then text_of (open_line seen) else certain (open_line seen ++ b ∷ []))
+text_with seen b = open_text (if is_line_feed b then seen else seen ++ b ∷ [])
 
 -- the text of the joined line ends at this byte: with the line, or where a comment begins
 abbrev pub ends_with_byte : List ℕ → ℕ → Bool
@@ -188,7 +203,7 @@ first_fault limit seen (b ∷ bytes) = option_or (fault_at limit seen b) (first_
 unfoldable pub end_fault : List ℕ → Option LexFault
 end_fault bytes =
     if in_comment bytes then None
-    else words_fault (line_number bytes) true (cut_of (text_before bytes ++ text_of (open_line bytes)))
+    else words_fault (line_number bytes) true (cut_of (open_text bytes))
 
 -- the first fault of a file
 abbrev pub lex_fault : ℕ → List ℕ → Option LexFault

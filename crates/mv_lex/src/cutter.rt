@@ -1,7 +1,7 @@
 ghost use Rattle.std.specs.Prelude.{◌≡◌, ◌⊎◌, ◌∷◌, ◌++◌, [], nat_le, length, true, false, IfOk, IfErr, OnOk, OnErr, MatchResult, ◌≤◌, ◌<◌, ◌+◌, take, None, Some};
 ghost use Rattle.mv_lex.specs.declared.fault.LexFault.{LexFault};
 ghost use Rattle.std.specs.List.{list_all};
-ghost use Rattle.mv_lex.specs.Reading.{is_letter as letter};
+ghost use Rattle.mv_lex.specs.Steps.{is_letter as letter};
 ghost use Rattle.mv_lex.specs.Words.{is_blank as blank, opens as opens_word, closer as closer_of, finished, no_words};
 
 use crate::LexFault;
@@ -32,7 +32,7 @@ impl Model for Cutter {
 }
 
 impl Cutter {
-    ghost use Rattle.mv_lex.specs.Reading.{ended_word, start_byte, plain_byte, bracketed_byte, with_byte, kind_long, long_with, end_fault_of};
+    ghost use Rattle.mv_lex.specs.Steps.{ended_word, start_byte, plain_byte, bracketed_byte, with_byte, kind_long, long_with, end_fault_of};
 
     /// Nothing cut yet. It takes no memory.
     pub fn new(alloc: Global) -> Self
@@ -47,7 +47,7 @@ impl Cutter {
     }
 
     /// Takes the next byte of the text, which stands on this line.
-    #[tactic(auto, unfolding(crate::specs::Reading::with_byte, crate::specs::Reading::long_with))]
+    #[tactic(auto, unfolding(crate::specs::Steps::with_byte, crate::specs::Steps::long_with))]
     pub fn take(&mut self, b: u8, line: u32) -> Result<(), LexFault>
         ensures ok { OnOk result (self.new ≡ with_byte self.old b) }
         ensures short { OnOk result (long_with self.old b ≡ false) }
@@ -61,6 +61,7 @@ impl Cutter {
     }
 
     /// Takes a byte behind no word, or behind one of nothing but `!`.
+    #[tactic(auto, unfolding(crate::specs::Steps::long_with))]
     fn take_first(&mut self, b: u8, line: u32) -> Result<(), LexFault>
         requires { self.old.kind ≡ Kind.Start }
         ensures ok { OnOk result (self.new ≡ start_byte self.old.words self.old.word b) }
@@ -68,9 +69,7 @@ impl Cutter {
         ensures err { IfErr result (λ f. (f ≡ LexFault.Memory) ⊎ ((f ≡ LexFault.LongWord line) × (kind_long (length self.old.word) Kind.Start b ≡ true))) }
     {
         if is_blank(b) {
-            if self.word.len() as u64 > MAX_WORD_BYTES {
-                return Err(LexFault::LongWord { line });
-            }
+            self.check_run(line)?;
             return self.end_word();
         }
         if is_opening(b) {
@@ -167,29 +166,54 @@ impl Cutter {
         Ok(())
     }
 
-    /// Whether the text may end here, on this line: no run of `!` is too long for a word, and no bracket is open.
-    #[tactic(auto, unfolding(crate::specs::Reading::end_fault_of))]
-    pub fn check_end(&self, line: u32) -> Result<(), LexFault>
-        ensures { MatchResult result (λ _. end_fault_of line self.now ≡ None) (λ f. end_fault_of line self.now ≡ Some f) }
+    /// Takes a blank, which ends the last word unless that is a bracketed one.
+    #[tactic(auto, unfolding(crate::specs::Steps::with_byte))]
+    pub fn take_blank(&mut self) -> Result<(), LexFault>
+        ensures ok { OnOk result (self.new ≡ with_byte self.old 32) }
+        ensures err { IfErr result (λ f. f ≡ LexFault.Memory) }
+    {
+        match self.kind {
+            Kind::Start | Kind::Plain => self.end_word(),
+            Kind::Bracketed(_end) => Ok(()),
+        }
+    }
+
+    /// Whether a run of `!` is short enough for a word, on this line, where it can't become a bracketed one.
+    #[tactic(auto, unfolding(crate::specs::Steps::long_with))]
+    pub fn check_run(&self, line: u32) -> Result<(), LexFault>
+        ensures { MatchResult result (λ _. long_with self.now 32 ≡ false) (λ f. (f ≡ LexFault.LongWord line) × (long_with self.now 32 ≡ true)) }
     {
         match self.kind {
             Kind::Start if self.word.len() as u64 > MAX_WORD_BYTES => Err(LexFault::LongWord {
                 line,
             }),
-            Kind::Start => Ok(()),
+            _ => Ok(()),
+        }
+    }
+
+    /// Whether the text may end here, on this line: no run of `!` is too long for a word, and no bracket is open.
+    #[tactic(auto, unfolding(crate::specs::Steps::end_fault_of, crate::specs::Steps::long_with))]
+    pub fn check_end(&self, line: u32) -> Result<(), LexFault>
+        ensures { MatchResult result (λ _. end_fault_of line self.now ≡ None) (λ f. end_fault_of line self.now ≡ Some f) }
+    {
+        match self.kind {
+            Kind::Start => self.check_run(line),
             Kind::Plain => Ok(()),
             Kind::Bracketed(_end) => Err(LexFault::OpenBracket { line }),
         }
     }
 
-    /// Gives all words of the text, and begins anew.
+    /// Gives all words of the text, and begins anew, with room for as many words: most lines of a file have as many as the
+    /// line before. The words that are given keep no room to spare.
     pub fn give(&mut self) -> Result<Items<Name>, LexFault>
         ensures ok { IfOk result (λ words. words ≡ finished self.old) }
         ensures anew { OnOk result (self.new ≡ no_words) }
         ensures err { IfErr result (λ f. f ≡ LexFault.Memory) }
     {
         self.end_word()?;
-        let words = mem::replace(&mut self.words, Items::new(self.alloc));
+        let next = Items::with_room(self.alloc, self.words.len())?;
+        let mut words = mem::replace(&mut self.words, next);
+        words.shrink_to_fit();
         Ok(words)
     }
 }

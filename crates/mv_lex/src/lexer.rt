@@ -43,7 +43,8 @@ impl Lexer {
     ghost use Rattle.mv_lex.specs.declared.fault.LexFault.{LexFault};
     ghost use Rattle.mv_lex.specs.Words.{finished, no_words};
     ghost use Rattle.mv_lex.specs.Lines.{complete, lines_of, first_fault, end_fault};
-    ghost use Rattle.mv_lex.specs.Reading.{Reading, IsAfter, HasRead, TakesLetters, with_letters, long_with, end_fault_of, held, long_with_bytes, settled, text_fault, text_step, new_line, next_line, fault_now, stepped, ended, end_now, end_cut};
+    ghost use Rattle.mv_lex.specs.Reading.{Reading, IsAfter, GainsLines};
+    ghost use Rattle.mv_lex.specs.Steps.{HasRead, TakesLetters, with_letters, long_with, end_fault_of, held, long_with_bytes, settled, text_fault, text_step, new_line, next_line, fault_now, stepped, ended, end_now, end_cut};
 
     /// A lexer that has read nothing yet, and will read so many bytes at most. It takes no memory.
     #[tactic(auto, unfolding(crate::specs::Words::cut_of))]
@@ -68,10 +69,9 @@ impl Lexer {
     ///
     /// On an error the lines are as before the call, and each later call gives the same error and adds
     /// nothing. The error is want of memory, or the first fault of all bytes fed.
-    #[tactic(auto, using(crate::proofs::After::lines_read))]
     pub fn feed(&mut self, piece: &[u8], lines: &mut Lines) -> Result<(), LexFault>
         ensures ok { (bytes : List ℕ) → IsAfter self.old bytes → OnOk result (IsAfter self.new (bytes ++ piece.now)) }
-        ensures lines { (bytes : List ℕ) (earlier : List LexLine) → IsAfter self.old bytes → lines.old ≡ earlier ++ complete bytes → OnOk result (lines.new ≡ earlier ++ complete (bytes ++ piece.now)) }
+        ensures lines { OnOk result (GainsLines self.old lines.old lines.new (λ bytes. complete (bytes ++ piece.now))) }
         ensures fault { (bytes : List ℕ) → IsAfter self.old bytes → IfErr result (λ f. (f ≡ LexFault.Memory) ⊎ (first_fault self.old.limit [] (bytes ++ piece.now) ≡ Some f)) }
         ensures limit { OnOk result (self.new.limit ≡ self.old.limit) }
         ensures again { IfErr result (λ f. self.new.failed ≡ Some f) }
@@ -98,7 +98,7 @@ impl Lexer {
     /// the end of the bytes, or the one that an earlier call gave.
     #[tactic(auto, using(crate::proofs::After::finishing))]
     pub fn finish(mut self, lines: &mut Lines) -> Result<(), LexFault>
-        ensures lines { (bytes : List ℕ) (earlier : List LexLine) → IsAfter self bytes → lines.old ≡ earlier ++ complete bytes → OnOk result (lines.new ≡ earlier ++ lines_of bytes) }
+        ensures lines { OnOk result (GainsLines self lines.old lines.new lines_of) }
         ensures fault { (bytes : List ℕ) → IsAfter self bytes → MatchResult result (λ _. end_fault bytes ≡ None) (λ f. (f ≡ LexFault.Memory) ⊎ (end_fault bytes ≡ Some f)) }
         ensures same { (f : LexFault) → self.failed ≡ Some f → result ≡ Err f }
         ensures err { OnErr result (lines.new ≡ lines.old) }
@@ -175,7 +175,7 @@ impl Lexer {
     }
 
     /// Reads a byte.
-    #[tactic(auto, unfolding(crate::specs::Reading::fault_now, crate::specs::Reading::stepped, crate::specs::Reading::ended))]
+    #[tactic(auto, unfolding(crate::specs::Steps::fault_now, crate::specs::Steps::stepped, crate::specs::Steps::ended))]
     fn read(&mut self, b: u8, lines: &mut Lines) -> Result<(), LexFault>
         ensures ok { OnOk result (self.new ≡ stepped self.old b) }
         ensures clean { OnOk result (fault_now self.old b ≡ None) }
@@ -238,10 +238,9 @@ impl Lexer {
     fn join_line(&mut self) -> Result<(), LexFault>
         requires { self.old.size < self.old.limit }
         ensures ok { OnOk result (self.new ≡ next_line self.old) }
-        ensures clean { OnOk result (long_with self.old.cut 32 ≡ false) }
-        ensures err { IfErr result (λ f. (f ≡ LexFault.Memory) ⊎ ((f ≡ LexFault.LongWord self.old.here) × (long_with self.old.cut 32 ≡ true))) }
+        ensures err { IfErr result (λ f. f ≡ LexFault.Memory) }
     {
-        self.text.take(b' ', self.here)?;
+        self.text.take_blank()?;
         self.size += 1;
         self.here += 1;
         self.place = Place::Text;
@@ -249,7 +248,7 @@ impl Lexer {
     }
 
     /// Ends the text where the bytes end: a `\` at its end counts as a blank.
-    #[tactic(auto, unfolding(crate::specs::Reading::end_now, crate::specs::Reading::end_cut))]
+    #[tactic(auto, unfolding(crate::specs::Steps::end_now, crate::specs::Steps::end_cut))]
     fn end_text(&mut self) -> Result<(), LexFault>
         ensures ok { OnOk result (self.new ≡ record self.old { cut = end_cut self.old }) }
         ensures fault { MatchResult result (λ _. end_now self.old ≡ None) (λ f. (f ≡ LexFault.Memory) ⊎ (end_now self.old ≡ Some f)) }
@@ -257,7 +256,7 @@ impl Lexer {
         match self.place {
             Place::Comment => return Ok(()),
             Place::Text => {}
-            Place::Backslash | Place::Return => self.text.take(b' ', self.here)?,
+            Place::Backslash | Place::Return => self.text.take_blank()?,
         }
         self.text.check_end(self.here)
     }
@@ -274,7 +273,7 @@ impl Lexer {
     }
 
     /// Reads a byte that is no line feed, outside a comment.
-    #[tactic(auto, unfolding(crate::specs::Reading::text_fault, crate::specs::Reading::text_step))]
+    #[tactic(auto, unfolding(crate::specs::Steps::text_fault, crate::specs::Steps::text_step))]
     fn read_text(&mut self, b: u8) -> Result<(), LexFault>
         requires { self.old.size < self.old.limit }
         ensures ok { OnOk result (self.new ≡ text_step self.old b) }
@@ -298,7 +297,10 @@ impl Lexer {
                 self.text.check_end(self.here)?;
                 self.place = Place::Comment;
             }
-            b'\\' => self.place = Place::Backslash,
+            b'\\' => {
+                self.text.check_run(self.here)?;
+                self.place = Place::Backslash;
+            }
             _ => {
                 self.text.take(b, self.here)?;
                 self.place = Place::Text;
@@ -309,7 +311,7 @@ impl Lexer {
     }
 
     /// Takes the bytes that were held back into the text: they are ordinary ones.
-    #[tactic(auto, unfolding(crate::specs::Reading::settled))]
+    #[tactic(auto, unfolding(crate::specs::Steps::settled))]
     fn settle(&mut self) -> Result<(), LexFault>
         ensures ok { OnOk result (self.new ≡ record self.old { cut = settled self.old }) }
         ensures clean { OnOk result (long_with_bytes self.old.cut (held self.old.place) ≡ false) }

@@ -3,12 +3,12 @@
 
 mod cutter;
 mod fault;
+mod laws;
 mod lexer;
 mod lines;
 mod parts;
-#[cfg(test)]
-mod tests;
 
 pub use fault::LexFault;
+pub use laws::fault_laws;
 pub use lexer::Lexer;
 pub use lines::{LexLine, Lines};

@@ -12,6 +12,14 @@ pub struct LexLine {
 }
 
 impl LexLine {
+    /// A line without words. It takes no memory.
+    pub fn empty(alloc: Global) -> LexLine {
+        LexLine {
+            number: 0,
+            words: Items::new(alloc),
+        }
+    }
+
     /// An equal line.
     pub fn copy(&self) -> Result<LexLine, Memory>
         ensures { IfOk result (λ line. line ≡ self.now) }

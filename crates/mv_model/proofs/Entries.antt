@@ -14,7 +14,7 @@ use Rattle.mv_design.specs.declared.table.FileTable.{FileTable}
 use Rattle.mv_model.specs.Proper.{IsFileTable}
 use Rattle.mv_model.specs.Numbers.{may_mark, mark_name, table_places, places}
 use Rattle.mv_model.specs.Columns.{no_columns, numbers_in, table_columns, columns_by_net}
-use Rattle.mv_model.specs.Sound.{table_reads, reads}
+use Rattle.mv_model.specs.Sound.{reads_through, reads}
 
 -- a net, and the nets that its table has as columns
 pub record Entry : Type 0 where
@@ -104,12 +104,12 @@ reads_table net above true ins os =
     ∙ (ap (λ b. b || list_any (entry_reads net above) (map (read_by ins) os)) (reads_marks net above os) ∙ reads_read net above ins os)
 reads_table net above false ins os = reads_read net above ins os
 
-reads_tables : (net above : List ℕ) (ts : List FileTable) → list_any (entry_reads net above) (flat_map table_entries ts) ≡ list_any (table_reads net above) ts
+reads_tables : (net above : List ℕ) (ts : List FileTable) → list_any (entry_reads net above) (flat_map table_entries ts) ≡ list_any (reads_through net above) ts
 reads_tables net above [] = refl
 reads_tables net above (t ∷ ts) =
     list_any-append (entry_reads net above) (table_entries t) (flat_map table_entries ts)
     ∙ (ap (λ b. b || list_any (entry_reads net above) (flat_map table_entries ts)) (reads_table net above (may_mark t) t.inputs t.outputs)
-    ∙ ap (λ b. table_reads net above t || b) (reads_tables net above ts))
+    ∙ ap (λ b. reads_through net above t || b) (reads_tables net above ts))
 
 pub reads_are : (m : FileModel) (net above : List ℕ) → list_any (entry_reads net above) (entries m) ≡ reads m net above
 unfolding entries reads

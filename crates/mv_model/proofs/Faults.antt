@@ -1,28 +1,17 @@
 -- The faults of a model's nets, told one after the other.
-use Rattle.std.proofs.Common.{◌≡◌, ◌⊎◌, ⊎_elim, inl, inr, ℕ, not, List, [], ◌∷◌, ◌++◌, refl, ◌∙◌, ap, arith}
+use Rattle.std.proofs.Common.{◌≡◌, ℕ, not, List, [], ◌∷◌, ◌++◌, refl, ◌∙◌, ap, arith}
 use Rattle.std.specs.Prelude.{Some, nat_lt, ◌==◌}
 use Rattle.std.specs.List.{flat_map}
 use Rattle.std.proofs.lemmas.Bool.Decides.{nat_tests}
 use Rattle.mv_design.specs.declared.design.FileModel.{FileModel}
+use Rattle.mv_fault.specs.Tells.{when, first}
+use Rattle.mv_fault.proofs.Firsts.{first-append, first-behind, append-nothing}
 use Rattle.mv_model.specs.declared.drivers.Drivers.{Drivers}
 use Rattle.mv_model.specs.declared.fault.FlatFault.{FlatFault}
-use Rattle.mv_model.specs.declared.fault.FlatFault.TheVariants.{DrivenTwice, Undriven, Memory}
+use Rattle.mv_model.specs.declared.fault.FlatFault.TheVariants.{DrivenTwice, Undriven}
 use Rattle.mv_model.specs.Nets.{drivers, drivers_of, nets_of}
-use Rattle.mv_model.specs.Sound.{when, first, twice_at, undriven_at, many_faults, net_faults}
+use Rattle.mv_model.specs.Sound.{twice_at, undriven_at, many_faults, net_faults}
 use Rattle.mv_model.specs.Driving.{AreDriven, twice_faults, undriven_faults}
-
--- the first of two lists of faults is that of the first list, if that has one, and else that of the second
-pub first_front : (f : FlatFault) (a b : List FlatFault) → first a ≡ Some f → first (a ++ b) ≡ Some f
-first_front f [] b e = cc
-first_front f (g ∷ a) b e = e
-
-pub first_behind : (f : FlatFault) (a b : List FlatFault) → a ≡ [] → first b ≡ Some f → first (a ++ b) ≡ Some f
-first_behind f [] b e h = h
-first_behind f (g ∷ a) b e h = cc
-
-pub none_behind : (a b : List FlatFault) → a ≡ [] → b ≡ [] → a ++ b ≡ []
-none_behind [] b e h = h
-none_behind (g ∷ a) b e h = cc
 
 twice_same : (m : FileModel) (d : Drivers) → AreDriven (drivers m) d → (nets : List (List ℕ)) → twice_faults d nets ≡ flat_map (twice_at m) nets
 unfolding twice_faults
@@ -46,22 +35,18 @@ net_faults_are m nets d e h = rw (e, twice_same m d h (nets_of m), undriven_same
 
 pub many_told : (m : FileModel) (f : FlatFault) → first (many_faults m) ≡ Some f → first (net_faults m) ≡ Some f
 unfolding net_faults
-many_told m f e = first_front f (many_faults m) _ e
+many_told m f e = first-append f (many_faults m) _ e
 
 pub twice_told : (m : FileModel) (nets : List (List ℕ)) (d : Drivers) (f : FlatFault) → nets ≡ nets_of m → AreDriven (drivers m) d → many_faults m ≡ [] → first (twice_faults d nets) ≡ Some f → first (net_faults m) ≡ Some f
 twice_told m nets d f e h many twice =
-    ap first (net_faults_are m nets d e h) ∙ first_behind f (many_faults m) _ many (first_front f (twice_faults d nets) _ twice)
+    ap first (net_faults_are m nets d e h) ∙ first-behind f (many_faults m) _ many (first-append f (twice_faults d nets) _ twice)
 
 pub undriven_told : (m : FileModel) (nets : List (List ℕ)) (d : Drivers) (f : FlatFault) → nets ≡ nets_of m → AreDriven (drivers m) d → many_faults m ≡ [] → twice_faults d nets ≡ [] → first (undriven_faults d nets) ≡ Some f → first (net_faults m) ≡ Some f
 undriven_told m nets d f e h many twice undriven =
-    ap first (net_faults_are m nets d e h) ∙ first_behind f (many_faults m) _ many (first_behind f (twice_faults d nets) _ twice undriven)
+    ap first (net_faults_are m nets d e h) ∙ first-behind f (many_faults m) _ many (first-behind f (twice_faults d nets) _ twice undriven)
 
 pub none_told : (m : FileModel) (nets : List (List ℕ)) (d : Drivers) → nets ≡ nets_of m → AreDriven (drivers m) d → many_faults m ≡ [] → twice_faults d nets ≡ [] → undriven_faults d nets ≡ [] → net_faults m ≡ []
 none_told m nets d e h many twice undriven =
-    net_faults_are m nets d e h ∙ none_behind (many_faults m) _ many (none_behind (twice_faults d nets) _ twice undriven)
+    net_faults_are m nets d e h ∙ append-nothing (many_faults m) _ many (append-nothing (twice_faults d nets) _ twice undriven)
 
 pub ruleset told = (many_told, twice_told, undriven_told, none_told)
-
--- an answer that tells the first of some faults tells the first of others, where that is the same
-pub told_of : (f : FlatFault) (us vs : List FlatFault) → ((g : FlatFault) → first us ≡ Some g → first vs ≡ Some g) → (f ≡ Memory) ⊎ (first us ≡ Some f) → (f ≡ Memory) ⊎ (first vs ≡ Some f)
-told_of f us vs h t = ⊎_elim (λ m. inl m) (λ e. inr (h f e)) t

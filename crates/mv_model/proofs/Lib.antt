@@ -6,10 +6,6 @@ pub mod Listed
 pub mod Ranking
 pub mod Soundness
 pub mod Distinct
-pub mod Walks
-pub mod Clear
-pub mod Turned
-pub mod Spared
 pub mod Turns
 pub mod Decimals
 pub mod Named

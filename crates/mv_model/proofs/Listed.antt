@@ -7,45 +7,9 @@ use Rattle.std.proofs.lemmas.List.Elements.{All-nil, All-cons}
 use Rattle.std.proofs.lemmas.Option.{none-some, same_Some, get_or_from_slice_get}
 use Rattle.mv_base.specs.Names.{same_word, among, place_of, IsDistinct}
 use Rattle.mv_base.proofs.NameLemmas.{IsPlace-from_among, place_of-at, same_word_is, same_word_refl}
-use Rattle.mv_net.specs.Index.{has_id}
+use Rattle.mv_graph.specs.Nets.{has_id}
 use Rattle.mv_model.specs.Numbers.{number_in}
 use Rattle.mv_model.specs.Columns.{numbers_in}
-
--- an element that passes a test
-pub record Found {X : Type 0} (p : X → Bool) (xs : List X) : Type 0 where
-  pub place : ℕ
-  pub item : X
-  pub at : slice_get xs place ≡ Some item
-  pub passes : p item ≡ true
-
-pub found : {X : Type 0} (p : X → Bool) (xs : List X) → list_any p xs ≡ true → Found p xs
-found p [] h = absurd (false≢true h)
-found p (x ∷ xs) h =
-    ⊎_elim (λ (y : p x ≡ true). record { place = 0; item = x; at = refl; passes = y })
-    (λ (y : list_any p xs ≡ true). let f = found p xs y in record { place = suc f.place; item = f.item; at = f.at; passes = f.passes })
-    (or_cases (p x) (list_any p xs) h)
-
--- a list stands at the front of itself and others
-pub get_front : {X : Type 0} (xs ys : List X) (k : ℕ) → k < length xs → slice_get (xs ++ ys) k ≡ slice_get xs k
-get_front [] ys k h = absurd (omega arith)
-get_front (x ∷ xs) ys zero h = refl
-get_front (x ∷ xs) ys (suc k) h = get_front xs ys k (omega arith)
-
--- an element of the image of a list
-pub record Mapped {X Y : Type 0} (f : X → Y) (xs : List X) (k : ℕ) (y : Y) : Type 0 where
-  pub item : X
-  pub at : slice_get xs k ≡ Some item
-  pub is : f item ≡ y
-
-pub mapped : {X Y : Type 0} (f : X → Y) (xs : List X) (k : ℕ) (y : Y) → slice_get (map f xs) k ≡ Some y → Mapped f xs k y
-mapped f [] k y e = absurd (none-some y e)
-mapped f (x ∷ xs) zero y e = record { item = x; at = refl; is = same_Some (f x) y e }
-mapped f (x ∷ xs) (suc k) y e = let m = mapped f xs k y e in record { item = m.item; at = m.at; is = m.is }
-
--- what holds at each place holds of all
-pub all_from : {X : Type 0} (P : X → Type 0) (xs : List X) → ((k : ℕ) (x : X) → slice_get xs k ≡ Some x → P x) → All P xs
-all_from P [] h = All-nil P
-all_from P (x ∷ xs) h = All-cons P x xs (h 0 x refl) (all_from P xs (λ k y e. h (suc k) y e))
 
 -- the number of a name among others is its place
 pub record IsNumber (names : List (List ℕ)) (w : List ℕ) : Type 0 where

@@ -10,13 +10,14 @@ use Rattle.std.proofs.lemmas.Map.Keys.{any_passes_from_place}
 use Rattle.mv_base.specs.Names.{same_word, among, IsDistinct}
 use Rattle.mv_base.specs.declared.number.NetId.{NetId}
 use Rattle.mv_base.proofs.NameLemmas.{same_word_is, same_word_refl}
-use Rattle.mv_net.specs.Index.{has_id, row}
-use Rattle.mv_net.specs.Ranks.{IsRanked, AllBelow}
+use Rattle.mv_graph.specs.Nets.{has_id, row, AllBelow}
+use Rattle.mv_graph.specs.Ranks.{IsRanked}
 use Rattle.mv_design.specs.declared.design.FileModel.{FileModel}
 use Rattle.mv_model.specs.Numbers.{number_in}
 use Rattle.mv_model.specs.Sound.{HasRank}
 use Rattle.mv_model.proofs.Entries.{Entry, name_of, columns_in, entry_reads, entries, reads_are}
-use Rattle.mv_model.proofs.Listed.{found, all_from, IsNumber-among, number_at, has_number, numbered_by}
+use Rattle.mv_base.proofs.Lists.{found, all_from}
+use Rattle.mv_model.proofs.Listed.{IsNumber-among, number_at, has_number, numbered_by}
 
 -- nets by number with different names, of which each column is one
 pub record AreNets (es : List Entry) (names : List (List ℕ)) : Type 0 where

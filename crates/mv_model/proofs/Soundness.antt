@@ -9,13 +9,14 @@ use Rattle.mv_base.specs.Names.{same_word, among}
 use Rattle.mv_base.specs.declared.limits.TheConstants.{MAX_FLAT_NETS}
 use Rattle.mv_base.proofs.NameLemmas.{same_word_is, same_word_refl, among-append}
 use Rattle.mv_fault.specs.declared.fault.Which.TheVariants.{Nets}
-use Rattle.mv_fault.proofs.Nothing.{left-nothing, right-nothing}
+use Rattle.mv_fault.proofs.Nothing.{left-nothing, right-nothing, when-nothing}
 use Rattle.mv_design.specs.declared.table.FileTable.{FileTable}
 use Rattle.mv_design.specs.declared.design.FileModel.{FileModel}
 use Rattle.mv_model.specs.declared.fault.FlatFault.{FlatFault}
 use Rattle.mv_model.specs.declared.fault.FlatFault.TheVariants.{DrivenTwice, Undriven, Cycle, Limit, Memory}
 use Rattle.mv_model.specs.Nets.{columns_of, outputs_of, nets_named, nets_of, drivers, drivers_of}
-use Rattle.mv_model.specs.Sound.{when, first, table_reads, reads, twice_at, undriven_at, many_faults, net_faults, IsDrivenOnce, HasRank, IsSoundModel, ReadsOn, IsOnCycle, IsFault}
+use Rattle.mv_fault.specs.Tells.{when, first}
+use Rattle.mv_model.specs.Sound.{reads_through, reads, twice_at, undriven_at, many_faults, net_faults, IsDrivenOnce, HasRank, IsSoundModel, ReadsOn, IsOnCycle, IsFault}
 use Rattle.mv_model.proofs.Named.{among-nets_of}
 
 -- ---- names in parts of lists
@@ -53,24 +54,24 @@ driver_is_net m w e =
     (λ (h : among w (flat_map outputs_of m.tables) ≡ true). column_named m w (outputs_are_columns w m.tables h))
     (in_either w m.inputs (flat_map outputs_of m.tables) e)
 
-read_columns : (net above : List ℕ) (ts : List FileTable) → list_any (table_reads net above) ts ≡ true → among above (flat_map columns_of ts) ≡ true
+read_columns : (net above : List ℕ) (ts : List FileTable) → list_any (reads_through net above) ts ≡ true → among above (flat_map columns_of ts) ≡ true
 read_columns net above [] e = absurd (false≢true e)
 read_columns net above (t ∷ ts) e =
-    ⊎_elim (λ (h : table_reads net above t ≡ true). in_left above (columns_of t) _ (in_left above t.inputs t.outputs (and_parts _ _ h).1))
-    (λ (h : list_any (table_reads net above) ts ≡ true). in_right above (columns_of t) _ (read_columns net above ts h))
-    (or_cases (table_reads net above t) (list_any (table_reads net above) ts) e)
+    ⊎_elim (λ (h : reads_through net above t ≡ true). in_left above (columns_of t) _ (in_left above t.inputs t.outputs (and_parts _ _ h).1))
+    (λ (h : list_any (reads_through net above) ts ≡ true). in_right above (columns_of t) _ (read_columns net above ts h))
+    (or_cases (reads_through net above t) (list_any (reads_through net above) ts) e)
 
 -- what is read is a net
 pub read_is_net : (m : FileModel) (net above : List ℕ) → reads m net above ≡ true → among above (nets_of m) ≡ true
 unfolding reads
 read_is_net m net above e = column_named m above (read_columns net above m.tables e)
 
-reader_columns : (net above : List ℕ) (ts : List FileTable) → list_any (table_reads net above) ts ≡ true → among net (flat_map columns_of ts) ≡ true
+reader_columns : (net above : List ℕ) (ts : List FileTable) → list_any (reads_through net above) ts ≡ true → among net (flat_map columns_of ts) ≡ true
 reader_columns net above [] e = absurd (false≢true e)
 reader_columns net above (t ∷ ts) e =
-    ⊎_elim (λ (h : table_reads net above t ≡ true). in_left net (columns_of t) _ (in_right net t.inputs t.outputs (and_parts _ _ h).0))
-    (λ (h : list_any (table_reads net above) ts ≡ true). in_right net (columns_of t) _ (reader_columns net above ts h))
-    (or_cases (table_reads net above t) (list_any (table_reads net above) ts) e)
+    ⊎_elim (λ (h : reads_through net above t ≡ true). in_left net (columns_of t) _ (in_right net t.inputs t.outputs (and_parts _ _ h).0))
+    (λ (h : list_any (reads_through net above) ts ≡ true). in_right net (columns_of t) _ (reader_columns net above ts h))
+    (or_cases (reads_through net above t) (list_any (reads_through net above) ts) e)
 
 -- and so is what reads it
 pub reader_is_net : (m : FileModel) (net above : List ℕ) → reads m net above ≡ true → among net (nets_of m) ≡ true
@@ -78,10 +79,6 @@ unfolding reads
 reader_is_net m net above e = column_named m net (reader_columns net above m.tables e)
 
 -- ---- lists of faults
-
-when_none : (b : Bool) (f : FlatFault) → when b f ≡ [] → b ≡ false
-when_none false f e = refl
-when_none true f e = cc
 
 abbrev faults_of : (List ℕ → Bool) → (List ℕ → FlatFault) → List (List ℕ) → List FlatFault
 faults_of test fault nets = flat_map (λ net. when (test net) (fault net)) nets
@@ -91,7 +88,7 @@ none_of test fault [] net e h = absurd (false≢true h)
 none_of test fault (n ∷ ns) net e h =
     let here : when (test n) (fault n) ≡ [] = left-nothing _ (faults_of test fault ns) e in
     let others : faults_of test fault ns ≡ [] = right-nothing (when (test n) (fault n)) _ e in
-    ⊎_elim (λ (s : same_word net n ≡ true). ap test (same_word_is net n s) ∙ when_none (test n) (fault n) here)
+    ⊎_elim (λ (s : same_word net n ≡ true). ap test (same_word_is net n s) ∙ when-nothing (test n) (fault n) here)
     (λ (r : among net ns ≡ true). none_of test fault ns net others r)
     (or_cases (same_word net n) (among net ns) h)
 
@@ -118,7 +115,7 @@ few_from n h = grind (arith, nat_tests)
 
 pub few_nets : (m : FileModel) → net_faults m ≡ [] → length (nets_of m) ≤ MAX_FLAT_NETS
 unfolding net_faults many_faults
-few_nets m e = few_from (length (nets_of m)) (when_none _ (Limit Nets (MAX_FLAT_NETS + 1)) (left-nothing (many_faults m) _ e))
+few_nets m e = few_from (length (nets_of m)) (when-nothing _ (Limit Nets (MAX_FLAT_NETS + 1)) (left-nothing (many_faults m) _ e))
 
 not_many : (n : ℕ) → n ≤ MAX_FLAT_NETS → nat_lt MAX_FLAT_NETS n ≡ false
 not_many n h = grind (arith, nat_tests)

@@ -8,17 +8,18 @@ use Rattle.std.proofs.lemmas.Option.{slice_get-map, slice_get_read, slice_get_wi
 use Rattle.mv_base.specs.Names.{among}
 use Rattle.mv_base.specs.declared.number.NetId.{NetId}
 use Rattle.mv_base.proofs.NameLemmas.{among-at, IsDistinct-from_differ}
-use Rattle.mv_net.specs.Index.{has_id, row}
-use Rattle.mv_net.specs.Ranks.{IsRanked, AllBelow}
+use Rattle.mv_graph.specs.Nets.{has_id, row, AllBelow}
+use Rattle.mv_graph.specs.Ranks.{IsRanked}
+use Rattle.mv_graph.specs.Cycles.{GoesOn, IsAbove, IsTurning}
 use Rattle.mv_design.specs.declared.design.FileModel.{FileModel}
 use Rattle.mv_model.specs.Nets.{nets_of}
 use Rattle.mv_model.specs.Proper.{IsProperModel}
 use Rattle.mv_model.specs.Sound.{reads, ReadsOn, IsOnCycle, IsFirstOnCycle, IsDrivenOnce, HasRank}
 use Rattle.mv_model.specs.Numbers.{number_in, net_in, places}
 use Rattle.mv_model.specs.Columns.{numbers_in, columns_by_net}
-use Rattle.mv_model.specs.Cycles.{GoesOn, IsAbove, IsTurning}
-use Rattle.mv_model.proofs.Clear.{Covers}
-use Rattle.mv_model.proofs.Listed.{IsNumber-among, name_at, has_number, all_from, mapped}
+use Rattle.mv_graph.proofs.Clear.{ListsEachReader}
+use Rattle.mv_base.proofs.Lists.{all_from, mapped}
+use Rattle.mv_model.proofs.Listed.{IsNumber-among, name_at, has_number}
 use Rattle.mv_model.proofs.Entries.{entries, columns_in, columns_are, names_are, reads_are}
 use Rattle.mv_model.proofs.Ranking.{AreNets, reads_name, reads_number, ranked_by_name, columns_below, length_columns}
 use Rattle.mv_model.proofs.Soundness.{read_is_net, reader_is_net}
@@ -64,7 +65,7 @@ order_below m nets size d e s =
         omega arith
 
 -- every net that has columns is among them
-pub order_covers : (m : FileModel) (columns : List (List NetId)) (nets : List (List ℕ)) → IsProperModel m → IsDrivenOnce m → columns ≡ columns_by_net (places m) m → nets ≡ nets_of m → Covers columns (numbers_in (places m) nets)
+pub order_covers : (m : FileModel) (columns : List (List NetId)) (nets : List (List ℕ)) → IsProperModel m → IsDrivenOnce m → columns ≡ columns_by_net (places m) m → nets ≡ nets_of m → ListsEachReader columns (numbers_in (places m) nets)
 order_covers m columns nets p d e f n k h =
     let b = reads_name (entries m) (places m) n k (are_nets m p d) (ap (λ cs. has_id (row cs n) k) (columns_same m columns p e) ∙ h) in
     let r = reader_is_net m b.net b.above (sym (reads_are m b.net b.above) ∙ b.reads) in

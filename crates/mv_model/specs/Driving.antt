@@ -1,14 +1,14 @@
 -- How the nets of a model are gathered, table by table, and how their faults are told from the nets that are driven and from
 -- those that are driven more than once.
-use Rattle.std.specs.Prelude.{◌≡◌, ◌⊎◌, ℕ, not, nat_lt, count_by, Result, MatchResult, Some, List, [], ◌∷◌, if◌then◌else◌}
+use Rattle.std.specs.Prelude.{◌≡◌, ℕ, not, nat_lt, count_by, List, [], ◌∷◌, if◌then◌else◌}
 use Rattle.std.specs.List.{flat_map}
 use Rattle.mv_base.specs.Names.{same_word, among}
+use Rattle.mv_fault.specs.Tells.{when}
 use Rattle.mv_model.specs.declared.fault.FlatFault.{FlatFault}
-use Rattle.mv_model.specs.declared.fault.FlatFault.TheVariants.{DrivenTwice, Undriven, Memory}
+use Rattle.mv_model.specs.declared.fault.FlatFault.TheVariants.{DrivenTwice, Undriven}
 use Rattle.mv_model.specs.declared.drivers.Drivers.{Drivers}
 use Rattle.mv_design.specs.declared.table.FileTable.{FileTable}
 use Rattle.mv_model.specs.Nets.{with_name, with_names}
-use Rattle.mv_model.specs.Sound.{when, first}
 
 -- names with the columns of tables
 abbrev pub with_columns : List (List ℕ) → List FileTable → List (List ℕ)
@@ -49,7 +49,3 @@ twice_faults d nets = flat_map (twice_in d) nets
 -- the faults of those of these nets that aren't driven
 unfoldable pub undriven_faults : Drivers → List (List ℕ) → List FlatFault
 undriven_faults d nets = flat_map (undriven_in d) nets
-
--- Ok where there is no fault, and otherwise the first one, or want of memory
-abbrev pub Tells : {T : Type 0} → Result T FlatFault → List FlatFault → Type 0
-Tells result faults = MatchResult result (λ _. faults ≡ []) (λ f. (f ≡ Memory) ⊎ (first faults ≡ Some f))

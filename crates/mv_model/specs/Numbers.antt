@@ -8,11 +8,11 @@ use Rattle.mv_design.specs.declared.table.Entry.TheVariants.{Set, Same}
 use Rattle.mv_design.specs.declared.table.Row.{Row}
 use Rattle.mv_design.specs.declared.table.FileTable.{FileTable}
 use Rattle.mv_design.specs.declared.design.FileModel.{FileModel}
-use Rattle.mv_rows.specs.Flat.{entry_of, says_nothing}
+use Rattle.mv_rows.specs.Flat.{only_entry, says_nothing}
 
 -- some row says no value of its output
 abbrev pub some_silent : List Row → Bool
-some_silent rows = list_any (λ (r : Row). says_nothing (entry_of r.outs)) rows
+some_silent rows = list_any (λ (r : Row). says_nothing (only_entry r.outs)) rows
 
 -- a default that may need a mark: the value of a column, or a set beside a row that says no value
 abbrev pub default_needs : Entry → List Row → Bool
@@ -22,7 +22,7 @@ default_needs (Same k) rows = true
 -- the default, if there is one, may need a mark
 abbrev pub some_needs : Option (List Entry) → List Row → Bool
 some_needs None rows = false
-some_needs (Some entries) rows = default_needs (entry_of entries) rows
+some_needs (Some entries) rows = default_needs (only_entry entries) rows
 
 -- the table may need a mark
 unfoldable pub may_mark : FileTable → Bool

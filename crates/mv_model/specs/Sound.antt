@@ -1,9 +1,10 @@
 -- When a model is sound: each net that it names is driven exactly once, and none is above itself. These are models without
 -- latches, resets and instances: the grammar gives no others.
-use Rattle.std.specs.Prelude.{◌≡◌, ℕ, ◌+◌, ◌<◌, Bool, true, ◌&&◌, ◌==◌, nat_lt, Option, Some, List, [], ◌∷◌, ◌++◌, length, if◌then◌else◌}
+use Rattle.std.specs.Prelude.{◌≡◌, ℕ, ◌+◌, ◌<◌, Bool, true, ◌&&◌, ◌==◌, nat_lt, Some, List, [], ◌∷◌, ◌++◌, length}
 use Rattle.std.specs.List.{list_any, flat_map}
 use Rattle.mv_base.specs.Names.{among}
 use Rattle.mv_base.specs.declared.limits.TheConstants.{MAX_FLAT_NETS}
+use Rattle.mv_fault.specs.Tells.{when, first}
 use Rattle.mv_fault.specs.declared.fault.Which.TheVariants.{Nets}
 use Rattle.mv_design.specs.declared.design.FileModel.{FileModel}
 use Rattle.mv_design.specs.declared.design.Design.{Design}
@@ -13,12 +14,12 @@ use Rattle.mv_model.specs.declared.fault.FlatFault.TheVariants.{DrivenTwice, Und
 use Rattle.mv_model.specs.Nets.{root_of, nets_of, drivers_of}
 
 -- `net` is an output of the table, and `above` an input of it
-abbrev pub table_reads : List ℕ → List ℕ → FileTable → Bool
-table_reads net above t = among net t.outputs && among above t.inputs
+abbrev pub reads_through : List ℕ → List ℕ → FileTable → Bool
+reads_through net above t = among net t.outputs && among above t.inputs
 
 -- some table whose output is `net` has a column `above`
 unfoldable pub reads : FileModel → List ℕ → List ℕ → Bool
-reads m net above = list_any (table_reads net above) m.tables
+reads m net above = list_any (reads_through net above) m.tables
 
 -- no net is above itself: some rank falls from each net to the columns of its table
 pub record HasRank (m : FileModel) : Type 0 where
@@ -43,10 +44,6 @@ pub record IsFirstOnCycle (m : FileModel) (net : List ℕ) : Type 0 where
   pub place : nets_of m ≡ before ++ net ∷ after
   pub least : (w : List ℕ) → among w before ≡ true → IsOnCycle m w → ⊥
 
--- a fault where a test holds
-abbrev pub when : Bool → FlatFault → List FlatFault
-when test f = if test then f ∷ [] else []
-
 -- the fault of a net that is driven more than once
 abbrev pub twice_at : FileModel → List ℕ → List FlatFault
 twice_at m net = when (nat_lt 1 (drivers_of m net)) (DrivenTwice net)
@@ -63,11 +60,6 @@ many_faults m = when (nat_lt MAX_FLAT_NETS (length (nets_of m))) (Limit Nets (MA
 -- twice; a net isn't driven
 unfoldable pub net_faults : FileModel → List FlatFault
 net_faults m = many_faults m ++ (flat_map (twice_at m) (nets_of m) ++ flat_map (undriven_at m) (nets_of m))
-
--- the first of these faults, if there is one
-abbrev pub first : List FlatFault → Option FlatFault
-first [] = Option.None
-first (f ∷ fs) = Some f
 
 -- each net that the model names has one driver
 pub record IsDrivenOnce (m : FileModel) : Type 0 where

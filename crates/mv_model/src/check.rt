@@ -1,7 +1,7 @@
 ghost use Rattle.std.specs.Prelude.{◌≡◌, ◌≤◌, true, length, IfOk, IfErr, OnOk};
 ghost use Rattle.mv_base.specs.Names.{names_differ};
 ghost use Rattle.mv_base.specs.declared.limits.TheConstants.{MAX_FLAT_NETS, MAX_NETS};
-ghost use Rattle.mv_net.specs.Ranks.{IsRanked};
+ghost use Rattle.mv_graph.specs.Ranks.{IsRanked};
 ghost use Rattle.mv_model.specs.Nets.{nets_of};
 ghost use Rattle.mv_model.specs.Proper.{IsProperModel};
 ghost use Rattle.mv_model.specs.Sound.{IsDrivenOnce, IsFault, HasRank, IsSoundModel};
@@ -10,13 +10,12 @@ ghost use Rattle.mv_model.specs.Columns.{columns_by_net};
 ghost use Rattle.mv_model.specs.Cycles.{TellsCycle};
 
 use crate::columns::columns;
-use crate::cycle::first_turning;
 use crate::drivers::check_nets;
 use crate::nets::nets;
 use crate::{FlatFault, Numbers};
 use mv_base::{Items, MAX_FLAT_NETS, MAX_NETS, NameSet, NetId};
 use mv_design::FileModel;
-use mv_net::sorted;
+use mv_graph::{first_turning, sorted};
 use std::alloc::Global;
 
 /// The numbers of the model's nets, if the model is sound: each net is driven once, and none is above itself. Then each net

@@ -1,8 +1,9 @@
 //! The faults of a model's nets: too many of them, and nets that are driven twice or by nothing.
 ghost use Rattle.std.specs.Prelude.{◌≡◌, IfOk, OnOk};
+ghost use Rattle.mv_fault.specs.Tells.{TellsFirst};
 ghost use Rattle.mv_model.specs.Nets.{nets_of, drivers};
 ghost use Rattle.mv_model.specs.Sound.{net_faults, many_faults};
-ghost use Rattle.mv_model.specs.Driving.{AreDriven, Tells, twice_faults, undriven_faults, with_driver, with_drivers, with_tables};
+ghost use Rattle.mv_model.specs.Driving.{AreDriven, twice_faults, undriven_faults, with_driver, with_drivers, with_tables};
 
 use crate::FlatFault;
 use crate::nets::add_net;
@@ -22,7 +23,7 @@ pub struct Drivers {
 #[tactic(auto, using(crate::proofs::Faults::told))]
 pub fn check_nets(alloc: Global, model: &FileModel, nets: &NameSet) -> Result<(), FlatFault>
     requires { nets.now ≡ nets_of model.now }
-    ensures { Tells result (net_faults model.now) }
+    ensures { TellsFirst FlatFault.Memory result (net_faults model.now) }
 {
     check_count(nets, model)?;
     let drivers = Drivers::of(alloc, model)?;
@@ -35,7 +36,7 @@ pub fn check_nets(alloc: Global, model: &FileModel, nets: &NameSet) -> Result<()
 #[tactic(auto, unfolding(crate::specs::Sound::many_faults))]
 fn check_count(nets: &NameSet, model: &FileModel) -> Result<(), FlatFault>
     requires { nets.now ≡ nets_of model.now }
-    ensures { Tells result (many_faults model.now) }
+    ensures { TellsFirst FlatFault.Memory result (many_faults model.now) }
 {
     if nets.len() as u64 > MAX_FLAT_NETS {
         return Err(FlatFault::Limit {
@@ -95,7 +96,7 @@ impl Drivers {
     /// Tells the first of these nets that is driven more than once.
     #[tactic(auto, unfolding(crate::specs::Driving::twice_faults))]
     fn check_twice(&self, nets: &[Name]) -> Result<(), FlatFault>
-        ensures { Tells result (twice_faults self.now nets.now) }
+        ensures { TellsFirst FlatFault.Memory result (twice_faults self.now nets.now) }
     {
         for net in nets {
             if self.twice.contains(net) {
@@ -108,7 +109,7 @@ impl Drivers {
     /// Tells the first of these nets that nothing drives.
     #[tactic(auto, unfolding(crate::specs::Driving::undriven_faults))]
     fn check_undriven(&self, nets: &[Name]) -> Result<(), FlatFault>
-        ensures { Tells result (undriven_faults self.now nets.now) }
+        ensures { TellsFirst FlatFault.Memory result (undriven_faults self.now nets.now) }
     {
         for net in nets {
             if !self.driven.contains(net) {

@@ -3,7 +3,6 @@ ghost use Rattle.mv_model.specs.declared.fault.FlatFault.TheVariants.{Memory as 
 
 use mv_base::{Memory, Name};
 use mv_fault::Which;
-use std::alloc::{AllocError, AllocFailed};
 
 /// Why a design gives no network. A net is told by its name.
 #[derive(Debug, Drop)]
@@ -23,22 +22,6 @@ impl From<Memory> for FlatFault {
     ghost from_gives = { λ _ e. e ≡ out_of_memory };
 
     fn from(_error: Memory) -> FlatFault {
-        FlatFault::Memory
-    }
-}
-
-impl From<AllocError> for FlatFault {
-    ghost from_gives = { λ _ e. e ≡ out_of_memory };
-
-    fn from(_error: AllocError) -> FlatFault {
-        FlatFault::Memory
-    }
-}
-
-impl<T: Drop> From<AllocFailed<T>> for FlatFault {
-    ghost from_gives = { λ _ e. e ≡ out_of_memory };
-
-    fn from(_failed: AllocFailed<T>) -> FlatFault {
         FlatFault::Memory
     }
 }

@@ -3,15 +3,12 @@
 
 mod check;
 mod columns;
-mod cycle;
 mod drivers;
 mod fault;
 mod mark;
 mod nets;
 mod numbers;
-mod suspects;
 mod tell;
-mod walk;
 
 pub use check::numbered;
 pub use fault::FlatFault;

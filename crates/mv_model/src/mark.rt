@@ -1,6 +1,6 @@
 //! Which tables may need a mark, and the name by which it stands among the nets.
 ghost use Rattle.std.specs.Prelude.{◌≡◌, IfOk};
-ghost use Rattle.mv_rows.specs.Flat.{entry_of, says_nothing};
+ghost use Rattle.mv_rows.specs.Flat.{only_entry, says_nothing};
 ghost use Rattle.mv_model.specs.Numbers.{default_needs, mark_name, may_mark, some_silent};
 
 use mv_base::{Items, Memory, Name, ValueSet};
@@ -61,7 +61,7 @@ fn is_silent(entry: &Entry) -> bool
 
 /// The first entry, and the empty set where there is none.
 fn first_entry(entries: &Items<Entry>) -> Entry
-    ensures { result ≡ entry_of entries.now }
+    ensures { result ≡ only_entry entries.now }
 {
     match entries.get(0) {
         Some(entry) => *entry,

@@ -1,34 +1,34 @@
 ghost use Rattle.std.specs.Prelude.{◌≡◌, [], ◌∷◌, decimal};
-ghost use Rattle.mv_base.specs.Appends.{Appends};
+ghost use Rattle.mv_base.specs.Outside.{Appends};
 ghost use Rattle.mv_model.specs.Told.{flat_told, flat_line};
 
 use crate::fault::FlatFault;
 use itoa::Buffer;
-use mv_base::{Failed, Sink, put_both, put_piece};
-use mv_fault::which_name;
+use mv_base::{Failed, Sink, put_both};
+use mv_fault::{put_fault_name, which_name};
 
 /// Puts a line with one word.
 fn put_word<K: Sink>(name: &[u8], word: &[u8], out: &mut K) -> Result<(), Failed>
-    ensures { Appends (K.told out.old) (K.told out.new) (K.faults out.old) (K.faults out.new) (flat_told name.now (word.now ∷ [])) result }
+    ensures { Appends (K.state out.old) (K.state out.new) (flat_told name.now (word.now ∷ [])) result }
 {
-    put_both(b"# fault network ", name, out)?;
+    put_fault_name(name, out)?;
     put_both(b" ", word, out)?;
-    put_piece(b"\n", out)
+    out.put(b"\n")
 }
 
 /// Puts a line with two words.
 fn put_words<K: Sink>(name: &[u8], first: &[u8], second: &[u8], out: &mut K) -> Result<(), Failed>
-    ensures { Appends (K.told out.old) (K.told out.new) (K.faults out.old) (K.faults out.new) (flat_told name.now (first.now ∷ second.now ∷ [])) result }
+    ensures { Appends (K.state out.old) (K.state out.new) (flat_told name.now (first.now ∷ second.now ∷ [])) result }
 {
-    put_both(b"# fault network ", name, out)?;
+    put_fault_name(name, out)?;
     put_both(b" ", first, out)?;
     put_both(b" ", second, out)?;
-    put_piece(b"\n", out)
+    out.put(b"\n")
 }
 
 /// Puts the line that tells a fault of a design. It takes no memory.
 pub fn put_flat_fault<K: Sink>(fault: &FlatFault, out: &mut K) -> Result<(), Failed>
-    ensures { Appends (K.told out.old) (K.told out.new) (K.faults out.old) (K.faults out.new) (flat_line fault.now) result }
+    ensures { Appends (K.state out.old) (K.state out.new) (flat_line fault.now) result }
 {
     match fault {
         FlatFault::DrivenTwice { net } => put_word(b"28 DrivenTwice", net.bytes(), out),
@@ -39,6 +39,6 @@ pub fn put_flat_fault<K: Sink>(fault: &FlatFault, out: &mut K) -> Result<(), Fai
             let digits = buffer.format(*number).as_bytes();
             put_words(b"35 Limit", which_name(*which), digits, out)
         }
-        FlatFault::Memory => put_piece(b"# fault memory\n", out),
+        FlatFault::Memory => out.put(b"# fault memory\n"),
     }
 }

@@ -15,7 +15,7 @@ use Rattle.mv_base.specs.declared.limits.TheConstants.{MAX_NETS}
 use Rattle.mv_net.specs.Nets.{slot}
 use Rattle.mv_net.specs.Formed.{WellFormed}
 use Rattle.mv_net.specs.Kept.{AreKept, IsNetwork}
-use Rattle.mv_net.specs.Index.{has_id}
+use Rattle.mv_graph.specs.Nets.{has_id}
 use Rattle.mv_net.specs.Changes.{table_for, count_for, with_table, with_count, changed_net, changed_from, made_net, changed, with_nets, without}
 
 -- ---- the nets of a changed network

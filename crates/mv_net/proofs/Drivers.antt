@@ -11,9 +11,9 @@ use Rattle.mv_net.specs.Nets.{slot, values_in, port_of, latch_port_of, interface
 use Rattle.mv_net.specs.Formed.{latch_resets, with_reset}
 use Rattle.mv_net.specs.Allowed.{Agrees, Allows, reset_gives, resets_give, of_net}
 use Rattle.mv_net.specs.Changes.{with_nets}
-use Rattle.mv_net.specs.Index.{has_id}
+use Rattle.mv_graph.specs.Nets.{has_id}
 use Rattle.mv_net.proofs.Marks.{has_number}
-use Rattle.mv_net.proofs.Ports.{is_output, is_reset_net, is_shown, input_source, state_source, source_shown, output_shown, shown_port, next_port, reset_port, SameSources-from_ports, AgreesAtSources, AgreesAtPorts, KeepsPorts}
+use Rattle.mv_net.proofs.Ports.{is_latch_output, is_reset_net, is_shown, input_source, state_source, source_shown, output_shown, shown_port, next_port, reset_port, SameSources-from_ports, AgreesAtSources, AgreesAtPorts, KeepsPorts}
 
 -- ---- lists of what the numbers have
 
@@ -66,13 +66,13 @@ reset_now-gives : (old new : List (Option FlatNet)) (x y : ℕ → ℕ) (output 
 reset_now-gives old new x y output None v same h = subst (λ k. v < k) (sym same) h
 reset_now-gives old new x y output (Some n) v same h = refl
 
-resets_now-give : (old new : List (Option FlatNet)) (x y : ℕ → ℕ) (ls : List FlatLatch) (vs : List ℕ) → ((n : ℕ) → is_output ls n ≡ true → values_in (slot new n) ≡ values_in (slot old n)) → resets_give old x ls vs → resets_give new y ls (resets_now y ls vs)
+resets_now-give : (old new : List (Option FlatNet)) (x y : ℕ → ℕ) (ls : List FlatLatch) (vs : List ℕ) → ((n : ℕ) → is_latch_output ls n ≡ true → values_in (slot new n) ≡ values_in (slot old n)) → resets_give old x ls vs → resets_give new y ls (resets_now y ls vs)
 resets_now-give old new x y [] [] same h = tt
 resets_now-give old new x y [] (v ∷ vs) same h = absurd h
 resets_now-give old new x y (l ∷ ls) [] same h = absurd h
 resets_now-give old new x y (l ∷ ls) (v ∷ vs) same h = (
-  reset_now-gives old new x y l.output l.reset v (same l.output.0 (or_left (nat_eq l.output.0 l.output.0) (is_output ls l.output.0) (eq-eqb l.output.0 l.output.0 refl))) h.0,
-  resets_now-give old new x y ls vs (λ n o. same n (or_right (nat_eq l.output.0 n) (is_output ls n) o)) h.1,
+  reset_now-gives old new x y l.output l.reset v (same l.output.0 (or_left (nat_eq l.output.0 l.output.0) (is_latch_output ls l.output.0) (eq-eqb l.output.0 l.output.0 refl))) h.0,
+  resets_now-give old new x y ls vs (λ n o. same n (or_right (nat_eq l.output.0 n) (is_latch_output ls n) o)) h.1,
 )
 
 -- they are the old ones, where y is as x at the reset nets
@@ -96,7 +96,7 @@ resets_now-same nets x y (l ∷ ls) (v ∷ vs) same h =
 -- ---- what is allowed
 
 -- another assignment with the same sources allows what it gives
-allows_sources : (net : NetParts) (old new : List (Option FlatNet)) (i s o n r : List ℕ) → ((m : ℕ) → is_output net.latches m ≡ true → values_in (slot new m) ≡ values_in (slot old m)) → (a : Allows (with_nets net old) i s o n r) → (b : AgreesAtSources net new a.at) → Allows (with_nets net new) i s (map (λ (m : NetId). b.at m.0) net.outputs) (map (λ (l : FlatLatch). b.at l.input.0) net.latches) (resets_now b.at net.latches r)
+allows_sources : (net : NetParts) (old new : List (Option FlatNet)) (i s o n r : List ℕ) → ((m : ℕ) → is_latch_output net.latches m ≡ true → values_in (slot new m) ≡ values_in (slot old m)) → (a : Allows (with_nets net old) i s o n r) → (b : AgreesAtSources net new a.at) → Allows (with_nets net new) i s (map (λ (m : NetId). b.at m.0) net.outputs) (map (λ (l : FlatLatch). b.at l.input.0) net.latches) (resets_now b.at net.latches r)
 unfolding with_nets
 allows_sources net old new i s o n r values a b = record {
   at = b.at;
@@ -109,7 +109,7 @@ allows_sources net old new i s o n r values a b = record {
 }
 
 -- with the same ports it allows the same
-allows_ports : (net : NetParts) (old new : List (Option FlatNet)) (i s o n r : List ℕ) → ((m : ℕ) → is_output net.latches m ≡ true → values_in (slot new m) ≡ values_in (slot old m)) → (a : Allows (with_nets net old) i s o n r) → AgreesAtPorts net new a.at → Allows (with_nets net new) i s o n r
+allows_ports : (net : NetParts) (old new : List (Option FlatNet)) (i s o n r : List ℕ) → ((m : ℕ) → is_latch_output net.latches m ≡ true → values_in (slot new m) ≡ values_in (slot old m)) → (a : Allows (with_nets net old) i s o n r) → AgreesAtPorts net new a.at → Allows (with_nets net new) i s o n r
 unfolding with_nets
 allows_ports net old new i s o n r values a b =
     let sources : AgreesAtSources net new a.at = record { at = b.at; agrees = b.agrees; same = SameSources-from_ports net a.at b.at b.same } in

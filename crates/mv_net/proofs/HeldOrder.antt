@@ -1,19 +1,18 @@
 -- The held nets of an order of all numbers: each still stands behind its fanins.
-use Rattle.std.proofs.Common.{◌≡◌, ◌∙◌, ℕ, zero, suc, Bool, true, false, ◌&&◌, ◌||◌, not, nat_eq, List, [], ◌∷◌, length, get_or, take, Some, is_some, refl, sym, ap, ⊎_elim, eqb-true, arith}
+use Rattle.std.proofs.Common.{◌≡◌, ◌∙◌, ℕ, zero, suc, Bool, true, false, ◌&&◌, ◌||◌, not, nat_eq, List, [], ◌∷◌, length, take, Some, is_some, refl, sym, ap, ⊎_elim, eqb-true, arith}
 use Rattle.std.specs.Prelude.{slice_get}
 use Rattle.std.specs.List.{filter}
 use Rattle.std.proofs.Math.Bool.{and-false}
 use Rattle.std.proofs.lemmas.Bool.{cases_Bool, and_parts, and_from, lt-ltb, false≢true}
-use Rattle.std.proofs.lemmas.List.{get_or_default}
 use Rattle.std.proofs.lemmas.Option.{slice_get_within}
 use Rattle.mv_base.specs.declared.number.NetId.{NetId}
 use Rattle.mv_net.specs.declared.parts.NetParts.{NetParts}
-use Rattle.mv_net.specs.Formed.{all_differ, WellFormed}
-use Rattle.mv_net.specs.Index.{has_id, is_held, row, AreFanins}
+use Rattle.mv_graph.specs.Nets.{all_differ, has_id, row}
+use Rattle.mv_graph.specs.Ranks.{IsSortedBy}
+use Rattle.mv_net.specs.Formed.{WellFormed}
+use Rattle.mv_net.specs.Index.{is_held, AreFanins}
 use Rattle.mv_net.specs.Order.{IsOrder}
-use Rattle.mv_net.specs.Ranks.{AllBelow, IsSortedBy}
-use Rattle.mv_net.proofs.Known.{can_turn, is_held_below, reads_readable}
-use Rattle.mv_net.proofs.Turning.{has_id-at}
+use Rattle.mv_net.proofs.Known.{is_held_below, reads_readable}
 
 -- ---- nets of a list whose numbers pass a test
 
@@ -75,14 +74,6 @@ was_at test (m ∷ ns) (suc place) n e =
     record { old = suc w.old; is = w.is; before = rw y (ap (λ l. m ∷ l) w.before) })
     (λ (f : test m.0 ≡ false). was_behind test m ns (suc place) n f (was_at test ns (suc place) n (rw f at e)))
     (cases_Bool (test m.0))
-
--- ---- the fanins of a well-formed network can be sorted
-
-pub fanins_below : (net : NetParts) (fanins : List (List NetId)) → WellFormed net → AreFanins net.nets fanins → AllBelow fanins
-fanins_below net fanins formed f k d i j e l =
-    let turn = can_turn net fanins formed f in
-    let same : get_or fanins k d ≡ row fanins k = get_or_default fanins k d [] i in
-    turn.within k (get_or (get_or fanins k d) j e).0 (rw (← same) (has_id-at (get_or fanins k d) j e l))
 
 -- ---- the order of the held nets
 

@@ -1,7 +1,7 @@
 -- What is known of a well-formed network.
 use Rattle.std.proofs.Common.{◌≤◌, ◌≡◌, ◌∙◌, ℕ, ◌<◌, true, nat_eq, List, [], ◌∷◌, length, Option, Some, None, IsTrue, get_or, is_some, refl, sym, ap, subst, ⊎_elim, eqb-true, arith, zero, suc, map}
 use Rattle.std.proofs.lemmas.Bool.{or_cases, false≢true}
-use Rattle.std.proofs.lemmas.List.{get_or_read}
+use Rattle.std.proofs.lemmas.List.{get_or_read, get_or_default}
 use Rattle.mv_base.specs.declared.limits.TheConstants.{MAX_VALUES}
 use Rattle.mv_base.specs.declared.number.NetId.{NetId}
 use Rattle.mv_cover.specs.declared.cover.Cover.{Cover}
@@ -13,10 +13,11 @@ use Rattle.mv_net.specs.declared.parts.FlatLatch.{FlatLatch}
 use Rattle.mv_net.specs.declared.parts.NetParts.{NetParts}
 use Rattle.mv_net.specs.Nets.{slot, values_in, net_reads, table_reads}
 use Rattle.mv_net.specs.Formed.{IsReadable, AllLiterals, AllLines, AllLatches, IsNet, WellFormed}
-use Rattle.mv_net.specs.Index.{is_held, is_input, row, AreFanins}
+use Rattle.mv_graph.specs.Nets.{has_id, row, AllBelow}
+use Rattle.mv_net.specs.Index.{is_held, is_latch_input, AreFanins}
 use Rattle.mv_net.specs.Names.{AreNamed}
+use Rattle.mv_graph.proofs.Nets.{has_id-at}
 use Rattle.mv_net.specs.Seen.{SeenAreHeld}
-use Rattle.mv_net.specs.Turned.{CanTurn}
 use Rattle.mv_net.proofs.Named.{held_below}
 
 -- ---- what is read is held, and is no reset net
@@ -70,22 +71,24 @@ row_kept net now rows slice n x y view held long same is last =
 
 -- ---- what the kept lists need
 
-pub can_turn : (net : NetParts) (fanins : List (List NetId)) → WellFormed net → AreFanins net.nets fanins → CanTurn fanins
-can_turn net fanins formed f = record {
-  ascending = λ n. (f.each n).ascending;
-  within = λ n m h. omega (arith, f.long, readable_below net.nets m (reads_readable net n m formed (sym ((f.each n).members m) ∙ h)));
-}
+-- each fanin is one of the numbers
+pub fanins_below : (net : NetParts) (fanins : List (List NetId)) → WellFormed net → AreFanins net.nets fanins → AllBelow fanins
+fanins_below net fanins formed f k d i j e l =
+    let same : get_or fanins k d ≡ row fanins k = get_or_default fanins k d [] i in
+    let n = (get_or (get_or fanins k d) j e).0 in
+    let named : has_id (row fanins k) n ≡ true = rw (← same) (has_id-at (get_or fanins k d) j e l) in
+    omega (arith, f.long, readable_below net.nets n (reads_readable net k n formed (sym ((f.each k).members n) ∙ named)))
 
 pub are_named : (net : NetParts) → WellFormed net → AreNamed net.nets
 are_named net formed = record { apart = formed.names }
 
-inputs_readable : (nets : List (Option FlatNet)) (ls : List FlatLatch) (n : ℕ) → AllLatches nets ls → is_input ls n ≡ true → IsReadable nets n
+inputs_readable : (nets : List (Option FlatNet)) (ls : List FlatLatch) (n : ℕ) → AllLatches nets ls → is_latch_input ls n ≡ true → IsReadable nets n
 inputs_readable nets [] n all r = absurd (false≢true r)
 inputs_readable nets (l ∷ ls) n all r =
     ⊎_elim
     (λ (y : nat_eq l.input.0 n ≡ true). subst (IsReadable nets) (eqb-true l.input.0 n y) all.0.input)
-    (λ (rest : is_input ls n ≡ true). inputs_readable nets ls n all.1 rest)
-    (or_cases (nat_eq l.input.0 n) (is_input ls n) r)
+    (λ (rest : is_latch_input ls n ≡ true). inputs_readable nets ls n all.1 rest)
+    (or_cases (nat_eq l.input.0 n) (is_latch_input ls n) r)
 
 pub seen_are_held : (net : NetParts) → WellFormed net → SeenAreHeld net
 seen_are_held net formed = record {
@@ -93,7 +96,7 @@ seen_are_held net formed = record {
   inputs = λ n h. readable_below net.nets n (inputs_readable net.nets net.latches n formed.latches h);
 }
 
-pub ruleset known = (can_turn, are_named, seen_are_held)
+pub ruleset known = (are_named, seen_are_held)
 
 -- ---- values
 

@@ -1,12 +1,9 @@
 pub mod Local
-pub mod Orders
+pub mod LineNets
 pub mod Sums
-pub mod Turning
 pub mod Named
 pub mod Marks
 pub mod Known
-pub mod Waiting
-pub mod Finished
 pub mod HeldOrder
 pub mod Changed
 pub mod Patches

@@ -7,8 +7,10 @@ use Rattle.std.proofs.lemmas.List.Folds.{list_any_more, list_any_at}
 use Rattle.mv_net.specs.declared.parts.FlatNet.{FlatNet}
 use Rattle.mv_net.specs.declared.parts.NetParts.{NetParts}
 use Rattle.mv_net.specs.Nets.{slot}
-use Rattle.mv_net.specs.Index.{has_id, is_input, is_reset, kind_in, is_seen}
-use Rattle.mv_net.specs.Seen.{is_marked, AreMarked, AreSeen}
+use Rattle.mv_graph.specs.Nets.{has_id}
+use Rattle.mv_graph.specs.Marks.{is_marked}
+use Rattle.mv_net.specs.Index.{is_latch_input, is_reset, kind_in, is_seen}
+use Rattle.mv_net.specs.Seen.{AlsoMarked, AreSeen}
 
 -- the test that an element of the list has the number
 abbrev pub has_number : {X : Type 0} → (X → ℕ) → List X → ℕ → Bool
@@ -28,8 +30,8 @@ or_false true b = refl
 or_false false b = refl
 
 -- one mark more
-pub AreMarked-more : {X : Type 0} (num : X → ℕ) (old mid new : List Bool) (xs : List X) (i : ℕ) (d : X) → i < length xs → num (get_or xs i d) < length mid → AreMarked old (has_number num (take i xs)) mid → new ≡ set mid (num (get_or xs i d)) true → AreMarked old (has_number num (take (i + 1) xs)) new
-AreMarked-more num old mid new xs i d lt within before e = record {
+pub AlsoMarked-more : {X : Type 0} (num : X → ℕ) (old mid new : List Bool) (xs : List X) (i : ℕ) (d : X) → i < length xs → num (get_or xs i d) < length mid → AlsoMarked old (has_number num (take i xs)) mid → new ≡ set mid (num (get_or xs i d)) true → AlsoMarked old (has_number num (take (i + 1) xs)) new
+AlsoMarked-more num old mid new xs i d lt within before e = record {
   long = ap length e ∙ (length-set mid (num (get_or xs i d)) true ∙ before.long);
   each = λ n. ap (λ ms. is_marked ms n) e ∙ (at n ∙ ap (λ b. b || is_marked old n) (sym (list_any_more (λ y. nat_eq (num y) n) xs i d lt)));
 }
@@ -61,10 +63,10 @@ reset_mark nets n =
     (cases_lt n (length nets))
 
 -- the reset nets, then the outputs, then the latch inputs were marked
-pub AreSeen-from_marks : (net : NetParts) (resets outputs all : List Bool) → resets ≡ map (λ (f : Option FlatNet). is_reset (kind_in f)) net.nets → AreMarked resets (has_id net.outputs) outputs → AreMarked outputs (is_input net.latches) all → AreSeen net all
+pub AreSeen-from_marks : (net : NetParts) (resets outputs all : List Bool) → resets ≡ map (λ (f : Option FlatNet). is_reset (kind_in f)) net.nets → AlsoMarked resets (has_id net.outputs) outputs → AlsoMarked outputs (is_latch_input net.latches) all → AreSeen net all
 unfolding is_seen
 AreSeen-from_marks net resets outputs all r o a = record {
   long = a.long ∙ (o.long ∙ (ap length r ∙ length-map net.nets (λ (f : Option FlatNet). is_reset (kind_in f))));
   each = λ n.
-      a.each n ∙ (ap (λ b. is_input net.latches n || b) (o.each n ∙ ap (λ b. has_id net.outputs n || b) (ap (λ ms. is_marked ms n) r ∙ reset_mark net.nets n)) ∙ turned (has_id net.outputs n) (is_input net.latches n) (is_reset (kind_in (slot net.nets n))));
+      a.each n ∙ (ap (λ b. is_latch_input net.latches n || b) (o.each n ∙ ap (λ b. has_id net.outputs n || b) (ap (λ ms. is_marked ms n) r ∙ reset_mark net.nets n)) ∙ turned (has_id net.outputs n) (is_latch_input net.latches n) (is_reset (kind_in (slot net.nets n))));
 }

@@ -12,20 +12,20 @@ use Rattle.mv_base.proofs.NameLemmas.{same_word_is, same_word_refl}
 use Rattle.mv_net.specs.declared.parts.FlatNet.{FlatNet}
 use Rattle.mv_net.specs.Nets.{slot}
 use Rattle.mv_net.specs.Index.{HasName}
-use Rattle.mv_net.specs.Names.{number_of, named_at, names_from, IsFresh, AreNamed, entry_of, entries_of}
+use Rattle.mv_net.specs.Names.{number_of, named_at, names_from, IsFresh, AreNamed, pair_of, pairs_of}
 
 -- ---- the map
 
-pub lookup-number : (es : List (Vec ℕ Global × ℕ)) (w : List ℕ) → lookup (λ (k : Vec ℕ Global). pointwise nat_eq w k.items) es ≡ number_of (entries_of es) w
+pub lookup-number : (es : List (Vec ℕ Global × ℕ)) (w : List ℕ) → lookup (λ (k : Vec ℕ Global). pointwise nat_eq w k.items) es ≡ number_of (pairs_of es) w
 lookup-number [] w = refl
 lookup-number (e ∷ es) w = ap (λ o. cond (same_word w e.0.items) (Some e.1) o) (lookup-number es w)
 
-pub entries-insert : (es : List (Vec ℕ Global × ℕ)) (k : Vec ℕ Global) (v : ℕ) → number_of (entries_of es) k.items ≡ None → entries_of (insert_entry (λ (a b : Vec ℕ Global). pointwise nat_eq a.items b.items) es k v) ≡ entries_of es ++ (k.items, v) ∷ []
+pub entries-insert : (es : List (Vec ℕ Global × ℕ)) (k : Vec ℕ Global) (v : ℕ) → number_of (pairs_of es) k.items ≡ None → pairs_of (insert_entry (λ (a b : Vec ℕ Global). pointwise nat_eq a.items b.items) es k v) ≡ pairs_of es ++ (k.items, v) ∷ []
 entries-insert [] k v new = refl
 entries-insert (e ∷ es) k v new =
     ⊎_elim
     (λ (y : same_word k.items e.0.items ≡ true). let bad : Some e.1 ≡ None = rw y at new in cc)
-    (λ (f : same_word k.items e.0.items ≡ false). rw f (ap (λ l. entry_of e ∷ l) (entries-insert es k v (rw f at new))))
+    (λ (f : same_word k.items e.0.items ≡ false). rw f (ap (λ l. pair_of e ∷ l) (entries-insert es k v (rw f at new))))
     (cases_Bool (same_word k.items e.0.items))
 
 -- ---- the names of one net more

@@ -8,22 +8,23 @@ use Rattle.mv_net.specs.declared.parts.NetParts.{NetParts}
 use Rattle.mv_net.specs.Nets.{slot, values_in, name_in, spelled_in}
 use Rattle.mv_net.specs.Formed.{latch_outputs, latch_resets}
 use Rattle.mv_net.specs.Allowed.{Agrees}
-use Rattle.mv_net.specs.Index.{has_id, is_input}
+use Rattle.mv_graph.specs.Nets.{has_id}
+use Rattle.mv_net.specs.Index.{is_latch_input}
 use Rattle.mv_net.proofs.Marks.{has_number}
 use Rattle.mv_net.proofs.Patches.{other_than}
 
 -- ---- which nets are ports
 
 -- the net is the output of one of these latches, or the reset net of one
-abbrev pub is_output : List FlatLatch → ℕ → Bool
-is_output latches n = has_number (λ (l : FlatLatch). l.output.0) latches n
+abbrev pub is_latch_output : List FlatLatch → ℕ → Bool
+is_latch_output latches n = has_number (λ (l : FlatLatch). l.output.0) latches n
 
 abbrev pub is_reset_net : List FlatLatch → ℕ → Bool
 is_reset_net latches n = has_id (latch_resets latches) n
 
 -- the net is an input or a latch output, whose values are given
 abbrev pub is_source : NetParts → ℕ → Bool
-is_source net n = has_id net.inputs n || is_output net.latches n
+is_source net n = has_id net.inputs n || is_latch_output net.latches n
 
 -- the interface names the net
 abbrev pub is_shown : NetParts → ℕ → Bool
@@ -31,13 +32,13 @@ is_shown net n = is_source net n || has_id net.outputs n
 
 -- the net's values are those of an input, an output or a latch
 abbrev pub is_port : NetParts → ℕ → Bool
-is_port net n = is_shown net n || (is_input net.latches n || is_reset_net net.latches n)
+is_port net n = is_shown net n || (is_latch_input net.latches n || is_reset_net net.latches n)
 
 pub input_source : (net : NetParts) (n : ℕ) → has_id net.inputs n ≡ true → is_source net n ≡ true
-input_source net n h = or_left (has_id net.inputs n) (is_output net.latches n) h
+input_source net n h = or_left (has_id net.inputs n) (is_latch_output net.latches n) h
 
-pub state_source : (net : NetParts) (n : ℕ) → is_output net.latches n ≡ true → is_source net n ≡ true
-state_source net n h = or_right (has_id net.inputs n) (is_output net.latches n) h
+pub state_source : (net : NetParts) (n : ℕ) → is_latch_output net.latches n ≡ true → is_source net n ≡ true
+state_source net n h = or_right (has_id net.inputs n) (is_latch_output net.latches n) h
 
 pub source_shown : (net : NetParts) (n : ℕ) → is_source net n ≡ true → is_shown net n ≡ true
 source_shown net n h = or_left (is_source net n) (has_id net.outputs n) h
@@ -46,40 +47,40 @@ pub output_shown : (net : NetParts) (n : ℕ) → has_id net.outputs n ≡ true 
 output_shown net n h = or_right (is_source net n) (has_id net.outputs n) h
 
 pub shown_port : (net : NetParts) (n : ℕ) → is_shown net n ≡ true → is_port net n ≡ true
-shown_port net n h = or_left (is_shown net n) (is_input net.latches n || is_reset_net net.latches n) h
+shown_port net n h = or_left (is_shown net n) (is_latch_input net.latches n || is_reset_net net.latches n) h
 
-pub next_port : (net : NetParts) (n : ℕ) → is_input net.latches n ≡ true → is_port net n ≡ true
+pub next_port : (net : NetParts) (n : ℕ) → is_latch_input net.latches n ≡ true → is_port net n ≡ true
 next_port net n h =
-    or_right (is_shown net n) (is_input net.latches n || is_reset_net net.latches n) (or_left (is_input net.latches n) (is_reset_net net.latches n) h)
+    or_right (is_shown net n) (is_latch_input net.latches n || is_reset_net net.latches n) (or_left (is_latch_input net.latches n) (is_reset_net net.latches n) h)
 
 pub reset_port : (net : NetParts) (n : ℕ) → is_reset_net net.latches n ≡ true → is_port net n ≡ true
 reset_port net n h =
-    or_right (is_shown net n) (is_input net.latches n || is_reset_net net.latches n) (or_right (is_input net.latches n) (is_reset_net net.latches n) h)
+    or_right (is_shown net n) (is_latch_input net.latches n || is_reset_net net.latches n) (or_right (is_latch_input net.latches n) (is_reset_net net.latches n) h)
 
 -- the net is no port, kind by kind
 pub record IsHidden (net : NetParts) (n : ℕ) : Type 0 where
   pub input : has_id net.inputs n ≡ false
   pub output : has_id net.outputs n ≡ false
-  pub next : is_input net.latches n ≡ false
-  pub state : is_output net.latches n ≡ false
+  pub next : is_latch_input net.latches n ≡ false
+  pub state : is_latch_output net.latches n ≡ false
   pub reset : is_reset_net net.latches n ≡ false
 
 pub IsHidden-from : (net : NetParts) (n : ℕ) → is_port net n ≡ false → IsHidden net n
 IsHidden-from net n none =
-    let all = or_parts (is_shown net n) (is_input net.latches n || is_reset_net net.latches n) none in
-    let latch = or_parts (is_input net.latches n) (is_reset_net net.latches n) all.1 in
+    let all = or_parts (is_shown net n) (is_latch_input net.latches n || is_reset_net net.latches n) none in
+    let latch = or_parts (is_latch_input net.latches n) (is_reset_net net.latches n) all.1 in
     let shown = or_parts (is_source net n) (has_id net.outputs n) all.0 in
-    let source = or_parts (has_id net.inputs n) (is_output net.latches n) shown.0 in
+    let source = or_parts (has_id net.inputs n) (is_latch_output net.latches n) shown.0 in
     record { input = source.0; output = shown.1; next = latch.0; state = source.1; reset = latch.1 }
 
 pub hidden_no_port : (net : NetParts) (n : ℕ) → IsHidden net n → is_port net n ≡ false
 hidden_no_port net n h =
-    or_from (is_shown net n) (is_input net.latches n || is_reset_net net.latches n)
-    (or_from (is_source net n) (has_id net.outputs n) (or_from (has_id net.inputs n) (is_output net.latches n) h.input h.state) h.output)
-    (or_from (is_input net.latches n) (is_reset_net net.latches n) h.next h.reset)
+    or_from (is_shown net n) (is_latch_input net.latches n || is_reset_net net.latches n)
+    (or_from (is_source net n) (has_id net.outputs n) (or_from (has_id net.inputs n) (is_latch_output net.latches n) h.input h.state) h.output)
+    (or_from (is_latch_input net.latches n) (is_reset_net net.latches n) h.next h.reset)
 
 -- the outputs of latches, as a list
-pub outputs_listed : (ls : List FlatLatch) (n : ℕ) → has_id (latch_outputs ls) n ≡ is_output ls n
+pub outputs_listed : (ls : List FlatLatch) (n : ℕ) → has_id (latch_outputs ls) n ≡ is_latch_output ls n
 outputs_listed [] n = refl
 outputs_listed (l ∷ ls) n = ap (λ b. nat_eq l.output.0 n || b) (outputs_listed ls n)
 
@@ -119,7 +120,7 @@ pub record AgreesAtPorts (net : NetParts) (nets : List (Option FlatNet)) (x : �
 pub record KeepsPorts (net : NetParts) (nets : List (Option FlatNet)) : Type 0 where
   pub names : (n : ℕ) → is_shown net n ≡ true → name_in (slot nets n) ≡ name_in (slot net.nets n)
   pub spelled : (n : ℕ) → is_shown net n ≡ true → spelled_in (slot nets n) ≡ spelled_in (slot net.nets n)
-  pub values : (n : ℕ) → is_output net.latches n ≡ true → values_in (slot nets n) ≡ values_in (slot net.nets n)
+  pub values : (n : ℕ) → is_latch_output net.latches n ≡ true → values_in (slot nets n) ≡ values_in (slot net.nets n)
 
 -- they do, if those shown are the same
 pub KeepsPorts-same : (net : NetParts) (nets : List (Option FlatNet)) → ((n : ℕ) → is_shown net n ≡ true → slot nets n ≡ slot net.nets n) → KeepsPorts net nets

@@ -10,9 +10,10 @@ use Rattle.mv_net.specs.declared.parts.FlatNet.{FlatNet}
 use Rattle.mv_net.specs.declared.parts.NetParts.{NetParts}
 use Rattle.mv_net.specs.Nets.{slot, values_in, table_in, net_reads}
 use Rattle.mv_net.specs.Formed.{IsKind, WellFormed, has_table}
-use Rattle.mv_net.specs.Allowed.{net_allows, table_allows, of_net}
+use Rattle.mv_net.specs.Allowed.{net_allows, net_table_allows, of_net}
 use Rattle.mv_net.specs.Changes.{with_nets, without}
-use Rattle.mv_net.specs.Index.{has_id, is_input, is_reset, kind_in, is_seen}
+use Rattle.mv_graph.specs.Nets.{has_id}
+use Rattle.mv_net.specs.Index.{is_latch_input, is_reset, kind_in, is_seen}
 use Rattle.mv_net.specs.Total.{IsTotalNet, IsRemovable}
 use Rattle.mv_net.proofs.Known.{counts_at}
 use Rattle.mv_net.proofs.Patches.{other_than, put, put_same, put_other, net_allows-put, IsWritten, IsWritten-gone, AgreesBut, AgreesBut-from, Agrees-set, Agrees-others, Agrees-put}
@@ -31,8 +32,8 @@ kind_table net n kind formed k =
 pub unseen_no_port : (net : NetParts) (n : ℕ) → WellFormed net → is_seen net n ≡ false → is_some (table_in (slot net.nets n)) ≡ true → is_port net n ≡ false
 unfolding is_seen
 unseen_no_port net n formed unseen table =
-    let parts = or_parts (has_id net.outputs n || is_input net.latches n) (is_reset (kind_in (slot net.nets n))) unseen in
-    let seen = or_parts (has_id net.outputs n) (is_input net.latches n) parts.0 in
+    let parts = or_parts (has_id net.outputs n || is_latch_input net.latches n) (is_reset (kind_in (slot net.nets n))) unseen in
+    let seen = or_parts (has_id net.outputs n) (is_latch_input net.latches n) parts.0 in
     hidden_no_port net n (record {
       input = false_from_ne_true _ (λ h. no_table Input refl (formed.inputs.only id h));
       output = seen.0;
@@ -70,7 +71,7 @@ point_put nets n v x others here = record {
   where
     low : (f : Option FlatNet) (m : ℕ) → 0 < values_in f → IsTrue (net_allows f x (x m)) → x m < values_in f
     low None m some a = absurd (omega arith)
-    low (Some f) m some a = ltb-true (x m) f.values (and_parts (nat_lt (x m) f.values) (table_allows f.table x (x m)) a).0
+    low (Some f) m some a = ltb-true (x m) f.values (and_parts (nat_lt (x m) f.values) (net_table_allows f.table x (x m)) a).0
 
     at : (m : ℕ) → 0 < values_in (slot nets m) → put n v x m < values_in (slot nets m)
     at m some =
@@ -110,7 +111,7 @@ removal_means net n formed can =
 pub removable-later : (net : NetParts) (n m : ℕ) → IsRemovable (without net n) m → net_reads (slot net.nets n) m ≡ false → IsRemovable net m
 unfolding is_seen with_nets
 removable-later net n m later unread = record {
-  unseen = ap (λ f. has_id net.outputs m || is_input net.latches m || is_reset (kind_in f)) (sym (gone.others m other)) ∙ later.unseen;
+  unseen = ap (λ f. has_id net.outputs m || is_latch_input net.latches m || is_reset (kind_in f)) (sym (gone.others m other)) ∙ later.unseen;
   unread = λ k.
       ⊎_elim
       (λ (e : k ≡ n). ap (λ j. net_reads (slot net.nets j) m) e ∙ unread)

@@ -16,9 +16,10 @@ use Rattle.mv_net.specs.declared.parts.NetParts.{NetParts}
 use Rattle.mv_net.specs.Nets.{slot, values_in, net_reads, table_reads}
 use Rattle.mv_net.specs.Formed.{IsKind, IsReadable, IsLiteral, AllLiterals, AllLines, IsCover, IsNet, IsResetNet, IsLatch, AllLatches, latch_outputs, latch_resets, with_reset, AreKind, WellFormed}
 use Rattle.mv_net.specs.Changes.{with_nets}
-use Rattle.mv_net.specs.Index.{has_id, is_input}
+use Rattle.mv_graph.specs.Nets.{has_id}
+use Rattle.mv_net.specs.Index.{is_latch_input}
 use Rattle.mv_net.proofs.Patches.{IsWritten, other_than}
-use Rattle.mv_net.proofs.Ports.{is_output, is_reset_net, is_port, IsHidden-from, outputs_listed}
+use Rattle.mv_net.proofs.Ports.{is_latch_output, is_reset_net, is_port, IsHidden-from, outputs_listed}
 
 -- ---- a table whose fanins stay
 
@@ -139,11 +140,11 @@ module _ (old : List (Option FlatNet)) (n : ℕ) (new : List (Option FlatNet)) (
     reset = λ m e. reset_stays l.output.0 m.0 output (reset_other l.reset resets n m reset e) (is.reset m e);
   }
 
-  latches_stay : (ls : List FlatLatch) → is_input ls n ≡ false → is_output ls n ≡ false → is_reset_net ls n ≡ false → AllLatches old ls → AllLatches new ls
+  latches_stay : (ls : List FlatLatch) → is_latch_input ls n ≡ false → is_latch_output ls n ≡ false → is_reset_net ls n ≡ false → AllLatches old ls → AllLatches new ls
   latches_stay [] input output reset all = tt
   latches_stay (l ∷ ls) input output reset all =
-      let i = or_parts (nat_eq l.input.0 n) (is_input ls n) input in
-      let o = or_parts (nat_eq l.output.0 n) (is_output ls n) output in (
+      let i = or_parts (nat_eq l.input.0 n) (is_latch_input ls n) input in
+      let o = or_parts (nat_eq l.output.0 n) (is_latch_output ls n) output in (
         latch_stays l (latch_resets ls) (eqb-false l.input.0 n i.0) (eqb-false l.output.0 n o.0) reset all.0,
         latches_stay ls i.1 o.1 (reset_rest l.reset (latch_resets ls) n reset) all.1,
       )

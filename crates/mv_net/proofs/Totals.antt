@@ -3,6 +3,7 @@ use Rattle.std.proofs.Common.{◌≡◌, ◌∙◌, ℕ, ◌<◌, ◌≤◌, Boo
 use Rattle.std.proofs.lemmas.Bool.{cases_Bool, or_cases, or_parts, or_from, or_left, or_right, and_parts, and_from, and_left, and_right, false≢true, ltb-true, lt-ltb}
 use Rattle.mv_base.specs.Set.{has, IsSet}
 use Rattle.mv_base.specs.declared.limits.TheConstants.{MAX_VALUES}
+use Rattle.mv_base.proofs.Lists.{none_from}
 use Rattle.mv_base.proofs.Sets.{has-full, least_of}
 use Rattle.mv_cover.specs.declared.cover.Cover.{Cover}
 use Rattle.mv_cover.specs.declared.line.Line.{Line}
@@ -14,7 +15,7 @@ use Rattle.mv_net.specs.declared.parts.FlatNet.{FlatNet}
 use Rattle.mv_net.specs.declared.parts.NetParts.{NetParts}
 use Rattle.mv_net.specs.Nets.{slot, values_in, table_in, table_reads}
 use Rattle.mv_net.specs.Formed.{AllLines, IsCover, WellFormed}
-use Rattle.mv_net.specs.Allowed.{net_allows, table_allows}
+use Rattle.mv_net.specs.Allowed.{net_allows, net_table_allows}
 use Rattle.mv_net.specs.Total.{AllowsValue, IsTotal, IsTotalNet}
 use Rattle.mv_net.proofs.Known.{counts_at, reads_readable, values_some}
 
@@ -147,7 +148,7 @@ total_allows net n at formed total point =
     let f = total.net in
     let some = total.total.some at point in
     let below : some.value < f.values = allowed_below net.nets f.values total.cover at some.value ((formed.nets n f total.held).cover total.cover total.table) some.is_allowed in
-    let allows : net_allows (Some f) at some.value ≡ true = and_from (nat_lt some.value f.values) (table_allows f.table at some.value) (lt-ltb some.value f.values below) (ap (λ t. table_allows t at some.value) total.table ∙ some.is_allowed) in
+    let allows : net_allows (Some f) at some.value ≡ true = and_from (nat_lt some.value f.values) (net_table_allows f.table at some.value) (lt-ltb some.value f.values below) (ap (λ t. net_table_allows t at some.value) total.table ∙ some.is_allowed) in
     record { value = some.value; is_allowed = ap (λ g. net_allows g at some.value) total.held ∙ allows }
 
 -- ---- what is looked at to tell whether a net's table is total
@@ -175,10 +176,6 @@ table_total nets n c e total =
     let covers : total.cover ≡ c = cc in
     subst (IsTotal nets) covers total.total
 
-no_default : (default : Option ℕ) → is_some default ≡ false → default ≡ None
-no_default None h = refl
-no_default (Some out) h = cc
-
 -- a table with a default is total
 pub default_total : (net : NetParts) (n : ℕ) (c : Cover) → WellFormed net → table_in (slot net.nets n) ≡ Some c → is_some c.default ≡ true → IsTotalNet net.nets n
 default_total net n c formed e some = by_default c.default refl some
@@ -197,7 +194,7 @@ lines_total true net n c formed e none covers =
     let is = formed.nets n has.net has.held in
     net_total net.nets n c has (IsTotal-covered net.nets has.net.values c is.few (is.cover c has.table) covers)
 lines_total false net n c formed e none misses =
-    λ total. not_total net.nets c (no_default c.default none) misses (table_total net.nets n c e total)
+    λ total. not_total net.nets c (none_from c.default none) misses (table_total net.nets n c e total)
 
 -- the same of what is answered over the counts that are kept
 pub total_answer : {E : Type 0} (result : Result Bool E) (net : NetParts) (n : ℕ) (c : Cover) (counts : List ℕ) → WellFormed net → table_in (slot net.nets n) ≡ Some c → is_some c.default ≡ false → counts ≡ map values_in net.nets → IfOk result (λ all. MatchBool all (CoversAll counts c.lines) (MissesSome counts c.lines)) → IfOk result (λ total. MatchBool total (IsTotalNet net.nets n) (IsTotalNet net.nets n → ⊥))

@@ -10,14 +10,14 @@ use Rattle.mv_net.specs.declared.parts.NetParts.{NetParts}
 use Rattle.mv_net.specs.Nets.{slot, values_in, interface_of}
 
 -- a net's table allows the value; a net without a table takes any
-abbrev pub table_allows : Option Cover → (ℕ → ℕ) → ℕ → Bool
-table_allows None at value = true
-table_allows (Some c) at value = allowed c at value
+abbrev pub net_table_allows : Option Cover → (ℕ → ℕ) → ℕ → Bool
+net_table_allows None at value = true
+net_table_allows (Some c) at value = allowed c at value
 
 -- the value is one of the net's, and its table allows it; a number that isn't held takes any
 abbrev pub net_allows : Option FlatNet → (ℕ → ℕ) → ℕ → Bool
 net_allows None at value = true
-net_allows (Some f) at value = nat_lt value f.values && table_allows f.table at value
+net_allows (Some f) at value = nat_lt value f.values && net_table_allows f.table at value
 
 -- the assignment agrees with every net
 pub record Agrees (nets : List (Option FlatNet)) (at : ℕ → ℕ) : Type 0 where

@@ -8,7 +8,7 @@ use Rattle.mv_net.specs.declared.change.Change.{Change}
 use Rattle.mv_net.specs.declared.parts.Kind.TheVariants.{Table}
 use Rattle.mv_net.specs.declared.parts.FlatNet.{FlatNet}
 use Rattle.mv_net.specs.declared.parts.NetParts.{NetParts}
-use Rattle.mv_net.specs.Index.{has_id}
+use Rattle.mv_graph.specs.Nets.{has_id}
 
 -- the table that is given to the net at a number, if one is
 abbrev pub table_for : ℕ → List NewTable → Option Cover

@@ -1,5 +1,5 @@
 -- When the parts of a network are well formed.
-use Rattle.std.specs.Prelude.{◌≡◌, ℕ, ◌<◌, ◌≤◌, Bool, true, false, ◌&&◌, not, IsTrue, Option, Some, None, List, [], ◌∷◌, length, decimal, map, is_some}
+use Rattle.std.specs.Prelude.{◌≡◌, ℕ, ◌<◌, ◌≤◌, Bool, true, false, IsTrue, Option, Some, None, List, [], ◌∷◌, length, decimal, map, is_some}
 use Rattle.std.specs.List.{list_all, range_with_len}
 use Rattle.mv_base.specs.Names.{is_net_name, is_model_name, is_value_name, names_differ}
 use Rattle.mv_base.specs.Set.{full}
@@ -17,12 +17,7 @@ use Rattle.mv_net.specs.declared.parts.FlatNet.{FlatNet}
 use Rattle.mv_net.specs.declared.parts.FlatLatch.{FlatLatch}
 use Rattle.mv_net.specs.declared.parts.NetParts.{NetParts}
 use Rattle.mv_net.specs.Nets.{slot, net_reads, values_in}
-use Rattle.mv_net.specs.Index.{has_id}
-
--- no net stands twice in the list
-abbrev pub all_differ : List NetId → Bool
-all_differ [] = true
-all_differ (n ∷ ns) = not (has_id ns n.0) && all_differ ns
+use Rattle.mv_graph.specs.Nets.{has_id, all_differ}
 
 -- the net at the number is held and of this kind
 pub record IsKind (nets : List (Option FlatNet)) (n : ℕ) (kind : Kind) : Type 0 where

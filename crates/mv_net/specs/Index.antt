@@ -1,7 +1,8 @@
--- What is looked up in a network: lists of nets by ascending number, the nets that are seen, and names.
-use Rattle.std.specs.Prelude.{◌≡◌, ℕ, Bool, true, false, ◌&&◌, ◌||◌, nat_eq, nat_lt, is_some, Option, Some, None, List, [], ◌∷◌, length, map, slice_index_or}
+-- What is looked up in a network: fanins and readers, the nets that are seen, and names.
+use Rattle.std.specs.Prelude.{◌≡◌, ℕ, Bool, true, false, ◌||◌, nat_eq, is_some, Option, Some, None, List, [], length, map}
 use Rattle.std.specs.List.{list_any, flat_map}
 use Rattle.mv_base.specs.declared.number.NetId.{NetId}
+use Rattle.mv_graph.specs.Nets.{has_id, row, IsAscending}
 use Rattle.mv_cover.specs.declared.cube.Lit.{Lit}
 use Rattle.mv_cover.specs.declared.line.Line.{Line}
 use Rattle.mv_net.specs.declared.parts.Kind.{Kind}
@@ -25,29 +26,6 @@ abbrev pub value_names_in : Option FlatNet → List (List ℕ)
 value_names_in None = []
 value_names_in (Some f) = f.value_names
 
--- the number stands in the list
-abbrev pub has_id : List NetId → ℕ → Bool
-has_id ns n = list_any (λ (m : NetId). nat_eq m.0 n) ns
-
--- the numbers ascend
-abbrev pub ids_ascend : List NetId → Bool
-ids_ascend [] = true
-ids_ascend (_ ∷ []) = true
-ids_ascend (n ∷ m ∷ ns) = nat_lt n.0 m.0 && ids_ascend (m ∷ ns)
-
--- the list has exactly the numbers that pass the test, ascending; there is one such list at most
-pub record IsAscending (test : ℕ → Bool) (list : List NetId) : Type 0 where
-  pub ascending : ids_ascend list ≡ true
-  pub members : (n : ℕ) → has_id list n ≡ test n
-
--- the list at a number, and none past the last
-abbrev pub row : List (List NetId) → ℕ → List NetId
-row rows n = slice_index_or rows n []
-
--- the nets of all literals, in order
-abbrev pub line_nets : List Line → List NetId
-line_nets ls = flat_map (λ (l : Line). map (λ (m : Lit). m.net) l.cube) ls
-
 -- one list for each number: the nets that its net reads
 pub record AreFanins (nets : List (Option FlatNet)) (rows : List (List NetId)) : Type 0 where
   pub long : length rows ≡ length nets
@@ -67,15 +45,21 @@ is_reset (Some Table) = false
 is_reset (Some Reset) = true
 
 -- the net is the input of one of these latches
-abbrev pub is_input : List FlatLatch → ℕ → Bool
-is_input latches n = list_any (λ (l : FlatLatch). nat_eq l.input.0 n) latches
+abbrev pub is_latch_input : List FlatLatch → ℕ → Bool
+is_latch_input latches n = list_any (λ (l : FlatLatch). nat_eq l.input.0 n) latches
 
 -- the net is seen: an output of the root, the input of a latch, or a reset net
 unfoldable pub is_seen : NetParts → ℕ → Bool
-is_seen net n = has_id net.outputs n || is_input net.latches n || is_reset (kind_in (slot net.nets n))
+is_seen net n = has_id net.outputs n || is_latch_input net.latches n || is_reset (kind_in (slot net.nets n))
 
 -- the net at the number is held and has this name
 pub record HasName (nets : List (Option FlatNet)) (n : ℕ) (name : List ℕ) : Type 0 where
   pub net : FlatNet
   pub held : slot nets n ≡ Some net
   pub is : net.name ≡ name
+
+-- ---- what private functions alone cite
+
+-- the nets of all literals, in order
+abbrev pub line_nets : List Line → List NetId
+line_nets ls = flat_map (λ (l : Line). map (λ (m : Lit). m.net) l.cube) ls

@@ -2,12 +2,9 @@ pub mod Nets
 pub mod Formed
 pub mod Allowed
 pub mod Index
-pub mod Turned
 pub mod Names
 pub mod Seen
 pub mod Kept
 pub mod Changes
 pub mod Total
 pub mod Order
-pub mod Ranks
-pub mod Sorting

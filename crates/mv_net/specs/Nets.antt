@@ -4,7 +4,7 @@ use Rattle.std.specs.List.{range_with_len}
 use Rattle.mv_base.specs.Meaning.{Port, LatchPort, Interface}
 use Rattle.mv_base.specs.declared.number.NetId.{NetId}
 use Rattle.mv_cover.specs.declared.cover.Cover.{Cover}
-use Rattle.mv_cover.specs.Covers.{cover_reads, literals_of}
+use Rattle.mv_cover.specs.Covers.{cover_reads, literal_count}
 use Rattle.mv_net.specs.declared.parts.FlatNet.{FlatNet}
 use Rattle.mv_net.specs.declared.parts.FlatLatch.{FlatLatch}
 use Rattle.mv_net.specs.declared.parts.NetParts.{NetParts}
@@ -40,7 +40,7 @@ net_reads f n = table_reads (table_in f) n
 -- the literals of all lines of a table
 abbrev pub table_literals : Option Cover → ℕ
 table_literals None = 0
-table_literals (Some c) = literals_of c.lines
+table_literals (Some c) = literal_count c.lines
 
 -- the literals of a network: those of all tables
 abbrev pub literals_in : List (Option FlatNet) → ℕ

@@ -3,8 +3,8 @@ use Rattle.std.specs.Prelude.{◌≡◌, ℕ, true, Option, List, take, slice_ge
 use Rattle.mv_base.specs.declared.number.NetId.{NetId}
 use Rattle.mv_net.specs.declared.parts.FlatNet.{FlatNet}
 use Rattle.mv_net.specs.Nets.{slot, net_reads}
-use Rattle.mv_net.specs.Formed.{all_differ}
-use Rattle.mv_net.specs.Index.{has_id, is_held}
+use Rattle.mv_graph.specs.Nets.{all_differ, has_id}
+use Rattle.mv_net.specs.Index.{is_held}
 
 -- each held net stands in the list once, and the fanins of a net stand before it
 pub record IsOrder (nets : List (Option FlatNet)) (order : List NetId) : Type 0 where

@@ -3,7 +3,7 @@ ghost use Rattle.std.specs.Option.{option_map};
 ghost use Rattle.mv_net.specs.Nets.{slot};
 ghost use Rattle.mv_net.specs.Formed.{WellFormed};
 ghost use Rattle.mv_net.specs.Kept.{IsNetwork};
-ghost use Rattle.mv_net.specs.Index.{has_id};
+ghost use Rattle.mv_graph.specs.Nets.{has_id};
 ghost use Rattle.mv_net.specs.Changes.{table_for, count_for, with_table, with_count, changed_from, made_net, changed};
 
 use crate::kept::{Kept, kept_of};
@@ -41,6 +41,67 @@ pub struct Change {
     pub set: Items<NewTable>,
     pub values: Items<NewCount>,
     pub gone: Items<NetId>,
+}
+
+impl NewNet {
+    /// An equal net that comes.
+    pub fn copy(&self) -> Result<NewNet, Memory>
+        ensures { IfOk result (λ new. new ≡ self.now) }
+    {
+        Ok(NewNet {
+            name: self.name.copy()?,
+            values: self.values,
+            table: self.table.copy()?,
+        })
+    }
+}
+
+impl NewTable {
+    /// An equal table for a net.
+    pub fn copy(&self) -> Result<NewTable, Memory>
+        ensures { IfOk result (λ new. new ≡ self.now) }
+    {
+        Ok(NewTable {
+            net: self.net,
+            table: self.table.copy()?,
+        })
+    }
+}
+
+impl Change {
+    /// An equal change.
+    pub fn copy(&self) -> Result<Change, Memory>
+        ensures { IfOk result (λ change. change ≡ self.now) }
+    {
+        Ok(Change {
+            add: copied_new_nets(&self.add)?,
+            set: copied_new_tables(&self.set)?,
+            values: self.values.copy()?,
+            gone: self.gone.copy()?,
+        })
+    }
+}
+
+/// Equal nets that come.
+fn copied_new_nets(nets: &Items<NewNet>) -> Result<Items<NewNet>, Memory>
+    ensures { IfOk result (λ copies. copies ≡ nets.now) }
+{
+    let mut copies = Items::new(nets.allocator());
+    for net in nets.as_slice() {
+        copies.push(net.copy()?)?;
+    }
+    Ok(copies)
+}
+
+/// Equal tables for nets.
+fn copied_new_tables(tables: &Items<NewTable>) -> Result<Items<NewTable>, Memory>
+    ensures { IfOk result (λ copies. copies ≡ tables.now) }
+{
+    let mut copies = Items::new(tables.allocator());
+    for table in tables.as_slice() {
+        copies.push(table.copy()?)?;
+    }
+    Ok(copies)
 }
 
 /// Takes the net out of its place. A number past the last has none.

@@ -2,7 +2,8 @@ ghost use Rattle.std.specs.Prelude.{◌≡◌, ◌++◌, map, IfOk, OnOk};
 ghost use Rattle.mv_cover.specs.declared.cube.Lit.{Lit};
 ghost use Rattle.mv_cover.specs.Covers.{cover_reads};
 ghost use Rattle.mv_net.specs.Nets.{net_reads};
-ghost use Rattle.mv_net.specs.Index.{has_id, line_nets, IsAscending, AreFanins};
+ghost use Rattle.mv_graph.specs.Nets.{has_id, IsAscending};
+ghost use Rattle.mv_net.specs.Index.{line_nets, AreFanins};
 
 use crate::FlatNet;
 use mv_base::{Items, Memory, NetId};

@@ -5,10 +5,10 @@ ghost use Rattle.mv_net.specs.Kept.{AreKept};
 use crate::NetParts;
 use crate::fanins::fanins_of;
 use crate::names::{NameIndex, names_of};
-use crate::readers::readers_of;
 use crate::seen::seen_of;
-use crate::tallies::{counts_of, literals_of};
+use crate::tallies::{counts_of, literals_in};
 use mv_base::{Items, MAX_NETS, Memory, NetId};
+use mv_graph::transposed;
 use std::alloc::Global;
 
 /// What is looked up in a network, by number or by name.
@@ -31,7 +31,7 @@ pub fn kept_of(alloc: Global, parts: &NetParts) -> Result<Kept, Memory>
 {
     let nets = parts.nets.as_slice();
     let fanins = fanins_of(alloc, nets)?;
-    let readers = readers_of(alloc, fanins.as_slice())?;
+    let readers = transposed(alloc, fanins.as_slice())?;
     let names = names_of(alloc, nets)?;
     let seen = seen_of(alloc, parts)?;
     Ok(Kept {
@@ -40,6 +40,6 @@ pub fn kept_of(alloc: Global, parts: &NetParts) -> Result<Kept, Memory>
         readers,
         names,
         seen,
-        literals: literals_of(nets),
+        literals: literals_in(nets),
     })
 }

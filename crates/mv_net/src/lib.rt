@@ -9,9 +9,7 @@ mod laws;
 mod names;
 mod network;
 mod parts;
-mod readers;
 mod seen;
-mod sorting;
 mod tallies;
 mod total;
 
@@ -19,5 +17,3 @@ pub use change::{Change, NewCount, NewNet, NewTable};
 pub use laws::refinement_laws;
 pub use network::Network;
 pub use parts::{FlatLatch, FlatNet, Kind, NetParts};
-pub use readers::{empty_rows, push_to};
-pub use sorting::sorted;

@@ -18,9 +18,9 @@ impl Model for NameIndex {
 
     ghost Value = { List (List ℕ × ℕ) };
 
-    ghost use Rattle.mv_net.specs.Names.{entries_of};
+    ghost use Rattle.mv_net.specs.Names.{pairs_of};
 
-    ghost view = { λ n. entries_of n.numbers.entries };
+    ghost view = { λ n. pairs_of n.numbers.entries };
 }
 
 impl NameIndex {

@@ -3,16 +3,17 @@ ghost use Rattle.std.specs.List.{filter};
 ghost use Rattle.mv_base.specs.declared.number.NetId.{NetId};
 ghost use Rattle.mv_net.specs.Nets.{slot, values_in, name_in, table_in, net_reads, literals_in};
 ghost use Rattle.mv_net.specs.Formed.{WellFormed};
-ghost use Rattle.mv_net.specs.Index.{is_held, kind_in, value_names_in, is_seen, IsAscending, HasName};
+ghost use Rattle.mv_graph.specs.Nets.{IsAscending};
+ghost use Rattle.mv_net.specs.Index.{is_held, kind_in, value_names_in, is_seen, HasName};
 ghost use Rattle.mv_net.specs.Changes.{changed};
 ghost use Rattle.mv_net.specs.Order.{IsOrder};
 
 use crate::change::put_change;
 use crate::kept::{Kept, kept_of};
-use crate::sorting::sorted;
 use crate::{Change, FlatLatch, FlatNet, Kind, NetParts};
 use mv_base::{MAX_NETS, Memory, Name, NetId};
 use mv_cover::Cover;
+use mv_graph::sorted;
 use std::alloc::Global;
 use std::marker::Model;
 

@@ -1,6 +1,7 @@
 ghost use Rattle.std.specs.Prelude.{◌≡◌, ℕ, ◌<◌, true, map, length, IfOk};
-ghost use Rattle.mv_net.specs.Index.{has_id, is_reset, kind_in, is_input};
-ghost use Rattle.mv_net.specs.Seen.{AreMarked, SeenAreHeld, AreSeen};
+ghost use Rattle.mv_graph.specs.Nets.{has_id};
+ghost use Rattle.mv_net.specs.Index.{is_reset, kind_in, is_latch_input};
+ghost use Rattle.mv_net.specs.Seen.{AlsoMarked, SeenAreHeld, AreSeen};
 
 use crate::{FlatLatch, FlatNet, Kind, NetParts};
 use mv_base::{Items, Memory, NetId};
@@ -30,7 +31,7 @@ fn reset_marks(alloc: Global, nets: &[Option<FlatNet>]) -> Result<Items<bool>, M
 /// Marks these nets too.
 fn mark_nets(marks: &mut Items<bool>, nets: &[NetId])
     requires { (n : ℕ) → has_id nets.now n ≡ true → n < length marks.old }
-    ensures { AreMarked marks.old (has_id nets.now) marks.new }
+    ensures { AlsoMarked marks.old (has_id nets.now) marks.new }
 {
     for net in nets {
         marks.replace(net.0 as usize, true);
@@ -39,8 +40,8 @@ fn mark_nets(marks: &mut Items<bool>, nets: &[NetId])
 
 /// Marks the inputs of these latches too.
 fn mark_inputs(marks: &mut Items<bool>, latches: &[FlatLatch])
-    requires { (n : ℕ) → is_input latches.now n ≡ true → n < length marks.old }
-    ensures { AreMarked marks.old (is_input latches.now) marks.new }
+    requires { (n : ℕ) → is_latch_input latches.now n ≡ true → n < length marks.old }
+    ensures { AlsoMarked marks.old (is_latch_input latches.now) marks.new }
 {
     for latch in latches {
         marks.replace(latch.input.0 as usize, true);

@@ -41,7 +41,7 @@ fn literals_of_net(net: &Option<FlatNet>) -> u128
 }
 
 /// The literals of all tables.
-pub fn literals_of(nets: &[Option<FlatNet>]) -> u128
+pub fn literals_in(nets: &[Option<FlatNet>]) -> u128
     requires { length nets.now ≤ MAX_NETS }
     ensures { result ≡ literals_in nets.now }
 {

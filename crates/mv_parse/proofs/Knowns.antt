@@ -13,9 +13,9 @@ use Rattle.mv_parse.specs.declared.command.Command.{Command}
 use Rattle.mv_parse.specs.declared.command.Command.TheVariants.{Model, Inputs, Outputs, Mv, Table, Default, Row, End, Unbuilt, Unknown}
 use Rattle.mv_parse.specs.declared.known.Known.{Known}
 use Rattle.mv_parse.specs.Commands.{command_at, is_end}
-use Rattle.mv_parse.specs.Known.{ends_part, ended, open_part, open_model, inside_of, model_of, known, inputs_of, outputs_of}
+use Rattle.mv_parse.specs.Known.{ends_part, ended_parts, open_part, open_model, open_of, model_of, known, inputs_of, outputs_of}
 use Rattle.mv_parse.specs.Grammar.{unread_faults, outside_faults, inside_faults, placed_faults, line_faults, behind_model}
-use Rattle.mv_parse.specs.Steps.{inside_step, placed_step, stepped}
+use Rattle.mv_parse.specs.Steps.{inside_step, placed_step, line_step}
 use Rattle.mv_parse.proofs.Opens.{inputs-push, outputs-push, decls-push, open_table-row, open_table-default, open_table-table, open_table-other}
 
 -- a line within a model
@@ -43,16 +43,16 @@ model-row : (m : LexLine) (ls : List LexLine) (l : LexLine) → command_at l ≡
 model-row m ls l e =
     rw (inputs-push ls l, outputs-push ls l, decls-push ls l, open_table-row ls l e, e, append-nil (inputs_of ls), append-nil (outputs_of ls)) refl
 
--- the models that have ended
-models-end : (ls : List LexLine) (l : LexLine) → is_end (command_at l) ≡ true → flat_map model_of (ended (ls ++ l ∷ [])) ≡ flat_map model_of (ended ls) ++ model_of (open_part ls)
+-- the models that have ended, behind the end of one more
+pub models-end : (ls : List LexLine) (l : LexLine) → is_end (command_at l) ≡ true → flat_map model_of (ended_parts (ls ++ l ∷ [])) ≡ flat_map model_of (ended_parts ls) ++ model_of (open_part ls)
 models-end ls l h =
     ap (flat_map model_of) (closed-end ends_part ls l h)
-    ∙ (flat_map-append model_of (ended ls) (open_part ls ∷ [])
-    ∙ ap (λ ms. flat_map model_of (ended ls) ++ ms) (append-nil (model_of (open_part ls))))
+    ∙ (flat_map-append model_of (ended_parts ls) (open_part ls ∷ [])
+    ∙ ap (λ ms. flat_map model_of (ended_parts ls) ++ ms) (append-nil (model_of (open_part ls))))
 
 -- what is known behind a line, by the parts of what is known before it
 abbrev pub said : List FileModel → List LexLine → Known
-said models part = record { models = models; inside = inside_of part }
+said models part = record { models = models; inside = open_of part }
 
 -- a line that doesn't end the open model
 inside-said : (c : Command) (models : List FileModel) (m : LexLine) (ls : List LexLine) (l : LexLine) → command_at l ≡ c → is_end c ≡ false → inside_faults c (open_model m ls) l ≡ [] → said models (m ∷ ls ++ l ∷ []) ≡ record { models = models; inside = Some (inside_step c l (open_model m ls)) }
@@ -68,7 +68,7 @@ inside-said Unbuilt models m ls l e n h = cc
 inside-said Unknown models m ls l e n h = cc
 
 -- a line that ends no model
-placed-said : (c : Command) (models : List FileModel) (part : List LexLine) (l : LexLine) → command_at l ≡ c → is_end c ≡ false → placed_faults c (inside_of part) (behind_model part) l ≡ [] → said models (part ++ l ∷ []) ≡ placed_step c models (inside_of part) (behind_model part) l
+placed-said : (c : Command) (models : List FileModel) (part : List LexLine) (l : LexLine) → command_at l ≡ c → is_end c ≡ false → placed_faults c (open_of part) (behind_model part) l ≡ [] → said models (part ++ l ∷ []) ≡ placed_step c models (open_of part) (behind_model part) l
 placed-said c models [] l e n h = refl
 placed-said c models (m ∷ ls) l e n h = rw n (inside-said c models m ls l e n (rw n at h))
 
@@ -77,15 +77,15 @@ outside-end : (c : Command) (l : LexLine) → is_end c ≡ true → outside_faul
 outside-end End l y h = cc
 outside-end _ l y h = cc
 
-placed-end : (c : Command) (models : List FileModel) (part : List LexLine) (l : LexLine) → is_end c ≡ true → placed_faults c (inside_of part) (behind_model part) l ≡ [] → record { models = models ++ model_of part; inside = None } ≡ placed_step c models (inside_of part) (behind_model part) l
+placed-end : (c : Command) (models : List FileModel) (part : List LexLine) (l : LexLine) → is_end c ≡ true → placed_faults c (open_of part) (behind_model part) l ≡ [] → record { models = models ++ model_of part; inside = None } ≡ placed_step c models (open_of part) (behind_model part) l
 placed-end c models [] l y h = absurd (outside-end c l y h)
 placed-end c models (m ∷ ls) l y h = rw y refl
 
-pub known-push : (ls : List LexLine) (l : LexLine) → line_faults (command_at l) (known ls) (behind_model (open_part ls)) l ≡ [] → known (ls ++ l ∷ []) ≡ stepped (command_at l) (known ls) (behind_model (open_part ls)) l
-unfolding known line_faults stepped
+pub known-push : (ls : List LexLine) (l : LexLine) → line_faults (command_at l) (known ls) (behind_model (open_part ls)) l ≡ [] → known (ls ++ l ∷ []) ≡ line_step (command_at l) (known ls) (behind_model (open_part ls)) l
+unfolding known line_faults line_step
 known-push ls l none =
-    let placed : placed_faults (command_at l) (inside_of (open_part ls)) (behind_model (open_part ls)) l ≡ [] = right-nothing (unread_faults (command_at l) (known ls) l) (placed_faults (command_at l) (inside_of (open_part ls)) (behind_model (open_part ls)) l) none in
+    let placed : placed_faults (command_at l) (open_of (open_part ls)) (behind_model (open_part ls)) l ≡ [] = right-nothing (unread_faults (command_at l) (known ls) l) (placed_faults (command_at l) (open_of (open_part ls)) (behind_model (open_part ls)) l) none in
     ⊎_elim
-    (λ (y : is_end (command_at l) ≡ true). rw (models-end ls l y, open_piece-end ends_part ls l y) (placed-end (command_at l) (flat_map model_of (ended ls)) (open_part ls) l y placed))
-    (λ (n : is_end (command_at l) ≡ false). rw (closed-more ends_part ls l n, open_piece-more ends_part ls l n) (placed-said (command_at l) (flat_map model_of (ended ls)) (open_part ls) l refl n placed))
+    (λ (y : is_end (command_at l) ≡ true). rw (models-end ls l y, open_piece-end ends_part ls l y) (placed-end (command_at l) (flat_map model_of (ended_parts ls)) (open_part ls) l y placed))
+    (λ (n : is_end (command_at l) ≡ false). rw (closed-more ends_part ls l n, open_piece-more ends_part ls l n) (placed-said (command_at l) (flat_map model_of (ended_parts ls)) (open_part ls) l refl n placed))
     (cases_Bool (is_end (command_at l)))

@@ -3,10 +3,11 @@ use Rattle.std.proofs.Common.{◌≡◌, ◌+◌, Bool, true, false, ◌&&◌, �
 use Rattle.std.specs.Prelude.{Option, Some, None, count_by, option_map}
 use Rattle.std.specs.List.{list_all, list_any, flat_map}
 use Rattle.std.proofs.lemmas.List.{append-nil}
-use Rattle.std.proofs.lemmas.List.Folds.{list_all-append, list_any-append}
+use Rattle.std.proofs.lemmas.List.Folds.{list_any-append}
 use Rattle.std.proofs.lemmas.Grind.{flat_map-append}
 use Rattle.std.proofs.lemmas.List.Sums.{sum_by-append}
 use Rattle.std.proofs.Math.Bool.{or-false, or-true, and-true, and-false}
+use Rattle.mv_base.proofs.Lists.{list_all-push}
 use Rattle.mv_lex.specs.declared.lines.LexLine.{LexLine}
 use Rattle.mv_design.specs.declared.design.Decl.{Decl}
 use Rattle.mv_decl.specs.Nets.{with_decl, with_decls}
@@ -44,9 +45,6 @@ count_by-push p xs x = rw (sum_by-append (λ y. cond (p y) 1 0) xs (x ∷ [])) (
 
 list_any-push : {X : Type 0} (p : X → Bool) (xs : List X) (x : X) → list_any p (xs ++ x ∷ []) ≡ (list_any p xs || p x)
 list_any-push p xs x = list_any-append p xs (x ∷ []) ∙ ap (λ b. list_any p xs || b) (or-false (p x))
-
-list_all-push : {X : Type 0} (p : X → Bool) (xs : List X) (x : X) → list_all p (xs ++ x ∷ []) ≡ (list_all p xs && p x)
-list_all-push p xs x = list_all-append p xs (x ∷ []) ∙ ap (λ b. list_all p xs && b) (and-true (p x))
 
 rows-push : (ls : List LexLine) (l : LexLine) (c : Command) → command_at l ≡ c → count_by (λ r. is_row (command_at r)) (ls ++ l ∷ []) ≡ count_by (λ r. is_row (command_at r)) ls + cond (is_row c) 1 0
 rows-push ls l c e = count_by-push (λ r. is_row (command_at r)) ls l ∙ ap (λ k. count_by (λ r. is_row (command_at r)) ls + cond (is_row k) 1 0) e

@@ -18,9 +18,9 @@ use Rattle.mv_parse.specs.declared.known.OpenTable.{OpenTable}
 use Rattle.mv_parse.specs.declared.known.OpenModel.{OpenModel}
 use Rattle.mv_parse.specs.declared.known.Known.{Known}
 use Rattle.mv_parse.specs.Commands.{command_at, is_end, is_bound}
-use Rattle.mv_parse.specs.Known.{ends_part, open_part, inside_of, open_model, known}
+use Rattle.mv_parse.specs.Known.{ends_part, open_part, open_of, open_model, known}
 use Rattle.mv_parse.specs.Grammar.{unread_faults, placed_faults, line_faults, behind_model, faults_at, faults_behind, faults_of, design_of}
-use Rattle.mv_parse.specs.Steps.{stepped, HasFewColumns, IsSmall}
+use Rattle.mv_parse.specs.Steps.{line_step, HasFewColumns, IsSmall}
 use Rattle.mv_parse.proofs.Narrows.{line-narrow, open-small}
 use Rattle.mv_parse.proofs.Knowns.{known-push}
 use Rattle.mv_table.proofs.Places.{take_more, drop_one}
@@ -44,7 +44,7 @@ begins lines = record {
   fault = refl;
 }
 
-part-small : (part : List LexLine) (m : OpenModel) (t : OpenTable) → All (λ (l : LexLine). HasFewColumns l) (behind_model part) → inside_of part ≡ Some m → m.table ≡ Some t → t.ins + t.outs ≤ MAX_COLUMNS
+part-small : (part : List LexLine) (m : OpenModel) (t : OpenTable) → All (λ (l : LexLine). HasFewColumns l) (behind_model part) → open_of part ≡ Some m → m.table ≡ Some t → t.ins + t.outs ≤ MAX_COLUMNS
 part-small [] m t narrow e f = cc
 part-small (x ∷ ls) m t narrow e f = open-small ls t narrow (let same : open_model x ls ≡ m = cc in ap (λ (o : OpenModel). o.table) same ∙ f)
 
@@ -81,23 +81,23 @@ bound-begins c None ls l b n none = refl
 bound-begins Model (Some m) ls l b n none = cc
 bound-begins _ (Some m) ls l b n none = cc
 
-inside-none : (part : List LexLine) → inside_of part ≡ None → part ≡ []
+inside-none : (part : List LexLine) → open_of part ≡ None → part ≡ []
 inside-none [] e = refl
 inside-none (x ∷ ls) e = cc
 
 -- another line of a model that is open stands behind those before
-other-inside : (c : Command) (part : List LexLine) (ls : List LexLine) (l : LexLine) → is_bound c ≡ false → placed_faults c (inside_of part) ls l ≡ [] → behind_model (part ++ l ∷ []) ≡ behind_model part ++ l ∷ []
+other-inside : (c : Command) (part : List LexLine) (ls : List LexLine) (l : LexLine) → is_bound c ≡ false → placed_faults c (open_of part) ls l ≡ [] → behind_model (part ++ l ∷ []) ≡ behind_model part ++ l ∷ []
 other-inside Model [] ls l b none = cc
 other-inside _ [] ls l b none = cc
 other-inside c (x ∷ part) ls l b none = refl
 
 -- the open model's lines behind its first, behind one more line
-pub open-bound : (before : List LexLine) (ls : List LexLine) (l : LexLine) → is_bound (command_at l) ≡ true → placed_faults (command_at l) (inside_of (open_part before)) ls l ≡ [] → behind_model (open_part (before ++ l ∷ [])) ≡ []
+pub open-bound : (before : List LexLine) (ls : List LexLine) (l : LexLine) → is_bound (command_at l) ≡ true → placed_faults (command_at l) (open_of (open_part before)) ls l ≡ [] → behind_model (open_part (before ++ l ∷ [])) ≡ []
 open-bound before ls l b none =
     ⊎_elim
     (λ (y : is_end (command_at l) ≡ true). ap behind_model (open_piece-end ends_part before l y))
     (λ (n : is_end (command_at l) ≡ false).
-    ap behind_model (open_piece-more ends_part before l n ∙ ap (λ part. part ++ l ∷ []) (inside-none (open_part before) (bound-begins (command_at l) (inside_of (open_part before)) ls l b n none))))
+    ap behind_model (open_piece-more ends_part before l n ∙ ap (λ part. part ++ l ∷ []) (inside-none (open_part before) (bound-begins (command_at l) (open_of (open_part before)) ls l b n none))))
     (cases_Bool (is_end (command_at l)))
 
 not-end : (c : Command) → is_bound c ≡ false → is_end c ≡ false
@@ -105,13 +105,13 @@ not-end Model e = refl
 not-end End e = cc
 not-end _ e = refl
 
-pub open-more : (before : List LexLine) (ls : List LexLine) (l : LexLine) → is_bound (command_at l) ≡ false → placed_faults (command_at l) (inside_of (open_part before)) ls l ≡ [] → behind_model (open_part (before ++ l ∷ [])) ≡ behind_model (open_part before) ++ l ∷ []
+pub open-more : (before : List LexLine) (ls : List LexLine) (l : LexLine) → is_bound (command_at l) ≡ false → placed_faults (command_at l) (open_of (open_part before)) ls l ≡ [] → behind_model (open_part (before ++ l ∷ [])) ≡ behind_model (open_part before) ++ l ∷ []
 open-more before ls l b none =
     ap behind_model (open_piece-more ends_part before l (not-end (command_at l) b)) ∙ other-inside (command_at l) (open_part before) ls l b none
 
-placed_none : (ls : List LexLine) (l : LexLine) → faults_at ls l ≡ [] → placed_faults (command_at l) (inside_of (open_part ls)) (behind_model (open_part ls)) l ≡ []
+placed_none : (ls : List LexLine) (l : LexLine) → faults_at ls l ≡ [] → placed_faults (command_at l) (open_of (open_part ls)) (behind_model (open_part ls)) l ≡ []
 unfolding line_faults known
-placed_none ls l none = right-nothing (unread_faults (command_at l) (known ls) l) (placed_faults (command_at l) (inside_of (open_part ls)) (behind_model (open_part ls)) l) none
+placed_none ls l none = right-nothing (unread_faults (command_at l) (known ls) l) (placed_faults (command_at l) (open_of (open_part ls)) (behind_model (open_part ls)) l) none
 
 drop-push : (ls : List LexLine) (l : LexLine) (n : ℕ) → n ≤ length ls → drop n (ls ++ l ∷ []) ≡ drop n ls ++ l ∷ []
 drop-push ls l n h = drop-append-le n ls (l ∷ []) h
@@ -147,7 +147,7 @@ behind-any before l first none within was narrow =
     (λ (n : is_bound (command_at l) ≡ false). rw n (behind-more before l first none within was narrow n))
     (cases_Bool (is_bound (command_at l)))
 
-pub next : (lines : List LexLine) (first at new_first : ℕ) (k new : Known) (l : LexLine) → IsAt lines first at k → at < length lines → l ≡ get_or lines at l → line_faults (command_at l) k (drop first (take at lines)) l ≡ [] → new ≡ stepped (command_at l) k (drop first (take at lines)) l → new_first ≡ (if is_bound (command_at l) then at + 1 else first) → IsAt lines new_first (at + 1) new
+pub next : (lines : List LexLine) (first at new_first : ℕ) (k new : Known) (l : LexLine) → IsAt lines first at k → at < length lines → l ≡ get_or lines at l → line_faults (command_at l) k (drop first (take at lines)) l ≡ [] → new ≡ line_step (command_at l) k (drop first (take at lines)) l → new_first ≡ (if is_bound (command_at l) then at + 1 else first) → IsAt lines new_first (at + 1) new
 next lines first at new_first k new l here h e none becomes moves =
     let clean : faults_at (take at lines) l ≡ [] = sym (here_faults lines first at k l here) ∙ none in
     let more : take (at + 1) lines ≡ take at lines ++ l ∷ [] = take_more lines at l h e in

@@ -11,7 +11,7 @@ use Rattle.mv_fault.specs.declared.fault.ParseFault.{ParseFault}
 use Rattle.mv_fault.specs.declared.fault.ParseFault.TheVariants.{UnknownCommand, OutsideModel, NoEnd, Missing, Extra, Columns, DefaultTwice, Repeated, NoModel, Limit, BadName, NoTable, NotBuilt}
 use Rattle.mv_fault.specs.Tells.{when, first}
 use Rattle.mv_decl.specs.Line.{decl_faults}
-use Rattle.mv_table.specs.Columns.{outs_of, columns_faults}
+use Rattle.mv_table.specs.Columns.{has_several_outputs, columns_faults}
 use Rattle.mv_table.specs.Tables.{behind_first, table_faults}
 use Rattle.mv_parse.specs.declared.command.Command.{Command}
 use Rattle.mv_parse.specs.declared.command.Command.TheVariants.{Model, Inputs, Outputs, Mv, Table, Default, Row, End, Unbuilt, Unknown}
@@ -49,13 +49,13 @@ table_value_faults Table ds l ls = table_faults ds l (front_rows ls)
 table_value_faults _ ds l ls = []
 
 -- the faults of the values of a model's rows and defaults, table by table, where these are its lines
-abbrev pub value_faults : List Decl → List LexLine → List ParseFault
-value_faults ds [] = []
-value_faults ds (l ∷ ls) = table_value_faults (command_at l) ds l ls ++ value_faults ds ls
+abbrev pub tables_faults : List Decl → List LexLine → List ParseFault
+tables_faults ds [] = []
+tables_faults ds (l ∷ ls) = table_value_faults (command_at l) ds l ls ++ tables_faults ds ls
 
 -- `.end`: no further word; then the values of its model are checked
 unfoldable pub end_faults : ℕ → List ℕ → List (List ℕ) → List Decl → List LexLine → List ParseFault
-end_faults n word words ds ls = when (nat_lt 0 (length words)) (Extra n word) ++ value_faults ds ls
+end_faults n word words ds ls = when (nat_lt 0 (length words)) (Extra n word) ++ tables_faults ds ls
 
 -- the faults of what needs a table that is open
 abbrev pub at_table : ℕ → Option OpenTable → (OpenTable → List ParseFault) → List ParseFault
@@ -65,7 +65,7 @@ at_table n (Some t) faults = faults t
 -- the fault of a line that this version doesn't read: a second model, and a table with several outputs
 abbrev pub unread_faults : Command → Known → LexLine → List ParseFault
 unread_faults Model k l = when (nat_lt 0 (length k.models)) (NotBuilt l.number)
-unread_faults Table k l = when (nat_lt 1 (length (outs_of (behind_first l)))) (NotBuilt l.number)
+unread_faults Table k l = when (has_several_outputs (behind_first l)) (NotBuilt l.number)
 unread_faults _ k l = []
 
 -- the faults of a line outside a model

@@ -83,8 +83,8 @@ abbrev pub ends_part : LexLine → Bool
 ends_part l = is_end (command_at l)
 
 -- the parts that an `.end` has ended, without it
-abbrev pub ended : List LexLine → List (List LexLine)
-ended ls = closed ends_part ls
+abbrev pub ended_parts : List LexLine → List (List LexLine)
+ended_parts ls = closed ends_part ls
 
 -- the part behind the last `.end`
 abbrev pub open_part : List LexLine → List LexLine
@@ -102,9 +102,9 @@ open_model l ls = record {
 }
 
 -- the model that a part begins, if it has a line
-abbrev pub inside_of : List LexLine → Option OpenModel
-inside_of [] = None
-inside_of (l ∷ ls) = Some (open_model l ls)
+abbrev pub open_of : List LexLine → Option OpenModel
+open_of [] = None
+open_of (l ∷ ls) = Some (open_model l ls)
 
 -- a model that has ended, of which these are the lines behind its first
 abbrev pub file_model : OpenModel → List LexLine → FileModel
@@ -126,8 +126,8 @@ ended_model (Some m) ls = file_model m ls ∷ []
 
 -- the model that a part says, if it has a line
 abbrev pub model_of : List LexLine → List FileModel
-model_of part = ended_model (inside_of part) (drop 1 part)
+model_of part = ended_model (open_of part) (drop 1 part)
 
 -- what the lines say: the models that have ended, and the one that is open
 unfoldable pub known : List LexLine → Known
-known ls = record { models = flat_map model_of (ended ls); inside = inside_of (open_part ls) }
+known ls = record { models = flat_map model_of (ended_parts ls); inside = open_of (open_part ls) }

@@ -37,8 +37,8 @@ abbrev pub with_declared : List (List ℕ) → OpenModel → OpenModel
 with_declared words m = record m { decls = with_decls m.decls (decls_said words); table = None }
 
 -- a model with a table that begins
-abbrev pub with_table : List (List ℕ) → OpenModel → OpenModel
-with_table words m = record m { table = Some (new_table words) }
+abbrev pub with_open_table : List (List ℕ) → OpenModel → OpenModel
+with_open_table words m = record m { table = Some (new_table words) }
 
 -- a table whose default has stood
 abbrev pub default_seen : OpenTable → OpenTable
@@ -61,7 +61,7 @@ abbrev pub inside_step : Command → LexLine → OpenModel → OpenModel
 inside_step Inputs l m = with_inputs (behind_first l) m
 inside_step Outputs l m = with_outputs (behind_first l) m
 inside_step Mv l m = with_declared (behind_first l) m
-inside_step Table l m = with_table (behind_first l) m
+inside_step Table l m = with_open_table (behind_first l) m
 inside_step Default l m = with_default m
 inside_step Row l m = with_row m
 inside_step _ l m = m
@@ -82,8 +82,8 @@ placed_step c models None ls l = outside_stepped models l
 placed_step c models (Some m) ls l = inside_stepped c models m ls l
 
 -- what is known behind a line
-unfoldable pub stepped : Command → Known → List LexLine → LexLine → Known
-stepped c k ls l = placed_step c k.models k.inside ls l
+unfoldable pub line_step : Command → Known → List LexLine → LexLine → Known
+line_step c k ls l = placed_step c k.models k.inside ls l
 
 -- a first line of a table has no more columns than a table may have
 abbrev pub HasFewColumns : LexLine → Type 0

@@ -7,8 +7,6 @@ mod lines;
 mod reader;
 mod step;
 mod tables;
-#[cfg(test)]
-mod tests;
 
 pub use mv_design::{Bind, Decl, Design, Entry, FileLatch, FileModel, FileTable, Part, Row};
 pub use mv_fault::{ParseFault, Which, put_parse_fault};

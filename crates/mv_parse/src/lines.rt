@@ -5,7 +5,7 @@ ghost use Rattle.mv_decl.specs.Line.{decl_faults};
 ghost use Rattle.mv_table.specs.Columns.{columns_faults};
 ghost use Rattle.mv_parse.specs.Commands.{first_of};
 ghost use Rattle.mv_parse.specs.Grammar.{model_faults, port_faults, row_faults, default_faults};
-ghost use Rattle.mv_parse.specs.Steps.{with_inputs, with_outputs, with_declared, with_table, default_seen, row_seen};
+ghost use Rattle.mv_parse.specs.Steps.{with_inputs, with_outputs, with_declared, with_open_table, default_seen, row_seen};
 
 use crate::known::{OpenModel, OpenTable};
 use mv_base::{MAX_TABLE_LINES, Name, NameSet};
@@ -102,7 +102,7 @@ pub fn begin_table(
     words: &[Name],
 ) -> Result<(), ParseFault>
     ensures fault { Tells result (columns_faults number word.now words.now) }
-    ensures ok { OnOk result (model.new ≡ with_table words.now model.old) }
+    ensures ok { OnOk result (model.new ≡ with_open_table words.now model.old) }
 {
     check_columns(number, word, words)?;
     model.table = Some(OpenTable {

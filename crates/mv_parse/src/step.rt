@@ -7,7 +7,7 @@ ghost use Rattle.mv_table.specs.Tables.{behind_first};
 ghost use Rattle.mv_parse.specs.Commands.{first_word, is_end};
 ghost use Rattle.mv_parse.specs.Grammar.{line_faults, unread_faults, placed_faults, outside_faults, inside_faults, end_faults};
 ghost use Rattle.mv_parse.specs.Known.{file_model};
-ghost use Rattle.mv_parse.specs.Steps.{stepped, new_model, inside_step, HasFewColumns, IsSmall};
+ghost use Rattle.mv_parse.specs.Steps.{line_step, new_model, inside_step, HasFewColumns, IsSmall};
 
 use crate::command::{Command, first_word, is_end};
 use crate::known::{Known, OpenModel};
@@ -20,7 +20,7 @@ use mv_decl::Decls;
 use mv_design::FileModel;
 use mv_fault::ParseFault;
 use mv_lex::LexLine;
-use mv_table::{behind_first, outs};
+use mv_table::{behind_first, has_several_outputs};
 use std::alloc::Global;
 
 /// Refuses a line that this version doesn't read: a second model, and a table with several outputs.
@@ -31,7 +31,7 @@ fn check_read(known: &Known, command: Command, line: &LexLine) -> Result<(), Par
         Command::Model if !known.models.is_empty() => Err(ParseFault::NotBuilt {
             line: line.number,
         }),
-        Command::Table if outs(behind_first(line)).len() > 1 => Err(ParseFault::NotBuilt {
+        Command::Table if has_several_outputs(behind_first(line)) => Err(ParseFault::NotBuilt {
             line: line.number,
         }),
         _ => Ok(()),
@@ -154,7 +154,7 @@ fn inside_line(
 }
 
 /// A line that ends the open model, if there is one.
-#[tactic(auto, using(mv_fault::proofs::Firsts::firsts), unfolding(crate::specs::Steps::stepped))]
+#[tactic(auto, using(mv_fault::proofs::Firsts::firsts), unfolding(crate::specs::Steps::line_step))]
 fn end_open(
     alloc: Global,
     known: &mut Known,
@@ -165,7 +165,7 @@ fn end_open(
     requires narrow { All (λ (l : LexLine). HasFewColumns l) lines.now }
     requires ends { is_end command ≡ true }
     ensures fault { Tells result (placed_faults command known.old.inside lines.now line.now) }
-    ensures ok { OnOk result (known.new ≡ stepped command known.old lines.now line.now) }
+    ensures ok { OnOk result (known.new ≡ line_step command known.old lines.now line.now) }
 {
     match known.inside.take() {
         None => known.inside = Some(outside_line(alloc, command, line)?),
@@ -175,7 +175,7 @@ fn end_open(
 }
 
 /// Reads a line: what is known behind it, or its first fault. `lines` are those of the open model behind its first.
-#[tactic(auto, using(mv_fault::proofs::Firsts::firsts), unfolding(crate::specs::Grammar::line_faults, crate::specs::Steps::stepped))]
+#[tactic(auto, using(mv_fault::proofs::Firsts::firsts), unfolding(crate::specs::Grammar::line_faults, crate::specs::Steps::line_step))]
 pub fn take_line(
     alloc: Global,
     known: &mut Known,
@@ -186,7 +186,7 @@ pub fn take_line(
     requires small { IsSmall known.old }
     requires narrow { All (λ (l : LexLine). HasFewColumns l) lines.now }
     ensures fault { Tells result (line_faults command known.old lines.now line.now) }
-    ensures ok { OnOk result (known.new ≡ stepped command known.old lines.now line.now) }
+    ensures ok { OnOk result (known.new ≡ line_step command known.old lines.now line.now) }
 {
     check_read(known, command, line)?;
     if is_end(command) {

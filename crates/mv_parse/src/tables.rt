@@ -2,7 +2,7 @@ ghost use Rattle.std.specs.Prelude.{◌≡◌, All, IfOk};
 ghost use Rattle.mv_lex.specs.declared.lines.LexLine.{LexLine};
 ghost use Rattle.mv_fault.specs.Tells.{Tells};
 ghost use Rattle.mv_parse.specs.Known.{front_rows, tables_of, file_model};
-ghost use Rattle.mv_parse.specs.Grammar.{value_faults};
+ghost use Rattle.mv_parse.specs.Grammar.{tables_faults};
 ghost use Rattle.mv_parse.specs.Steps.{HasFewColumns};
 
 use crate::command::{command_at, is_table, keeps_table};
@@ -31,7 +31,7 @@ fn front_rows(lines: &[LexLine]) -> &[LexLine]
 #[tactic(auto, using(mv_fault::proofs::Firsts::firsts))]
 fn tables(alloc: Global, decls: &Decls, lines: &[LexLine]) -> Result<Items<FileTable>, ParseFault>
     requires { All (λ (l : LexLine). HasFewColumns l) lines.now }
-    ensures fault { Tells result (value_faults decls.now lines.now) }
+    ensures fault { Tells result (tables_faults decls.now lines.now) }
     ensures ok { IfOk result (λ tables. tables ≡ tables_of decls.now lines.now) }
 {
     let mut tables = Items::new(alloc);
@@ -54,7 +54,7 @@ pub fn end_model(
     lines: &[LexLine],
 ) -> Result<FileModel, ParseFault>
     requires { All (λ (l : LexLine). HasFewColumns l) lines.now }
-    ensures fault { Tells result (value_faults model.decls lines.now) }
+    ensures fault { Tells result (tables_faults model.decls lines.now) }
     ensures ok { IfOk result (λ ended. ended ≡ file_model model lines.now) }
 {
     let tables = tables(alloc, &model.decls, lines)?;

@@ -57,11 +57,6 @@ module _ {T : Type 0} where
       both : n ≡ least_free ps → ⊥
       both same = let free = free_there ps in let held : is_some (item_at ps (least_free ps)) ≡ true = rw same at e in grind arith
 
-  -- what isn't an item is nothing
-  pub none_from : (o : Option T) → is_some o ≡ false → o ≡ None
-  none_from None e = refl
-  none_from (Some x) e = absurd (cc)
-
   -- the item stands at the least free place
   pub item_at-with : (ps : List (Option T)) (x : T) → item_at (with_item ps x) (least_free ps) ≡ Some x
   item_at-with [] x = refl

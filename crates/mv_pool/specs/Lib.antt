@@ -1,4 +1,5 @@
 pub mod Places
 pub mod Kept
 pub mod Reached
+-- what private functions alone cite
 pub mod Walks

@@ -3,8 +3,6 @@
 
 mod linked;
 mod pool;
-#[cfg(test)]
-mod tests;
 mod walk;
 
 pub use linked::Linked;

@@ -1,7 +1,7 @@
 -- A line of declarations without a fault declares lawful nets, with lawful values.
 use Rattle.std.proofs.Common.{◌≡◌, ◌≢◌, ℕ, ◌<◌, ◌≤◌, Bool, true, false, ◌==◌, List, [], ◌∷◌, ◌++◌, length, refl, arith, ⊎_elim}
 use Rattle.std.specs.Prelude.{All, nat_lt}
-use Rattle.std.specs.List.{list_all}
+use Rattle.std.specs.List.{list_all, flat_map}
 use Rattle.std.proofs.lemmas.Bool.{cases_Bool, cond_both, and_from, and_parts, not-false, eqb-true, eqb-false, ltb-false}
 use Rattle.std.proofs.lemmas.List.Elements.{All-nil, All-cons, All-head, All-tail, All-push}
 use Rattle.mv_base.specs.Names.{among, is_net_name, is_value_name}
@@ -12,7 +12,7 @@ use Rattle.mv_fault.specs.declared.fault.ParseFault.TheVariants.{BadCount, Limit
 use Rattle.mv_fault.specs.Tells.{when}
 use Rattle.mv_fault.proofs.Nothing.{left-nothing, right-nothing, when-nothing}
 use Rattle.mv_decl.specs.Nets.{declared_of, with_decl, with_decls}
-use Rattle.mv_decl.specs.Line.{is_comma, is_count, net_faults, head_faults, head_nets, from_count, number_of, value_names, named_values, told_number, count_faults, name_faults, length_faults, redeclared_faults, commas_apart, values_from, nets_said, values_said, decls_for, decls_said, count_line_faults, decl_faults}
+use Rattle.mv_decl.specs.Line.{Front, net_name_faults, lacking_faults, front_faults, front_said, number_of, value_names, named_values, told_number, count_faults, name_faults, length_faults, redeclared_faults, values_from, nets_said, values_said, decls_for, decls_said, count_line_faults, decl_faults}
 use Rattle.mv_decl.proofs.Numbers.{numbers_size}
 use Rattle.mv_model.specs.Proper.{IsFileDecl}
 use Rattle.mv_model.proofs.Decimals.{numbers-differ, numbers-lawful}
@@ -20,36 +20,18 @@ use Rattle.mv_read.proofs.Names.{IsNames, no-names, values-named}
 
 -- ---- the nets, and the count behind them
 
-net-lawful : (n : ℕ) (w : List ℕ) → net_faults n w ≡ [] → is_net_name w ≡ true
-unfolding net_faults
+net-lawful : (n : ℕ) (w : List ℕ) → net_name_faults n w ≡ [] → is_net_name w ≡ true
+unfolding net_name_faults
 net-lawful n w none = not-false _ (when-nothing _ _ none)
 
--- all names before the count are lawful, and there is a count
-abbrev IsHead : Bool → List (List ℕ) → Type 0
-IsHead must ws = (list_all is_net_name (head_nets must ws) ≡ true) × (from_count must ws ≡ [] → ⊥)
+nets-lawful : (n : ℕ) (nets : List (List ℕ)) → flat_map (net_name_faults n) nets ≡ [] → list_all is_net_name nets ≡ true
+nets-lawful n [] none = refl
+nets-lawful n (w ∷ ws) none =
+    and_from _ _ (net-lawful n w (left-nothing (net_name_faults n w) (flat_map (net_name_faults n) ws) none)) (nets-lawful n ws (right-nothing (net_name_faults n w) (flat_map (net_name_faults n) ws) none))
 
-head-fits : (n : ℕ) (word : List ℕ) (must : Bool) (ws : List (List ℕ)) → head_faults n word must ws ≡ [] → IsHead must ws
-head-fits n word must [] none = cc
-head-fits n word true (w ∷ ws) none =
-    ⊎_elim
-    (λ (y : is_comma w ≡ true). absurd (let e = rw y at none in cc))
-    (λ (c : is_comma w ≡ false).
-    let name : net_faults n w ++ head_faults n word false ws ≡ [] = rw c at none in
-    let rest = head-fits n word false ws (right-nothing (net_faults n w) (head_faults n word false ws) name) in
-    rw c (and_from _ _ (net-lawful n w (left-nothing _ _ name)) rest.0, rest.1))
-    (cases_Bool (is_comma w))
-head-fits n word false (w ∷ ws) none =
-    ⊎_elim
-    (λ (y : is_comma w ≡ true). rw y (head-fits n word true ws (rw y at none)))
-    (λ (c : is_comma w ≡ false).
-    ⊎_elim
-    (λ (y : is_count false w ≡ true). rw (c, y) (refl, λ e. cc))
-    (λ (d : is_count false w ≡ false).
-    let name : net_faults n w ++ head_faults n word false ws ≡ [] = rw (c, d) at none in
-    let rest = head-fits n word false ws (right-nothing (net_faults n w) (head_faults n word false ws) name) in
-    rw (c, d) (and_from _ _ (net-lawful n w (left-nothing _ _ name)) rest.0, rest.1))
-    (cases_Bool (is_count false w)))
-    (cases_Bool (is_comma w))
+some-rest : (n : ℕ) (word : List ℕ) (rest : List (List ℕ)) → lacking_faults n word rest ≡ [] → rest ≡ [] → ⊥
+some-rest n word [] none e = cc
+some-rest n word (w ∷ ws) none e = cc
 
 -- ---- the values
 
@@ -109,10 +91,12 @@ decls-fit values (net ∷ nets) h lawful =
 pub line-declares : (n : ℕ) (word : List ℕ) (ds : List Decl) (words : List (List ℕ)) → decl_faults n word ds words ≡ [] → All IsFileDecl (decls_said words)
 unfolding decl_faults decls_said nets_said values_said
 line-declares n word ds words none =
-    let ws = commas_apart words in
-    let head = head-fits n word true ws (left-nothing _ (count_line_faults n ds (head_nets true ws) (from_count true ws)) none) in
-    let values = line-values n ds (head_nets true ws) (from_count true ws) head.1 (right-nothing (head_faults n word true ws) (count_line_faults n ds (head_nets true ws) (from_count true ws)) none) in
-    decls-fit (values_from (from_count true ws)) (head_nets true ws) values head.0
+    let front : Front = front_said words in
+    let read : front_faults n word front ≡ [] = left-nothing (front_faults n word front) (count_line_faults n ds front.nets front.rest) none in
+    let counted : count_line_faults n ds front.nets front.rest ≡ [] = right-nothing (front_faults n word front) (count_line_faults n ds front.nets front.rest) none in
+    let lawful = nets-lawful n front.nets (left-nothing (flat_map (net_name_faults n) front.nets) (lacking_faults n word front.rest) read) in
+    let rest = some-rest n word front.rest (right-nothing (flat_map (net_name_faults n) front.nets) (lacking_faults n word front.rest) read) in
+    decls-fit (values_from front.rest) front.nets (line-values n ds front.nets front.rest rest counted) lawful
 
 -- declarations behind others
 module _ (P : Decl → Type 0) where

@@ -5,7 +5,7 @@ use Rattle.std.proofs.lemmas.Bool.{cases_Bool, false_from_ne_true, or_cases}
 use Rattle.mv_base.specs.Names.{same_word, begins_with}
 use Rattle.mv_base.proofs.NameLemmas.{same_word_is}
 use Rattle.mv_lex.specs.declared.lines.LexLine.{LexLine}
-use Rattle.mv_table.specs.Tables.{is_default_word, begins_default, is_default}
+use Rattle.mv_table.specs.Tables.{is_default_word, begins_default, says_default}
 use Rattle.mv_parse.specs.declared.command.Command.{Command}
 use Rattle.mv_parse.specs.declared.command.Command.TheVariants.{Model, Inputs, Outputs, Mv, Table, Default, Row, End, Unbuilt, Unknown}
 use Rattle.mv_parse.specs.Commands.{first_of, is_unbuilt, is_table_word, command_of, command_at}
@@ -58,13 +58,13 @@ unfolding command_of
 default-words [] e = cc
 default-words (w ∷ ws) e = default-word w e
 
-pub line-default : (l : LexLine) → command_at l ≡ Default → is_default l ≡ true
-unfolding is_default
+pub line-default : (l : LexLine) → command_at l ≡ Default → says_default l ≡ true
+unfolding says_default
 line-default l e = default-words l.words e
 
 differ : (c : Command) → c ≡ Row → c ≡ Default → ⊥
 differ c e f = cc
 
-pub line-row : (l : LexLine) → command_at l ≡ Row → is_default l ≡ false
-unfolding is_default
+pub line-row : (l : LexLine) → command_at l ≡ Row → says_default l ≡ false
+unfolding says_default
 line-row l e = false_from_ne_true (begins_default l.words) (λ y. differ (command_at l) e (words-default l.words y))

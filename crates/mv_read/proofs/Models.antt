@@ -13,7 +13,7 @@ use Rattle.mv_fault.specs.Tells.{when}
 use Rattle.mv_fault.proofs.Nothing.{left-nothing, right-nothing, when-nothing}
 use Rattle.mv_decl.specs.Nets.{with_decls}
 use Rattle.mv_decl.specs.Line.{decls_said}
-use Rattle.mv_table.specs.Columns.{outs_of}
+use Rattle.mv_table.specs.Columns.{has_several_outputs}
 use Rattle.mv_table.specs.Tables.{behind_first}
 use Rattle.mv_parse.specs.declared.command.Command.{Command}
 use Rattle.mv_parse.specs.declared.command.Command.TheVariants.{Inputs, Outputs, Mv, Table, Default, Row}
@@ -59,7 +59,7 @@ decls-step Mv m l none h = All-with_decls IsFileDecl m.decls (decls_said (behind
 decls-step _ m l none h = h
 
 head-step : (c : Command) (k : Known) (m : OpenModel) (l : LexLine) → unread_faults c k l ≡ [] → inside_faults c m l ≡ [] → c ≡ Table → HasColumns (behind_first l)
-head-step Table k m l unread none e = line-columns l.number (first_word l) (behind_first l) none (when-nothing (nat_lt 1 (length (outs_of (behind_first l)))) _ unread)
+head-step Table k m l unread none e = line-columns l.number (first_word l) (behind_first l) none (when-nothing (has_several_outputs (behind_first l)) _ unread)
 head-step _ k m l unread none e = cc
 
 row-entries : (n : ℕ) (t : OpenTable) (words : List (List ℕ)) → row_faults n t words ≡ [] → length words ≡ t.ins + t.outs

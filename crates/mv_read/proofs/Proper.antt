@@ -1,13 +1,12 @@
 -- Lines without a fault say a proper design.
-use Rattle.std.proofs.Common.{◌≡◌, ◌≢◌, ℕ, ◌+◌, ◌≤◌, true, false, ◌==◌, List, [], ◌∷◌, ◌++◌, length, length-append, append_assoc, refl, sym, ap, subst, ◌∙◌, ⊎_elim, arith}
+use Rattle.std.proofs.Common.{◌≡◌, ◌≢◌, ℕ, ◌+◌, ◌≤◌, true, false, ◌==◌, List, [], ◌∷◌, ◌++◌, length, length-append, append_assoc, refl, sym, subst, ⊎_elim, arith}
 use Rattle.std.specs.Prelude.{All, Option, Some, None}
 use Rattle.std.specs.List.{flat_map}
 use Rattle.std.proofs.lemmas.Bool.{cases_Bool, eqb-false, ltb-false}
 use Rattle.std.proofs.lemmas.List.{append-nil}
 use Rattle.std.proofs.lemmas.List.Elements.{All-nil, All-push, All-get_or}
-use Rattle.std.proofs.lemmas.Grind.{flat_map-append}
 use Rattle.mv_lex.specs.declared.lines.LexLine.{LexLine}
-use Rattle.mv_lex.proofs.Cuts.{closed-end, closed-more, open_piece-end, open_piece-more}
+use Rattle.mv_lex.proofs.Cuts.{closed-more, open_piece-end, open_piece-more}
 use Rattle.mv_design.specs.declared.design.FileModel.{FileModel}
 use Rattle.mv_design.specs.declared.design.Design.{Design}
 use Rattle.mv_table.specs.Tables.{behind_first}
@@ -18,9 +17,9 @@ use Rattle.mv_parse.specs.declared.command.Command.TheVariants.{Model}
 use Rattle.mv_parse.specs.declared.known.OpenModel.{OpenModel}
 use Rattle.mv_parse.specs.declared.known.Known.{Known}
 use Rattle.mv_parse.specs.Commands.{first_word, command_at, is_end}
-use Rattle.mv_parse.specs.Known.{ends_part, ended, open_part, open_model, inside_of, file_model, model_of, known}
+use Rattle.mv_parse.specs.Known.{ends_part, ended_parts, open_part, open_model, open_of, file_model, model_of, known}
 use Rattle.mv_parse.specs.Grammar.{model_faults, unread_faults, outside_faults, placed_faults, line_faults, behind_model, faults_at, last_faults, file_faults, faults_behind, faults_of, is_limit, design_of, IsDesign, IsWithin}
-use Rattle.mv_parse.proofs.Knowns.{said}
+use Rattle.mv_parse.proofs.Knowns.{said, models-end}
 use Rattle.mv_model.specs.Nets.{no_model, root_of}
 use Rattle.mv_model.specs.Proper.{IsProperModel, IsProper}
 use Rattle.mv_read.proofs.Nothing.{filters-nothing}
@@ -51,7 +50,7 @@ first-model Model k l e none =
     omega arith
 first-model _ k l e none = cc
 
-along-more : (models : List FileModel) (part : List LexLine) (l : LexLine) → IsAlong models part → is_end (command_at l) ≡ false → unread_faults (command_at l) (said models part) l ≡ [] → placed_faults (command_at l) (inside_of part) (behind_model part) l ≡ [] → IsAlong models (part ++ l ∷ [])
+along-more : (models : List FileModel) (part : List LexLine) (l : LexLine) → IsAlong models part → is_end (command_at l) ≡ false → unread_faults (command_at l) (said models part) l ≡ [] → placed_faults (command_at l) (open_of part) (behind_model part) l ≡ [] → IsAlong models (part ++ l ∷ [])
 along-more models [] l h n unread none =
     let begins = outside-model (command_at l) l none in
     record {
@@ -70,7 +69,7 @@ no-end : (c : Command) → c ≡ Model → is_end c ≡ true → ⊥
 no-end Model e y = cc
 no-end _ e y = cc
 
-along-end : (models : List FileModel) (part : List LexLine) (l : LexLine) → IsAlong models part → is_end (command_at l) ≡ true → placed_faults (command_at l) (inside_of part) (behind_model part) l ≡ [] → IsAlong (models ++ model_of part) []
+along-end : (models : List FileModel) (part : List LexLine) (l : LexLine) → IsAlong models part → is_end (command_at l) ≡ true → placed_faults (command_at l) (open_of part) (behind_model part) l ≡ [] → IsAlong (models ++ model_of part) []
 along-end models [] l h y none = absurd (no-end (command_at l) (outside-model (command_at l) l none).0 y)
 along-end models (m ∷ ls) l h y none =
     let new : FileModel = file_model (open_model m ls) ls in
@@ -85,21 +84,15 @@ along-end models (m ∷ ls) l h y none =
 -- ---- all lines
 
 abbrev Along : List LexLine → Type 0
-Along before = IsAlong (flat_map model_of (ended before)) (open_part before)
-
-models-end : (before : List LexLine) (l : LexLine) → is_end (command_at l) ≡ true → flat_map model_of (ended (before ++ l ∷ [])) ≡ flat_map model_of (ended before) ++ model_of (open_part before)
-models-end before l y =
-    ap (flat_map model_of) (closed-end ends_part before l y)
-    ∙ (flat_map-append model_of (ended before) (open_part before ∷ [])
-    ∙ ap (λ ms. flat_map model_of (ended before) ++ ms) (append-nil (model_of (open_part before))))
+Along before = IsAlong (flat_map model_of (ended_parts before)) (open_part before)
 
 along-next : (before : List LexLine) (l : LexLine) → Along before → faults_at before l ≡ [] → Along (before ++ l ∷ [])
 unfolding known line_faults
 along-next before l h none =
-    let models : List FileModel = flat_map model_of (ended before) in
+    let models : List FileModel = flat_map model_of (ended_parts before) in
     let part : List LexLine = open_part before in
-    let unread : unread_faults (command_at l) (said models part) l ≡ [] = left-nothing _ (placed_faults (command_at l) (inside_of part) (behind_model part) l) none in
-    let placed : placed_faults (command_at l) (inside_of part) (behind_model part) l ≡ [] = right-nothing (unread_faults (command_at l) (said models part) l) _ none in
+    let unread : unread_faults (command_at l) (said models part) l ≡ [] = left-nothing _ (placed_faults (command_at l) (open_of part) (behind_model part) l) none in
+    let placed : placed_faults (command_at l) (open_of part) (behind_model part) l ≡ [] = right-nothing (unread_faults (command_at l) (said models part) l) _ none in
     ⊎_elim
     (λ (y : is_end (command_at l) ≡ true). rw (models-end before l y, open_piece-end ends_part before l y) (along-end models part l h y placed))
     (λ (n : is_end (command_at l) ≡ false). rw (closed-more ends_part before l n, open_piece-more ends_part before l n) (along-more models part l h n unread placed))
@@ -117,8 +110,8 @@ some-model None count none = when-nothing (count == 0) (NoModel 1) none
 whole : (before : List LexLine) → Along before → file_faults (known before) ≡ [] → IsWhole (known before).models
 unfolding known
 whole before h none =
-    let models : List FileModel = flat_map model_of (ended before) in
-    let other : length models ≢ 0 = eqb-false (length models) 0 (some-model (inside_of (open_part before)) (length models) none) in
+    let models : List FileModel = flat_map model_of (ended_parts before) in
+    let other : length models ≢ 0 = eqb-false (length models) 0 (some-model (open_of (open_part before)) (length models) none) in
     let few = h.few in
     record { proper = h.proper; single = omega arith }
 

@@ -17,7 +17,7 @@ use Rattle.mv_model.proofs.Soundness.{fault-excludes}
 use Rattle.mv_flat.specs.Flat.{IsFlat}
 use Rattle.mv_read.specs.declared.network.NetFault.{NetFault}
 use Rattle.mv_read.specs.declared.network.NetFault.TheVariants.{Parse, Flat, Memory}
-use Rattle.mv_read.specs.Reads.{IsNetOf, HasForm, IsUnsound, IsFaultOf, parse_refused, flat_refused}
+use Rattle.mv_read.specs.Reads.{IsNetOf, SaySoundDesign, IsUnsound, IsFaultOf, parse_refused, flat_refused}
 use Rattle.mv_read.proofs.Proper.{no-faults, proper}
 
 -- ---- what is told
@@ -38,20 +38,20 @@ pub ruleset networks = (proper, parse-told, flat-told, net-told)
 
 -- ---- refused lines have no network
 
-parse-excludes : (lines : List LexLine) (f : ParseFault) → FirstFault lines f → HasForm lines → ⊥
+parse-excludes : (lines : List LexLine) (f : ParseFault) → FirstFault lines f → SaySoundDesign lines → ⊥
 parse-excludes lines f told h =
     let none : faults_of lines ≡ [] = no-faults lines h.design h.is h.within in
     let e : None ≡ Some f = ap first (sym none) ∙ told.first in
     cc
 
-flat-excludes : (lines : List LexLine) (f : FlatFault) → IsUnsound lines f → HasForm lines → ⊥
+flat-excludes : (lines : List LexLine) (f : FlatFault) → IsUnsound lines f → SaySoundDesign lines → ⊥
 flat-excludes lines f u h =
     let same : h.design ≡ u.design = h.is.is ∙ sym u.is.is in
     let P : Design → Type 0 = λ d. IsSoundModel (root_of d) in
     let Q : Design → Type 0 = λ d. length (nets_of (root_of d)) ≤ MAX_FLAT_NETS in
     fault-excludes (root_of u.design) f u.fault u.cause (subst P same h.sound.root) (subst Q same h.nets)
 
-pub refused-excludes : (lines : List LexLine) (f : NetFault) → IsFaultOf lines f → (f ≡ Memory → ⊥) → HasForm lines → ⊥
+pub refused-excludes : (lines : List LexLine) (f : NetFault) → IsFaultOf lines f → (f ≡ Memory → ⊥) → SaySoundDesign lines → ⊥
 refused-excludes lines (Parse f) told some h = parse-excludes lines f told h
 refused-excludes lines (Flat f) told some h = flat-excludes lines f told h
 refused-excludes lines Memory told some h = some refl

@@ -13,14 +13,14 @@ use Rattle.mv_design.specs.declared.table.FileTable.{FileTable}
 use Rattle.mv_design.specs.declared.design.Decl.{Decl}
 use Rattle.mv_table.specs.Columns.{ins_of, outs_of}
 use Rattle.mv_table.specs.Entries.{outs_said}
-use Rattle.mv_table.specs.Tables.{behind_first, is_default, row_of, rows_at, rows_of, default_at, default_of, table_of}
+use Rattle.mv_table.specs.Tables.{behind_first, says_default, row_of, rows_at, rows_of, default_at, default_of, table_of}
 use Rattle.mv_model.specs.Proper.{FitOutputs, IsFileRow, IsFileTable}
 use Rattle.mv_read.proofs.Entries.{ins-fit, outs-fit}
 
 -- a row has an entry for each of so many inputs and outputs, a default one for each output
 pub record IsEntryLine (ins outs : ℕ) (l : LexLine) : Type 0 where
-  pub row : is_default l ≡ false → length l.words ≡ ins + outs
-  pub default : is_default l ≡ true → length (behind_first l) ≡ outs
+  pub row : says_default l ≡ false → length l.words ≡ ins + outs
+  pub default : says_default l ≡ true → length (behind_first l) ≡ outs
 
 -- the words behind the first of a table name lawful columns, and one output among them
 pub record HasColumns (words : List (List ℕ)) : Type 0 where
@@ -47,7 +47,7 @@ module _ (ds : List Decl) (t : FileTable) where
 
   row-here : (l : LexLine) → IsEntryLine (length t.inputs) (length t.outputs) l → All (IsFileRow ds t) (rows_at ds t.inputs t.outputs l)
   row-here l h =
-      cond_both (is_default l) [] (row_of ds t.inputs t.outputs l.words ∷ []) (All (IsFileRow ds t))
+      cond_both (says_default l) [] (row_of ds t.inputs t.outputs l.words ∷ []) (All (IsFileRow ds t))
       (λ y. All-nil (IsFileRow ds t))
       (λ n. All-cons (IsFileRow ds t) (row_of ds t.inputs t.outputs l.words) [] (row-fits l.words (h.row n)) (All-nil (IsFileRow ds t)))
 
@@ -67,7 +67,7 @@ module _ (ds : List Decl) (t : FileTable) where
 
   default-here : (l : LexLine) → IsEntryLine (length t.inputs) (length t.outputs) l → IfFits (default_at ds t.inputs t.outputs l)
   default-here l h =
-      cond_both (is_default l) (Some (outs_said ds t.inputs t.outputs (behind_first l))) None IfFits
+      cond_both (says_default l) (Some (outs_said ds t.inputs t.outputs (behind_first l))) None IfFits
       (λ y. outs-fit ds t.inputs t.outputs (behind_first l) (let e = h.default y in omega arith))
       (λ n. tt)
 

@@ -23,7 +23,7 @@ pub record IsNetOf (lines : List LexLine) (net : NetParts) : Type 0 where
   pub flat : IsFlat net design
 
 -- lines that say a sound design with few enough nets, within the limits
-pub record HasForm (lines : List LexLine) : Type 0 where
+pub record SaySoundDesign (lines : List LexLine) : Type 0 where
   pub design : Design
   pub is : IsDesign lines design
   pub within : IsWithin lines
@@ -43,6 +43,8 @@ abbrev pub IsFaultOf : List LexLine → NetFault → Type 0
 IsFaultOf lines (Parse f) = FirstFault lines f
 IsFaultOf lines (Flat f) = IsUnsound lines f
 IsFaultOf lines Memory = Unit {0}
+
+-- ---- what contracts of private functions alone cite
 
 -- how a fault of the lines is told: want of memory is told alike wherever it comes
 abbrev pub parse_refused : ParseFault → NetFault

@@ -4,7 +4,7 @@ ghost use Rattle.mv_design.specs.declared.design.Design.{Design};
 ghost use Rattle.mv_parse.specs.Grammar.{IsDesign, IsWithin};
 ghost use Rattle.mv_model.specs.Proper.{IsProper};
 ghost use Rattle.mv_read.specs.declared.network.NetFault.{NetFault};
-ghost use Rattle.mv_read.specs.Reads.{HasForm, IsFaultOf};
+ghost use Rattle.mv_read.specs.Reads.{SaySoundDesign, IsFaultOf};
 
 /// A design that the grammar accepts, within the limits, has one model, its names are lawful and different where they have
 /// to be, its declared nets have values, and the entries of its tables fit their columns.
@@ -15,5 +15,5 @@ pub fn designs_are_proper()
 /// Lines that are refused, but for want of memory, say no sound design within the limits. So `network_of` is Ok exactly
 /// where lines say such a design, memory aside.
 pub fn one_answer()
-    ensures { (lines : List LexLine) (f : NetFault) → IsFaultOf lines f → (f ≡ NetFault.Memory → ⊥) → HasForm lines → ⊥ }
+    ensures { (lines : List LexLine) (f : NetFault) → IsFaultOf lines f → (f ≡ NetFault.Memory → ⊥) → SaySoundDesign lines → ⊥ }
 {}

@@ -20,8 +20,8 @@ use Rattle.mv_rows.specs.declared.column.Column.{Column}
 use Rattle.mv_rows.specs.declared.column.Placed.{Placed}
 use Rattle.mv_rows.specs.declared.cube.Group.{Group}
 use Rattle.mv_rows.specs.Tables.{row_matches}
-use Rattle.mv_rows.specs.Columns.{rises_after, IsOrder, set_at}
-use Rattle.mv_rows.specs.Cubes.{values_at, in_range, CountBy, IsColumn, AreColumns, FitRow, AreParts, HasNoPoint, IsRowCube}
+use Rattle.mv_rows.specs.Columns.{rises_after, IsColumnOrder, set_at}
+use Rattle.mv_rows.specs.Cubes.{column_values, in_range, CountBy, IsColumn, AreColumns, FitRow, AreParts, HasNoPoint, IsRowCube}
 use Rattle.mv_rows.specs.Meeting.{opened, closed, literals_from, literals_of, all_possible, ArePossible}
 use Rattle.mv_rows.proofs.Values.{within_meet}
 use Rattle.mv_rows.proofs.Orders.{SetFits, column_in, column_holds, all_ordered, sets_fit, ordered_in, ordered_hold}
@@ -174,13 +174,13 @@ parts count (l ∷ ls) less some =
 all_both : {X : Type 0} (P Q R : X → Type 0) → ((x : X) → P x → Q x → R x) → (xs : List X) → All P xs → All Q xs → All R xs
 all_both P Q R f xs p q k d low = f (get_or xs k d) (p k d low) (q k d low)
 
-order_fits : (count : ℕ → ℕ) (cs : List Column) (order : List Placed) (sets : List ℕ) → IsOrder cs order → FitRow cs sets → CountBy count cs → All (Fits count sets) order
+order_fits : (count : ℕ → ℕ) (cs : List Column) (order : List Placed) (sets : List ℕ) → IsColumnOrder cs order → FitRow cs sets → CountBy count cs → All (Fits count sets) order
 order_fits count cs order sets o fit by =
     all_both (λ (p : Placed). p.column.count ≡ count p.column.net.0) (SetFits sets) (Fits count sets) (λ p a b. record { counted = a; within = b }) order
     (all_ordered (λ (c : Column). c.count ≡ count c.net.0) cs order o by)
     (sets_fit cs order sets o fit)
 
-points : (cs : List Column) (order : List Placed) (sets : List ℕ) → IsOrder cs order → FitRow cs sets → (at : ℕ → ℕ) → in_range at cs ≡ true → matches at (literals_of sets order) ≡ row_matches sets (values_at at cs)
+points : (cs : List Column) (order : List Placed) (sets : List ℕ) → IsColumnOrder cs order → FitRow cs sets → (at : ℕ → ℕ) → in_range at cs ≡ true → matches at (literals_of sets order) ≡ row_matches sets (column_values at cs)
 points cs order sets o fit at range = matches-literals_of at sets order (ordered_in at cs order o ∙ range) ∙ ordered_hold at cs order sets o fit
 
 -- a point of the cube that is 0 off its nets has each net in its range
@@ -210,14 +210,14 @@ in_from at [] h = refl
 in_from at (c ∷ cs) h =
     and_from _ _ (lt-ltb _ _ (All-head (λ (d : Column). at d.net.0 < d.count) c cs h)) (in_from at cs (All-tail (λ (d : Column). at d.net.0 < d.count) c cs h))
 
-pub IsRowCube-literals : (cs : List Column) (order : List Placed) (sets : List ℕ) (cube : List Lit) → AreColumns cs → FitRow cs sets → IsOrder cs order → ArePossible (literals_of sets order) cube → IsRowCube cs sets cube
+pub IsRowCube-literals : (cs : List Column) (order : List Placed) (sets : List ℕ) (cube : List Lit) → AreColumns cs → FitRow cs sets → IsColumnOrder cs order → ArePossible (literals_of sets order) cube → IsRowCube cs sets cube
 IsRowCube-literals cs order sets cube columns fit o found =
     let e = found.is in
     let some = found.possible in
     let less : (count : ℕ → ℕ) → CountBy count cs → AreLess count cube = λ count by. subst (AreLess count) (sym e) (AreLess-literals_of count sets order (order_fits count cs order sets o fit by)) in
     let rises : Rises 0 cube = subst (Rises 0) (sym e) (Rises-literals_of sets order o.rises) in
     let point = point_of 0 cube rises some in
-    let equal : (at : ℕ → ℕ) → in_range at cs ≡ true → matches at cube ≡ row_matches sets (values_at at cs) = λ at range. ap (matches at) e ∙ points cs order sets o fit at range in
+    let equal : (at : ℕ → ℕ) → in_range at cs ≡ true → matches at cube ≡ row_matches sets (column_values at cs) = λ at range. ap (matches at) e ∙ points cs order sets o fit at range in
     let range : in_range point.at cs ≡ true =
     in_from point.at cs
     (all_both IsColumn (λ (c : Column). c.count ≡ columns.count c.net.0) (λ (c : Column). point.at c.net.0 < c.count)
@@ -242,7 +242,7 @@ some_empty at (l ∷ ls) h =
       | inr f ↦ and_right (holds at l) (matches at ls) (some_empty at ls (rw f at h))
     ]
 
-pub HasNoPoint-literals : (cs : List Column) (order : List Placed) (sets : List ℕ) → FitRow cs sets → IsOrder cs order → all_possible (literals_of sets order) ≡ false → HasNoPoint cs sets
+pub HasNoPoint-literals : (cs : List Column) (order : List Placed) (sets : List ℕ) → FitRow cs sets → IsColumnOrder cs order → all_possible (literals_of sets order) ≡ false → HasNoPoint cs sets
 HasNoPoint-literals cs order sets fit o none = record { nowhere = λ at range. sym (points cs order sets o fit at range) ∙ some_empty at (literals_of sets order) none }
 
 -- what an answer says of each case, from what another says
@@ -252,5 +252,5 @@ each_case N M P Q f g (Ok (Some x)) h = g x h
 each_case N M P Q f g (Err e) h = tt
 
 -- no net of a column has too many values
-pub counts_few : (cs : List Column) (order : List Placed) → AreColumns cs → IsOrder cs order → All (λ (p : Placed). p.column.count ≤ MAX_VALUES) order
+pub counts_few : (cs : List Column) (order : List Placed) → AreColumns cs → IsColumnOrder cs order → All (λ (p : Placed). p.column.count ≤ MAX_VALUES) order
 counts_few cs order columns o = all_ordered (λ (c : Column). c.count ≤ MAX_VALUES) cs order o (All-weaker IsColumn (λ (c : Column). c.count ≤ MAX_VALUES) (λ c is. is.few) cs columns.each)

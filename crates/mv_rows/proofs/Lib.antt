@@ -6,4 +6,3 @@ pub mod Rows
 pub mod Kept
 pub mod Over
 pub mod Flat
-pub mod Pairs

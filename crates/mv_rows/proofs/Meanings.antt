@@ -14,7 +14,7 @@ use Rattle.mv_design.specs.declared.table.Entry.{Entry}
 use Rattle.mv_design.specs.declared.table.Entry.TheVariants.{Set, Same}
 use Rattle.mv_rows.specs.declared.column.Column.{Column}
 use Rattle.mv_rows.specs.Tables.{row_matches, entry_holds}
-use Rattle.mv_rows.specs.Cubes.{values_at, in_range, FitRow}
+use Rattle.mv_rows.specs.Cubes.{column_values, in_range, FitRow}
 use Rattle.mv_rows.specs.Lines.{OneLine, EachValue, EntryLines, FitEntry, narrowed, count_at}
 use Rattle.mv_rows.proofs.Orders.{fit_length}
 
@@ -38,13 +38,13 @@ matches-narrowed (s ∷ sets) (x ∷ values) (suc k) v low = regroup (has s x) (
 
 -- ---- one line
 
-gives-one : (at : ℕ → ℕ) (v : ℕ) (cs : List Column) (sets : List ℕ) (out : ℕ) (ls : List Line) → OneLine cs sets out ls → in_range at cs ≡ true → some_gives at v ls ≡ (row_matches sets (values_at at cs) && has out v)
+gives-one : (at : ℕ → ℕ) (v : ℕ) (cs : List Column) (sets : List ℕ) (out : ℕ) (ls : List Line) → OneLine cs sets out ls → in_range at cs ≡ true → some_gives at v ls ≡ (row_matches sets (column_values at cs) && has out v)
 gives-one at v cs sets out [] none range = ap (λ b. b && has out v) (sym (none.nowhere at range))
 gives-one at v cs sets out (l ∷ []) is range =
     or-false _ ∙ λ i. is.cube.points at range i && has (is.out_is i) v
 gives-one at v cs sets out (l ∷ m ∷ ls) is range = absurd is
 
-matches-one : (at : ℕ → ℕ) (cs : List Column) (sets : List ℕ) (out : ℕ) (ls : List Line) → OneLine cs sets out ls → in_range at cs ≡ true → some_matches at ls ≡ row_matches sets (values_at at cs)
+matches-one : (at : ℕ → ℕ) (cs : List Column) (sets : List ℕ) (out : ℕ) (ls : List Line) → OneLine cs sets out ls → in_range at cs ≡ true → some_matches at ls ≡ row_matches sets (column_values at cs)
 matches-one at cs sets out [] none range = sym (none.nowhere at range)
 matches-one at cs sets out (l ∷ []) is range = or-false _ ∙ is.cube.points at range
 matches-one at cs sets out (l ∷ m ∷ ls) is range = absurd is
@@ -86,15 +86,15 @@ nothing : (r w : Bool) (x : ℕ) → (r && (nat_lt x 0 && w)) ≡ false
 nothing true w x = ap (λ b. b && w) (below_none x)
 nothing false w x = refl
 
-gives-values : (at : ℕ → ℕ) (out : ℕ) (cs : List Column) (sets : List ℕ) (k n : ℕ) (ls : List Line) → k < length sets → EachValue cs sets k n ls → in_range at cs ≡ true → some_gives at out ls ≡ (row_matches sets (values_at at cs) && (nat_lt (get_or (values_at at cs) k 0) n && nat_eq (get_or (values_at at cs) k 0) out))
-gives-values at out cs sets k zero ls low are range = ap (some_gives at out) are ∙ sym (nothing (row_matches sets (values_at at cs)) (nat_eq (get_or (values_at at cs) k 0) out) (get_or (values_at at cs) k 0))
+gives-values : (at : ℕ → ℕ) (out : ℕ) (cs : List Column) (sets : List ℕ) (k n : ℕ) (ls : List Line) → k < length sets → EachValue cs sets k n ls → in_range at cs ≡ true → some_gives at out ls ≡ (row_matches sets (column_values at cs) && (nat_lt (get_or (column_values at cs) k 0) n && nat_eq (get_or (column_values at cs) k 0) out))
+gives-values at out cs sets k zero ls low are range = ap (some_gives at out) are ∙ sym (nothing (row_matches sets (column_values at cs)) (nat_eq (get_or (column_values at cs) k 0) out) (get_or (column_values at cs) k 0))
 gives-values at out cs sets k (suc v) ls low are range =
-    let x = get_or (values_at at cs) k 0 in
-    let r = row_matches sets (values_at at cs) in
+    let x = get_or (column_values at cs) k 0 in
+    let r = row_matches sets (column_values at cs) in
     let first = gives-values at out cs sets k v are.before low are.are_before range in
     let next : some_gives at out are.here ≡ ((r && nat_eq x v) && nat_eq out v) =
     gives-one at out cs (narrowed sets k v) (one v) are.here are.are_here range
-    ∙ λ i. matches-narrowed sets (values_at at cs) k v low i && has-one v out i in
+    ∙ λ i. matches-narrowed sets (column_values at cs) k v low i && has-one v out i in
     let same : nat_eq x v ≡ true → nat_eq out v ≡ nat_eq x out = λ e. nat_eq_equiv.symm out v ∙ ap (λ (y : ℕ). nat_eq y out) (sym (same_number x v e)) in
     ap (some_gives at out) are.joined
     ∙ (some_gives-append at out are.before are.here
@@ -102,14 +102,14 @@ gives-values at out cs sets k (suc v) ls low are range =
     ∙ (joined_gives r (nat_lt x v) (nat_eq x v) (nat_eq out v) (nat_eq x out) same
     ∙ ap (λ b. r && (b && nat_eq x out)) (sym (below_next x v)))))
 
-matches-values : (at : ℕ → ℕ) (cs : List Column) (sets : List ℕ) (k n : ℕ) (ls : List Line) → k < length sets → EachValue cs sets k n ls → in_range at cs ≡ true → some_matches at ls ≡ (row_matches sets (values_at at cs) && nat_lt (get_or (values_at at cs) k 0) n)
-matches-values at cs sets k zero ls low are range = ap (some_matches at) are ∙ sym (ap (λ b. row_matches sets (values_at at cs) && b) (below_none (get_or (values_at at cs) k 0)) ∙ and-false _)
+matches-values : (at : ℕ → ℕ) (cs : List Column) (sets : List ℕ) (k n : ℕ) (ls : List Line) → k < length sets → EachValue cs sets k n ls → in_range at cs ≡ true → some_matches at ls ≡ (row_matches sets (column_values at cs) && nat_lt (get_or (column_values at cs) k 0) n)
+matches-values at cs sets k zero ls low are range = ap (some_matches at) are ∙ sym (ap (λ b. row_matches sets (column_values at cs) && b) (below_none (get_or (column_values at cs) k 0)) ∙ and-false _)
 matches-values at cs sets k (suc v) ls low are range =
-    let x = get_or (values_at at cs) k 0 in
-    let r = row_matches sets (values_at at cs) in
+    let x = get_or (column_values at cs) k 0 in
+    let r = row_matches sets (column_values at cs) in
     let first = matches-values at cs sets k v are.before low are.are_before range in
     let next : some_matches at are.here ≡ (r && nat_eq x v) =
-    matches-one at cs (narrowed sets k v) (one v) are.here are.are_here range ∙ matches-narrowed sets (values_at at cs) k v low in
+    matches-one at cs (narrowed sets k v) (one v) are.here are.are_here range ∙ matches-narrowed sets (column_values at cs) k v low in
     ap (some_matches at) are.joined
     ∙ (some_matches-append at are.before are.here
     ∙ ((λ i. first i || next i)
@@ -117,31 +117,31 @@ matches-values at cs sets k (suc v) ls low are range =
 
 -- ---- the column's value is one of its net's
 
-value_in : (at : ℕ → ℕ) (cs : List Column) (k : ℕ) → k < length cs → in_range at cs ≡ true → nat_lt (get_or (values_at at cs) k 0) (count_at cs k) ≡ true
+value_in : (at : ℕ → ℕ) (cs : List Column) (k : ℕ) → k < length cs → in_range at cs ≡ true → nat_lt (get_or (column_values at cs) k 0) (count_at cs k) ≡ true
 value_in at [] k low range = absurd (omega arith)
 value_in at (c ∷ cs) zero low range = (and_parts _ (in_range at cs) range).0
 value_in at (c ∷ cs) (suc k) low range = value_in at cs k (omega arith) (and_parts (nat_lt (at c.net.0) c.count) (in_range at cs) range).1
 
-pub values_length : (at : ℕ → ℕ) (cs : List Column) → length (values_at at cs) ≡ length cs
+pub values_length : (at : ℕ → ℕ) (cs : List Column) → length (column_values at cs) ≡ length cs
 values_length at [] = refl
 values_length at (c ∷ cs) = let e = values_length at cs in omega (arith, e)
 
 -- ---- the lines of a row
 
-pub gives-entry : (at : ℕ → ℕ) (out : ℕ) (cs : List Column) (sets : List ℕ) (e : Entry) (ls : List Line) → FitRow cs sets → FitEntry cs e → EntryLines cs sets e ls → in_range at cs ≡ true → some_gives at out ls ≡ (row_matches sets (values_at at cs) && entry_holds (values_at at cs) e out)
+pub gives-entry : (at : ℕ → ℕ) (out : ℕ) (cs : List Column) (sets : List ℕ) (e : Entry) (ls : List Line) → FitRow cs sets → FitEntry cs e → EntryLines cs sets e ls → in_range at cs ≡ true → some_gives at out ls ≡ (row_matches sets (column_values at cs) && entry_holds (column_values at cs) e out)
 gives-entry at out cs sets (Set s) ls fit entry are range = gives-one at out cs sets s ls are range
 gives-entry at out cs sets (Same k) ls fit entry are range =
-    let x = get_or (values_at at cs) k 0 in
+    let x = get_or (column_values at cs) k 0 in
     let place : k < length cs = entry in
     let low : k < length sets = omega (arith, fit_length cs sets fit) in
     gives-values at out cs sets k (count_at cs k) ls low are range
-    ∙ (ap (λ b. row_matches sets (values_at at cs) && (b && nat_eq x out)) (value_in at cs k place range)
-    ∙ sym (ap (λ b. row_matches sets (values_at at cs) && (b && nat_eq x out)) (lt-ltb k (length (values_at at cs)) (omega (arith, values_length at cs)))))
+    ∙ (ap (λ b. row_matches sets (column_values at cs) && (b && nat_eq x out)) (value_in at cs k place range)
+    ∙ sym (ap (λ b. row_matches sets (column_values at cs) && (b && nat_eq x out)) (lt-ltb k (length (column_values at cs)) (omega (arith, values_length at cs)))))
 
-pub matches-entry : (at : ℕ → ℕ) (cs : List Column) (sets : List ℕ) (e : Entry) (ls : List Line) → FitRow cs sets → FitEntry cs e → EntryLines cs sets e ls → in_range at cs ≡ true → some_matches at ls ≡ row_matches sets (values_at at cs)
+pub matches-entry : (at : ℕ → ℕ) (cs : List Column) (sets : List ℕ) (e : Entry) (ls : List Line) → FitRow cs sets → FitEntry cs e → EntryLines cs sets e ls → in_range at cs ≡ true → some_matches at ls ≡ row_matches sets (column_values at cs)
 matches-entry at cs sets (Set s) ls fit entry are range = matches-one at cs sets s ls are range
 matches-entry at cs sets (Same k) ls fit entry are range =
     let place : k < length cs = entry in
     let low : k < length sets = omega (arith, fit_length cs sets fit) in
     matches-values at cs sets k (count_at cs k) ls low are range
-    ∙ (ap (λ b. row_matches sets (values_at at cs) && b) (value_in at cs k place range) ∙ and-true _)
+    ∙ (ap (λ b. row_matches sets (column_values at cs) && b) (value_in at cs k place range) ∙ and-true _)

@@ -12,8 +12,8 @@ use Rattle.mv_cover.proofs.Points.{list_all-none}
 use Rattle.mv_rows.specs.declared.column.Column.{Column}
 use Rattle.mv_rows.specs.declared.column.Placed.{Placed}
 use Rattle.mv_rows.specs.Tables.{row_matches}
-use Rattle.mv_rows.specs.Columns.{placed, rises_after, IsOrder, set_at}
-use Rattle.mv_rows.specs.Cubes.{values_at, in_range, FitRow}
+use Rattle.mv_rows.specs.Columns.{placed, rises_after, IsColumnOrder, set_at}
+use Rattle.mv_rows.specs.Cubes.{column_values, in_range, FitRow}
 
 -- ---- columns with their places
 
@@ -39,8 +39,8 @@ rises_from n (p ∷ ps) up low =
     (rises_from p.column.net.0 ps (λ i j e le lt. up (suc i) (suc j) e (omega arith) (omega arith)) (λ d some. up 0 1 d (omega arith) (omega arith)))
 
 -- the columns with their places, sorted by net
-pub IsOrder_from_sort : (cs : List Column) (before after : List Placed) → before ≡ placed 0 cs → IsPermutation before after → IsNonDecreasingBy (λ (p : Placed). p.column.net.0) after → IsOrder cs after
-IsOrder_from_sort cs before after e moved up = record {
+pub IsColumnOrder_from_sort : (cs : List Column) (before after : List Placed) → before ≡ placed 0 cs → IsPermutation before after → IsNonDecreasingBy (λ (p : Placed). p.column.net.0) after → IsColumnOrder cs after
+IsColumnOrder_from_sort cs before after e moved up = record {
   moved = let P : List Placed → Type 0 = λ ps. IsPermutation ps after in subst P e moved;
   rises = rises_from 0 after up (λ d some. omega arith);
 }
@@ -52,7 +52,7 @@ all_placed P k [] h = All-nil _
 all_placed P k (c ∷ cs) h =
     All-cons (λ (p : Placed). P p.column) (record { column = c; place = k }) (placed (k + 1) cs) (All-head P c cs h) (all_placed P (k + 1) cs (All-tail P c cs h))
 
-pub all_ordered : (P : Column → Type 0) (cs : List Column) (order : List Placed) → IsOrder cs order → All P cs → All (λ (p : Placed). P p.column) order
+pub all_ordered : (P : Column → Type 0) (cs : List Column) (order : List Placed) → IsColumnOrder cs order → All P cs → All (λ (p : Placed). P p.column) order
 all_ordered P cs order o h = All-permutation (λ (p : Placed). P p.column) (placed 0 cs) order o.moved (all_placed P 0 cs h)
 
 -- a set for each column is a set at each place
@@ -68,7 +68,7 @@ placed_below k (c ∷ cs) =
     All-cons (λ (p : Placed). p.place < k + length (c ∷ cs)) _ _ (omega arith)
     (All-weaker (λ (p : Placed). p.place < k + 1 + length cs) (λ (p : Placed). p.place < k + length (c ∷ cs)) (λ p h. omega arith) (placed (k + 1) cs) (placed_below (k + 1) cs))
 
-pub places_fit : (cs : List Column) (order : List Placed) (sets : List ℕ) → IsOrder cs order → FitRow cs sets → All (λ (p : Placed). p.place < length sets) order
+pub places_fit : (cs : List Column) (order : List Placed) (sets : List ℕ) → IsColumnOrder cs order → FitRow cs sets → All (λ (p : Placed). p.place < length sets) order
 places_fit cs order sets o fit =
     All-permutation (λ (p : Placed). p.place < length sets) (placed 0 cs) order o.moved
     (All-weaker (λ (p : Placed). p.place < 0 + length cs) (λ (p : Placed). p.place < length sets) (λ p h. omega (arith, fit_length cs sets fit)) (placed 0 cs) (placed_below 0 cs))
@@ -97,7 +97,7 @@ placed_fit all k (c ∷ cs) (s ∷ sets) h fit =
     All-cons (SetFits all) (record { column = c; place = k }) (placed (k + 1) cs) (subst P (sym (behind_here all k s sets h)) fit.0)
     (placed_fit all (k + 1) cs sets (behind_rest all k s sets h) fit.1)
 
-pub sets_fit : (cs : List Column) (order : List Placed) (sets : List ℕ) → IsOrder cs order → FitRow cs sets → All (SetFits sets) order
+pub sets_fit : (cs : List Column) (order : List Placed) (sets : List ℕ) → IsColumnOrder cs order → FitRow cs sets → All (SetFits sets) order
 sets_fit cs order sets o fit = All-permutation (SetFits sets) (placed 0 cs) order o.moved (placed_fit sets 0 cs sets (behind_all sets) fit)
 
 -- ---- tests of all columns, in every order
@@ -118,10 +118,10 @@ placed_in : (at : ℕ → ℕ) (k : ℕ) (cs : List Column) → list_all (column
 placed_in at k [] = refl
 placed_in at k (c ∷ cs) = ap (λ x. nat_lt (at c.net.0) c.count && x) (placed_in at (k + 1) cs)
 
-pub ordered_in : (at : ℕ → ℕ) (cs : List Column) (order : List Placed) → IsOrder cs order → list_all (column_in at) order ≡ in_range at cs
+pub ordered_in : (at : ℕ → ℕ) (cs : List Column) (order : List Placed) → IsColumnOrder cs order → list_all (column_in at) order ≡ in_range at cs
 ordered_in at cs order o = sym (list_all-IsPermutation (column_in at) (placed 0 cs) order o.moved) ∙ placed_in at 0 cs
 
-placed_hold : (at : ℕ → ℕ) (all : List ℕ) (k : ℕ) (cs : List Column) (sets : List ℕ) → Behind all k sets → FitRow cs sets → list_all (column_holds at all) (placed k cs) ≡ row_matches sets (values_at at cs)
+placed_hold : (at : ℕ → ℕ) (all : List ℕ) (k : ℕ) (cs : List Column) (sets : List ℕ) → Behind all k sets → FitRow cs sets → list_all (column_holds at all) (placed k cs) ≡ row_matches sets (column_values at cs)
 placed_hold at all k [] [] h fit = refl
 placed_hold at all k [] (s ∷ sets) h fit = absurd fit
 placed_hold at all k (c ∷ cs) [] h fit = absurd fit
@@ -129,5 +129,5 @@ placed_hold at all k (c ∷ cs) (s ∷ sets) h fit =
     ap (λ x. has x (at c.net.0) && list_all (column_holds at all) (placed (k + 1) cs)) (behind_here all k s sets h)
     ∙ ap (λ x. has s (at c.net.0) && x) (placed_hold at all (k + 1) cs sets (behind_rest all k s sets h) fit.1)
 
-pub ordered_hold : (at : ℕ → ℕ) (cs : List Column) (order : List Placed) (sets : List ℕ) → IsOrder cs order → FitRow cs sets → list_all (column_holds at sets) order ≡ row_matches sets (values_at at cs)
+pub ordered_hold : (at : ℕ → ℕ) (cs : List Column) (order : List Placed) (sets : List ℕ) → IsColumnOrder cs order → FitRow cs sets → list_all (column_holds at sets) order ≡ row_matches sets (column_values at cs)
 ordered_hold at cs order sets o fit = sym (list_all-IsPermutation (column_holds at sets) (placed 0 cs) order o.moved) ∙ placed_hold at sets 0 cs sets (behind_all sets) fit

@@ -12,7 +12,7 @@ use Rattle.mv_design.specs.declared.table.Row.{Row}
 use Rattle.mv_rows.specs.declared.column.Column.{Column}
 use Rattle.mv_rows.specs.Cubes.{CountBy, AreParts}
 use Rattle.mv_rows.specs.Lines.{OneLine, EachValue, EntryLines, narrowed, count_at}
-use Rattle.mv_rows.specs.Flat.{entry_of, RowsLines}
+use Rattle.mv_rows.specs.Flat.{only_entry, RowsLines}
 use Rattle.mv_rows.specs.Covers.{FitOutput}
 
 -- a line over nets with these numbers of values, with an output of a kind
@@ -45,14 +45,14 @@ entry-over count Q cs sets (Set s) ls by are q = one-over count Q cs sets s ls b
 entry-over count Q cs sets (Same k) ls by are q = values-over count Q cs sets k (count_at cs k) ls by are q
 
 abbrev pub RowSays : (ℕ → Type 0) → List Column → Row → Type 0
-RowSays Q cs r = Says Q cs (entry_of r.outs)
+RowSays Q cs r = Says Q cs (only_entry r.outs)
 
 pub rows-over : (count : ℕ → ℕ) (Q : ℕ → Type 0) (cs : List Column) (rows : List Row) (ls : List Line) → CountBy count cs → RowsLines cs rows ls → All (RowSays Q cs) rows → All (IsOver count Q) ls
 rows-over count Q cs [] ls by are q = All-same (IsOver count Q) ls [] are (All-nil (IsOver count Q))
 rows-over count Q cs (r ∷ rows) ls by are q =
     All-same (IsOver count Q) ls (are.before ++ are.here) are.joined
     (All-append (IsOver count Q) are.before are.here
-    (entry-over count Q cs r.ins (entry_of r.outs) are.before by are.are_before (All-head (RowSays Q cs) r rows q))
+    (entry-over count Q cs r.ins (only_entry r.outs) are.before by are.are_before (All-head (RowSays Q cs) r rows q))
     (rows-over count Q cs rows are.here by are.are_here (All-tail (RowSays Q cs) r rows q)))
 
 -- ---- the kinds: any output, and values of the output net

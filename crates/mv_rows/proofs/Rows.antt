@@ -9,10 +9,10 @@ use Rattle.mv_design.specs.declared.table.Entry.{Entry}
 use Rattle.mv_design.specs.declared.table.Row.{Row}
 use Rattle.mv_rows.specs.declared.column.Column.{Column}
 use Rattle.mv_rows.specs.Cubes.{FitRow}
-use Rattle.mv_rows.specs.Lines.{Adds, EntryLines}
-use Rattle.mv_rows.specs.Flat.{entry_of, RowsLines, with_mark, marked_sets}
+use Rattle.mv_rows.specs.Lines.{AddsLines, EntryLines}
+use Rattle.mv_rows.specs.Flat.{only_entry, RowsLines, with_mark, marked_sets}
 
-rows_push : (cs : List Column) (rows : List Row) (r : Row) (ls here : List Line) → RowsLines cs rows ls → EntryLines cs r.ins (entry_of r.outs) here → RowsLines cs (rows ++ r ∷ []) (ls ++ here)
+rows_push : (cs : List Column) (rows : List Row) (r : Row) (ls here : List Line) → RowsLines cs rows ls → EntryLines cs r.ins (only_entry r.outs) here → RowsLines cs (rows ++ r ∷ []) (ls ++ here)
 rows_push cs [] r ls here are h = record {
   before = here;
   here = [];
@@ -29,9 +29,9 @@ rows_push cs (q ∷ rows) r ls here are h = record {
 }
 
 -- one row more
-pub rows_more : (cs : List Column) (rows : List Row) (i : ℕ) (r : Row) (sets : List ℕ) (e : Entry) (a b : List Line) → i < length rows → r ≡ get_or rows i r → sets ≡ r.ins → e ≡ entry_of r.outs → RowsLines cs (take i rows) a → Adds (EntryLines cs sets e) a b → RowsLines cs (take (i + 1) rows) b
+pub rows_more : (cs : List Column) (rows : List Row) (i : ℕ) (r : Row) (sets : List ℕ) (e : Entry) (a b : List Line) → i < length rows → r ≡ get_or rows i r → sets ≡ r.ins → e ≡ only_entry r.outs → RowsLines cs (take i rows) a → AddsLines (EntryLines cs sets e) a b → RowsLines cs (take (i + 1) rows) b
 rows_more cs rows i r sets e a b low is ins entry are adds =
-    let here : EntryLines cs r.ins (entry_of r.outs) adds.here =
+    let here : EntryLines cs r.ins (only_entry r.outs) adds.here =
     subst (λ (f : Entry). EntryLines cs r.ins f adds.here) entry (subst (λ (s : List ℕ). EntryLines cs s e adds.here) ins adds.are) in
     let pushed = rows_push cs (take i rows) r a adds.here are here in
     let taken : take i rows ++ r ∷ [] ≡ take (i + 1) rows = ap (λ (q : Row). take i rows ++ q ∷ []) is ∙ sym (take_more rows i r low) in

@@ -6,8 +6,8 @@ use Rattle.mv_base.proofs.Sets.{has-empty, has-meet}
 use Rattle.mv_cover.specs.declared.line.Line.{Line}
 use Rattle.mv_rows.specs.declared.column.Column.{Column}
 use Rattle.mv_rows.specs.Tables.{row_matches}
-use Rattle.mv_rows.specs.Cubes.{values_at, FitRow, HasNoPoint}
-use Rattle.mv_rows.specs.Lines.{Adds, OneLine, EachValue, narrowed}
+use Rattle.mv_rows.specs.Cubes.{column_values, FitRow, HasNoPoint}
+use Rattle.mv_rows.specs.Lines.{AddsLines, OneLine, EachValue, narrowed}
 
 -- a row matches nothing where a set is empty
 empty_matches : (sets values : List ℕ) (k : ℕ) → k < length sets → row_matches (set sets k empty) values ≡ false
@@ -18,7 +18,7 @@ empty_matches (s ∷ sets) (v ∷ values) zero low = ap (λ b. b && row_matches 
 empty_matches (s ∷ sets) (v ∷ values) (suc k) low = and_right (has s v) _ (empty_matches sets values k (omega arith))
 
 pub no_value : (cs : List Column) (sets : List ℕ) (k v : ℕ) → k < length sets → meet (get_or sets k 0) (one v) ≡ empty → HasNoPoint cs (narrowed sets k v)
-no_value cs sets k v low e = record { nowhere = λ at range. ap (λ s. row_matches (set sets k s) (values_at at cs)) e ∙ empty_matches sets (values_at at cs) k low }
+no_value cs sets k v low e = record { nowhere = λ at range. ap (λ s. row_matches (set sets k s) (column_values at cs)) e ∙ empty_matches sets (column_values at cs) k low }
 
 -- fewer values are still values of the nets
 pub within_meet : (a b s : ℕ) → Within a s → Within (meet a b) s
@@ -33,11 +33,11 @@ fit_narrowed (c ∷ cs) (s ∷ sets) (suc k) v fit = (fit.0, fit_narrowed cs set
 
 -- ---- lines one after the other
 
-pub Adds-none : (P : List Line → Type 0) (ls : List Line) → P [] → Adds P ls ls
-Adds-none P ls h = record { here = []; are = h; joined = sym (append-nil ls) }
+pub AddsLines-none : (P : List Line → Type 0) (ls : List Line) → P [] → AddsLines P ls ls
+AddsLines-none P ls h = record { here = []; are = h; joined = sym (append-nil ls) }
 
 -- one value more
-pub values_more : (cs : List Column) (sets : List ℕ) (k v : ℕ) (a b d : List Line) → Adds (EachValue cs sets k v) a b → Adds (OneLine cs (narrowed sets k v) (one v)) b d → Adds (EachValue cs sets k (v + 1)) a d
+pub values_more : (cs : List Column) (sets : List ℕ) (k v : ℕ) (a b d : List Line) → AddsLines (EachValue cs sets k v) a b → AddsLines (OneLine cs (narrowed sets k v) (one v)) b d → AddsLines (EachValue cs sets k (v + 1)) a d
 values_more cs sets k v a b d first next =
     let lines = first.here ++ next.here in
     let joined : d ≡ a ++ lines = next.joined ∙ (ap (λ x. x ++ next.here) first.joined ∙ append_assoc a first.here next.here) in

@@ -15,7 +15,7 @@ rises_after n [] = true
 rises_after n (p ∷ ps) = nat_le n p.column.net.0 && rises_after p.column.net.0 ps
 
 -- the columns in an order in which their nets ascend
-pub record IsOrder (columns : List Column) (order : List Placed) : Type 0 where
+pub record IsColumnOrder (columns : List Column) (order : List Placed) : Type 0 where
   pub moved : IsPermutation (placed 0 columns) order
   pub rises : rises_after 0 order ≡ true
 

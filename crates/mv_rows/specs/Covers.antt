@@ -15,9 +15,9 @@ use Rattle.mv_design.specs.declared.table.FileTable.{FileTable}
 use Rattle.mv_rows.specs.declared.column.Column.{Column}
 use Rattle.mv_rows.specs.declared.table.FlatTable.{FlatTable}
 use Rattle.mv_rows.specs.Tables.{some_row_matches, table_allows}
-use Rattle.mv_rows.specs.Cubes.{values_at, in_range, CountBy, AreParts}
+use Rattle.mv_rows.specs.Cubes.{column_values, in_range, CountBy, AreParts}
 use Rattle.mv_rows.specs.Lines.{count_at}
-use Rattle.mv_rows.specs.Flat.{entry_of}
+use Rattle.mv_rows.specs.Flat.{only_entry}
 
 -- a line over nets with these numbers of values, whose output is some of the output net's
 pub record IsTableLine (count : ℕ → ℕ) (values : ℕ) (l : Line) : Type 0 where
@@ -39,8 +39,8 @@ FitOutput columns values (Same k) = count_at columns k ≤ values
 
 -- the entry of each row, and that of the default, say values of an output net that has this many
 pub record FitOutputs (columns : List Column) (values : ℕ) (t : FileTable) : Type 0 where
-  pub rows : All (λ (r : Row). FitOutput columns values (entry_of r.outs)) t.rows
-  pub default : (entries : List Entry) → t.default ≡ Some entries → FitOutput columns values (entry_of entries)
+  pub rows : All (λ (r : Row). FitOutput columns values (only_entry r.outs)) t.rows
+  pub default : (entries : List Entry) → t.default ≡ Some entries → FitOutput columns values (only_entry entries)
 
 -- the mark is 0 where some row matches, and 1 elsewhere
 abbrev pub mark_value : List Row → List ℕ → ℕ
@@ -53,7 +53,7 @@ MarkHas (Some _) mark of n = of mark.0 ≡ n
 
 -- the cover of the output, with the mark at the value that the mark's cover gives, allows what the table allows
 pub record IsFlatTable (columns : List Column) (t : FileTable) (mark : NetId) (flat : FlatTable) : Type 0 where
-  pub allows : (at : ℕ → ℕ) → in_range at columns ≡ true → MarkHas flat.mark mark at (mark_value t.rows (values_at at columns)) → (v : ℕ) → allowed flat.cover at v ≡ table_allows t.rows t.default (values_at at columns) (v ∷ [])
-  pub marks : (m : Cover) → flat.mark ≡ Some m → (at : ℕ → ℕ) → in_range at columns ≡ true → (v : ℕ) → allowed m at v ≡ nat_eq v (mark_value t.rows (values_at at columns))
+  pub allows : (at : ℕ → ℕ) → in_range at columns ≡ true → MarkHas flat.mark mark at (mark_value t.rows (column_values at columns)) → (v : ℕ) → allowed flat.cover at v ≡ table_allows t.rows t.default (column_values at columns) (v ∷ [])
+  pub marks : (m : Cover) → flat.mark ≡ Some m → (at : ℕ → ℕ) → in_range at columns ≡ true → (v : ℕ) → allowed m at v ≡ nat_eq v (mark_value t.rows (column_values at columns))
   pub formed : (count : ℕ → ℕ) → CountBy count columns → MarkHas flat.mark mark count 2 → (values : ℕ) → FitOutputs columns values t → IsTableCover count values flat.cover
   pub mark_formed : (m : Cover) → flat.mark ≡ Some m → (count : ℕ → ℕ) → CountBy count columns → IsTableCover count 2 m

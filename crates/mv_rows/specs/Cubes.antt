@@ -9,11 +9,11 @@ use Rattle.mv_cover.specs.Lines.{IsOutput}
 use Rattle.mv_rows.specs.declared.column.Column.{Column}
 use Rattle.mv_rows.specs.declared.column.Frame.{Frame}
 use Rattle.mv_rows.specs.Tables.{row_matches}
-use Rattle.mv_rows.specs.Columns.{IsOrder}
+use Rattle.mv_rows.specs.Columns.{IsColumnOrder}
 
 -- the values of the columns' nets
-abbrev pub values_at : (ℕ → ℕ) → List Column → List ℕ
-values_at at columns = map (λ (c : Column). at c.net.0) columns
+abbrev pub column_values : (ℕ → ℕ) → List Column → List ℕ
+column_values at columns = map (λ (c : Column). at c.net.0) columns
 
 -- each column's net has one of its values
 abbrev pub in_range : (ℕ → ℕ) → List Column → Bool
@@ -37,7 +37,7 @@ pub record AreColumns (columns : List Column) : Type 0 where
 -- columns of a table, with an order that is theirs
 pub record IsFrame (f : Frame) : Type 0 where
   pub columns : AreColumns f.columns
-  pub ordered : IsOrder f.columns f.order
+  pub ordered : IsColumnOrder f.columns f.order
 
 -- a set for each column, of values that its net has
 abbrev pub FitRow : List Column → List ℕ → Type 0
@@ -60,15 +60,15 @@ AreParts count (l ∷ ls) = IsPart (count l.net.0) l.set × AreParts count ls
 pub record HasPoint (columns : List Column) (sets : List ℕ) : Type 0 where
   pub at : ℕ → ℕ
   pub range : in_range at columns ≡ true
-  pub there : row_matches sets (values_at at columns) ≡ true
+  pub there : row_matches sets (column_values at columns) ≡ true
 
 -- the row matches no values of the nets
 pub record HasNoPoint (columns : List Column) (sets : List ℕ) : Type 0 where
-  pub nowhere : (at : ℕ → ℕ) → in_range at columns ≡ true → row_matches sets (values_at at columns) ≡ false
+  pub nowhere : (at : ℕ → ℕ) → in_range at columns ≡ true → row_matches sets (column_values at columns) ≡ false
 
 -- the cube holds where the row matches, and somewhere; each literal leaves its net some values, but not all
 pub record IsRowCube (columns : List Column) (sets : List ℕ) (cube : List Lit) : Type 0 where
-  pub points : (at : ℕ → ℕ) → in_range at columns ≡ true → matches at cube ≡ row_matches sets (values_at at columns)
+  pub points : (at : ℕ → ℕ) → in_range at columns ≡ true → matches at cube ≡ row_matches sets (column_values at columns)
   pub point : HasPoint columns sets
   pub formed : IsCube cube
   pub parts : (count : ℕ → ℕ) → CountBy count columns → AreParts count cube

@@ -18,20 +18,20 @@ use Rattle.mv_rows.specs.Cubes.{FitRow}
 use Rattle.mv_rows.specs.Lines.{AreJoined, EntryLines, FitEntry}
 
 -- the entry of a single output
-abbrev pub entry_of : List Entry → Entry
-entry_of [] = Set empty
-entry_of (e ∷ _) = e
+abbrev pub only_entry : List Entry → Entry
+only_entry [] = Set empty
+only_entry (e ∷ _) = e
 
 -- a row with a set for each column and one entry
 pub record IsRow (columns : List Column) (r : Row) : Type 0 where
   pub sets : FitRow columns r.ins
   pub single : length r.outs ≡ 1
-  pub entry : FitEntry columns (entry_of r.outs)
+  pub entry : FitEntry columns (only_entry r.outs)
 
 -- a default of one entry
 pub record IsDefault (columns : List Column) (entries : List Entry) : Type 0 where
   pub single : length entries ≡ 1
-  pub entry : FitEntry columns (entry_of entries)
+  pub entry : FitEntry columns (only_entry entries)
 
 -- a table over these columns with one output
 pub record IsTable (columns : List Column) (t : FileTable) : Type 0 where
@@ -41,7 +41,7 @@ pub record IsTable (columns : List Column) (t : FileTable) : Type 0 where
 -- the lines of the rows, row after row
 abbrev pub RowsLines : List Column → List Row → List Line → Type 0
 RowsLines columns [] lines = lines ≡ []
-RowsLines columns (r ∷ rows) lines = AreJoined (EntryLines columns r.ins (entry_of r.outs)) (RowsLines columns rows) lines
+RowsLines columns (r ∷ rows) lines = AreJoined (EntryLines columns r.ins (only_entry r.outs)) (RowsLines columns rows) lines
 
 -- the line has an output
 abbrev pub has_output : Line → Bool
@@ -63,7 +63,7 @@ says_nothing (Same k) = false
 -- the default, unless no value lies in its entry or some row has no literal
 abbrev pub default_left : Option (List Entry) → List Line → Option Entry
 default_left None lines = None
-default_left (Some entries) lines = if says_nothing (entry_of entries) || some_bare lines then None else Some (entry_of entries)
+default_left (Some entries) lines = if says_nothing (only_entry entries) || some_bare lines then None else Some (only_entry entries)
 
 -- the default that a cover can have beside the lines: a set, where each line has an output
 abbrev pub plain_default : Entry → List Line → Option ℕ

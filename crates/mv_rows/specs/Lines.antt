@@ -8,7 +8,7 @@ use Rattle.mv_rows.specs.declared.column.Column.{Column}
 use Rattle.mv_rows.specs.Cubes.{HasNoPoint, IsRowCube}
 
 -- the list with some lines behind it
-pub record Adds (Here : List Line → Type 0) (old new : List Line) : Type 0 where
+pub record AddsLines (Here : List Line → Type 0) (old new : List Line) : Type 0 where
   pub here : List Line
   pub are : Here here
   pub joined : new ≡ old ++ here

@@ -1,5 +1,5 @@
 ghost use Rattle.std.specs.Prelude.{◌≡◌, IfOk};
-ghost use Rattle.mv_rows.specs.Columns.{placed, IsOrder};
+ghost use Rattle.mv_rows.specs.Columns.{placed, IsColumnOrder};
 ghost use Rattle.mv_rows.specs.Cubes.{AreColumns, IsFrame};
 
 use mv_base::{Items, Memory, NetId};
@@ -42,9 +42,9 @@ impl Frame {
 }
 
 /// The columns by ascending net.
-#[tactic(auto, using(crate::proofs::Orders::IsOrder_from_sort))]
+#[tactic(auto, using(crate::proofs::Orders::IsColumnOrder_from_sort))]
 fn ordered(alloc: Global, columns: &[Column]) -> Result<Vec<Placed>, Memory>
-    ensures { IfOk result (λ order. IsOrder columns.now order.items) }
+    ensures { IfOk result (λ order. IsColumnOrder columns.now order.items) }
 {
     let mut order = with_places(alloc, columns)?;
     order.sort_unstable_by_key(|placed| placed.column.net.0);

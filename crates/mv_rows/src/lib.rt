@@ -5,8 +5,6 @@ mod column;
 mod cube;
 mod lines;
 mod table;
-#[cfg(test)]
-mod tests;
 
 pub use column::Column;
 pub use table::{FlatTable, flat_table};

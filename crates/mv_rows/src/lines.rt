@@ -2,7 +2,7 @@ ghost use Rattle.std.specs.Prelude.{◌≡◌, ◌<◌, ◌≤◌, length, OnOk}
 ghost use Rattle.mv_base.specs.declared.limits.TheConstants.{MAX_VALUES};
 ghost use Rattle.mv_base.specs.Set.{one};
 ghost use Rattle.mv_rows.specs.Cubes.{IsFrame, FitRow};
-ghost use Rattle.mv_rows.specs.Lines.{Adds, OneLine, EachValue, EntryLines, FitEntry, narrowed, count_at};
+ghost use Rattle.mv_rows.specs.Lines.{AddsLines, OneLine, EachValue, EntryLines, FitEntry, narrowed, count_at};
 
 use crate::column::Frame;
 use mv_base::{Memory, Value, ValueSet};
@@ -24,7 +24,7 @@ impl Frame {
         requires frame { IsFrame self.now }
         requires sets { FitRow self.now.columns sets.now }
         requires entry { FitEntry self.now.columns entry }
-        ensures { OnOk result (Adds (EntryLines self.now.columns sets.now entry) lines.old.items lines.new.items) }
+        ensures { OnOk result (AddsLines (EntryLines self.now.columns sets.now entry) lines.old.items lines.new.items) }
     {
         match entry {
             Entry::Set(out) => put_line(lines, alloc, self, sets, out),
@@ -43,7 +43,7 @@ fn put_line(
 ) -> Result<(), Memory>
     requires frame { IsFrame frame.now }
     requires sets { FitRow frame.now.columns sets.now }
-    ensures { OnOk result (Adds (OneLine frame.now.columns sets.now out) lines.old.items lines.new.items) }
+    ensures { OnOk result (AddsLines (OneLine frame.now.columns sets.now out) lines.old.items lines.new.items) }
 {
     let Some(cube) = frame.cube(alloc, sets)? else {
         return Ok(());
@@ -63,7 +63,7 @@ fn put_values(
     requires frame { IsFrame frame.now }
     requires sets { FitRow frame.now.columns sets.now }
     requires place { place < length frame.now.columns }
-    ensures { OnOk result (Adds (EachValue frame.now.columns sets.now place (count_at frame.now.columns place)) lines.old.items lines.new.items) }
+    ensures { OnOk result (AddsLines (EachValue frame.now.columns sets.now place (count_at frame.now.columns place)) lines.old.items lines.new.items) }
 {
     let count = count(frame, place);
     for value in 0..count {
@@ -95,7 +95,7 @@ fn put_value(
     requires sets { FitRow frame.now.columns sets.now }
     requires place { place < length sets.now }
     requires value { value.0 < MAX_VALUES }
-    ensures { OnOk result (Adds (OneLine frame.now.columns (narrowed sets.now place value.0) (one value.0)) lines.old.items lines.new.items) }
+    ensures { OnOk result (AddsLines (OneLine frame.now.columns (narrowed sets.now place value.0) (one value.0)) lines.old.items lines.new.items) }
 {
     let set = sets[place].meet(ValueSet::one(value));
     if set == ValueSet::empty() {

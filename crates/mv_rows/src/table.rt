@@ -4,8 +4,8 @@ ghost use Rattle.mv_base.specs.Set.{empty};
 ghost use Rattle.mv_cover.specs.Absorb.{some_bare};
 ghost use Rattle.mv_design.specs.declared.table.Entry.{Entry};
 ghost use Rattle.mv_rows.specs.Cubes.{AreColumns, IsFrame, FitRow};
-ghost use Rattle.mv_rows.specs.Lines.{Adds, EntryLines, FitEntry};
-ghost use Rattle.mv_rows.specs.Flat.{entry_of, IsRow, IsTable, IsDefault, RowsLines, kept, insert_kept, says_nothing, default_left, plain_default, mark_cover, with_mark, marked_sets, unmarked, IsMarked, IsMade};
+ghost use Rattle.mv_rows.specs.Lines.{AddsLines, EntryLines, FitEntry};
+ghost use Rattle.mv_rows.specs.Flat.{only_entry, IsRow, IsTable, IsDefault, RowsLines, kept, insert_kept, says_nothing, default_left, plain_default, mark_cover, with_mark, marked_sets, unmarked, IsMarked, IsMade};
 ghost use Rattle.mv_rows.specs.Covers.{IsFlatTable};
 
 use crate::column::{Column, Frame};
@@ -84,7 +84,7 @@ fn row_lines(alloc: Global, frame: &Frame, rows: &[Row]) -> Result<Vec<Line>, Me
 /// The only entry.
 fn only(entries: &Items<Entry>) -> Entry
     requires { length entries.now ≡ 1 }
-    ensures { result ≡ entry_of entries.now }
+    ensures { result ≡ only_entry entries.now }
 {
     entries.as_slice()[0]
 }
@@ -209,7 +209,7 @@ fn put_default(
 ) -> Result<(), Memory>
     requires columns { AreColumns (with_mark columns.now mark) }
     requires entry { FitEntry columns.now entry }
-    ensures { OnOk result (Adds (EntryLines (with_mark columns.now mark) (marked_sets columns.now) entry) lines.old.items lines.new.items) }
+    ensures { OnOk result (AddsLines (EntryLines (with_mark columns.now mark) (marked_sets columns.now) entry) lines.old.items lines.new.items) }
 {
     let mut marked = Vec::from_slice(alloc, columns)?;
     marked.push(Column {

@@ -47,6 +47,8 @@ commands_in text = filter_map command_of (script_words text)
 unfoldable pub is_script : List ℕ → Bool
 is_script text = nat_le (length text) MAX_SCRIPT_BYTES && are_commands (script_words text) && nat_le (length (commands_in text)) MAX_SCRIPT_COMMANDS
 
+-- ---- what private functions alone cite
+
 -- each of the words is a command, and these commands were added at the end
 pub record Adds (before after : List Command) (words : List (List ℕ)) : Type 0 where
   pub all : are_commands words ≡ true

@@ -2,7 +2,5 @@
 #![tactic(auto)]
 
 mod script;
-#[cfg(test)]
-mod tests;
 
 pub use script::{Command, ScriptStop, read_script};

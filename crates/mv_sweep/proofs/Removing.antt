@@ -3,14 +3,13 @@ use Rattle.std.proofs.Common.{◌≡◌, ◌∙◌, ℕ, List, [], ◌∷◌, �
 use Rattle.std.proofs.lemmas.Grind.{flat_map-append}
 use Rattle.std.proofs.lemmas.List.{map-append, append-nil}
 use Rattle.mv_base.specs.declared.outside.Failed.{Failed}
-use Rattle.mv_base.specs.Appends.{Appends}
-use Rattle.mv_base.specs.Outside.{Gained, GainedPart}
+use Rattle.mv_base.specs.Outside.{Written, Gained, GainedPart, Appends}
 use Rattle.mv_base.proofs.Gains.{Gained-none, Gained-then, GainedPart-then}
 use Rattle.mv_net.specs.declared.parts.NetParts.{NetParts}
 use Rattle.mv_net.specs.Nets.{slot, name_in, literals_in}
 use Rattle.mv_net.specs.Changes.{without}
 use Rattle.mv_sweep.specs.Entries.{Entry, Begin, Remove, End, entry_line, print}
-use Rattle.mv_sweep.specs.Drops.{NoneLeft, IsFirst, Goes, Went, WentPart, IsFront, HasDropped, IsDropping, IsCutOff, begun}
+use Rattle.mv_sweep.specs.Drops.{NoneLeft, IsLeastRemovable, Goes, Went, WentPart, IsFront, HasDropped, IsDropping, IsCutOff, begun}
 use Rattle.mv_sweep.specs.Search.{HasRemoved, IsRemoving}
 
 -- ---- the entries of two stretches
@@ -33,7 +32,7 @@ print-none : print [] ≡ []
 unfolding print
 print-none = refl
 
-module _ {a b c : NetParts} {t u v : Option (List ℕ)} {xs ys : List Entry} where
+module _ {a b c : NetParts} {t u v : Written} {xs ys : List Entry} where
   pub Went-then : Went a b t u xs → Went b c u v ys → Went a c t v (xs ++ ys)
   Went-then p q = record {
     goes = Goes-append a b c xs ys p.goes q.goes;
@@ -42,7 +41,7 @@ module _ {a b c : NetParts} {t u v : Option (List ℕ)} {xs ys : List Entry} whe
         subst P (sym (print-append xs ys)) (Gained-then t u v (print xs) (print ys) p.gained q.gained);
   }
 
-pub WentPart-then : {a b c : NetParts} {t u v : Option (List ℕ)} {xs ys : List Entry} {e : Entry} → Went a b t u xs → WentPart b c u v ys e → WentPart a c t v (xs ++ ys) e
+pub WentPart-then : {a b c : NetParts} {t u v : Written} {xs ys : List Entry} {e : Entry} → Went a b t u xs → WentPart b c u v ys e → WentPart a c t v (xs ++ ys) e
 WentPart-then p q = record {
   net = q.net;
   mid = q.mid;
@@ -52,18 +51,18 @@ WentPart-then p q = record {
 }
 
 -- no entry
-Went-none : (a : NetParts) (t : Option (List ℕ)) → Went a a t t []
+Went-none : (a : NetParts) (t : Written) → Went a a t t []
 Went-none a t = record { goes = refl; gained = let P : List ℕ → Type 0 = λ z. Gained t t z in subst P (sym print-none) (Gained-none t) }
 
 -- one entry
-pub Went-one : (a b : NetParts) (t u : Option (List ℕ)) (e : Entry) → Goes a (e ∷ []) b → Gained t u (entry_line e) → Went a b t u (e ∷ [])
+pub Went-one : (a b : NetParts) (t u : Written) (e : Entry) → Goes a (e ∷ []) b → Gained t u (entry_line e) → Went a b t u (e ∷ [])
 Went-one a b t u e g h = record { goes = g; gained = let P : List ℕ → Type 0 = λ z. Gained t u z in subst P (sym (print-one e)) h }
 
-pub WentPart-one : (a b : NetParts) (t u : Option (List ℕ)) (e : Entry) → Goes a (e ∷ []) b → GainedPart t u (entry_line e) → WentPart a b t u [] e
+pub WentPart-one : (a b : NetParts) (t u : Written) (e : Entry) → Goes a (e ∷ []) b → GainedPart t u (entry_line e) → WentPart a b t u [] e
 WentPart-one a b t u e g h = record { net = a; mid = t; went = Went-none a t; goes = g; part = h }
 
 -- all the entries in one list, and some first part of their text
-module _ {a b : NetParts} {t u : Option (List ℕ)} {xs : List Entry} {e : Entry} where
+module _ {a b : NetParts} {t u : Written} {xs : List Entry} {e : Entry} where
   pub WentPart-goes : WentPart a b t u xs e → Goes a (xs ++ e ∷ []) b
   WentPart-goes p = Goes-append a p.net b xs (e ∷ []) p.went.goes p.goes
 
@@ -75,10 +74,10 @@ module _ {a b : NetParts} {t u : Option (List ℕ)} {xs : List Entry} {e : Entry
 
 -- ---- nets that went
 
-pub HasRemoved-none : (a : NetParts) (t : Option (List ℕ)) → HasRemoved a a t t
+pub HasRemoved-none : (a : NetParts) (t : Written) → HasRemoved a a t t
 HasRemoved-none a t = record { names = []; went = Went-none a t }
 
-pub HasRemoved-then : (a b c : NetParts) (t u v : Option (List ℕ)) → HasRemoved a b t u → HasRemoved b c u v → HasRemoved a c t v
+pub HasRemoved-then : (a b c : NetParts) (t u v : Written) → HasRemoved a b t u → HasRemoved b c u v → HasRemoved a c t v
 HasRemoved-then a b c t u v p q = record {
   names = p.names ++ q.names;
   went =
@@ -86,7 +85,7 @@ HasRemoved-then a b c t u v p q = record {
       subst P (sym (map-append Remove p.names q.names)) (Went-then p.went q.went);
 }
 
-pub IsRemoving-then : (a b c : NetParts) (t u v : Option (List ℕ)) → HasRemoved a b t u → IsRemoving b c u v → IsRemoving a c t v
+pub IsRemoving-then : (a b c : NetParts) (t u v : Written) → HasRemoved a b t u → IsRemoving b c u v → IsRemoving a c t v
 IsRemoving-then a b c t u v p q = record {
   names = p.names ++ q.names;
   last = q.last;
@@ -95,7 +94,7 @@ IsRemoving-then a b c t u v p q = record {
       subst P (sym (map-append Remove p.names q.names)) (WentPart-then p.went q.went);
 }
 
-goes_away : (old new : NetParts) (n : ℕ) (name : List ℕ) → IsFirst old n → name ≡ name_in (slot old.nets n) → new ≡ without old n → Goes old (Remove name ∷ []) new
+goes_away : (old new : NetParts) (n : ℕ) (name : List ℕ) → IsLeastRemovable old n → name ≡ name_in (slot old.nets n) → new ≡ without old n → Goes old (Remove name ∷ []) new
 goes_away old new n name first is e = (
   without old n,
   (
@@ -109,14 +108,14 @@ goes_away old new n name first is e = (
   ),
 )
 
-pub removed : (old new : NetParts) (n : ℕ) (name : List ℕ) (t u : Option (List ℕ)) (before now : ℕ) → IsFirst old n → name ≡ name_in (slot old.nets n) → new ≡ without old n → Appends t u before now (entry_line (Remove name)) (Ok tt) → HasRemoved old new t u
-removed old new n name t u before now first is e p = record {
+pub removed : (old new : NetParts) (n : ℕ) (name : List ℕ) (t u : Written) → IsLeastRemovable old n → name ≡ name_in (slot old.nets n) → new ≡ without old n → Appends t u (entry_line (Remove name)) (Ok tt) → HasRemoved old new t u
+removed old new n name t u first is e p = record {
   names = name ∷ [];
   went = Went-one old new t u (Remove name) (goes_away old new n name first is e) p.ok;
 }
 
-pub removing : (old new : NetParts) (n : ℕ) (name : List ℕ) (t u : Option (List ℕ)) (before now : ℕ) (f : Failed) → IsFirst old n → name ≡ name_in (slot old.nets n) → new ≡ without old n → Appends t u before now (entry_line (Remove name)) (Err f) → IsRemoving old new t u
-removing old new n name t u before now f first is e p = record {
+pub removing : (old new : NetParts) (n : ℕ) (name : List ℕ) (t u : Written) (f : Failed) → IsLeastRemovable old n → name ≡ name_in (slot old.nets n) → new ≡ without old n → Appends t u (entry_line (Remove name)) (Err f) → IsRemoving old new t u
+removing old new n name t u f first is e p = record {
   names = [];
   last = name;
   went = WentPart-one old new t u (Remove name) (goes_away old new n name first is e) p.part;
@@ -124,25 +123,25 @@ removing old new n name t u before now f first is e p = record {
 
 -- ---- a whole `drop`, and one that stops
 
-begins : (a : NetParts) (t u : Option (List ℕ)) → Gained t u (entry_line Begin) → Went a a t u (Begin ∷ [])
+begins : (a : NetParts) (t u : Written) → Gained t u (entry_line Begin) → Went a a t u (Begin ∷ [])
 begins a t u g = Went-one a a t u Begin refl g
 
 pub front_begun : (names : List (List ℕ)) → IsFront (begun names)
 front_begun names = record { names = names; literals = 0; is = inl refl }
 
-pub drop_begun : (a b : NetParts) (t u v : Option (List ℕ)) (before now : ℕ) → Appends t u before now (entry_line Begin) (Ok tt) → HasRemoved a b u v → IsDropping a b t v
-drop_begun a b t u v before now p q = record { names = q.names; went = Went-then (begins a t u p.ok) q.went }
+pub drop_begun : (a b : NetParts) (t u v : Written) → Appends t u (entry_line Begin) (Ok tt) → HasRemoved a b u v → IsDropping a b t v
+drop_begun a b t u v p q = record { names = q.names; went = Went-then (begins a t u p.ok) q.went }
 
-pub drop_unbegun : (a : NetParts) (t u : Option (List ℕ)) (before now : ℕ) (f : Failed) → Appends t u before now (entry_line Begin) (Err f) → IsCutOff a a t u
-drop_unbegun a t u before now f p = record {
+pub drop_unbegun : (a : NetParts) (t u : Written) (f : Failed) → Appends t u (entry_line Begin) (Err f) → IsCutOff a a t u
+drop_unbegun a t u f p = record {
   done = [];
   last = Begin;
   front = front_begun [];
   went = WentPart-one a a t u Begin refl p.part;
 }
 
-pub drop_cut : (a b : NetParts) (t u v : Option (List ℕ)) (before now : ℕ) → Appends t u before now (entry_line Begin) (Ok tt) → IsRemoving a b u v → IsCutOff a b t v
-drop_cut a b t u v before now p q = record {
+pub drop_cut : (a b : NetParts) (t u v : Written) → Appends t u (entry_line Begin) (Ok tt) → IsRemoving a b u v → IsCutOff a b t v
+drop_cut a b t u v p q = record {
   done = begun q.names;
   last = Remove q.last;
   front =
@@ -154,15 +153,15 @@ drop_cut a b t u v before now p q = record {
 settles : (b : NetParts) (literals : ℕ) → NoneLeft b → literals ≡ literals_in b.nets → Goes b (End literals ∷ []) b
 settles b literals none e = (record { none_left = none; counted = e }, refl)
 
-pub drop_ended : (a b : NetParts) (t u v w : Option (List ℕ)) (literals before now mid then : ℕ) → Appends t u before now (entry_line Begin) (Ok tt) → HasRemoved a b u v → NoneLeft b → literals ≡ literals_in b.nets → Appends v w mid then (entry_line (End literals)) (Ok tt) → HasDropped a b t w
-drop_ended a b t u v w literals before now mid then p q none e r = record {
+pub drop_ended : (a b : NetParts) (t u v w : Written) (literals : ℕ) → Appends t u (entry_line Begin) (Ok tt) → HasRemoved a b u v → NoneLeft b → literals ≡ literals_in b.nets → Appends v w (entry_line (End literals)) (Ok tt) → HasDropped a b t w
+drop_ended a b t u v w literals p q none e r = record {
   names = q.names;
   literals = literals;
   went = Went-then (Went-then (begins a t u p.ok) q.went) (Went-one b b v w (End literals) (settles b literals none e) r.ok);
 }
 
-pub drop_end_cut : (a b : NetParts) (t u v w : Option (List ℕ)) (literals before now mid then : ℕ) (f : Failed) → Appends t u before now (entry_line Begin) (Ok tt) → HasRemoved a b u v → NoneLeft b → literals ≡ literals_in b.nets → Appends v w mid then (entry_line (End literals)) (Err f) → IsCutOff a b t w
-drop_end_cut a b t u v w literals before now mid then f p q none e r = record {
+pub drop_end_cut : (a b : NetParts) (t u v w : Written) (literals : ℕ) (f : Failed) → Appends t u (entry_line Begin) (Ok tt) → HasRemoved a b u v → NoneLeft b → literals ≡ literals_in b.nets → Appends v w (entry_line (End literals)) (Err f) → IsCutOff a b t w
+drop_end_cut a b t u v w literals f p q none e r = record {
   done = begun q.names;
   last = End literals;
   front = record { names = q.names; literals = literals; is = inr refl };

@@ -7,12 +7,13 @@ use Rattle.mv_base.specs.declared.number.NetId.{NetId}
 use Rattle.mv_net.specs.declared.parts.FlatNet.{FlatNet}
 use Rattle.mv_net.specs.declared.parts.NetParts.{NetParts}
 use Rattle.mv_net.specs.Nets.{slot, net_reads}
-use Rattle.mv_net.specs.Index.{is_seen, IsAscending, has_id}
+use Rattle.mv_graph.specs.Nets.{IsAscending, has_id}
+use Rattle.mv_net.specs.Index.{is_seen}
 use Rattle.mv_net.specs.Changes.{without, with_nets}
 use Rattle.mv_net.specs.Total.{IsTotalNet, IsRemovable}
 use Rattle.mv_net.proofs.Named.{held_below}
-use Rattle.mv_net.proofs.Orders.{above_first}
-use Rattle.mv_sweep.specs.Drops.{NoneLeft, NoneBelow, IsFirst}
+use Rattle.mv_graph.proofs.Nets.{above_first}
+use Rattle.mv_sweep.specs.Drops.{NoneLeft, NoneBelow, IsLeastRemovable}
 use Rattle.mv_sweep.specs.Search.{NoneFrom, IsFirstFrom}
 use Rattle.mv_net.proofs.Removal.{removable-later}
 
@@ -70,7 +71,7 @@ between_end net from to h past = record {
 
 -- ---- where the search goes on
 
-pub first_of_all : (net : NetParts) (from n : ℕ) → NoneBelow net from → IsFirstFrom net from n → IsFirst net n
+pub first_of_all : (net : NetParts) (from n : ℕ) → NoneBelow net from → IsFirstFrom net from n → IsLeastRemovable net n
 first_of_all net from n below first = record {
   removable = first.removable;
   least = record {
@@ -122,7 +123,7 @@ one_of_fanins net n back (g ∷ gs) f a e is =
     (cases_lt g.0 n)
 
 -- behind a net that went no net below it that it doesn't read can go
-pub none_below_again : (net new : NetParts) (n back : ℕ) → IsFirst net n → new ≡ without net n → back ≤ n → ((m : ℕ) → m < back → net_reads (slot net.nets n) m ≡ false) → NoneBelow new back
+pub none_below_again : (net new : NetParts) (n back : ℕ) → IsLeastRemovable net n → new ≡ without net n → back ≤ n → ((m : ℕ) → m < back → net_reads (slot net.nets n) m ≡ false) → NoneBelow new back
 none_below_again net new n back first e low unread = record {
   none = λ m below r.
       first.least.none m (omega arith) (removable-later net n m (let P : NetParts → Type 0 = λ p. IsRemovable p m in subst P e r) (unread m below));

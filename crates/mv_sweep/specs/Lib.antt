@@ -1,3 +1,4 @@
 pub mod Entries
 pub mod Drops
+-- what private functions alone cite
 pub mod Search

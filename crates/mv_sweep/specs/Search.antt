@@ -1,5 +1,6 @@
 -- On the way through a `drop`: the search for the least net that can go, and the nets that went so far.
-use Rattle.std.specs.Prelude.{ℕ, ◌<◌, ◌≤◌, Option, List, map}
+use Rattle.std.specs.Prelude.{ℕ, ◌<◌, ◌≤◌, List, map}
+use Rattle.mv_base.specs.Outside.{Written}
 use Rattle.mv_net.specs.declared.parts.NetParts.{NetParts}
 use Rattle.mv_net.specs.Total.{IsRemovable}
 use Rattle.mv_sweep.specs.Entries.{Remove}
@@ -16,12 +17,12 @@ pub record IsFirstFrom (net : NetParts) (from n : ℕ) : Type 0 where
   pub least : (m : ℕ) → from ≤ m → m < n → IsRemovable net m → ⊥
 
 -- nets of these names went, the least first, and a sink gained their lines
-pub record HasRemoved (old new : NetParts) (told now : Option (List ℕ)) : Type 0 where
+pub record HasRemoved (old new : NetParts) (notes notes' : Written) : Type 0 where
   pub names : List (List ℕ)
-  pub went : Went old new told now (map Remove names)
+  pub went : Went old new notes notes' (map Remove names)
 
 -- nets of these names went, and the sink gained their lines; then one more went, and it gained some first part of its line
-pub record IsRemoving (old new : NetParts) (told now : Option (List ℕ)) : Type 0 where
+pub record IsRemoving (old new : NetParts) (notes notes' : Written) : Type 0 where
   pub names : List (List ℕ)
   pub last : List ℕ
-  pub went : WentPart old new told now (map Remove names) (Remove last)
+  pub went : WentPart old new notes notes' (map Remove names) (Remove last)

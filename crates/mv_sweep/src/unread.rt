@@ -3,7 +3,7 @@ ghost use Rattle.mv_base.specs.Meaning.{SameMeaning};
 ghost use Rattle.mv_base.specs.Outside.{Rose};
 ghost use Rattle.mv_net.specs.Allowed.{of_net};
 ghost use Rattle.mv_net.specs.Changes.{without};
-ghost use Rattle.mv_sweep.specs.Drops.{HasDropped, IsCutOff, IsDropping, IsFirst, NoneLeft};
+ghost use Rattle.mv_sweep.specs.Drops.{HasDropped, IsCutOff, IsDropping, IsLeastRemovable, NoneLeft};
 ghost use Rattle.mv_sweep.specs.Search.{HasRemoved, IsRemoving};
 
 use crate::Stop;
@@ -16,14 +16,14 @@ use std::alloc::Global;
 /// Takes away the net, which is the least that can go, and puts so to the notes.
 #[tactic(auto, using(crate::proofs::Removing::none_yet))]
 fn step<E: Sink>(alloc: Global, net: &mut Network, n: NetId, notes: &mut E) -> Result<(), Stop>
-    requires { IsFirst net.old n.0 }
-    ensures ok { OnOk result (HasRemoved net.old net.new (E.told notes.old) (E.told notes.new)) }
+    requires { IsLeastRemovable net.old n.0 }
+    ensures ok { OnOk result (HasRemoved net.old net.new (E.state notes.old) (E.state notes.new)) }
     ensures gone { OnOk result (net.new ≡ without net.old n.0) }
     ensures means { SameMeaning (of_net net.new) (of_net net.old) }
-    ensures memory { result ≡ Err Stop.Memory → HasRemoved net.old net.new (E.told notes.old) (E.told notes.new) }
-    ensures note { result ≡ Err Stop.Note → IsRemoving net.old net.new (E.told notes.old) (E.told notes.new) }
-    ensures cause { result ≡ Err Stop.Note → Rose (E.faults notes.old) (E.faults notes.new) }
-    ensures later { E.faults notes.old ≤ E.faults notes.new }
+    ensures memory { result ≡ Err Stop.Memory → HasRemoved net.old net.new (E.state notes.old) (E.state notes.new) }
+    ensures note { result ≡ Err Stop.Note → IsRemoving net.old net.new (E.state notes.old) (E.state notes.new) }
+    ensures cause { result ≡ Err Stop.Note → Rose ((E.state notes.old).faults) ((E.state notes.new).faults) }
+    ensures later { (E.state notes.old).faults ≤ (E.state notes.new).faults }
 {
     let name = match Name::new(alloc, net.name(n)) {
         Ok(name) => name,
@@ -43,13 +43,13 @@ fn step<E: Sink>(alloc: Global, net: &mut Network, n: NetId, notes: &mut E) -> R
 /// of it and its fanins, since only they can have become nets that can go.
 #[tactic(auto, using(crate::proofs::Removing::none_yet))]
 fn remove_each<E: Sink>(alloc: Global, net: &mut Network, notes: &mut E) -> Result<(), Stop>
-    ensures ok { OnOk result (HasRemoved net.old net.new (E.told notes.old) (E.told notes.new)) }
+    ensures ok { OnOk result (HasRemoved net.old net.new (E.state notes.old) (E.state notes.new)) }
     ensures none_left { OnOk result (NoneLeft net.new) }
     ensures means { SameMeaning (of_net net.new) (of_net net.old) }
-    ensures memory { result ≡ Err Stop.Memory → HasRemoved net.old net.new (E.told notes.old) (E.told notes.new) }
-    ensures note { result ≡ Err Stop.Note → IsRemoving net.old net.new (E.told notes.old) (E.told notes.new) }
-    ensures cause { result ≡ Err Stop.Note → Rose (E.faults notes.old) (E.faults notes.new) }
-    ensures later { E.faults notes.old ≤ E.faults notes.new }
+    ensures memory { result ≡ Err Stop.Memory → HasRemoved net.old net.new (E.state notes.old) (E.state notes.new) }
+    ensures note { result ≡ Err Stop.Note → IsRemoving net.old net.new (E.state notes.old) (E.state notes.new) }
+    ensures cause { result ≡ Err Stop.Note → Rose ((E.state notes.old).faults) ((E.state notes.new).faults) }
+    ensures later { (E.state notes.old).faults ≤ (E.state notes.new).faults }
 {
     let mut from = 0;
     'removing: loop {
@@ -72,12 +72,12 @@ fn remove_each<E: Sink>(alloc: Global, net: &mut Network, notes: &mut E) -> Resu
 /// and where the line that failed is that of a net, also without this one: the notes have all lines before the one that
 /// failed, and some first part of it.
 pub fn remove_unread<E: Sink>(alloc: Global, net: &mut Network, notes: &mut E) -> Result<(), Stop>
-    ensures ok { OnOk result (HasDropped net.old net.new (E.told notes.old) (E.told notes.new)) }
+    ensures ok { OnOk result (HasDropped net.old net.new (E.state notes.old) (E.state notes.new)) }
     ensures means { SameMeaning (of_net net.new) (of_net net.old) }
-    ensures memory { result ≡ Err Stop.Memory → IsDropping net.old net.new (E.told notes.old) (E.told notes.new) }
-    ensures note { result ≡ Err Stop.Note → IsCutOff net.old net.new (E.told notes.old) (E.told notes.new) }
-    ensures cause { result ≡ Err Stop.Note → Rose (E.faults notes.old) (E.faults notes.new) }
-    ensures later { E.faults notes.old ≤ E.faults notes.new }
+    ensures memory { result ≡ Err Stop.Memory → IsDropping net.old net.new (E.state notes.old) (E.state notes.new) }
+    ensures note { result ≡ Err Stop.Note → IsCutOff net.old net.new (E.state notes.old) (E.state notes.new) }
+    ensures cause { result ≡ Err Stop.Note → Rose ((E.state notes.old).faults) ((E.state notes.new).faults) }
+    ensures later { (E.state notes.old).faults ≤ (E.state notes.new).faults }
 {
     match put_begin(notes) {
         Ok(()) => {}

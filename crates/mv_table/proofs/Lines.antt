@@ -9,7 +9,7 @@ use Rattle.mv_design.specs.declared.table.Entry.{Entry}
 use Rattle.mv_design.specs.declared.table.Row.{Row}
 use Rattle.mv_design.specs.declared.design.Decl.{Decl}
 use Rattle.mv_fault.specs.declared.fault.ParseFault.{ParseFault}
-use Rattle.mv_table.specs.Tables.{rows_at, rows_of, default_at, default_of, line_faults, lines_faults}
+use Rattle.mv_table.specs.Tables.{rows_at, rows_of, default_at, default_of, line_values_faults, lines_values_faults}
 use Rattle.mv_fault.specs.Tells.{first}
 use Rattle.mv_fault.proofs.Firsts.{first-append}
 use Rattle.mv_table.proofs.Places.{take_more, drop_one}
@@ -42,12 +42,12 @@ default-next ds ins outs ls i l old new h e was is =
     ∙ (sym (default_of-push ds ins outs (take i ls) l)
     ∙ ap (default_of ds ins outs) (sym (take_more ls i l h e))))
 
-pub fault-next : (ds : List Decl) (ins outs : List (List ℕ)) (ls : List LexLine) (i : ℕ) (l : LexLine) (all : List ParseFault) → i < length ls → l ≡ get_or ls i l → lines_faults ds ins outs (drop i ls) ≡ all → line_faults ds ins outs l ≡ [] → lines_faults ds ins outs (drop (i + 1) ls) ≡ all
+pub fault-next : (ds : List Decl) (ins outs : List (List ℕ)) (ls : List LexLine) (i : ℕ) (l : LexLine) (all : List ParseFault) → i < length ls → l ≡ get_or ls i l → lines_values_faults ds ins outs (drop i ls) ≡ all → line_values_faults ds ins outs l ≡ [] → lines_values_faults ds ins outs (drop (i + 1) ls) ≡ all
 fault-next ds ins outs ls i l all h e was none =
-    ap (λ fs. fs ++ lines_faults ds ins outs (drop (i + 1) ls)) (sym none)
-    ∙ (ap (lines_faults ds ins outs) (sym (drop_one ls i l h e)) ∙ was)
+    ap (λ fs. fs ++ lines_values_faults ds ins outs (drop (i + 1) ls)) (sym none)
+    ∙ (ap (lines_values_faults ds ins outs) (sym (drop_one ls i l h e)) ∙ was)
 
 -- the first fault of a line is the first from there on
-pub fault-here : (ds : List Decl) (ins outs : List (List ℕ)) (ls : List LexLine) (i : ℕ) (l : LexLine) (all : List ParseFault) (f : ParseFault) → i < length ls → l ≡ get_or ls i l → lines_faults ds ins outs (drop i ls) ≡ all → first (line_faults ds ins outs l) ≡ Some f → first all ≡ Some f
+pub fault-here : (ds : List Decl) (ins outs : List (List ℕ)) (ls : List LexLine) (i : ℕ) (l : LexLine) (all : List ParseFault) (f : ParseFault) → i < length ls → l ≡ get_or ls i l → lines_values_faults ds ins outs (drop i ls) ≡ all → first (line_values_faults ds ins outs l) ≡ Some f → first all ≡ Some f
 fault-here ds ins outs ls i l all f h e was here =
-    rw (sym was ∙ ap (lines_faults ds ins outs) (drop_one ls i l h e)) (first-append _ _ _ here)
+    rw (sym was ∙ ap (lines_values_faults ds ins outs) (drop_one ls i l h e)) (first-append _ _ _ here)

@@ -1,5 +1,5 @@
 -- The first line of a table, `.table COLUMNS`: its columns and their faults.
-use Rattle.std.specs.Prelude.{ℕ, ◌+◌, ◌-◌, Bool, not, ◌==◌, nat_lt, nat_le, List, [], ◌∷◌, ◌++◌, length, take, drop, codes, if◌then◌else◌}
+use Rattle.std.specs.Prelude.{ℕ, ◌+◌, ◌-◌, Bool, not, ◌&&◌, ◌==◌, nat_lt, nat_le, List, [], ◌∷◌, ◌++◌, length, take, drop, codes, if◌then◌else◌}
 use Rattle.std.specs.List.{position_or_len}
 use Rattle.mv_base.specs.Names.{same_word, is_net_name}
 use Rattle.mv_base.specs.declared.limits.TheConstants.{MAX_COLUMNS}
@@ -31,6 +31,10 @@ ins_of words = take (ins_count words) words
 -- the output columns: the names behind the first `->`, or the last
 unfoldable pub outs_of : List (List ℕ) → List (List ℕ)
 outs_of words = drop (if has_arrow words then arrow_at words + 1 else length words - 1) words
+
+-- the words say several outputs: more than one name behind the first `->`, and no second `->`, which is a fault of its own
+unfoldable pub has_several_outputs : List (List ℕ) → Bool
+has_several_outputs words = nat_lt 1 (length (outs_of words)) && not (has_arrow (outs_of words))
 
 -- the faults of column names behind so many columns
 abbrev pub names_faults : ℕ → ℕ → List (List ℕ) → List ParseFault

@@ -18,7 +18,7 @@ abbrev pub places_of : List Decl → List (List ℕ) → List (Option ℕ)
 places_of ds nets = map (λ net. place_of net (declared_of ds)) nets
 
 -- the columns have the places of their nets
-pub record ArePlaced (ds : List Decl) (columns : Columns) : Type 0 where
+pub record AreLookedUp (ds : List Decl) (columns : Columns) : Type 0 where
   pub inputs : columns.in_places.items ≡ places_of ds columns.ins.now
   pub outputs : columns.out_places.items ≡ places_of ds columns.outs.now
 

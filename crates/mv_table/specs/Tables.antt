@@ -26,20 +26,20 @@ begins_default [] = false
 begins_default (w ∷ words) = is_default_word w
 
 -- the line is a default
-unfoldable pub is_default : LexLine → Bool
-is_default l = begins_default l.words
+unfoldable pub says_default : LexLine → Bool
+says_default l = begins_default l.words
 
 -- a row: one entry a column, inputs first
 abbrev pub row_of : List Decl → List (List ℕ) → List (List ℕ) → List (List ℕ) → Row
 row_of ds ins outs words = record { ins = ins_said ds ins words; outs = outs_said ds ins outs (drop (length ins) words) }
 
 -- the faults of the entries of a row
-abbrev pub row_faults : ℕ → List Decl → List (List ℕ) → List (List ℕ) → List (List ℕ) → List ParseFault
-row_faults n ds ins outs words = ins_faults n ds ins words ++ outs_faults n ds ins outs (drop (length ins) words)
+abbrev pub entries_faults : ℕ → List Decl → List (List ℕ) → List (List ℕ) → List (List ℕ) → List ParseFault
+entries_faults n ds ins outs words = ins_faults n ds ins words ++ outs_faults n ds ins outs (drop (length ins) words)
 
 -- the row of a line that is a row or a default
 abbrev pub rows_at : List Decl → List (List ℕ) → List (List ℕ) → LexLine → List Row
-rows_at ds ins outs l = if is_default l then [] else row_of ds ins outs l.words ∷ []
+rows_at ds ins outs l = if says_default l then [] else row_of ds ins outs l.words ∷ []
 
 -- the rows of these lines, all of which are rows or defaults
 abbrev pub rows_of : List Decl → List (List ℕ) → List (List ℕ) → List LexLine → List Row
@@ -47,7 +47,7 @@ rows_of ds ins outs lines = flat_map (rows_at ds ins outs) lines
 
 -- the default of a line that is a row or a default
 abbrev pub default_at : List Decl → List (List ℕ) → List (List ℕ) → LexLine → Option (List Entry)
-default_at ds ins outs l = if is_default l then Some (outs_said ds ins outs (behind_first l)) else None
+default_at ds ins outs l = if says_default l then Some (outs_said ds ins outs (behind_first l)) else None
 
 -- the last default of these lines, if there is one
 abbrev pub default_of : List Decl → List (List ℕ) → List (List ℕ) → List LexLine → Option (List Entry)
@@ -55,13 +55,13 @@ default_of ds ins outs [] = None
 default_of ds ins outs (l ∷ lines) = option_or (default_of ds ins outs lines) (default_at ds ins outs l)
 
 -- the faults of the values of a row or a default, from left to right
-abbrev pub line_faults : List Decl → List (List ℕ) → List (List ℕ) → LexLine → List ParseFault
-line_faults ds ins outs l =
-    if is_default l then outs_faults l.number ds ins outs (behind_first l) else row_faults l.number ds ins outs l.words
+abbrev pub line_values_faults : List Decl → List (List ℕ) → List (List ℕ) → LexLine → List ParseFault
+line_values_faults ds ins outs l =
+    if says_default l then outs_faults l.number ds ins outs (behind_first l) else entries_faults l.number ds ins outs l.words
 
 -- the faults of the values of these lines, line by line
-abbrev pub lines_faults : List Decl → List (List ℕ) → List (List ℕ) → List LexLine → List ParseFault
-lines_faults ds ins outs lines = flat_map (line_faults ds ins outs) lines
+abbrev pub lines_values_faults : List Decl → List (List ℕ) → List (List ℕ) → List LexLine → List ParseFault
+lines_values_faults ds ins outs lines = flat_map (line_values_faults ds ins outs) lines
 
 -- the table that its first line says, with the rows and the default behind it
 unfoldable pub table_of : List Decl → LexLine → List LexLine → FileTable
@@ -75,4 +75,4 @@ table_of ds head lines = record {
 
 -- the faults of the values of a table
 unfoldable pub table_faults : List Decl → LexLine → List LexLine → List ParseFault
-table_faults ds head lines = lines_faults ds (ins_of (behind_first head)) (outs_of (behind_first head)) lines
+table_faults ds head lines = lines_values_faults ds (ins_of (behind_first head)) (outs_of (behind_first head)) lines

@@ -1,6 +1,6 @@
 ghost use Rattle.std.specs.Prelude.{◌≡◌, ◌+◌, length};
 ghost use Rattle.std.specs.List.{position_or_len};
-ghost use Rattle.mv_table.specs.Columns.{is_arrow, arrow_at, ins_of, outs_of, names_faults, columns_faults};
+ghost use Rattle.mv_table.specs.Columns.{is_arrow, arrow_at, has_arrow, ins_of, outs_of, has_several_outputs, names_faults, columns_faults};
 ghost use Rattle.mv_fault.specs.Tells.{Tells};
 
 use mv_base::{MAX_COLUMNS, Name};
@@ -17,6 +17,13 @@ fn arrow_at(words: &[Name]) -> usize
         }
     }
     words.len()
+}
+
+/// Whether one of the words is `->`.
+fn has_arrow(words: &[Name]) -> bool
+    ensures { result ≡ has_arrow words.now }
+{
+    arrow_at(words) < words.len()
 }
 
 /// The input columns among the words of a table's first line: the names before the first `->`, or all but the last.
@@ -43,6 +50,16 @@ pub fn outs(words: &[Name]) -> &[Name]
     } else {
         &words[words.len().saturating_sub(1)..]
     }
+}
+
+/// Whether the words of a table's first line say several outputs: more than one name behind the first `->`, and no
+/// second `->`.
+#[tactic(auto, unfolding(crate::specs::Columns::has_several_outputs))]
+pub fn has_several_outputs(words: &[Name]) -> bool
+    ensures { result ≡ has_several_outputs words.now }
+{
+    let outs = outs(words);
+    outs.len() > 1 && !has_arrow(outs)
 }
 
 /// Tells the first fault of column names behind so many columns.

@@ -3,7 +3,7 @@ ghost use Rattle.mv_base.specs.declared.limits.TheConstants.{MAX_VALUES as most_
 ghost use Rattle.mv_fault.specs.Tells.{Tells};
 ghost use Rattle.mv_base.specs.Names.{place_of};
 ghost use Rattle.mv_word.specs.Entries.{word_set};
-ghost use Rattle.mv_table.specs.Entries.{ArePlaced, places_of, same_at, out_word, entry_faults, ins_faults, ins_said, outs_faults, outs_said};
+ghost use Rattle.mv_table.specs.Entries.{AreLookedUp, places_of, same_at, out_word, entry_faults, ins_faults, ins_said, outs_faults, outs_said};
 
 use mv_base::{Items, Memory, Name, ValueSet};
 use mv_decl::Decls;
@@ -29,7 +29,7 @@ impl<'a> Columns<'a> {
         ins: &'a [Name],
         outs: &'a [Name],
     ) -> Result<Columns<'a>, Memory>
-        ensures placed { IfOk result (λ columns. ArePlaced decls.now columns) }
+        ensures placed { IfOk result (λ columns. AreLookedUp decls.now columns) }
         ensures ins { IfOk result (λ columns. columns.ins.now ≡ ins.now) }
         ensures outs { IfOk result (λ columns. columns.outs.now ≡ outs.now) }
     {
@@ -141,7 +141,7 @@ pub fn in_entries(
     columns: &Columns,
     words: &[Name],
 ) -> Result<Items<ValueSet>, ParseFault>
-    requires { ArePlaced decls.now columns.now }
+    requires { AreLookedUp decls.now columns.now }
     ensures fault { Tells result (ins_faults number decls.now columns.now.ins.now words.now) }
     ensures ok { IfOk result (λ sets. sets ≡ ins_said decls.now columns.now.ins.now words.now) }
 {
@@ -167,7 +167,7 @@ pub fn out_entries(
     words: &[Name],
 ) -> Result<Items<Entry>, ParseFault>
     requires few { length columns.now.ins.now < 2 ^ 32 }
-    requires placed { ArePlaced decls.now columns.now }
+    requires placed { AreLookedUp decls.now columns.now }
     ensures fault { Tells result (outs_faults number decls.now columns.now.ins.now columns.now.outs.now words.now) }
     ensures ok { IfOk result (λ entries. entries ≡ outs_said decls.now columns.now.ins.now columns.now.outs.now words.now) }
 {

@@ -2,8 +2,8 @@ ghost use Rattle.std.specs.Prelude.{◌≡◌, ◌<◌, ◌^◌, ◌++◌, lengt
 ghost use Rattle.std.specs.Option.{option_or};
 ghost use Rattle.mv_fault.specs.Tells.{Tells};
 ghost use Rattle.mv_table.specs.Columns.{ins_of};
-ghost use Rattle.mv_table.specs.Entries.{ArePlaced};
-ghost use Rattle.mv_table.specs.Tables.{behind_first, is_default_word, begins_default, is_default, row_of, row_faults, rows_at, default_at, line_faults, table_of, table_faults};
+ghost use Rattle.mv_table.specs.Entries.{AreLookedUp};
+ghost use Rattle.mv_table.specs.Tables.{behind_first, is_default_word, begins_default, says_default, row_of, entries_faults, rows_at, default_at, line_values_faults, table_of, table_faults};
 
 use crate::columns::{ins, outs};
 use crate::entries::{Columns, in_entries, out_entries};
@@ -43,9 +43,9 @@ fn begins_default(words: &[Name]) -> bool
 }
 
 /// Whether the line is the default of a table, and not a row.
-#[tactic(auto, unfolding(crate::specs::Tables::is_default))]
+#[tactic(auto, unfolding(crate::specs::Tables::says_default))]
 fn is_default(line: &LexLine) -> bool
-    ensures { result ≡ is_default line.now }
+    ensures { result ≡ says_default line.now }
 {
     begins_default(line.words.as_slice())
 }
@@ -60,8 +60,8 @@ fn row(
     words: &[Name],
 ) -> Result<Row, ParseFault>
     requires few { length columns.now.ins.now < 2 ^ 32 }
-    requires placed { ArePlaced decls.now columns.now }
-    ensures fault { Tells result (row_faults number decls.now columns.now.ins.now columns.now.outs.now words.now) }
+    requires placed { AreLookedUp decls.now columns.now }
+    ensures fault { Tells result (entries_faults number decls.now columns.now.ins.now columns.now.outs.now words.now) }
     ensures ok { IfOk result (λ row. row ≡ row_of decls.now columns.now.ins.now columns.now.outs.now words.now) }
 {
     let sets = in_entries(alloc, number, decls, columns, words)?;
@@ -84,8 +84,8 @@ fn read_line(
     default: &mut Option<Items<Entry>>,
 ) -> Result<(), ParseFault>
     requires few { length columns.now.ins.now < 2 ^ 32 }
-    requires placed { ArePlaced decls.now columns.now }
-    ensures fault { Tells result (line_faults decls.now columns.now.ins.now columns.now.outs.now line.now) }
+    requires placed { AreLookedUp decls.now columns.now }
+    ensures fault { Tells result (line_values_faults decls.now columns.now.ins.now columns.now.outs.now line.now) }
     ensures rows { OnOk result (rows.new ≡ rows.old ++ rows_at decls.now columns.now.ins.now columns.now.outs.now line.now) }
     ensures default { OnOk result (default.new ≡ option_or (default_at decls.now columns.now.ins.now columns.now.outs.now line.now) default.old) }
 {

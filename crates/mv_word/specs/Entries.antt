@@ -53,10 +53,6 @@ abbrev pub items_of : List (List ℕ) → ℕ → List (List ℕ) → Result ℕ
 items_of values set [] = Ok set
 items_of values set (item ∷ items) = with_item item (item_of values item) (λ more. items_of values (join set more) items)
 
--- a byte that isn't the comma between two items
-abbrev pub is_inside : ℕ → Bool
-is_inside b = not (b == 44)
-
 -- the values of what stands in brackets: items between commas
 unfoldable pub list_of : List (List ℕ) → List ℕ → Result ℕ EntryFault
 list_of values bytes = items_of values empty (slice_split (λ b. b == 44) bytes)
@@ -92,3 +88,9 @@ opposites count (suc n) said = opposite count (opposites count n said)
 -- the set that a word says: each `!` in front turns it to the values that it lacks
 unfoldable pub word_set : List (List ℕ) → List ℕ → Result ℕ EntryFault
 word_set values word = opposites (length values) (length (front is_bang word)) (base_of values word (behind is_bang word))
+
+-- ---- what contracts of private functions alone cite
+
+-- a byte that isn't the comma between two items
+abbrev pub is_inside : ℕ → Bool
+is_inside b = not (b == 44)

@@ -7,8 +7,6 @@ mod fault;
 mod laws;
 mod list;
 mod names;
-#[cfg(test)]
-mod tests;
 
 pub use entry::word_set;
 pub use fault::EntryFault;

@@ -5,8 +5,8 @@ use Rattle.std.proofs.lemmas.Bool.{cases_Bool, lt-ltb, le-ltb}
 use Rattle.std.proofs.lemmas.List.{append-nil}
 use Rattle.std.proofs.lemmas.List.FromFn.{filter_of_map_range_with_len_more}
 use Rattle.mv_base.specs.declared.number.NetId.{NetId}
-use Rattle.mv_net.specs.Index.{IsAscending}
-use Rattle.mv_net.proofs.Orders.{IsAscending-push, IsAscending-skip, IsAscending-same, IsAscending-none, IsAscending-unique}
+use Rattle.mv_graph.specs.Nets.{IsAscending}
+use Rattle.mv_graph.proofs.Nets.{IsAscending-push, IsAscending-skip, IsAscending-same, IsAscending-none, IsAscending-unique}
 use Rattle.mv_write.specs.Walk.{numbers}
 
 abbrev id_of : ℕ → NetId

@@ -8,8 +8,8 @@ use Rattle.mv_cover.specs.Covers.{cube_reads, lines_read, cover_reads}
 use Rattle.mv_net.specs.declared.parts.NetParts.{NetParts}
 use Rattle.mv_net.specs.Nets.{slot, table_in, table_reads, net_reads}
 use Rattle.mv_net.specs.Formed.{WellFormed}
-use Rattle.mv_net.specs.Index.{has_id, IsAscending}
-use Rattle.mv_net.proofs.Orders.{IsAscending-same}
+use Rattle.mv_graph.specs.Nets.{has_id, IsAscending}
+use Rattle.mv_graph.proofs.Nets.{IsAscending-same}
 use Rattle.mv_net.proofs.Known.{reads_readable, readable_below}
 use Rattle.mv_write.specs.Text.{fanins_of}
 use Rattle.mv_write.specs.Walk.{numbers, AreFaninsOf, AreHeld}

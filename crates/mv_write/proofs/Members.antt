@@ -1,11 +1,11 @@
 -- The members of a set by ascending number: its least, and then those that are left without it.
-use Rattle.std.proofs.Common.{◌≡◌, ◌∙◌, ℕ, zero, suc, ◌+◌, ◌<◌, ◌≤◌, true, false, not, ◌&&◌, cond, IsTrue, List, [], ◌∷◌, length, map, filter, refl, sym, ap, subst, ⊎_elim, eq-eqb, arith}
+use Rattle.std.proofs.Common.{◌≡◌, ◌∙◌, ℕ, zero, suc, ◌+◌, ◌<◌, ◌≤◌, true, false, not, ◌&&◌, cond, IsTrue, List, [], ◌∷◌, length, map, filter, refl, sym, ap, subst, ⊎_elim, arith}
 use Rattle.std.specs.Prelude.{count_ones}
 use Rattle.std.specs.List.{range_with_len}
-use Rattle.std.proofs.Math.Bool.{and-true, and-false}
+use Rattle.std.proofs.Math.Bool.{and-true}
 use Rattle.std.proofs.lemmas.Bool.{cases_eq, ne_eqb, false_from_ne_true, and_parts, ltb-true}
 use Rattle.mv_base.specs.Set.{has, empty, one, full, minus, Within}
-use Rattle.mv_base.proofs.Sets.{has-empty, has-one, has-full, has-minus, count-more, join-minus, IsLeast}
+use Rattle.mv_base.proofs.Sets.{has-empty, has-one, has-full, has-minus, taken_out, count-more, join-minus, IsLeast}
 use Rattle.mv_write.specs.Text.{value_at, names_in_set}
 
 -- ---- a set without one of its members
@@ -14,10 +14,6 @@ use Rattle.mv_write.specs.Text.{value_at, names_in_set}
 others_stay : (s v u : ℕ) → (u ≡ v → ⊥) → has (minus s (one v)) u ≡ has s u
 others_stay s v u ne =
     has-minus s (one v) u ∙ (ap (λ b. has s u && not b) (has-one v u ∙ ne_eqb u v ne) ∙ and-true (has s u))
-
-taken_out : (s v : ℕ) → has (minus s (one v)) v ≡ false
-taken_out s v =
-    has-minus s (one v) v ∙ (ap (λ b. has s v && not b) (has-one v v ∙ eq-eqb v v refl) ∙ and-false (has s v))
 
 pub fewer-left : (s v : ℕ) → IsTrue (has s v) → count_ones (minus s (one v)) < count_ones s
 fewer-left s v member =

@@ -13,7 +13,9 @@ use Rattle.mv_net.specs.declared.parts.FlatNet.{FlatNet}
 use Rattle.mv_net.specs.declared.parts.NetParts.{NetParts}
 use Rattle.mv_net.specs.Nets.{slot, name_in, table_in, spelled_in}
 use Rattle.mv_write.specs.Text.{entry_word, fanins_of, line_words, default_words, cover_words, table_words, net_words, decl_words, names_of, inner_lines, net_lines, text_of}
+use Rattle.mv_write.specs.Page.{unopened}
 use Rattle.mv_write.specs.Walk.{numbers}
+use Rattle.mv_write.proofs.Lines.{root-text}
 
 -- ---- lines of all nets, by number
 
@@ -62,9 +64,16 @@ net_words-is nets (Some f) table e = ap (λ t. flat_map line_text (table_words n
 pub inner-text : (nets : List (Option FlatNet)) → flat_map line_text (inner_lines nets) ≡ flat_map line_text (flat_map decl_words nets) ++ flat_map line_text (flat_map (net_words nets) nets)
 inner-text nets = flat_map-append line_text (flat_map decl_words nets) (flat_map (net_words nets) nets)
 
-pub whole-text : (net : NetParts) (root : List ℕ) (inputs outputs : List NetId) → root ≡ net.root → inputs ≡ net.inputs → outputs ≡ net.outputs
-    → text_of net ≡ line_text (codes ".model" ∷ root ∷ []) ++ (line_text (codes ".inputs" ∷ names_of net.nets inputs) ++ (line_text (codes ".outputs" ∷ names_of net.nets outputs) ++ (flat_map line_text (inner_lines net.nets) ++ codes ".end\n")))
-unfolding text_of net_lines line_text spaced
-whole-text net root inputs outputs r i o =
+-- the text behind the first word, as it is written
+pub unopened-text : (net : NetParts) (root : List ℕ) (inputs outputs : List NetId) → root ≡ net.root → inputs ≡ net.inputs → outputs ≡ net.outputs
+    → unopened net ≡ (root ++ 10 ∷ []) ++ (line_text (codes ".inputs" ∷ names_of net.nets inputs) ++ (line_text (codes ".outputs" ∷ names_of net.nets outputs) ++ (flat_map line_text (inner_lines net.nets) ++ codes ".end\n")))
+unfolding unopened
+unopened-text net root inputs outputs r i o =
+    λ j. (sym r j ++ 10 ∷ []) ++ (line_text (codes ".inputs" ∷ names_of net.nets (sym i j)) ++ (line_text (codes ".outputs" ∷ names_of net.nets (sym o j)) ++ (flat_map line_text (inner_lines net.nets) ++ codes ".end\n")))
+
+pub opened-text : (net : NetParts) → text_of net ≡ codes ".model " ++ unopened net
+unfolding text_of net_lines line_text spaced unopened
+opened-text net =
     let inner = inner_lines net.nets in
-    ap (λ t. line_text (codes ".model" ∷ net.root ∷ []) ++ (line_text (codes ".inputs" ∷ names_of net.nets net.inputs) ++ (line_text (codes ".outputs" ∷ names_of net.nets net.outputs) ++ t))) (flat_map-append line_text inner ((codes ".end" ∷ []) ∷ [])) ∙ (λ j. line_text (codes ".model" ∷ sym r j ∷ []) ++ (line_text (codes ".inputs" ∷ names_of net.nets (sym i j)) ++ (line_text (codes ".outputs" ∷ names_of net.nets (sym o j)) ++ (flat_map line_text inner ++ codes ".end\n"))))
+    let before : List ℕ → List ℕ = λ t. line_text (codes ".inputs" ∷ names_of net.nets net.inputs) ++ (line_text (codes ".outputs" ∷ names_of net.nets net.outputs) ++ t) in
+    ap (λ t. line_text (codes ".model" ∷ net.root ∷ []) ++ before t) (flat_map-append line_text inner ((codes ".end" ∷ []) ∷ [])) ∙ ap (λ t. t ++ before (flat_map line_text inner ++ codes ".end\n")) (root-text net.root)

@@ -6,11 +6,11 @@ use Rattle.mv_base.specs.declared.number.NetId.{NetId}
 use Rattle.mv_cover.specs.declared.cube.Lit.{Lit}
 use Rattle.mv_cover.specs.Cubes.{nets_ascend}
 use Rattle.mv_cover.specs.Covers.{cube_reads}
-use Rattle.mv_cover.proofs.Meeting.{ascend_tail as lits_tail}
+use Rattle.mv_cover.proofs.Walking.{ascend_tail as lits_tail}
 use Rattle.mv_net.specs.declared.parts.FlatNet.{FlatNet}
 use Rattle.mv_net.specs.Nets.{slot, values_in, spelled_in}
-use Rattle.mv_net.proofs.Orders.{above_first, ascend_tail}
-use Rattle.mv_net.specs.Index.{has_id, ids_ascend}
+use Rattle.mv_graph.proofs.Nets.{above_first, ascend_tail}
+use Rattle.mv_graph.specs.Nets.{has_id, ids_ascend}
 use Rattle.mv_write.specs.Text.{entry_word, set_in, fanin_word}
 use Rattle.mv_write.specs.Walk.{walked, numbers}
 

@@ -11,7 +11,8 @@ use Rattle.mv_cover.specs.Lines.{IsOutput}
 use Rattle.mv_net.specs.declared.parts.FlatNet.{FlatNet}
 use Rattle.mv_net.specs.Nets.{slot, values_in, spelled_in}
 use Rattle.mv_net.specs.Formed.{AllLiterals}
-use Rattle.mv_net.specs.Index.{has_id, ids_ascend, is_held}
+use Rattle.mv_graph.specs.Nets.{has_id, ids_ascend}
+use Rattle.mv_net.specs.Index.{is_held}
 use Rattle.mv_write.specs.Text.{entry_word}
 
 -- a name for each value, or none where the names are the numbers from 0
@@ -64,5 +65,5 @@ pub record IsLineOver (nets : List (Option FlatNet)) (values : ℕ) (l : Line) :
   pub out : IsOutput values l.out
 
 -- a default, if there is one, for an output of this many values
-pub record IsDefault (values : ℕ) (default : Option ℕ) : Type 0 where
+pub record IsDefaultSet (values : ℕ) (default : Option ℕ) : Type 0 where
   pub set : (out : ℕ) → default ≡ Some out → IsOutput values out

@@ -5,6 +5,7 @@
 mod declarations;
 mod entries;
 mod network;
+mod page;
 mod pieces;
 mod rows;
 mod tables;

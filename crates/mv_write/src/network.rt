@@ -1,59 +1,54 @@
-ghost use Rattle.std.specs.Prelude.{◌≡◌, ◌<◌, ◌∷◌, [], codes, OnOk, OnErr};
+ghost use Rattle.std.specs.Prelude.{◌≡◌, ◌∷◌, ◌++◌, []};
 ghost use Rattle.std.specs.List.{flat_map};
-ghost use Rattle.mv_base.specs.Appends.{Appends};
-ghost use Rattle.mv_base.specs.Outside.{Gained, GainedPart, HasCause};
+ghost use Rattle.mv_base.specs.Outside.{Appends};
 ghost use Rattle.mv_lex.specs.Text.{line_text};
+ghost use Rattle.mv_write.specs.Page.{AddsPiece, paged, unopened};
 ghost use Rattle.mv_write.specs.Text.{inner_lines, text_of};
 
 use crate::declarations::put_declarations;
+use crate::page::Page;
 use crate::pieces::put_list;
 use crate::tables::put_tables;
-use mv_base::{Failed, Sink, flush, put_both, put_piece};
+use mv_base::{Failed, Sink};
 use mv_net::Network;
 
-/// Appends the line of the root.
-fn put_root<K: Sink>(root: &[u8], out: &mut K) -> Result<(), Failed>
-    ensures { Appends (K.told out.old) (K.told out.new) (K.faults out.old) (K.faults out.new) (line_text (codes ".model" ∷ root.now ∷ [])) result }
+/// Puts what stands behind the first word of the root's line.
+fn put_root<K: Sink>(root: &[u8], page: &mut Page, out: &mut K) -> Result<(), Failed>
+    ensures { AddsPiece (paged (K.state out.old) page.old) (paged (K.state out.new) page.new) (root.now ++ 10 ∷ []) result }
 {
-    put_both(b".model ", root, out)?;
-    put_piece(b"\n", out)
+    page.put_both(root, b"\n", out)
 }
 
 /// Appends the lines between the outputs and the end.
-fn put_inner<K: Sink>(net: &Network, out: &mut K) -> Result<(), Failed>
-    ensures { Appends (K.told out.old) (K.told out.new) (K.faults out.old) (K.faults out.new) (flat_map line_text (inner_lines net.now.nets)) result }
+fn put_inner<K: Sink>(net: &Network, page: &mut Page, out: &mut K) -> Result<(), Failed>
+    ensures { AddsPiece (paged (K.state out.old) page.old) (paged (K.state out.new) page.new) (flat_map line_text (inner_lines net.now.nets)) result }
 {
-    put_declarations(net, out)?;
-    put_tables(net, out)
+    put_declarations(net, page, out)?;
+    put_tables(net, page, out)
 }
 
-/// Appends the lines of a network.
-fn put_network<K: Sink>(net: &Network, out: &mut K) -> Result<(), Failed>
-    ensures { Appends (K.told out.old) (K.told out.new) (K.faults out.old) (K.faults out.new) (text_of net.now) result }
+/// Puts the lines of a network, from behind the first word.
+fn put_network<K: Sink>(net: &Network, page: &mut Page, out: &mut K) -> Result<(), Failed>
+    ensures { AddsPiece (paged (K.state out.old) page.old) (paged (K.state out.new) page.new) (unopened net.now) result }
 {
     net.well_formed();
-    put_root(net.root(), out)?;
-    put_list(b".inputs", net, net.inputs(), out)?;
-    put_list(b".outputs", net, net.outputs(), out)?;
-    put_inner(net, out)?;
-    put_piece(b".end\n", out)
+    put_root(net.root(), page, out)?;
+    put_list(b".inputs", net, net.inputs(), page, out)?;
+    put_list(b".outputs", net, net.outputs(), page, out)?;
+    put_inner(net, page, out)?;
+    page.put(b".end\n", out)
 }
 
-/// Appends the lines of a network, and lets the sink hand them on.
-fn put_whole<K: Sink>(net: &Network, out: &mut K) -> Result<(), Failed>
-    ensures { Appends (K.told out.old) (K.told out.new) (K.faults out.old) (K.faults out.new) (text_of net.now) result }
-{
-    put_network(net, out)?;
-    flush(out)
-}
-
-/// Appends the text of a network without latches to the sink, and lets the sink hand it on. At Failed some first part of
-/// it was taken. It takes no memory.
+/// Appends the text of a network without latches to the sink, in large pieces, of which the first has at least its first
+/// word. At Failed some first part of it was taken. It takes no memory.
 pub fn write<K: Sink>(net: &Network, out: &mut K) -> Result<(), Failed>
-    requires latches { net.now.latches ≡ [] }
-    ensures ok { OnOk result (Gained (K.told out.old) (K.told out.new) (text_of net.now)) }
-    ensures part { OnErr result (GainedPart (K.told out.old) (K.told out.new) (text_of net.now)) }
-    ensures cause { HasCause (K.faults out.old) (K.faults out.new) result }
+    requires { net.now.latches ≡ [] }
+    ensures { Appends (K.state out.old) (K.state out.new) (text_of net.now) result }
 {
-    put_whole(net, out)
+    let mut page = Page::new();
+    match put_network(net, &mut page, out) {
+        Ok(()) => {}
+        Err(failed) => return Err(failed),
+    }
+    page.hand_on(out)
 }

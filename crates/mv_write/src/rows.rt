@@ -1,15 +1,17 @@
 ghost use Rattle.std.specs.Prelude.{◌≡◌, ◌≤◌, IsTrue};
 ghost use Rattle.std.specs.List.{flat_map};
-ghost use Rattle.mv_base.specs.Appends.{Appends};
+ghost use Rattle.mv_write.specs.Page.{AddsPiece, paged};
 ghost use Rattle.mv_lex.specs.Text.{line_text};
 ghost use Rattle.mv_cover.specs.Covers.{lines_read};
 ghost use Rattle.mv_net.specs.Nets.{slot, values_in, spelled_in};
 ghost use Rattle.mv_net.specs.Formed.{AllLiterals, AllLines};
-ghost use Rattle.mv_net.specs.Index.{IsAscending, is_held};
+ghost use Rattle.mv_graph.specs.Nets.{IsAscending};
+ghost use Rattle.mv_net.specs.Index.{is_held};
 ghost use Rattle.mv_write.specs.Text.{line_words};
 ghost use Rattle.mv_write.specs.Walk.{first_set, behind, walked, entries_text, numbers, AreFaninsOf, AreHeld, IsLineOver};
 
 use crate::entries::put_entry;
+use crate::page::Page;
 use mv_base::{Failed, MAX_VALUES, NetId, Sink, ValueSet};
 use mv_cover::{Line, Lit};
 use mv_net::Network;
@@ -31,17 +33,18 @@ fn put_entries<K: Sink>(
     net: &Network,
     lits: &[Lit],
     fanins: &[NetId],
+    page: &mut Page,
     out: &mut K,
 ) -> Result<(), Failed>
     requires held { AreHeld net.now.nets fanins.now }
     requires literals { AllLiterals net.now.nets lits.now }
-    ensures { Appends (K.told out.old) (K.told out.new) (K.faults out.old) (K.faults out.new) (entries_text (walked net.now.nets lits.now fanins.now)) result }
+    ensures { AddsPiece (paged (K.state out.old) page.old) (paged (K.state out.new) page.new) (entries_text (walked net.now.nets lits.now fanins.now)) result }
 {
     net.well_formed();
     let mut left = lits;
     for n in fanins {
         let (set, rest) = first_of(net.values(*n), left, *n);
-        put_entry(net, *n, set, b" ", out)?;
+        put_entry(net, *n, set, b" ", page, out)?;
         left = rest;
     }
     Ok(())
@@ -53,16 +56,17 @@ fn put_row<K: Sink>(
     n: NetId,
     line: &Line,
     fanins: &[NetId],
+    page: &mut Page,
     out: &mut K,
 ) -> Result<(), Failed>
     requires held { IsTrue (is_held net.now.nets n.0) }
     requires all_held { AreHeld net.now.nets fanins.now }
     requires fanins { AreFaninsOf line.now.cube fanins.now }
     requires line { IsLineOver net.now.nets (values_in (slot net.now.nets n.0)) line.now }
-    ensures { Appends (K.told out.old) (K.told out.new) (K.faults out.old) (K.faults out.new) (line_text (line_words net.now.nets (spelled_in (slot net.now.nets n.0)) (numbers fanins.now) line.now)) result }
+    ensures { AddsPiece (paged (K.state out.old) page.old) (paged (K.state out.new) page.new) (line_text (line_words net.now.nets (spelled_in (slot net.now.nets n.0)) (numbers fanins.now) line.now)) result }
 {
-    put_entries(net, line.cube.lits(), fanins, out)?;
-    put_entry(net, n, line.out, b"\n", out)
+    put_entries(net, line.cube.lits(), fanins, page, out)?;
+    put_entry(net, n, line.out, b"\n", page, out)
 }
 
 /// Appends the rows of the table of this net.
@@ -71,16 +75,17 @@ pub fn put_rows<K: Sink>(
     n: NetId,
     lines: &[Line],
     fanins: &[NetId],
+    page: &mut Page,
     out: &mut K,
 ) -> Result<(), Failed>
     requires held { IsTrue (is_held net.now.nets n.0) }
     requires all_held { AreHeld net.now.nets fanins.now }
     requires fanins { IsAscending (lines_read lines.now) fanins.now }
     requires lines { AllLines net.now.nets (values_in (slot net.now.nets n.0)) lines.now }
-    ensures { Appends (K.told out.old) (K.told out.new) (K.faults out.old) (K.faults out.new) (flat_map (λ l. line_text (line_words net.now.nets (spelled_in (slot net.now.nets n.0)) (numbers fanins.now) l)) lines.now) result }
+    ensures { AddsPiece (paged (K.state out.old) page.old) (paged (K.state out.new) page.new) (flat_map (λ l. line_text (line_words net.now.nets (spelled_in (slot net.now.nets n.0)) (numbers fanins.now) l)) lines.now) result }
 {
     for line in lines {
-        put_row(net, n, line, fanins, out)?;
+        put_row(net, n, line, fanins, page, out)?;
     }
     Ok(())
 }

@@ -1,8 +1,8 @@
 -- Commands that ran one after the other: the parts that they wrote, and that they make no latches.
-use Rattle.std.proofs.Common.{◌≡◌, ◌∙◌, ℕ, ◌+◌, ◌<◌, ◌≤◌, List, [], ◌∷◌, ◌++◌, length, take, Option, refl, sym, ap, subst, arith, length-append}
+use Rattle.std.proofs.Common.{◌≡◌, ◌∙◌, ℕ, ◌+◌, ◌<◌, ◌≤◌, List, [], ◌∷◌, ◌++◌, length, take, refl, sym, ap, subst, arith, length-append}
 use Rattle.std.proofs.lemmas.Grind.{flat_map-append}
 use Rattle.std.proofs.lemmas.List.{append-nil, length-take}
-use Rattle.mv_base.specs.Outside.{Gained, GainedPart}
+use Rattle.mv_base.specs.Outside.{Written, Gained, GainedPart}
 use Rattle.mv_base.proofs.Gains.{Gained-none, Gained-then, GainedPart-then}
 use Rattle.mv_net.specs.declared.parts.NetParts.{NetParts}
 use Rattle.mv_net.specs.Changes.{with_nets}
@@ -17,11 +17,11 @@ entries_of-push : (ps : List Part) (p : Part) → entries_of (ps ++ p ∷ []) �
 entries_of-push ps p =
     flat_map-append (λ (q : Part). whole q.names q.literals) ps (p ∷ []) ∙ ap (λ es. entries_of ps ++ es) (append-nil (whole p.names p.literals))
 
-pub HasRun-none : (commands : List Command) (a : NetParts) (t : Option (List ℕ)) → HasRun (take 0 commands) a a t t
+pub HasRun-none : (commands : List Command) (a : NetParts) (t : Written) → HasRun (take 0 commands) a a t t
 unfolding print
 HasRun-none commands a t = record { parts = []; runs = record { each = refl; goes = refl }; gained = Gained-none t }
 
-pub HasRun-more : (commands : List Command) (i : ℕ) (a b c : NetParts) (t u v : Option (List ℕ)) → i < length commands → HasRun (take i commands) a b t u → HasDropped b c u v → HasRun (take (i + 1) commands) a c t v
+pub HasRun-more : (commands : List Command) (i : ℕ) (a b c : NetParts) (t u v : Written) → i < length commands → HasRun (take i commands) a b t u → HasDropped b c u v → HasRun (take (i + 1) commands) a c t v
 HasRun-more commands i a b c t u v lt ran dropped =
     let p : Part = record { names = dropped.names; literals = dropped.literals } in
     let entries : entries_of ran.parts ++ whole p.names p.literals ≡ entries_of (ran.parts ++ p ∷ []) = sym (entries_of-push ran.parts p) in
@@ -38,14 +38,14 @@ HasRun-more commands i a b c t u v lt ran dropped =
           subst P (sym (print-append (entries_of ran.parts) (whole p.names p.literals)) ∙ ap print entries) (Gained-then t u v _ _ ran.gained dropped.went.gained);
     }
 
-pub HasRun-whole : (commands : List Command) (i : ℕ) (a b : NetParts) (t u : Option (List ℕ)) → length commands ≤ i → HasRun (take i commands) a b t u → HasRun commands a b t u
+pub HasRun-whole : (commands : List Command) (i : ℕ) (a b : NetParts) (t u : Written) → length commands ≤ i → HasRun (take i commands) a b t u → HasRun commands a b t u
 HasRun-whole commands i a b t u past ran = record {
   parts = ran.parts;
   runs = record { each = omega (arith, ran.runs.each, length-take i commands); goes = ran.runs.goes };
   gained = ran.gained;
 }
 
-stops_in : (commands : List Command) (i : ℕ) (a b c : NetParts) (t u : Option (List ℕ)) (last : List Entry) → i < length commands → (ran : HasRun (take i commands) a b t u) → IsFront last → Goes b last c → StopsIn commands a (entries_of ran.parts ++ last) c
+stops_in : (commands : List Command) (i : ℕ) (a b c : NetParts) (t u : Written) (last : List Entry) → i < length commands → (ran : HasRun (take i commands) a b t u) → IsFront last → Goes b last c → StopsIn commands a (entries_of ran.parts ++ last) c
 stops_in commands i a b c t u last lt ran front goes = record {
   parts = ran.parts;
   last = last;
@@ -55,7 +55,7 @@ stops_in commands i a b c t u last lt ran front goes = record {
   goes = Goes-append a b c (entries_of ran.parts) last ran.runs.goes goes;
 }
 
-pub HasRun-stopped : (commands : List Command) (i : ℕ) (a b c : NetParts) (t u v : Option (List ℕ)) → i < length commands → HasRun (take i commands) a b t u → IsDropping b c u v → HasStopped commands a c t v
+pub HasRun-stopped : (commands : List Command) (i : ℕ) (a b c : NetParts) (t u v : Written) → i < length commands → HasRun (take i commands) a b t u → IsDropping b c u v → HasStopped commands a c t v
 HasRun-stopped commands i a b c t u v lt ran dropping = record {
   entries = entries_of ran.parts ++ begun dropping.names;
   stops = stops_in commands i a b c t u (begun dropping.names) lt ran (front_begun dropping.names) dropping.went.goes;
@@ -64,7 +64,7 @@ HasRun-stopped commands i a b c t u v lt ran dropping = record {
       subst P (sym (print-append (entries_of ran.parts) (begun dropping.names))) (Gained-then t u v _ _ ran.gained dropping.went.gained);
 }
 
-pub HasRun-cut : (commands : List Command) (i : ℕ) (a b c : NetParts) (t u v : Option (List ℕ)) → i < length commands → HasRun (take i commands) a b t u → IsCutOff b c u v → IsNoteCut commands a c t v
+pub HasRun-cut : (commands : List Command) (i : ℕ) (a b c : NetParts) (t u v : Written) → i < length commands → HasRun (take i commands) a b t u → IsCutOff b c u v → IsNoteCut commands a c t v
 HasRun-cut commands i a b c t u v lt ran cut = record {
   entries = entries_of ran.parts ++ (cut.done ++ cut.last ∷ []);
   stops = stops_in commands i a b c t u (cut.done ++ cut.last ∷ []) lt ran cut.front (WentPart-goes cut.went);

@@ -1,13 +1,14 @@
 -- Files that a run reads and judges.
 use Rattle.std.proofs.Common.{◌≡◌, ℕ, ◌+◌, ◌≤◌, true, false, List, [], ◌++◌, length, map, Option, Some, None, inl, inr, sym, ◌∙◌, ap, subst, arith, ⊎_elim, length-append}
-use Rattle.std.specs.Prelude.{nat_eq}
+use Rattle.std.specs.Prelude.{nat_eq, IsTrue, IfSome}
 use Rattle.std.proofs.lemmas.List.{append-nil, length-map}
 use Rattle.std.proofs.lemmas.Bool.{and_parts, leb-true, eqb-true, false≢true}
-use Rattle.mv_base.specs.Outside.{Held, file_named}
-use Rattle.mv_base.specs.declared.limits.TheConstants.{MAX_SCRIPT_BYTES}
+use Rattle.mv_base.specs.Outside.{Held, Stored, Still, file_named}
+use Rattle.mv_base.specs.declared.limits.TheConstants.{MAX_SCRIPT_BYTES, MAX_NETWORK_BYTES}
 use Rattle.mv_base.proofs.OutsideLemmas.{Rose-earlier}
 use Rattle.mv_lex.specs.declared.fault.LexFault.{LexFault}
 use Rattle.mv_lex.specs.declared.lines.LexLine.{LexLine}
+use Rattle.mv_lex.specs.Lines.{lines_of, lex_fault}
 use Rattle.mv_fault.specs.declared.fault.ParseFault.{ParseFault}
 use Rattle.mv_model.specs.declared.fault.FlatFault.{FlatFault}
 use Rattle.mv_net.specs.declared.parts.NetParts.{NetParts}
@@ -16,16 +17,16 @@ use Rattle.mv_read.specs.Reads.{IsNetOf, IsUnsound}
 use Rattle.mv_script.specs.declared.script.Command.{Command}
 use Rattle.mv_script.specs.Scripts.{is_script, commands_in}
 use Rattle.mv_files.specs.FileReading.{WasRead, Read, StaySame, Stay, Lacks}
-use Rattle.mv_files.specs.LexedFiles.{WasLexed, HasFault}
+use Rattle.mv_files.specs.LexedFiles.{HasReadAll, WasLexed, HasFault}
 use Rattle.mvopt.specs.declared.stop.FileFault.{FileFault}
 use Rattle.mvopt.specs.declared.stop.FileFault.TheVariants.{Lex, Parse, Flat}
 use Rattle.mvopt.specs.declared.stop.Stop.{Stop}
 use Rattle.mvopt.specs.declared.stop.Stop.TheVariants.{Words, Network, Script, Read as Unread, Memory}
-use Rattle.mvopt.specs.Faults.{RefusesNetwork}
-use Rattle.mvopt.specs.Made.{Prepared}
-use Rattle.mvopt.specs.Run.{IsRefused, RefusesScript, LacksOne, LacksFile}
-use Rattle.mvopt.specs.Stops.{IsCause}
-use Rattle.mvopt.specs.Taken.{TakesScript, TakesCommands, TakesNetwork}
+use Rattle.mvopt.specs.Faults.{Refuses, RefusesNetwork}
+use Rattle.mvopt.specs.Made.{WasPrepared, Prepared}
+use Rattle.mvopt.specs.Run.{IsRefused, RefusesScript}
+use Rattle.mvopt.specs.Stops.{IsCause, IsNetworkCause}
+use Rattle.mvopt.specs.Taken.{IsTaken, TakesScript, TakesCommands, TakesNetwork, LacksFile}
 use Rattle.mvopt.specs.Words.{word_at, accepts}
 
 -- ---- what was read is the whole content, where that is within the limit
@@ -57,128 +58,130 @@ script_size : (text : List ℕ) → is_script text ≡ true → length text ≤ 
 unfolding is_script
 script_size text e = leb-true (length text) MAX_SCRIPT_BYTES (and_parts _ _ (and_parts _ _ e).0).0
 
-pub script_refused : (words : List (List ℕ)) (old new : Option Held) (bytes : List ℕ) → Read old new (word_at words 2) MAX_SCRIPT_BYTES bytes → is_script bytes ≡ false → RefusesScript words old
-script_refused words None new bytes r e = tt
-script_refused words (Some o) None bytes r e = absurd r
-script_refused words (Some o) (Some n) bytes r e =
+-- a file that was read, where the files tell of themselves
+abbrev WasReadOf : Option Held → Option Held → List ℕ → List ℕ → Type 0
+WasReadOf old new name bytes = Still old new (λ b a. WasRead b a name MAX_SCRIPT_BYTES bytes)
+
+refused_of : (words : List (List ℕ)) (old new : Option Held) (bytes : List ℕ) → WasReadOf old new (word_at words 2) bytes → is_script bytes ≡ false → IfSome old (RefusesScript words)
+refused_of words None new bytes r e = tt
+refused_of words (Some o) None bytes r e = absurd r
+refused_of words (Some o) (Some n) bytes r e =
     refused_read (λ text. is_script text ≡ true) o n (word_at words 2) MAX_SCRIPT_BYTES bytes script_size r (λ y. false≢true (sym e ∙ y))
 
-pub script_taken : (words : List (List ℕ)) (old new : Option Held) (bytes : List ℕ) → Read old new (word_at words 2) MAX_SCRIPT_BYTES bytes → is_script bytes ≡ true → TakesScript words old
-script_taken words None new bytes r e = tt
-script_taken words (Some o) None bytes r e = absurd r
-script_taken words (Some o) (Some n) bytes r e =
-    record { content = bytes; named = whole o n (word_at words 2) MAX_SCRIPT_BYTES bytes r (script_size bytes e); accepted = e }
+taken_of : (words : List (List ℕ)) (old new : Option Held) (bytes : List ℕ) (Accepts : List ℕ → Type 0) → WasReadOf old new (word_at words 2) bytes → is_script bytes ≡ true → Accepts bytes → IfSome old (IsTaken Accepts (word_at words 2))
+taken_of words None new bytes Accepts r e h = tt
+taken_of words (Some o) None bytes Accepts r e h = absurd r
+taken_of words (Some o) (Some n) bytes Accepts r e h =
+    record { content = bytes; named = whole o n (word_at words 2) MAX_SCRIPT_BYTES bytes r (script_size bytes e); accepted = h }
 
-pub commands_taken : (words : List (List ℕ)) (old new : Option Held) (bytes : List ℕ) (commands : List Command) → Read old new (word_at words 2) MAX_SCRIPT_BYTES bytes → is_script bytes ≡ true → commands ≡ commands_in bytes → TakesCommands words old commands
-commands_taken words None new bytes commands r e given = tt
-commands_taken words (Some o) None bytes commands r e given = absurd r
-commands_taken words (Some o) (Some n) bytes commands r e given =
-    record { content = bytes; named = whole o n (word_at words 2) MAX_SCRIPT_BYTES bytes r (script_size bytes e); accepted = (e, given) }
+pub script_refused : (words : List (List ℕ)) (old new : Stored) (bytes : List ℕ) → Read old new (word_at words 2) MAX_SCRIPT_BYTES bytes → is_script bytes ≡ false → IfSome old.held (RefusesScript words)
+script_refused words old new bytes r e = refused_of words old.held new.held bytes r e
+
+pub script_taken : (words : List (List ℕ)) (old new : Stored) (bytes : List ℕ) → Read old new (word_at words 2) MAX_SCRIPT_BYTES bytes → is_script bytes ≡ true → IfSome old.held (TakesScript words)
+script_taken words old new bytes r e =
+    taken_of words old.held new.held bytes (λ text. is_script text ≡ true) r e e
+
+pub commands_taken : (words : List (List ℕ)) (old new : Stored) (bytes : List ℕ) (commands : List Command) → Read old new (word_at words 2) MAX_SCRIPT_BYTES bytes → is_script bytes ≡ true → commands ≡ commands_in bytes → IfSome old.held (TakesCommands words commands)
+commands_taken words old new bytes commands r e given =
+    taken_of words old.held new.held bytes (λ text. (is_script text ≡ true) × (commands ≡ commands_in text)) r e (e, given)
 
 -- ---- a file that isn't there
 
-pub lacks_script : (words : List (List ℕ)) (old : Option Held) → Lacks old (word_at words 2) → LacksFile words old
-lacks_script words None l = tt
-lacks_script words (Some o) l = λ s. record { lacks = inr (l s) }
+lacks_second : (words : List (List ℕ)) (old : Option Held) → IfSome old (λ h. IsTrue h.sound → file_named (word_at words 2) h.files ≡ None) → IfSome old (LacksFile words)
+lacks_second words None l = tt
+lacks_second words (Some o) l = λ s. inl (l s)
 
-pub lacks_network : (words : List (List ℕ)) (old : Option Held) → Lacks old (word_at words 1) → LacksFile words old
-lacks_network words None l = tt
-lacks_network words (Some o) l = λ s. record { lacks = inl (l s) }
+pub lacks_script : (words : List (List ℕ)) (old : Stored) → Lacks old (word_at words 2) → IfSome old.held (LacksFile words)
+lacks_script words old l = lacks_second words old.held l
 
 pub ruleset takes_script = (script_refused, script_taken, commands_taken, lacks_script)
 
 -- ---- the network
 
+faulty_of : (words : List (List ℕ)) (old : Option Held) (f : FileFault) (content : List ℕ) → IfSome old (λ h. file_named (word_at words 1) h.files ≡ Some content) → Refuses content f → IfSome old (RefusesNetwork words f)
+faulty_of words None f content n r = tt
+faulty_of words (Some o) f content n r = record { content = content; named = n; refused = r }
+
+named_of : (name content : List ℕ) (old new : Option Held) → Still old new (λ b a. HasReadAll b a name content) → IfSome old (λ h. file_named name h.files ≡ Some content)
+named_of name content None new r = tt
+named_of name content (Some o) None r = absurd r
+named_of name content (Some o) (Some n) r = r.named
+
 -- a file whose bytes have a fault
-pub network_faulty : (words : List (List ℕ)) (old : Option Held) (f : LexFault) → HasFault old (word_at words 1) f → RefusesNetwork words old (Lex f)
-network_faulty words None f h = tt
-network_faulty words (Some o) f h = record { content = h.content; named = h.named; refused = h.fault_is }
+pub network_faulty : (words : List (List ℕ)) (old : Stored) (f : LexFault) → HasFault old (word_at words 1) f → IfSome old.held (RefusesNetwork words (Lex f))
+network_faulty words old f h = faulty_of words old.held (Lex f) h.content h.named h.fault_is
 
 -- a file whose lines have a fault
-pub network_unread : (words : List (List ℕ)) (old new : Option Held) (lines : List LexLine) (f : ParseFault) → WasLexed old new (word_at words 1) lines → FirstFault lines f → RefusesNetwork words old (Parse f)
-network_unread words None new lines f w h = tt
-network_unread words (Some o) None lines f w h = absurd w.read
-network_unread words (Some o) (Some n) lines f w h =
+pub network_unread : (words : List (List ℕ)) (old new : Stored) (lines : List LexLine) (f : ParseFault) → WasLexed old new (word_at words 1) lines → FirstFault lines f → IfSome old.held (RefusesNetwork words (Parse f))
+network_unread words old new lines f w h =
     let P : List LexLine → Type 0 = λ l. FirstFault l f in
-    record { content = w.content; named = w.read.named; refused = record { lexed = w.lexed; first = subst P w.lines_are h } }
+    faulty_of words old.held (Parse f) w.content (named_of (word_at words 1) w.content old.held new.held w.read) (record { lexed = w.lexed; first = subst P w.lines_are h })
 
 -- a file whose design isn't sound
-pub network_unsound : (words : List (List ℕ)) (old new : Option Held) (lines : List LexLine) (f : FlatFault) → WasLexed old new (word_at words 1) lines → IsUnsound lines f → RefusesNetwork words old (Flat f)
-network_unsound words None new lines f w h = tt
-network_unsound words (Some o) None lines f w h = absurd w.read
-network_unsound words (Some o) (Some n) lines f w h =
+pub network_unsound : (words : List (List ℕ)) (old new : Stored) (lines : List LexLine) (f : FlatFault) → WasLexed old new (word_at words 1) lines → IsUnsound lines f → IfSome old.held (RefusesNetwork words (Flat f))
+network_unsound words old new lines f w h =
     let P : List LexLine → Type 0 = λ l. IsUnsound l f in
-    record { content = w.content; named = w.read.named; refused = record { lexed = w.lexed; unsound = subst P w.lines_are h } }
+    faulty_of words old.held (Flat f) w.content (named_of (word_at words 1) w.content old.held new.held w.read) (record { lexed = w.lexed; unsound = subst P w.lines_are h })
 
-pub network_prepared : (words : List (List ℕ)) (old new : Option Held) (lines : List LexLine) (net : NetParts) → WasLexed old new (word_at words 1) lines → IsNetOf lines net → Prepared words old new net
-network_prepared words None new lines net w h = tt
-network_prepared words (Some o) None lines net w h = absurd w.read
-network_prepared words (Some o) (Some n) lines net w h =
+prepared_of : (words : List (List ℕ)) (old new : Option Held) (content : List ℕ) (net : NetParts) → Still old new (λ b a. HasReadAll b a (word_at words 1) content) → lex_fault MAX_NETWORK_BYTES content ≡ None → IsNetOf (lines_of content) net → Still old new (λ b a. WasPrepared words b a net)
+prepared_of words None new content net r e h = tt
+prepared_of words (Some o) None content net r e h = absurd r
+prepared_of words (Some o) (Some n) content net r e h =
+    record { content = content; held = r.named; files = r.files; current = r.current; ended = r.ended; lexed = e; net_of = h }
+
+pub network_prepared : (words : List (List ℕ)) (old new : Stored) (lines : List LexLine) (net : NetParts) → WasLexed old new (word_at words 1) lines → IsNetOf lines net → Prepared words old new net
+network_prepared words old new lines net w h =
     let P : List LexLine → Type 0 = λ l. IsNetOf l net in
-    record {
-      content = w.content;
-      held = w.read.named;
-      files = w.read.files;
-      current = w.read.current;
-      ended = w.read.ended;
-      lexed = w.lexed;
-      net_of = subst P w.lines_are h;
-    }
+    prepared_of words old.held new.held w.content net w.read w.lexed (subst P w.lines_are h)
 
-pub ruleset takes_network = (network_faulty, network_unread, network_unsound, network_prepared, lacks_network)
+pub ruleset takes_network = (network_faulty, network_unread, network_unsound, network_prepared)
 
 -- ---- one after the other
 
-refused_earlier : (Accepts : List ℕ → Type 0) (name : List ℕ) (a b : Held) → StaySame a b → IsRefused Accepts name b → IsRefused Accepts name a
-refused_earlier Accepts name a b s r =
-    record { content = r.content; named = ap (file_named name) (sym s.files) ∙ r.named; refused = r.refused }
+named_earlier : (name content : List ℕ) (a b : Held) → StaySame a b → file_named name b.files ≡ Some content → file_named name a.files ≡ Some content
+named_earlier name content a b s e = ap (file_named name) (sym s.files) ∙ e
 
-lacks_earlier : (words : List (List ℕ)) (a b : Held) → StaySame a b → LacksOne words b → LacksOne words a
-lacks_earlier words a b s l =
-    record {
-      lacks = ⊎_elim (λ (e : file_named (word_at words 1) b.files ≡ None). inl (ap (file_named (word_at words 1)) (sym s.files) ∙ e)) (λ (e : file_named (word_at words 2) b.files ≡ None). inr (ap (file_named (word_at words 2)) (sym s.files) ∙ e)) l.lacks;
-    }
+missing_earlier : (name : List ℕ) (a b : Held) → StaySame a b → file_named name b.files ≡ None → file_named name a.files ≡ None
+missing_earlier name a b s e = ap (file_named name) (sym s.files) ∙ e
 
-network_earlier : (words : List (List ℕ)) (a b : Option Held) (f : FileFault) → Stay a b → RefusesNetwork words b f → RefusesNetwork words a f
-network_earlier words None b f s r = tt
-network_earlier words (Some a) None f s r = absurd s
-network_earlier words (Some a) (Some b) f s r =
-    record { content = r.content; named = ap (file_named (word_at words 1)) (sym s.files) ∙ r.named; refused = r.refused }
+faulty_earlier : (words : List (List ℕ)) (f : FileFault) (a b : Option Held) → Still a b StaySame → IfSome b (RefusesNetwork words f) → IfSome a (RefusesNetwork words f)
+faulty_earlier words f None b s r = tt
+faulty_earlier words f (Some a) None s r = absurd s
+faulty_earlier words f (Some a) (Some b) s r =
+    record { content = r.content; named = named_earlier (word_at words 1) r.content a b s r.named; refused = r.refused }
 
-script_earlier : (words : List (List ℕ)) (a b : Option Held) → Stay a b → RefusesScript words b → RefusesScript words a
-script_earlier words None b s r = tt
-script_earlier words (Some a) None s r = absurd s
-script_earlier words (Some a) (Some b) s r =
-    refused_earlier (λ text. is_script text ≡ true) (word_at words 2) a b s r
+lacks_earlier : (words : List (List ℕ)) (a b : Option Held) → Still a b StaySame → IfSome a (TakesScript words) → IfSome b (λ h. IsTrue h.sound → file_named (word_at words 1) h.files ≡ None) → IfSome a (LacksFile words)
+lacks_earlier words None b s t l = tt
+lacks_earlier words (Some a) None s t l = absurd s
+lacks_earlier words (Some a) (Some b) s t l = λ sound. inr (t, missing_earlier (word_at words 1) a b s (l (s.sound sound)))
 
-file_earlier : (words : List (List ℕ)) (a b : Option Held) → Stay a b → LacksFile words b → LacksFile words a
-file_earlier words None b s l = tt
-file_earlier words (Some a) None s l = absurd s
-file_earlier words (Some a) (Some b) s l = λ t. lacks_earlier words a b s (l (s.sound t))
+-- a cause that is found in the network, behind a script that was taken
+pub cause_earlier : (words : List (List ℕ)) (a b c : Stored) (stop : Stop) → Stay a b → IfSome a.held (TakesScript words) → IsNetworkCause words b c stop → IsCause words a c stop
+cause_earlier words a b c Words s t h = absurd h
+cause_earlier words a b c (Network f) s t h =
+    faulty_earlier words f a.held b.held s.same h
+cause_earlier words a b c Script s t h = absurd h
+cause_earlier words a b c Unread s t h =
+    (Rose-earlier a.faults b.faults c.faults s.later h.0, lacks_earlier words a.held b.held s.same t h.1)
+cause_earlier words a b c Memory s t h = tt
 
--- a cause that is found after files stayed was there before
-pub cause_earlier : (words : List (List ℕ)) (a b : Option Held) (first before now : ℕ) (stop : Stop) → Stay a b → first ≤ before → IsCause words b before now stop → IsCause words a first now stop
-cause_earlier words a b first before now Words s h c = c
-cause_earlier words a b first before now (Network f) s h c = network_earlier words a b f s c
-cause_earlier words a b first before now Script s h c = script_earlier words a b s c
-cause_earlier words a b first before now Unread s h c =
-    (Rose-earlier first before now h c.0, file_earlier words a b s c.1)
-cause_earlier words a b first before now Memory s h c = tt
-
-pub prepared_earlier : (words : List (List ℕ)) (a b c : Option Held) (net : NetParts) → Stay a b → Prepared words b c net → Prepared words a c net
-prepared_earlier words None b c net s p = tt
-prepared_earlier words (Some a) None c net s p = absurd s
-prepared_earlier words (Some a) (Some b) None net s p = absurd p
-prepared_earlier words (Some a) (Some b) (Some c) net s p =
+prepared_earlier_of : (words : List (List ℕ)) (a b c : Option Held) (net : NetParts) → Still a b StaySame → Still b c (λ x y. WasPrepared words x y net) → Still a c (λ x y. WasPrepared words x y net)
+prepared_earlier_of words None b c net s p = tt
+prepared_earlier_of words (Some a) None c net s p = absurd s
+prepared_earlier_of words (Some a) (Some b) None net s p = absurd p
+prepared_earlier_of words (Some a) (Some b) (Some c) net s p =
     record {
       content = p.content;
-      held = ap (file_named (word_at words 1)) (sym s.files) ∙ p.held;
+      held = named_earlier (word_at words 1) p.content a b s p.held;
       files = p.files ∙ s.files;
       current = p.current;
       ended = p.ended;
       lexed = p.lexed;
       net_of = p.net_of;
     }
+
+pub prepared_earlier : (words : List (List ℕ)) (a b c : Stored) (net : NetParts) → Stay a b → Prepared words b c net → Prepared words a c net
+prepared_earlier words a b c net s p = prepared_earlier_of words a.held b.held c.held net s.same p
 
 three : (words : List (List ℕ)) → accepts words ≡ true → length words ≡ 3
 unfolding accepts
@@ -190,16 +193,19 @@ three words e =
     eqb-true (length words) 3 d.0
 
 -- a network that was made is of a file that is accepted
-pub prepared_taken : (words : List (List ℕ)) (old new : Option Held) (net : NetParts) → Prepared words old new net → TakesNetwork words old
-prepared_taken words None new net p = tt
-prepared_taken words (Some o) None net p = absurd p
-prepared_taken words (Some o) (Some n) net p =
+network_taken_of : (words : List (List ℕ)) (old new : Option Held) (net : NetParts) → Still old new (λ b a. WasPrepared words b a net) → IfSome old (TakesNetwork words)
+network_taken_of words None new net p = tt
+network_taken_of words (Some o) None net p = absurd p
+network_taken_of words (Some o) (Some n) net p =
     let n = p.net_of in
     record {
       content = p.content;
       named = p.held;
       accepted = record { lexed = p.lexed; form = record { design = n.design; is = n.is; within = n.within; sound = n.flat.sound; nets = n.flat.nets } };
     }
+
+pub prepared_taken : (words : List (List ℕ)) (old new : Stored) (net : NetParts) → Prepared words old new net → IfSome old.held (TakesNetwork words)
+prepared_taken words old new net p = network_taken_of words old.held new.held net p
 
 -- accepted words are three
 pub accepted_size : {A : Type 0} (bytes : A → List ℕ) (words : List A) → accepts (map bytes words) ≡ true → length words ≡ 3

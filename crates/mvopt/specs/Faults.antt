@@ -1,6 +1,6 @@
 -- Why a network file is refused, and the line that says so.
-use Rattle.std.specs.Prelude.{◌≡◌, ℕ, Option, Some, None, List, codes}
-use Rattle.mv_base.specs.Outside.{Held, file_named}
+use Rattle.std.specs.Prelude.{◌≡◌, ℕ, IfSome, Some, None, List, codes}
+use Rattle.mv_base.specs.Outside.{Held, Stored, Written, file_named}
 use Rattle.mv_base.specs.declared.limits.TheConstants.{MAX_NETWORK_BYTES}
 use Rattle.mv_lex.specs.declared.fault.LexFault.{LexFault}
 use Rattle.mv_lex.specs.declared.fault.LexFault.TheVariants.{BadByte, LongWord, OpenBracket, TooLarge, Memory}
@@ -32,16 +32,11 @@ Refuses content (Lex f) = lex_fault MAX_NETWORK_BYTES content ≡ Some f
 Refuses content (Parse f) = HasLineFault content f
 Refuses content (Flat f) = HasNetFault content f
 
--- the named file's content is refused for this fault
-pub record IsFaulty (name : List ℕ) (held : Held) (fault : FileFault) : Type 0 where
+-- the named network is refused for this fault
+pub record RefusesNetwork (words : List (List ℕ)) (fault : FileFault) (held : Held) : Type 0 where
   pub content : List ℕ
-  pub named : file_named name held.files ≡ Some content
+  pub named : file_named (word_at words 1) held.files ≡ Some content
   pub refused : Refuses content fault
-
--- the named network is refused for this fault, where the files tell their contents
-abbrev pub RefusesNetwork : List (List ℕ) → Option Held → FileFault → Type 0
-RefusesNetwork words None fault = Unit {0}
-RefusesNetwork words (Some held) fault = IsFaulty (word_at words 1) held fault
 
 -- the line of a fault of the bytes. (Want of memory is none: no bytes have it.)
 abbrev pub lex_line : LexFault → List ℕ
@@ -58,7 +53,7 @@ net_line (Parse f) = parse_line f
 net_line (Flat f) = flat_line f
 
 -- the named network is refused for some fault, and the notes tell that fault's line
-pub record TellsFault (words : List (List ℕ)) (held : Option Held) (notes told : Option (List ℕ)) (before now : ℕ) : Type 0 where
+pub record TellsFault (words : List (List ℕ)) (files : Stored) (notes notes' : Written) : Type 0 where
   pub fault : FileFault
-  pub refuses : RefusesNetwork words held fault
-  pub tells : TellsLine notes told before now (net_line fault)
+  pub refuses : IfSome files.held (RefusesNetwork words fault)
+  pub tells : TellsLine notes notes' (net_line fault)

@@ -1,6 +1,6 @@
 -- What the lines of a network file become: a design, then a network that means the same.
-use Rattle.std.specs.Prelude.{◌≡◌, ℕ, Option, Some, None, List, []}
-use Rattle.mv_base.specs.Outside.{Held, file_named}
+use Rattle.std.specs.Prelude.{◌≡◌, ℕ, Some, None, List, []}
+use Rattle.mv_base.specs.Outside.{Held, Stored, StillTell, file_named}
 use Rattle.mv_base.specs.declared.limits.TheConstants.{MAX_NETWORK_BYTES}
 use Rattle.mv_lex.specs.Lines.{lines_of, lex_fault}
 use Rattle.mv_net.specs.declared.parts.NetParts.{NetParts}
@@ -17,8 +17,6 @@ pub record WasPrepared (words : List (List ℕ)) (before after : Held) (net : Ne
   pub lexed : lex_fault MAX_NETWORK_BYTES content ≡ None
   pub net_of : IsNetOf (lines_of content) net
 
--- the same of files that may tell nothing
-abbrev pub Prepared : List (List ℕ) → Option Held → Option Held → NetParts → Type 0
-Prepared words None after net = Unit {0}
-Prepared words (Some before) None net = ⊥
-Prepared words (Some before) (Some after) net = WasPrepared words before after net
+-- the same where the files tell of themselves
+abbrev pub Prepared : List (List ℕ) → Stored → Stored → NetParts → Type 0
+Prepared words old new net = StillTell old new (λ before after. WasPrepared words before after net)

@@ -1,16 +1,16 @@
 -- What a run promises.
-use Rattle.std.specs.Prelude.{◌≡◌, ℕ, true, Option, Some, None, List, [], ◌∷◌, ◌++◌, codes, decimal, ◌⊎◌, ◌==◌, if◌then◌else◌}
-use Rattle.mv_base.specs.Outside.{Held, file_named, Gained, GainedPart, Rose}
+use Rattle.std.specs.Prelude.{◌≡◌, ℕ, true, Some, None, List, [], ◌∷◌, ◌++◌, codes, decimal, ◌⊎◌, ◌==◌, if◌then◌else◌}
+use Rattle.mv_base.specs.Outside.{Held, Written, file_named, Gained, GainedPart, Rose}
 use Rattle.mv_base.specs.declared.limits.TheConstants.{MAX_NETWORK_BYTES}
 use Rattle.mv_lex.specs.Lines.{lines_of, lex_fault}
-use Rattle.mv_read.specs.Reads.{HasForm}
+use Rattle.mv_read.specs.Reads.{SaySoundDesign}
 use Rattle.mv_script.specs.Scripts.{is_script}
 use Rattle.mvopt.specs.Words.{word_at}
 
 -- a network file that is accepted: its bytes have no fault, and its lines say a sound design, within the limits
 pub record IsAccepted (bytes : List ℕ) : Type 0 where
   pub lexed : lex_fault MAX_NETWORK_BYTES bytes ≡ None
-  pub form : HasForm (lines_of bytes)
+  pub form : SaySoundDesign (lines_of bytes)
 
 -- a line of these words and a number
 abbrev pub number_line : List ℕ → ℕ → List ℕ
@@ -30,24 +30,18 @@ pub record IsRefused (Accepts : List ℕ → Type 0) (name : List ℕ) (held : H
   pub named : file_named name held.files ≡ Some content
   pub refused : Accepts content → ⊥
 
--- the named script is refused, where the files tell their contents
-abbrev pub RefusesScript : List (List ℕ) → Option Held → Type 0
-RefusesScript words None = Unit {0}
-RefusesScript words (Some held) = IsRefused (λ text. is_script text ≡ true) (word_at words 2) held
-
--- the files lack one of the two that the words name
-pub record LacksOne (words : List (List ℕ)) (held : Held) : Type 0 where
-  pub lacks : (file_named (word_at words 1) held.files ≡ None) ⊎ (file_named (word_at words 2) held.files ≡ None)
-
--- sound files that tell their contents lack one of the two that the words name
-abbrev pub LacksFile : List (List ℕ) → Option Held → Type 0
-LacksFile words None = Unit {0}
-LacksFile words (Some held) = held.sound ≡ true → LacksOne words held
+-- the named script is refused
+abbrev pub RefusesScript : List (List ℕ) → Held → Type 0
+RefusesScript words held = IsRefused (λ text. is_script text ≡ true) (word_at words 2) held
 
 -- the line for each status that refuses, but for 2, whose line names the fault of the network
 abbrev pub fault_line : ℕ → List ℕ
-fault_line status = if status == 1 then codes "# fault words\n" else (if status == 3 then codes "# fault script 8 NotBuilt\n" else (if status == 4 then codes "# fault read\n" else codes "# fault memory\n"))
+fault_line status =
+    if status == 1 then codes "# fault words\n"
+    else (if status == 3 then codes "# fault script 8 NotBuilt\n"
+    else (if status == 4 then codes "# fault read\n"
+    else codes "# fault memory\n"))
 
 -- the notes gained the line, or some first part of it where their count of faults rose
-abbrev pub TellsLine : Option (List ℕ) → Option (List ℕ) → ℕ → ℕ → List ℕ → Type 0
-TellsLine notes told before now line = Gained notes told line ⊎ (GainedPart notes told line × Rose before now)
+abbrev pub TellsLine : Written → Written → List ℕ → Type 0
+TellsLine old new line = Gained old new line ⊎ (GainedPart old new line × Rose old.faults new.faults)

@@ -1,11 +1,13 @@
 -- How a run that refuses ends.
-use Rattle.std.specs.Prelude.{◌≡◌, ℕ, false, Option, List}
-use Rattle.mv_base.specs.Outside.{Held, Rose}
+use Rattle.std.specs.Prelude.{◌≡◌, ℕ, false, IfSome, List}
+use Rattle.mv_base.specs.Outside.{Stored, Rose}
+use Rattle.mv_files.specs.FileReading.{Lacks}
 use Rattle.mvopt.specs.declared.stop.Stop.{Stop}
 use Rattle.mvopt.specs.declared.stop.Stop.TheVariants.{Words, Network, Script, Read, Memory}
 use Rattle.mvopt.specs.Faults.{RefusesNetwork, net_line}
-use Rattle.mvopt.specs.Run.{RefusesScript, LacksFile, fault_line}
-use Rattle.mvopt.specs.Words.{accepts}
+use Rattle.mvopt.specs.Run.{RefusesScript, fault_line}
+use Rattle.mvopt.specs.Taken.{LacksFile}
+use Rattle.mvopt.specs.Words.{word_at, accepts}
 
 -- the status of each cause
 abbrev pub status_of : Stop → ℕ
@@ -23,10 +25,20 @@ line_of Script = fault_line 3
 line_of Read = fault_line 4
 line_of Memory = fault_line 6
 
--- what each cause says; want of memory says nothing
-abbrev pub IsCause : List (List ℕ) → Option Held → ℕ → ℕ → Stop → Type 0
-IsCause words held before now Words = accepts words ≡ false
-IsCause words held before now (Network fault) = RefusesNetwork words held fault
-IsCause words held before now Script = RefusesScript words held
-IsCause words held before now Read = Rose before now × LacksFile words held
-IsCause words held before now Memory = Unit {0}
+-- what each cause says, where the files tell of themselves; want of memory says nothing
+abbrev pub IsCause : List (List ℕ) → Stored → Stored → Stop → Type 0
+IsCause words old new Words = accepts words ≡ false
+IsCause words old new (Network fault) = IfSome old.held (RefusesNetwork words fault)
+IsCause words old new Script = IfSome old.held (RefusesScript words)
+IsCause words old new Read = Rose old.faults new.faults × IfSome old.held (LacksFile words)
+IsCause words old new Memory = Unit {0}
+
+-- ---- cited by private functions alone
+
+-- what each cause says that the reading of the network comes upon
+abbrev pub IsNetworkCause : List (List ℕ) → Stored → Stored → Stop → Type 0
+IsNetworkCause words old new Words = ⊥
+IsNetworkCause words old new (Network fault) = IfSome old.held (RefusesNetwork words fault)
+IsNetworkCause words old new Script = ⊥
+IsNetworkCause words old new Read = Rose old.faults new.faults × Lacks old (word_at words 1)
+IsNetworkCause words old new Memory = Unit {0}

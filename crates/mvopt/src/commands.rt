@@ -18,12 +18,12 @@ fn run_command<E: Sink>(
     command: Command,
     notes: &mut E,
 ) -> Result<(), Stop>
-    ensures ok { OnOk result (HasDropped net.old net.new (E.told notes.old) (E.told notes.new)) }
+    ensures ok { OnOk result (HasDropped net.old net.new (E.state notes.old) (E.state notes.new)) }
     ensures means { SameMeaning (of_net net.new) (of_net net.old) }
-    ensures memory { result ≡ Err Stop.Memory → IsDropping net.old net.new (E.told notes.old) (E.told notes.new) }
-    ensures note { result ≡ Err Stop.Note → IsCutOff net.old net.new (E.told notes.old) (E.told notes.new) }
-    ensures cause { result ≡ Err Stop.Note → Rose (E.faults notes.old) (E.faults notes.new) }
-    ensures later { E.faults notes.old ≤ E.faults notes.new }
+    ensures memory { result ≡ Err Stop.Memory → IsDropping net.old net.new (E.state notes.old) (E.state notes.new) }
+    ensures note { result ≡ Err Stop.Note → IsCutOff net.old net.new (E.state notes.old) (E.state notes.new) }
+    ensures cause { result ≡ Err Stop.Note → Rose (E.state notes.old).faults (E.state notes.new).faults }
+    ensures later { (E.state notes.old).faults ≤ (E.state notes.new).faults }
 {
     match command {
         Command::Drop => remove_unread(alloc, net, notes),
@@ -37,12 +37,14 @@ pub fn run_commands<E: Sink>(
     commands: &[Command],
     notes: &mut E,
 ) -> Result<(), Stop>
-    ensures ok { OnOk result (HasRun commands.now net.old net.new (E.told notes.old) (E.told notes.new)) }
+    ensures ok { OnOk result (HasRun commands.now net.old net.new (E.state notes.old) (E.state notes.new)) }
     ensures means { SameMeaning (of_net net.new) (of_net net.old) }
-    ensures memory { result ≡ Err Stop.Memory → HasStopped commands.now net.old net.new (E.told notes.old) (E.told notes.new) }
-    ensures note { result ≡ Err Stop.Note → IsNoteCut commands.now net.old net.new (E.told notes.old) (E.told notes.new) }
-    ensures cause { result ≡ Err Stop.Note → Rose (E.faults notes.old) (E.faults notes.new) }
-    ensures later { E.faults notes.old ≤ E.faults notes.new }
+    ensures memory { result ≡ Err Stop.Memory
+        → HasStopped commands.now net.old net.new (E.state notes.old) (E.state notes.new) }
+    ensures note { result ≡ Err Stop.Note
+        → IsNoteCut commands.now net.old net.new (E.state notes.old) (E.state notes.new) }
+    ensures cause { result ≡ Err Stop.Note → Rose (E.state notes.old).faults (E.state notes.new).faults }
+    ensures later { (E.state notes.old).faults ≤ (E.state notes.new).faults }
 {
     for command in commands {
         match run_command(alloc, net, *command, notes) {

@@ -1,13 +1,13 @@
-ghost use Rattle.std.specs.Prelude.{◌≡◌, ◌<◌, ◌≤◌, ◌⊎◌, map, string_bytes, true, false};
+ghost use Rattle.std.specs.Prelude.{◌≡◌, ◌≤◌, ◌⊎◌, IfSome, true, false};
 ghost use Rattle.mv_base.specs.Outside.{Rose};
 ghost use Rattle.mvopt.specs.Exact.{IsComplete, IsExact};
 ghost use Rattle.mvopt.specs.Outcomes.{EndsCut, EndsShort};
 ghost use Rattle.mvopt.specs.Replaced.{Replaced};
 ghost use Rattle.mvopt.specs.Faults.{TellsFault};
-ghost use Rattle.mvopt.specs.Run.{RefusesScript, LacksFile, TellsLine, fault_line};
+ghost use Rattle.mvopt.specs.Run.{RefusesScript, TellsLine, fault_line};
 ghost use Rattle.mvopt.specs.Stops.{line_of};
-ghost use Rattle.mvopt.specs.Taken.{TakesScript, TakesNetwork};
-ghost use Rattle.mvopt.specs.Words.{accepts};
+ghost use Rattle.mvopt.specs.Taken.{TakesScript, TakesNetwork, LacksFile};
+ghost use Rattle.mvopt.specs.Words.{texts, accepts};
 
 use crate::stop::{Stop, put_line, status};
 use crate::take::prepare;
@@ -17,7 +17,7 @@ use std::alloc::Global;
 
 /// Puts the line of a refusal to the notes, as far as they take it.
 fn refuse<E: Sink>(stop: &Stop, notes: &mut E)
-    ensures { TellsLine (E.told notes.old) (E.told notes.new) (E.faults notes.old) (E.faults notes.new) (line_of stop.now) }
+    ensures { TellsLine (E.state notes.old) (E.state notes.new) (line_of stop.now) }
 {
     match put_line(stop, notes) {
         Ok(()) => {}
@@ -40,21 +40,29 @@ pub fn run<F: Files, O: Sink, E: Sink>(
     out: &mut O,
     notes: &mut E,
 ) -> u8
-    ensures replaced { result ≡ 0 → Replaced (map string_bytes words.now) (F.held files.old) (F.held files.new) (O.told out.old) (O.told out.new) (E.told notes.old) (E.told notes.new) }
-    ensures script_taken { (result ≡ 0) ⊎ (result ≡ 2) ⊎ (result ≡ 5) → TakesScript (map string_bytes words.now) (F.held files.old) }
-    ensures network_taken { (result ≡ 0) ⊎ (result ≡ 5) → TakesNetwork (map string_bytes words.now) (F.held files.old) }
-    ensures words { result ≡ 1 → accepts (map string_bytes words.now) ≡ false }
-    ensures network { result ≡ 2 → TellsFault (map string_bytes words.now) (F.held files.old) (E.told notes.old) (E.told notes.new) (E.faults notes.old) (E.faults notes.new) }
-    ensures script { result ≡ 3 → RefusesScript (map string_bytes words.now) (F.held files.old) }
-    ensures read { result ≡ 4 → Rose (F.faults files.old) (F.faults files.new) }
-    ensures lacks { result ≡ 4 → LacksFile (map string_bytes words.now) (F.held files.old) }
-    ensures cut { result ≡ 5 → EndsCut (map string_bytes words.now) (F.held files.old) (F.held files.new) (O.told out.old) (O.told out.new) (E.told notes.old) (E.told notes.new) (O.faults out.old) (O.faults out.new) (E.faults notes.old) (E.faults notes.new) }
-    ensures short { result ≡ 6 → EndsShort (map string_bytes words.now) (F.held files.old) (F.held files.new) (E.told notes.old) (E.told notes.new) (E.faults notes.old) (E.faults notes.new) }
-    ensures untouched { (result ≡ 0 → ⊥) → (result ≡ 5 → ⊥) → O.told out.new ≡ O.told out.old }
-    ensures noted { (result ≡ 1) ⊎ (result ≡ 3) ⊎ (result ≡ 4) → TellsLine (E.told notes.old) (E.told notes.new) (E.faults notes.old) (E.faults notes.new) (fault_line result) }
-    ensures accepted { (result ≡ 1 → ⊥) → accepts (map string_bytes words.now) ≡ true }
-    ensures exact { IsExact (map string_bytes words.now) (F.held files.old) result }
-    ensures complete { IsComplete (map string_bytes words.now) (F.held files.old) (O.faults out.old) (O.faults out.new) (E.faults notes.old) (E.faults notes.new) result }
+    ensures replaced { result ≡ 0 → Replaced (texts words.now) (F.state files.old) (F.state files.new)
+        (O.state out.old) (O.state out.new) (E.state notes.old) (E.state notes.new) }
+    ensures script_taken { (result ≡ 0) ⊎ (result ≡ 2) ⊎ (result ≡ 5)
+        → IfSome (F.state files.old).held (TakesScript (texts words.now)) }
+    ensures network_taken { (result ≡ 0) ⊎ (result ≡ 5)
+        → IfSome (F.state files.old).held (TakesNetwork (texts words.now)) }
+    ensures words { result ≡ 1 → accepts (texts words.now) ≡ false }
+    ensures network { result ≡ 2
+        → TellsFault (texts words.now) (F.state files.old) (E.state notes.old) (E.state notes.new) }
+    ensures script { result ≡ 3 → IfSome (F.state files.old).held (RefusesScript (texts words.now)) }
+    ensures read { result ≡ 4 → Rose (F.state files.old).faults (F.state files.new).faults }
+    ensures lacks { result ≡ 4 → IfSome (F.state files.old).held (LacksFile (texts words.now)) }
+    ensures cut { result ≡ 5 → EndsCut (texts words.now) (F.state files.old) (F.state files.new)
+        (O.state out.old) (O.state out.new) (E.state notes.old) (E.state notes.new) }
+    ensures short { result ≡ 6 → EndsShort (texts words.now) (F.state files.old) (F.state files.new)
+        (E.state notes.old) (E.state notes.new) }
+    ensures untouched { (result ≡ 0 → ⊥) → (result ≡ 5 → ⊥) → O.state out.new ≡ O.state out.old }
+    ensures noted { (result ≡ 1) ⊎ (result ≡ 3) ⊎ (result ≡ 4)
+        → TellsLine (E.state notes.old) (E.state notes.new) (fault_line result) }
+    ensures accepted { (result ≡ 1 → ⊥) → accepts (texts words.now) ≡ true }
+    ensures exact { IsExact (texts words.now) (F.state files.old) result }
+    ensures complete { IsComplete (texts words.now) (F.state files.old)
+        (O.state out.old) (O.state out.new) (E.state notes.old) (E.state notes.new) result }
     ensures known { result ≤ 6 }
 {
     let work = match prepare(alloc, words, files) {

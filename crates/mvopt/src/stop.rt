@@ -1,10 +1,10 @@
 ghost use Rattle.std.specs.Prelude.{◌≡◌};
-ghost use Rattle.mv_base.specs.Appends.{Appends};
+ghost use Rattle.mv_base.specs.Outside.{Appends};
 ghost use Rattle.mvopt.specs.Faults.{lex_line, net_line};
 ghost use Rattle.mvopt.specs.Stops.{status_of, line_of};
 
 use crate::numbers::{put_number, put_numbers};
-use mv_base::{Failed, Sink, put_piece};
+use mv_base::{Failed, Sink};
 use mv_lex::LexFault;
 use mv_model::{FlatFault, put_flat_fault};
 use mv_parse::{ParseFault, put_parse_fault};
@@ -42,7 +42,7 @@ pub fn status(stop: &Stop) -> u8
 
 /// Puts the line of a fault of a file's bytes.
 fn put_lex_line<E: Sink>(fault: LexFault, notes: &mut E) -> Result<(), Failed>
-    ensures { Appends (E.told notes.old) (E.told notes.new) (E.faults notes.old) (E.faults notes.new) (lex_line fault) result }
+    ensures { Appends (E.state notes.old) (E.state notes.new) (lex_line fault) result }
 {
     match fault {
         LexFault::BadByte { line, byte } => put_numbers(
@@ -60,13 +60,13 @@ fn put_lex_line<E: Sink>(fault: LexFault, notes: &mut E) -> Result<(), Failed>
         LexFault::TooLarge { line } => {
             put_number(b"# fault network 4 TooLarge line ", line, notes)
         }
-        LexFault::Memory => put_piece(b"# fault memory\n", notes),
+        LexFault::Memory => notes.put(b"# fault memory\n"),
     }
 }
 
 /// Puts the line of a fault of a network file.
 fn put_net_line<E: Sink>(fault: &FileFault, notes: &mut E) -> Result<(), Failed>
-    ensures { Appends (E.told notes.old) (E.told notes.new) (E.faults notes.old) (E.faults notes.new) (net_line fault.now) result }
+    ensures { Appends (E.state notes.old) (E.state notes.new) (net_line fault.now) result }
 {
     match fault {
         FileFault::Lex(fault) => put_lex_line(*fault, notes),
@@ -77,13 +77,13 @@ fn put_net_line<E: Sink>(fault: &FileFault, notes: &mut E) -> Result<(), Failed>
 
 /// Puts the line that says why a run ends. It takes no memory.
 pub fn put_line<E: Sink>(stop: &Stop, notes: &mut E) -> Result<(), Failed>
-    ensures { Appends (E.told notes.old) (E.told notes.new) (E.faults notes.old) (E.faults notes.new) (line_of stop.now) result }
+    ensures { Appends (E.state notes.old) (E.state notes.new) (line_of stop.now) result }
 {
     match stop {
-        Stop::Words => put_piece(b"# fault words\n", notes),
+        Stop::Words => notes.put(b"# fault words\n"),
         Stop::Network(fault) => put_net_line(fault, notes),
-        Stop::Script => put_piece(b"# fault script 8 NotBuilt\n", notes),
-        Stop::Read => put_piece(b"# fault read\n", notes),
-        Stop::Memory => put_piece(b"# fault memory\n", notes),
+        Stop::Script => notes.put(b"# fault script 8 NotBuilt\n"),
+        Stop::Read => notes.put(b"# fault read\n"),
+        Stop::Memory => notes.put(b"# fault memory\n"),
     }
 }

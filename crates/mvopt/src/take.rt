@@ -1,10 +1,10 @@
-ghost use Rattle.std.specs.Prelude.{◌≡◌, ◌≤◌, [], map, length, string_bytes, true, Err, IfOk, IfErr, OnOk};
+ghost use Rattle.std.specs.Prelude.{◌≡◌, [], length, true, Err, IfOk, IfErr, IfSome, OnOk};
 ghost use Rattle.mv_files.specs.FileReading.{Stay};
 ghost use Rattle.mvopt.specs.declared.stop.FileFault.{FileFault};
 ghost use Rattle.mvopt.specs.Made.{Prepared};
-ghost use Rattle.mvopt.specs.Stops.{IsCause};
+ghost use Rattle.mvopt.specs.Stops.{IsCause, IsNetworkCause};
 ghost use Rattle.mvopt.specs.Taken.{TakesScript, TakesCommands};
-ghost use Rattle.mvopt.specs.Words.{accepts};
+ghost use Rattle.mvopt.specs.Words.{texts, accepts};
 
 use crate::stop::{FileFault, Stop};
 use crate::words::{is_accepted, word_at};
@@ -24,12 +24,12 @@ fn take_script<F: Files>(
     files: &mut F,
 ) -> Result<Items<Command>, Stop>
     requires { length words.now ≡ 3 }
-    ensures taken { OnOk result (TakesScript (map string_bytes words.now) (F.held files.old)) }
-    ensures commands { IfOk result (λ commands. TakesCommands (map string_bytes words.now) (F.held files.old) commands) }
-    ensures stay { Stay (F.held files.old) (F.held files.new) }
-    ensures later { F.faults files.old ≤ F.faults files.new }
+    ensures taken { OnOk result (IfSome (F.state files.old).held (TakesScript (texts words.now))) }
+    ensures commands { IfOk result (λ commands.
+        IfSome (F.state files.old).held (TakesCommands (texts words.now) commands)) }
+    ensures stay { Stay (F.state files.old) (F.state files.new) }
     ensures only { (fault : FileFault) → result ≡ Err (Stop.Network fault) → ⊥ }
-    ensures stopped { IfErr result (IsCause (map string_bytes words.now) (F.held files.old) (F.faults files.old) (F.faults files.new)) }
+    ensures stopped { IfErr result (IsCause (texts words.now) (F.state files.old) (F.state files.new)) }
 {
     let text = match read_file(alloc, files, word_at(words, 2), MAX_SCRIPT_BYTES) {
         Ok(text) => text,
@@ -47,9 +47,9 @@ fn take_script<F: Files>(
 #[tactic(auto, using(crate::proofs::Takes::takes_network))]
 fn take_network<F: Files>(alloc: Global, words: &[String], files: &mut F) -> Result<Network, Stop>
     requires { length words.now ≡ 3 }
-    ensures made { IfOk result (Prepared (map string_bytes words.now) (F.held files.old) (F.held files.new)) }
+    ensures made { IfOk result (Prepared (texts words.now) (F.state files.old) (F.state files.new)) }
     ensures latches { IfOk result (λ net. net.latches ≡ []) }
-    ensures stopped { IfErr result (IsCause (map string_bytes words.now) (F.held files.old) (F.faults files.old) (F.faults files.new)) }
+    ensures stopped { IfErr result (IsNetworkCause (texts words.now) (F.state files.old) (F.state files.new)) }
 {
     let lines = match read_lines(alloc, files, word_at(words, 1)) {
         Ok(lines) => lines,
@@ -75,13 +75,15 @@ pub struct Work {
 /// What the words ask for: first they are judged, then the script, then the network.
 #[tactic(auto, using(crate::proofs::Takes::prepares))]
 pub fn prepare<F: Files>(alloc: Global, words: &[String], files: &mut F) -> Result<Work, Stop>
-    ensures taken { OnOk result (TakesScript (map string_bytes words.now) (F.held files.old)) }
-    ensures first { (fault : FileFault) → result ≡ Err (Stop.Network fault) → TakesScript (map string_bytes words.now) (F.held files.old) }
-    ensures commands { IfOk result (λ work. TakesCommands (map string_bytes words.now) (F.held files.old) work.commands) }
-    ensures made { IfOk result (λ work. Prepared (map string_bytes words.now) (F.held files.old) (F.held files.new) work.net) }
+    ensures taken { OnOk result (IfSome (F.state files.old).held (TakesScript (texts words.now))) }
+    ensures first { (fault : FileFault) → result ≡ Err (Stop.Network fault)
+        → IfSome (F.state files.old).held (TakesScript (texts words.now)) }
+    ensures commands { IfOk result (λ work.
+        IfSome (F.state files.old).held (TakesCommands (texts words.now) work.commands)) }
+    ensures made { IfOk result (λ work. Prepared (texts words.now) (F.state files.old) (F.state files.new) work.net) }
     ensures latches { IfOk result (λ work. work.net.latches ≡ []) }
-    ensures stopped { IfErr result (IsCause (map string_bytes words.now) (F.held files.old) (F.faults files.old) (F.faults files.new)) }
-    ensures accepted { (result ≡ Err Stop.Words → ⊥) → accepts (map string_bytes words.now) ≡ true }
+    ensures stopped { IfErr result (IsCause (texts words.now) (F.state files.old) (F.state files.new)) }
+    ensures accepted { (result ≡ Err Stop.Words → ⊥) → accepts (texts words.now) ≡ true }
 {
     if !is_accepted(words) {
         return Err(Stop::Words);

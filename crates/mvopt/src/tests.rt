@@ -1,4 +1,5 @@
 //! Whole runs over files and sinks in memory.
+mod examples;
 mod faults;
 mod refusals;
 mod texts;
@@ -194,6 +195,22 @@ fn check(rt: &impl Abort, given: Given, ended: &Ended, end: End) {
         wanted(end.notes, notes),
         "{words}: {script:?} on {net:?}"
     );
+}
+
+/// A line of a table as a text: `;` stands for a line feed.
+fn text_of(alloc: Global, line: &str) -> Result<Vec<u8>, Fail> {
+    let mut text = Vec::from_slice(alloc, line.as_bytes())?;
+    for byte in text.iter_mut() {
+        if *byte == b';' {
+            *byte = b'\n';
+        }
+    }
+    Ok(text)
+}
+
+/// Whether a line of a table is a case, and doesn't say what the next ones show.
+fn is_case(line: &str) -> bool {
+    !line.starts_with("--")
 }
 
 /// So many times the same piece.

@@ -1,6 +1,6 @@
-ghost use Rattle.std.specs.Prelude.{◌≡◌, ◌<◌, map, length, string_bytes};
+ghost use Rattle.std.specs.Prelude.{◌≡◌, ◌<◌, length};
 ghost use Rattle.mv_base.specs.Names.{same_word};
-ghost use Rattle.mvopt.specs.Words.{word_at, is_stdin, is_option, accepts};
+ghost use Rattle.mvopt.specs.Words.{texts, word_at, is_stdin, is_option, accepts};
 
 /// Whether the word stands for standard input.
 fn is_stdin(word: &[u8]) -> bool
@@ -19,7 +19,7 @@ fn is_option(word: &[u8]) -> bool
 /// The word at the place.
 pub fn word_at(words: &[String], place: usize) -> &str
     requires { place < length words.now }
-    ensures { result.now ≡ word_at (map string_bytes words.now) place }
+    ensures { result.now ≡ word_at (texts words.now) place }
 {
     words[place].as_str()
 }
@@ -27,7 +27,7 @@ pub fn word_at(words: &[String], place: usize) -> &str
 /// Whether the words are `opt NET SCRIPT` with two names of files, of which at most one is standard input.
 #[tactic(auto, unfolding(crate::specs::Words::accepts))]
 pub fn is_accepted(words: &[String]) -> bool
-    ensures { result ≡ accepts (map string_bytes words.now) }
+    ensures { result ≡ accepts (texts words.now) }
 {
     if words.len() != 3 {
         return false;

@@ -30,9 +30,11 @@ fn finish<O: Sink, E: Sink>(
     notes: &mut E,
 ) -> Result<(), Failed>
     requires { net.now.latches ≡ [] }
-    ensures written { OnOk result (Gained (O.told out.old) (O.told out.new) (text_of net.now)) }
-    ensures noted { OnOk result (Gained (E.told notes.old) (E.told notes.new) (done_line before (literals_in net.now.nets))) }
-    ensures cut { OnErr result (IsEndCut (O.told out.old) (O.told out.new) (E.told notes.old) (E.told notes.new) (O.faults out.old) (O.faults out.new) (E.faults notes.old) (E.faults notes.new) (done_line before (literals_in net.now.nets)) (text_of net.now)) }
+    ensures written { OnOk result (Gained (O.state out.old) (O.state out.new) (text_of net.now)) }
+    ensures noted { OnOk result (Gained (E.state notes.old) (E.state notes.new)
+        (done_line before (literals_in net.now.nets))) }
+    ensures cut { OnErr result (IsEndCut (O.state out.old) (O.state out.new) (E.state notes.old) (E.state notes.new)
+        (done_line before (literals_in net.now.nets)) (text_of net.now)) }
 {
     match put_numbers(b"# done ", before, net.literals(), notes) {
         Ok(()) => {}
@@ -50,11 +52,14 @@ pub fn carry_out<O: Sink, E: Sink>(
     notes: &mut E,
 ) -> Result<(), WorkStop>
     requires { work.net.latches ≡ [] }
-    ensures ok { OnOk result (HasWorked work.commands work.net (O.told out.old) (O.told out.new) (E.told notes.old) (E.told notes.new)) }
-    ensures write { result ≡ Err WorkStop.Write → IsCut work.commands work.net (O.told out.old) (O.told out.new) (E.told notes.old) (E.told notes.new) (O.faults out.old) (O.faults out.new) (E.faults notes.old) (E.faults notes.new) }
-    ensures memory { result ≡ Err WorkStop.Memory → HasStoppedAt work.commands work.net (E.told notes.old) (E.told notes.new) }
-    ensures untouched { result ≡ Err WorkStop.Memory → O.told out.new ≡ O.told out.old }
-    ensures later { result ≡ Err WorkStop.Memory → E.faults notes.old ≤ E.faults notes.new }
+    ensures ok { OnOk result (HasWorked work.commands work.net
+        (O.state out.old) (O.state out.new) (E.state notes.old) (E.state notes.new)) }
+    ensures write { result ≡ Err WorkStop.Write → IsCut work.commands work.net
+        (O.state out.old) (O.state out.new) (E.state notes.old) (E.state notes.new) }
+    ensures memory { result ≡ Err WorkStop.Memory
+        → HasStoppedAt work.commands work.net (E.state notes.old) (E.state notes.new) }
+    ensures untouched { result ≡ Err WorkStop.Memory → O.state out.new ≡ O.state out.old }
+    ensures later { result ≡ Err WorkStop.Memory → (E.state notes.old).faults ≤ (E.state notes.new).faults }
 {
     let Work { mut net, commands } = work;
     let before = net.literals();

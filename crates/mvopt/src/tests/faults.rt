@@ -1,5 +1,10 @@
 //! Each call of the files, of the output and of the notes that fails in turn.
-use super::{End, Fault, Given, INVERTER, KEPT, NOTED, Text, UNREAD, ends, opt, refused};
+use super::{
+    End, Fault, Given, INVERTER, KEPT, NOTED, ROOM, Text, UNREAD, ends, opt, refused, repeated,
+    words_of, written,
+};
+use crate::run;
+use mv_base::{HostFiles, MemorySink};
 use std::alloc::Global;
 use std::process::Abort;
 use std::test::Fail;
@@ -29,41 +34,97 @@ fn each_ends(
     Ok(())
 }
 
+/// The inverter behind a comment, so that its file takes two pieces.
+fn in_pieces(alloc: Global) -> Result<Vec<u8>, Fail> {
+    let mut text = repeated(alloc, b"#", 5_000)?;
+    text.push(b'\n')?;
+    text.extend_from_slice(INVERTER)?;
+    Ok(text)
+}
+
+/// The calls are the start of the script, its piece and its end, and the start of the network, its two pieces and its end.
 #[test]
 fn each_call_of_the_files_fails_in_turn(rt: HostRuntime) -> Result<(), Fail> {
-    let given = opt(INVERTER, b"").failing(Fault::Files(0));
-    each_ends(&rt, rt.alloc(), 5, given, refused(4, b"# fault read\n"))
+    let net = in_pieces(rt.alloc())?;
+    let given = opt(net.as_slice(), b"drop").failing(Fault::Files(0));
+    each_ends(&rt, rt.alloc(), 7, given, refused(4, b"# fault read\n"))?;
+    let noted = b"# begin drop\n# end 2\n# done 2 2\n";
+    ends(
+        &rt,
+        rt.alloc(),
+        given.failing(Fault::Files(7)),
+        written(INVERTER, noted),
+    )
 }
 
 #[test]
-fn each_call_of_the_files_fails_before_a_drop(rt: HostRuntime) -> Result<(), Fail> {
-    let given = opt(UNREAD, b"drop").failing(Fault::Files(0));
-    each_ends(&rt, rt.alloc(), 6, given, refused(4, b"# fault read\n"))
-}
-
-#[test]
-fn each_put_of_the_output_fails_in_turn(rt: HostRuntime) -> Result<(), Fail> {
-    let end = End {
-        status: 5,
-        out: Text::Front(INVERTER),
-        notes: Text::Whole(b"# done 2 2\n"),
-    };
-    for taken in 0..3usize {
-        let given = opt(INVERTER, b"").failing(Fault::Out(0, taken));
-        each_ends(&rt, rt.alloc(), 26, given, end)?;
-    }
+fn a_file_that_the_host_lacks_is_told(rt: HostRuntime) -> Result<(), Fail> {
+    let alloc = rt.alloc();
+    let words = words_of(alloc, "opt missing missing")?;
+    let mut out = MemorySink::new(alloc, ROOM, Vec::new(alloc))?;
+    let mut notes = MemorySink::new(alloc, ROOM, Vec::new(alloc))?;
+    let status = run(
+        alloc,
+        words.as_slice(),
+        &mut HostFiles::new(&rt),
+        &mut out,
+        &mut notes,
+    );
+    assert_eq!(rt; status, 4);
+    assert_eq!(rt; notes.bytes(), b"# fault read\n".as_slice());
     Ok(())
 }
 
 #[test]
-fn each_put_of_the_output_fails_behind_a_drop(rt: HostRuntime) -> Result<(), Fail> {
+fn a_short_text_is_one_put(rt: HostRuntime) -> Result<(), Fail> {
+    for taken in [0usize, 2, 6, 57] {
+        let end = End {
+            status: 5,
+            out: Text::Whole(&INVERTER[..taken]),
+            notes: Text::Whole(b"# done 2 2\n"),
+        };
+        let given = opt(INVERTER, b"").failing(Fault::Out(0, taken));
+        ends(&rt, rt.alloc(), given, end)?;
+    }
+    let given = opt(INVERTER, b"").failing(Fault::Out(1, 0));
+    ends(&rt, rt.alloc(), given, written(INVERTER, b"# done 2 2\n"))
+}
+
+/// A network of forty inputs with names of a thousand bytes.
+fn wide(alloc: Global) -> Result<Vec<u8>, Fail> {
+    let mut text = Vec::new(alloc);
+    text.extend_from_slice(b".model m\n.inputs")?;
+    for input in 0..40u8 {
+        text.extend_from_slice(&[b' ', b'A' + input])?;
+        text.extend_from_slice(repeated(alloc, b"x", 999)?.as_slice())?;
+    }
+    text.extend_from_slice(b"\n.outputs\n.end\n")?;
+    Ok(text)
+}
+
+#[test]
+fn each_put_of_a_long_text_fails_in_turn(rt: HostRuntime) -> Result<(), Fail> {
+    let net = wide(rt.alloc())?;
     let end = End {
         status: 5,
-        out: Text::Part(KEPT),
+        out: Text::Part(net.as_slice()),
+        notes: Text::Whole(b"# done 0 0\n"),
+    };
+    let given = opt(net.as_slice(), b"").failing(Fault::Out(0, 0));
+    each_ends(&rt, rt.alloc(), 3, given, end)?;
+    let whole = written(net.as_slice(), b"# done 0 0\n");
+    ends(&rt, rt.alloc(), opt(net.as_slice(), b""), whole)
+}
+
+#[test]
+fn a_put_of_the_output_fails_behind_a_drop(rt: HostRuntime) -> Result<(), Fail> {
+    let end = End {
+        status: 5,
+        out: Text::Whole(&KEPT[..9]),
         notes: Text::Whole(NOTED),
     };
-    let given = opt(UNREAD, b"drop").failing(Fault::Out(0, 0));
-    each_ends(&rt, rt.alloc(), 26, given, end)
+    let given = opt(UNREAD, b"drop").failing(Fault::Out(0, 9));
+    ends(&rt, rt.alloc(), given, end)
 }
 
 #[test]

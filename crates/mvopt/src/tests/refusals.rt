@@ -1,5 +1,5 @@
 //! What is refused, and with which line.
-use super::{Given, INVERTER, ends, opt, refused, repeated, written};
+use super::{Given, INVERTER, ends, is_case, opt, refused, repeated, text_of, written};
 use std::alloc::Global;
 use std::process::Abort;
 use std::test::Fail;
@@ -41,7 +41,9 @@ fn script_is_refused(rt: &impl Abort, alloc: Global, script: &[u8]) -> Result<()
 
 #[test]
 fn a_script_that_says_more_is_refused(rt: HostRuntime) -> Result<(), Fail> {
-    for script in ["x# ", "# x\ny", "drop x", "{", "\\", "\u{b}"] {
+    for script in [
+        "x# ", "# x\ny", "drop x", "dropx", "Drop", "drop{", "dro p", "{", "\\", "\u{b}", "\u{80}",
+    ] {
         script_is_refused(&rt, rt.alloc(), script.as_bytes())?;
     }
     Ok(())
@@ -53,7 +55,9 @@ fn a_script_has_a_limit(rt: HostRuntime) -> Result<(), Fail> {
     let given = opt(INVERTER, script.as_slice());
     ends(&rt, rt.alloc(), given, written(INVERTER, b"# done 2 2\n"))?;
     let longer = repeated(rt.alloc(), b" ", 65_537)?;
-    script_is_refused(&rt, rt.alloc(), longer.as_slice())
+    script_is_refused(&rt, rt.alloc(), longer.as_slice())?;
+    let commands = repeated(rt.alloc(), b"drop;", 10_001)?;
+    script_is_refused(&rt, rt.alloc(), commands.as_slice())
 }
 
 /// The network file is refused with the line that ends so.
@@ -62,65 +66,157 @@ fn is_refused(rt: &impl Abort, alloc: Global, net: &[u8], fault: &str) -> Result
     ends(rt, alloc, opt(net, b""), refused(2, line.as_bytes()))
 }
 
-/// Each network file is refused with its line.
-fn are_refused(rt: &impl Abort, alloc: Global, nets: &[(&[u8], &str)]) -> Result<(), Fail> {
-    for (net, fault) in nets {
-        is_refused(rt, alloc, net, fault)?;
+/// The network file of a case is refused with the line of its fault, which stands behind the bar.
+fn case_is_refused(rt: &impl Abort, alloc: Global, case: &str) -> Result<(), Fail> {
+    let (net, fault) = case.split_once(" | ").ok_or("a case without a bar")?;
+    let net = text_of(alloc, net)?;
+    is_refused(rt, alloc, net.as_slice(), fault)
+}
+
+/// So are those of all cases.
+fn are_refused(rt: &impl Abort, alloc: Global, cases: &str) -> Result<(), Fail> {
+    for case in cases.lines() {
+        if is_case(case) {
+            case_is_refused(rt, alloc, case)?;
+        }
     }
     Ok(())
 }
 
 /// Network files whose lines have a fault, and the end of the line that tells it.
-const REFUSED: &[(&[u8], &str)] = &[
-    (b"", "20 NoModel line 1"),
-    (b".model m\n.inputs a", "7 NoEnd line 1"),
-    (
-        b".model m\n.inputs a\n.outputs z\n.table a -> z\n0 1\n",
-        "7 NoEnd line 1",
-    ),
-    (b".model m\n.end\n.end\n", "6 OutsideModel line 3"),
-    (b".model m\n.end x\n", "9 Extra line 2 .end"),
-    (b".model m\n.model n\n.end\n", "7 NoEnd line 1"),
-    (b".model m\n.end\n.model n\n.end\n", "39 NotBuilt line 3"),
-    (b".model\n.end\n", "8 Missing line 1 .model"),
-    (b".model m=n\n.end\n", "36 BadName line 1 m=n"),
-    (
-        b".model m\n.outputs z y\n.table -> z y\n1 1\n.end\n",
-        "39 NotBuilt line 3",
-    ),
-    (b".model m\n.inputs a a\n.end\n", "19 Repeated line 2 a"),
-    (
-        b".model m\n.inputs a\n.table a -> z\n1\n.end\n",
-        "13 Columns line 4 2 1",
-    ),
-    (
-        b".model m\n.inputs a\n.table a -> z\n0 2\n.end\n",
-        "14 UnknownValue line 4 2",
-    ),
-    (
-        b".model m\n.inputs a\n.table a -> z\n0 =b\n.end\n",
-        "15 BadEqual line 4 b",
-    ),
-    (
-        b".model m\n.inputs a\n0 1\n.table a -> z\n.end\n",
-        "37 NoTable line 3",
-    ),
-    (b".model m\n.inputs a\\ b\n.end\n", "36 BadName line 2 a\\"),
-    (b".model m\n.inputs (a)\n.end\n", "36 BadName line 2 (a)"),
-    (
-        b".model m\n.inputs a\n.outputs z\n.latch a z 0\n.end\n",
-        "39 NotBuilt line 4",
-    ),
-    (b".model m\n.mv x 129\n.end\n", "21 Limit line 2 Values 129"),
-    (
-        b".model m\n.mv x 3\n.mv x 2\n.end\n",
-        "12 Redeclared line 3 x",
-    ),
-    (
-        b".model m\n.gate x\n.end\n",
-        "5 UnknownCommand line 2 .gate",
-    ),
-];
+const REFUSED: &str = "\
+-- One fault of each kind.
+.model m;.gate x; | 5 UnknownCommand line 2 .gate
+.inputs a; | 6 OutsideModel line 1
+.model; | 8 Missing line 1 .model
+.model m n; | 9 Extra line 1 .model
+.model m;.mv x 0; | 10 BadCount line 2 0
+.model m;.mv x 2 p; | 11 ValueNames line 2 2 1
+.model m;.mv x 2;.mv x 3; | 12 Redeclared line 3 x
+.model m;.table a -> z;0; | 13 Columns line 3 2 1
+.model m;.table a -> z;2 0;.end; | 14 UnknownValue line 3 2
+.model m;.table a -> z;- =b;.end; | 15 BadEqual line 3 b
+.model m;.table -> z;.default 0;.def 1; | 16 DefaultTwice line 4
+.model m;.inputs a a; | 19 Repeated line 2 a
+.model m;.inputs a; | 7 NoEnd line 1
+.model m;.mv x 129; | 21 Limit line 2 Values 129
+.model a=b; | 36 BadName line 1 a=b
+.model m;0 1; | 37 NoTable line 2
+ | 20 NoModel line 1
+-- A line is judged by its place first, and lines that are not read yet are told apart.
+0 1; | 6 OutsideModel line 1
+.default 0; | 6 OutsideModel line 1
+.table -> z, z; | 39 NotBuilt line 1
+.table -> z ->; | 6 OutsideModel line 1
+.model m;.table a -> b ->; | 36 BadName line 2 ->
+.model m;.table .a -> b ->; | 36 BadName line 2 .a
+.gate x; | 5 UnknownCommand line 1 .gate
+.; | 5 UnknownCommand line 1 .
+.end; | 6 OutsideModel line 1
+.latch; | 39 NotBuilt line 1
+.model m;.end;0 1; | 6 OutsideModel line 3
+.model m;.end;.end x; | 6 OutsideModel line 3
+.model m;.end;.model m; | 39 NotBuilt line 3
+.model m;.end;.root q; | 39 NotBuilt line 3
+.model m;.latch a; | 39 NotBuilt line 2
+.model m;.r s; | 39 NotBuilt line 2
+.model m;.reset; | 39 NotBuilt line 2
+.model m;.subckt; | 39 NotBuilt line 2
+.model m;.table a, -> b c; | 39 NotBuilt line 2
+.model m;.model n; | 7 NoEnd line 1
+ ;.model m;.model; | 7 NoEnd line 2
+.model a=b c; | 36 BadName line 1 a=b
+.model .a; | 36 BadName line 1 .a
+.model a,b; | 36 BadName line 1 a,b
+.model ->; | 36 BadName line 1 ->
+.model (a); | 36 BadName line 1 (a)
+.model a\\ b; | 36 BadName line 1 a\\
+.model m;.inputs a;.outputs z;.table a -> z;0 1; | 7 NoEnd line 1
+.model m;.end;.end; | 6 OutsideModel line 3
+.model m;.end;.model n;.end; | 39 NotBuilt line 3
+.model m=n;.end; | 36 BadName line 1 m=n
+.model m;.inputs a;0 1;.table a -> z;.end; | 37 NoTable line 3
+.model m;.inputs a\\ b;.end; | 36 BadName line 2 a\\
+.model m;.inputs a;.outputs z;.latch a z 0;.end; | 39 NotBuilt line 4
+-- Names and declarations are judged from left to right, commas with the word that they stand in.
+.model m;.inputs a;.inputs b a; | 19 Repeated line 3 a
+.model m;.inputs a a b,; | 19 Repeated line 2 a
+.model m;.inputs b, a a; | 36 BadName line 2 b,
+.model m;.outputs z z; | 19 Repeated line 2 z
+.model m;.outputs !{a}; | 36 BadName line 2 !{a}
+.model m;.mv; | 8 Missing line 2 .mv
+.model m;.mv a; | 8 Missing line 2 .mv
+.model m;.mv a,3; | 8 Missing line 2 .mv
+.model m;.mv ,a 2; | 8 Missing line 2 .mv
+.model m;.mv a,,b 2; | 8 Missing line 2 .mv
+.model m;.mv,a 3; | 5 UnknownCommand line 2 .mv,a
+.model m;.mv {a,b} 2; | 36 BadName line 2 {a
+.model m;.mv a 000; | 10 BadCount line 2 000
+.model m;.mv a 0129 p -; | 21 Limit line 2 Values 129
+.model m;.mv a 99999999999999999999; | 21 Limit line 2 Values 18446744073709551615
+.model m;.mv a 2 p p q; | 19 Repeated line 2 p
+.model m;.mv a 3 p -; | 36 BadName line 2 -
+.model m;.mv a 2;.mv a 3 p q; | 11 ValueNames line 3 3 2
+.model m;.mv a b 2;.mv c b a 3; | 12 Redeclared line 3 b
+.model m;.mv a 2;.mv a 2 1 0; | 12 Redeclared line 3 a
+.model m;.mv a b, 2; | 8 Missing line 2 .mv
+.model m;.mv -> 2; | 36 BadName line 2 ->
+.model m;.mv .a, 2; | 36 BadName line 2 .a
+.model m;.mv a .b ,, 0; | 36 BadName line 2 .b
+.model m;.mv a 000 p p; | 10 BadCount line 2 000
+.model m;.mv a 18446744073709551616; | 21 Limit line 2 Values 18446744073709551615
+.model m;.mv a 2 p , q , r; | 11 ValueNames line 2 2 3
+.model m;.mv a 2 3; | 11 ValueNames line 2 2 1
+.model m;.mv a 2 !p q; | 36 BadName line 2 !p
+.model m;.mv a 2 {p,q}; | 36 BadName line 2 {p
+.model m;.mv a 3;.mv b a 3 0 1 3; | 12 Redeclared line 3 a
+-- Columns are judged where they stand, and rows counted.
+.model m;.names; | 8 Missing line 2 .names
+.model m;.table a ->; | 8 Missing line 2 .table
+.model m;.table a, ->; | 36 BadName line 2 a,
+.model m;.table a -> ->; | 36 BadName line 2 ->
+.model m;.names a (z); | 36 BadName line 2 (z)
+.model m;.table a -> z;.inputs a;0 1; | 37 NoTable line 4
+.model m;.table -> z;.mv a 2;.default 0; | 37 NoTable line 4
+.model m;.table -> z;.default; | 8 Missing line 3 .default
+.model m;.table -> z;.def 0 1; | 9 Extra line 3 .def
+.model m;.table -> z;.default 0;.default; | 16 DefaultTwice line 4
+.model m;.table a -> z;0 1 0; | 13 Columns line 3 2 3
+-- Values are judged at the end of their model, the default first.
+.model m;.table a -> z;2 0; | 7 NoEnd line 1
+.model m;.table a -> z;2 0;.table b -> y;0; | 13 Columns line 5 2 1
+.model m;.table a -> z;2 0;.end x; | 9 Extra line 4 .end
+.model m;.table a -> z;.default 5;2 0;.end; | 14 UnknownValue line 3 5
+.model m;.table a -> z;0 2;3 0;.end; | 14 UnknownValue line 3 2
+.model m;.table a -> z;2 3;.end; | 14 UnknownValue line 3 2
+.model m;.table a -> z;=a 0;.end; | 15 BadEqual line 3 a
+.model m;.table a -> z;0 !=a;.end; | 15 BadEqual line 3 a
+.model m;.table a -> z;!!=x 0;.end; | 15 BadEqual line 3 x
+.model m;.table a -> z;0 =z;.end; | 15 BadEqual line 3 z
+.model m;.table a -> z;0 =;.end; | 15 BadEqual line 3\x20
+.model m;.mv a 3;.table a -> z;- =a;.end; | 15 BadEqual line 4 a
+.model m;.table a -> z;(=a) 0;.end; | 14 UnknownValue line 3 =a
+.model m;.table a -> z;() 0;.end; | 14 UnknownValue line 3\x20
+.model m;.table a -> z;!x 0;.end; | 14 UnknownValue line 3 !x
+.model m;.table a -> z;! 0;.end; | 14 UnknownValue line 3 !
+.model m;.table a -> z;{0,x,y} 0;.end; | 14 UnknownValue line 3 x
+.model m;.table a -> z;{1-0} 0;.end; | 14 UnknownValue line 3 1-0
+.model m;.table a -> z;0-1 0;.end; | 14 UnknownValue line 3 0-1
+.model m;.mv x 5 a b a-b c d;.table x -> z;!a-x 1;.end; | 14 UnknownValue line 4 !a-x
+.model m;.mv x 5 a b a-b c d;.table x -> z;{a-x} 1;.end; | 14 UnknownValue line 4 a-x
+.model m;.mv x 5 a b a-b c d;.table x -> z;{c-a} 1;.end; | 14 UnknownValue line 4 c-a
+.model m;.mv x 5 a b a-b c d;.table x -> z;{a,} 1;.end; | 14 UnknownValue line 4\x20
+.model m;.mv x 5 a b a-b c d;.table x -> z;!(,a) 1;.end; | 14 UnknownValue line 4\x20
+.model m;.mv x 5 a b a-b c d;.table x -> z;{-} 1;.end; | 14 UnknownValue line 4 -
+.model m;.mv x 5 a b a-b c d;.table x -> z;{} 1;.end; | 14 UnknownValue line 4\x20
+-- What a bracketed word and a joined line are.
+.model m;.inputs !!{ x\t}!y; | 36 BadName line 2 !!{x}
+.model m;.inputs (a\\b \\c\rd); | 36 BadName line 2 (a\\b\\cd)
+.model m;.inputs (a\\;b); | 36 BadName line 2 (ab)
+.model m;.inputs a(b c) {a)(b}; | 36 BadName line 2 {a)(b}
+;.model\\\r;\\;m;x; | 37 NoTable line 5
+.model m;.inputs a\\\r\r;x; | 36 BadName line 2 a\\
+";
 
 #[test]
 fn faults_of_the_lines_are_told_with_their_line(rt: HostRuntime) -> Result<(), Fail> {
@@ -128,39 +224,30 @@ fn faults_of_the_lines_are_told_with_their_line(rt: HostRuntime) -> Result<(), F
 }
 
 /// Network files whose design isn't sound, and the end of the line that tells it.
-const UNSOUND: &[(&[u8], &str)] = &[
-    (
-        b".model m\n.table -> z\n1\n.table -> z\n1\n.end\n",
-        "28 DrivenTwice z",
-    ),
-    (
-        b".model m\n.inputs a\n.table -> a\n1\n.end\n",
-        "28 DrivenTwice a",
-    ),
-    (b".model m\n.outputs y\n.end\n", "29 Undriven y"),
-    (
-        b".model m\n.outputs z\n.table b -> z\n0 1\n.end\n",
-        "29 Undriven b",
-    ),
-    (
-        b".model m\n.outputs z\n.table z -> z\n0 1\n.end\n",
-        "30 Cycle z",
-    ),
-    (
-        b".model c\n.inputs\n.outputs x\n.table y -> x\n- =y\n.table x -> y\n- =x\n.end\n",
-        "30 Cycle x",
-    ),
-    // A column that holds only `-` counts too.
-    (
-        b".model m\n.outputs z\n.table y -> z\n- 1\n.table z -> y\n- 1\n.end\n",
-        "30 Cycle z",
-    ),
-    // What is driven twice is told first, then what isn't driven, then a cycle.
-    (
-        b".model m\n.outputs z u\n.table z -> z\n- 1\n.table -> t\n1\n.table -> t\n1\n.end\n",
-        "28 DrivenTwice t",
-    ),
-];
+const UNSOUND: &str = "\
+.model m;.table -> z;1;.table -> z;1;.end; | 28 DrivenTwice z
+.model m;.inputs a;.table -> a;1;.end; | 28 DrivenTwice a
+.model m;.outputs y;.end; | 29 Undriven y
+.model m;.outputs z;.table b -> z;0 1;.end; | 29 Undriven b
+.model m;.outputs z;.table z -> z;0 1;.end; | 30 Cycle z
+.model c;.inputs;.outputs x;.table y -> x;- =y;.table x -> y;- =x;.end; | 30 Cycle x
+-- A column that holds only `-` counts too.
+.model m;.outputs z;.table y -> z;- 1;.table z -> y;- 1;.end; | 30 Cycle z
+-- What is driven twice is told first, then what is not driven, then a cycle.
+.model m;.outputs z u;.table z -> z;- 1;.table -> t;1;.table -> t;1;.end; | 28 DrivenTwice t
+.model m;.outputs x;.table -> z;.table -> z;.end; | 28 DrivenTwice z
+.model m;.outputs x z;.table z -> z;.end; | 29 Undriven x
+-- Of two nets the one that is named first is told, whichever table stands first.
+.model m;.outputs x y;.table -> y;.table -> y;.table -> x;.table -> x;.end; | 28 DrivenTwice x
+.model m;.outputs y x;.table u v -> t;.table -> x;.end; | 29 Undriven y
+.model m;.table v u -> t;.end; | 29 Undriven v
+-- The net that is told is on the cycle, and not above it.
+.model m;.inputs a;.outputs r;.table a y -> r;.table y -> x;.table x -> y;.end; | 30 Cycle y
+.model m;.outputs p;.table q -> p;.table r p -> q;.table s -> r;.table r -> s;.end; | 30 Cycle p
+-- A cycle of an earlier net is told, also where another is found first.
+.model m;.outputs r u;.table s -> r;.table s t -> s;.default =s;.table u -> t;.table t -> u;.end; | 30 Cycle u
+.model m;.inputs a;.outputs r;.table x -> r;.table u a -> x;.table v -> u;.table u -> v;.table x -> s;.end; | 30 Cycle u
+";
 
 #[test]
 fn designs_that_are_not_sound_are_refused_with_a_net(rt: HostRuntime) -> Result<(), Fail> {
@@ -168,55 +255,62 @@ fn designs_that_are_not_sound_are_refused_with_a_net(rt: HostRuntime) -> Result<
 }
 
 /// Network files whose bytes have a fault, and the end of its line.
-const FAULTY: &[(&[u8], &str)] = &[
-    (
-        b".model m\n.inputs \x80\n.outputs z\n",
-        "1 BadByte line 2 128",
-    ),
-    (b"\x00", "1 BadByte line 1 0"),
-    (b"\n\n\n \x7f", "1 BadByte line 4 127"),
-    // The joined line begins before it.
-    (b".model \\\nm\\\n\xff", "1 BadByte line 3 255"),
-    // The first fault counts, also where the lines before it are of another form.
-    (b"x\n\x0b\n\x80\n", "1 BadByte line 2 11"),
-    (b"(\x80", "1 BadByte line 1 128"),
-    (
-        b".model m\n.inputs (a\n.outputs z\n",
-        "3 OpenBracket line 2",
-    ),
-    (b".model m\n.inputs (a # )\n\x80", "3 OpenBracket line 2"),
-    (b".model m\n.inputs !{ a b", "3 OpenBracket line 2"),
-    (b".model m\n.inputs {a)\\\n b\n", "3 OpenBracket line 3"),
-    (b".model m\n(a\\\n", "3 OpenBracket line 3"),
-    (b".model m\n(a", "3 OpenBracket line 2"),
-    // A bracket inside a word is an ordinary byte, and right behind a bracketed word the next one begins.
-    (b"a(\n!\n!(\n", "3 OpenBracket line 3"),
-    (b")\n}\n(})(\n", "3 OpenBracket line 3"),
-    (b"(#", "3 OpenBracket line 1"),
-    (b".model m\n.inputs a\n{\r", "3 OpenBracket line 3"),
-];
+const FAULTY: &str = "\
+.model m;.inputs \u{80};.outputs z; | 1 BadByte line 2 194
+\0 | 1 BadByte line 1 0
+;;; \x7f | 1 BadByte line 4 127
+-- A joined line has the number of its first line, and a byte that of its own.
+.model \\;m\\;\u{80} | 1 BadByte line 3 194
+-- The first fault counts, also where the lines before it are of another form.
+x;\x0b;\u{80}; | 1 BadByte line 2 11
+(\u{80} | 1 BadByte line 1 194
+.model m;.inputs (a;.outputs z; | 3 OpenBracket line 2
+.model m;.inputs (a # );\u{80} | 3 OpenBracket line 2
+.model m;.inputs !{ a b | 3 OpenBracket line 2
+.model m;.inputs {a)\\; b; | 3 OpenBracket line 3
+.model m;(a\\; | 3 OpenBracket line 3
+.model m;(a | 3 OpenBracket line 2
+-- A bracket inside a word is an ordinary byte, and right behind a bracketed word the next one begins.
+a(;!;!(; | 3 OpenBracket line 3
+);};(})(; | 3 OpenBracket line 3
+(# | 3 OpenBracket line 1
+.model m;.inputs a;{\r | 3 OpenBracket line 3
+a\\\u{80} | 1 BadByte line 1 194
+(\x0b | 1 BadByte line 1 11
+(a#b) | 3 OpenBracket line 1
+(a\\;b#c) | 3 OpenBracket line 2
+(a\\ | 3 OpenBracket line 1
+(a\\\r | 3 OpenBracket line 1
+!!!{);} | 3 OpenBracket line 1
+";
 
 #[test]
 fn faults_of_the_bytes_have_lines_of_their_own(rt: HostRuntime) -> Result<(), Fail> {
     are_refused(&rt, rt.alloc(), FAULTY)
 }
 
-/// Network files of a front and a piece so many times, and the end of their line.
-const LONG: &[(&[u8], &[u8], usize, &str)] = &[
-    (b".model m\n", b"a", 1_024, "37 NoTable line 2"),
-    (b".model m\n", b"a", 1_025, "2 LongWord line 2"),
-    (b"\n\n(", b" a", 199_999, "3 OpenBracket line 3"),
-    (b"\n\n(", b" a", 200_000, "2 LongWord line 3"),
-    (b"", b"!", 1_024, "6 OutsideModel line 1"),
-    (b"", b"!", 1_025, "2 LongWord line 1"),
-    (b"# ", b"a", 20_000, "20 NoModel line 1"),
+/// Network files of a front, a piece so many times and an end, and the end of their line.
+const LONG: &[(&str, &str, usize, &str, &str)] = &[
+    (".model m\n", "a", 1_024, "", "37 NoTable line 2"),
+    (".model m\n", "a", 1_024, "\\\n", "37 NoTable line 2"),
+    (".model m\n", "a", 1_025, "", "2 LongWord line 2"),
+    ("\n\n(", " a", 199_999, "", "3 OpenBracket line 3"),
+    ("\n\n(", " a", 200_000, "", "2 LongWord line 3"),
+    ("", "!", 1_024, "", "6 OutsideModel line 1"),
+    ("", "!", 1_025, " ", "2 LongWord line 1"),
+    // A backslash is neither a bang nor a bracket, so that it settles what the run is.
+    ("", "!", 1_025, "\\\u{80}", "2 LongWord line 1"),
+    ("", "!", 1_025, "\\\n", "2 LongWord line 1"),
+    ("", "!", 1_024, "\\\n", "6 OutsideModel line 1"),
+    ("", "!", 2_000, "(", "3 OpenBracket line 1"),
 ];
 
 #[test]
 fn words_have_a_limit(rt: HostRuntime) -> Result<(), Fail> {
-    for (front, piece, times, fault) in LONG {
-        let mut net = Vec::from_slice(rt.alloc(), front)?;
-        net.extend_from_slice(repeated(rt.alloc(), piece, *times)?.as_slice())?;
+    for (front, piece, times, end, fault) in LONG {
+        let mut net = Vec::from_slice(rt.alloc(), front.as_bytes())?;
+        net.extend_from_slice(repeated(rt.alloc(), piece.as_bytes(), *times)?.as_slice())?;
+        net.extend_from_slice(end.as_bytes())?;
         is_refused(&rt, rt.alloc(), net.as_slice(), fault)?;
     }
     Ok(())
@@ -257,6 +351,16 @@ fn long_table(alloc: Global, rows: usize) -> Result<Vec<u8>, Fail> {
     Ok(text)
 }
 
+/// A model of so many inputs.
+fn many_inputs(alloc: Global, count: u64) -> Result<Vec<u8>, Fail> {
+    let mut text = Vec::from_slice(alloc, b".model m\n.inputs")?;
+    for input in 0..count {
+        text.extend_from_slice(format!(in alloc; " {input}")?.as_bytes())?;
+    }
+    text.extend_from_slice(b"\n.end\n")?;
+    Ok(text)
+}
+
 /// The network, which is at a limit, is written as it stands, with so many literals.
 fn is_kept(rt: &impl Abort, alloc: Global, net: Vec<u8>, literals: usize) -> Result<(), Fail> {
     let notes = format!(in alloc; "# done {literals} {literals}\n")?;
@@ -279,4 +383,10 @@ fn networks_have_limits(rt: HostRuntime) -> Result<(), Fail> {
     is_past(&rt, alloc, wide_table(alloc, 256)?, columns)?;
     let lines = "21 Limit line 65541 TableLines 65537";
     is_past(&rt, alloc, long_table(alloc, 65_537)?, lines)
+}
+
+#[test]
+fn a_network_has_a_limit_of_nets(rt: HostRuntime) -> Result<(), Fail> {
+    let net = many_inputs(rt.alloc(), 200_001)?;
+    is_past(&rt, rt.alloc(), net, "35 Limit Nets 200001")
 }

@@ -1,5 +1,7 @@
 //! What is written of networks, and what is noted.
-use super::{INVERTER, KEPT, NOTED, UNREAD, ends, opt, written};
+use super::{INVERTER, KEPT, UNREAD, ends, is_case, opt, text_of, written};
+use std::alloc::Global;
+use std::process::Abort;
 use std::test::Fail;
 
 #[test]
@@ -19,60 +21,60 @@ fn a_script_may_say_nothing(rt: HostRuntime) -> Result<(), Fail> {
     Ok(())
 }
 
+/// A network file, what is written of it, and what the notes say.
+#[derive(Drop)]
+struct Case {
+    net: Vec<u8>,
+    text: Vec<u8>,
+    notes: Vec<u8>,
+}
+
+/// A line of a table as a case, whose parts stand between bars.
+fn case_of(alloc: Global, line: &str) -> Result<Case, Fail> {
+    let (net, rest) = line.split_once(" | ").ok_or("a case of one part")?;
+    let (text, notes) = rest.split_once(" | ").ok_or("a case of two parts")?;
+    Ok(Case {
+        net: text_of(alloc, net)?,
+        text: text_of(alloc, text)?,
+        notes: text_of(alloc, notes)?,
+    })
+}
+
+/// The script makes of each network file what its case says.
+pub fn are_written(rt: &impl Abort, alloc: Global, script: &[u8], cases: &str) -> Result<(), Fail> {
+    for line in cases.lines() {
+        if is_case(line) {
+            let case = case_of(alloc, line)?;
+            let end = written(case.text.as_slice(), case.notes.as_slice());
+            ends(rt, alloc, opt(case.net.as_slice(), script), end)?;
+        }
+    }
+    Ok(())
+}
+
 /// Networks, and what `drop` leaves and notes of each.
-const DROPPED: &[(&[u8], &[u8], &[u8])] = &[
-    // A net that nobody reads goes.
-    (UNREAD, KEPT, NOTED),
-    // A partial table stays: where it allows nothing the network allows nothing.
-    (
-        b".model d\n.inputs a\n.outputs z\n.table a -> z\n0 1\n1 0\n.table a -> d\n0 0\n.end\n",
-        b".model d\n.inputs a\n.outputs z\n.table a -> z\n0 1\n1 0\n.table a -> d\n0 0\n.end\n",
-        b"# begin drop\n# end 3\n# done 3 3\n",
-    ),
-    // A net that a partial table reads stays with it.
-    (
-        b".model d\n.inputs a\n.outputs\n.table a -> c\n0 1\n1 0\n.table c -> d\n0 0\n.end\n",
-        b".model d\n.inputs a\n.outputs\n.table a -> c\n0 1\n1 0\n.table c -> d\n0 0\n.end\n",
-        b"# begin drop\n# end 3\n# done 3 3\n",
-    ),
-    // The least goes first, and behind it what it alone read, also where that stands before it.
-    (
-        b".model d\n.inputs a\n.outputs z\n.table a -> z\n0 1\n1 0\n.table a -> c\n0 1\n1 0\n.table c -> d\n0 1\n1 0\n.table -> e\n-\n.end\n",
-        KEPT,
-        b"# begin drop\nremove d\nremove c\nremove e\n# end 2\n# done 6 2\n",
-    ),
-    // What it read may stand behind it too.
-    (
-        b".model d\n.inputs a\n.outputs z\n.table a -> z\n0 1\n1 0\n.table c -> d\n0 1\n1 0\n.table -> e\n-\n.table a -> c\n0 1\n1 0\n.end\n",
-        KEPT,
-        b"# begin drop\nremove d\nremove e\nremove c\n# end 2\n# done 6 2\n",
-    ),
-    // A column that holds only `-` isn't read.
-    (
-        b".model d\n.inputs a\n.outputs z\n.table c a -> z\n- 0 1\n- 1 0\n.table -> c\n1\n.end\n",
-        KEPT,
-        b"# begin drop\nremove c\n# end 2\n# done 2 2\n",
-    ),
-    // Outputs are seen, and inputs have no table.
-    (
-        b".model d\n.inputs a b\n.outputs z b\n.table a -> z\n0 1\n1 0\n.end\n",
-        b".model d\n.inputs a b\n.outputs z b\n.table a -> z\n0 1\n1 0\n.end\n",
-        b"# begin drop\n# end 2\n# done 2 2\n",
-    ),
-    // A table without rows allows nothing.
-    (
-        b".model d\n.inputs\n.outputs\n.table -> c\n.end\n",
-        b".model d\n.inputs\n.outputs\n.table -> c\n.end\n",
-        b"# begin drop\n# end 0\n# done 0 0\n",
-    ),
-];
+const DROPPED: &str = "\
+-- A net that nobody reads goes.
+.model d;.inputs a;.outputs z;.table a -> z;0 1;1 0;.table a -> d;0 0;1 -;.end; | .model d;.inputs a;.outputs z;.table a -> z;0 1;1 0;.end; | # begin drop;remove d;# end 2;# done 4 2;
+-- A partial table stays: where it allows nothing the network allows nothing.
+.model d;.inputs a;.outputs z;.table a -> z;0 1;1 0;.table a -> d;0 0;.end; | .model d;.inputs a;.outputs z;.table a -> z;0 1;1 0;.table a -> d;0 0;.end; | # begin drop;# end 3;# done 3 3;
+-- A net that a partial table reads stays with it.
+.model d;.inputs a;.outputs;.table a -> c;0 1;1 0;.table c -> d;0 0;.end; | .model d;.inputs a;.outputs;.table a -> c;0 1;1 0;.table c -> d;0 0;.end; | # begin drop;# end 3;# done 3 3;
+-- The least goes first, and behind it what it alone read, also where that stands before it.
+.model d;.inputs a;.outputs z;.table a -> z;0 1;1 0;.table a -> c;0 1;1 0;.table c -> d;0 1;1 0;.table -> e;-;.end; | .model d;.inputs a;.outputs z;.table a -> z;0 1;1 0;.end; | # begin drop;remove d;remove c;remove e;# end 2;# done 6 2;
+-- What it read may stand behind it too.
+.model d;.inputs a;.outputs z;.table a -> z;0 1;1 0;.table c -> d;0 1;1 0;.table -> e;-;.table a -> c;0 1;1 0;.end; | .model d;.inputs a;.outputs z;.table a -> z;0 1;1 0;.end; | # begin drop;remove d;remove e;remove c;# end 2;# done 6 2;
+-- A column that holds only `-` isn't read.
+.model d;.inputs a;.outputs z;.table c a -> z;- 0 1;- 1 0;.table -> c;1;.end; | .model d;.inputs a;.outputs z;.table a -> z;0 1;1 0;.end; | # begin drop;remove c;# end 2;# done 2 2;
+-- Outputs are seen, and inputs have no table.
+.model d;.inputs a b;.outputs z b;.table a -> z;0 1;1 0;.end; | .model d;.inputs a b;.outputs z b;.table a -> z;0 1;1 0;.end; | # begin drop;# end 2;# done 2 2;
+-- A table without rows allows nothing.
+.model d;.inputs;.outputs;.table -> c;.end; | .model d;.inputs;.outputs;.table -> c;.end; | # begin drop;# end 0;# done 0 0;
+";
 
 #[test]
 fn drop_removes_what_nobody_sees_or_reads(rt: HostRuntime) -> Result<(), Fail> {
-    for (net, left, noted) in DROPPED {
-        ends(&rt, rt.alloc(), opt(net, b"drop"), written(left, noted))?;
-    }
-    Ok(())
+    are_written(&rt, rt.alloc(), b"drop", DROPPED)
 }
 
 #[test]
@@ -86,150 +88,105 @@ fn each_command_notes_its_part(rt: HostRuntime) -> Result<(), Fail> {
 }
 
 /// Network files, what is written of them, and what the notes say.
-const WRITTEN: &[(&[u8], &[u8], &[u8])] = &[
-    // Blanks go, and columns stand in the order of the nets.
-    (
-        b" .model\tm \r\n\n.inputs b a\n.outputs z\n.table y ->  z\n1 0\n0 1\n.table a b -> y\n1 - 1\n0 0 0\n.table -> c\n1\n.end",
-        b".model m\n.inputs b a\n.outputs z\n.table y -> z\n1 0\n0 1\n.table b a -> y\n- 1 1\n0 0 0\n.table -> c\n1\n.end\n",
-        b"# done 5 5\n",
-    ),
-    // Names may have brackets and backslashes inside.
-    (
-        b".model m{1}\n.inputs a(b a\\b x{1} )\n.outputs \\z\n.table a(b a\\b x{1} ) -> \\z\n1 0 1 1 0\n.end\n",
-        b".model m{1}\n.inputs a(b a\\b x{1} )\n.outputs \\z\n.table a(b a\\b x{1} ) -> \\z\n1 0 1 1 0\n.end\n",
-        b"# done 4 4\n",
-    ),
-    // Names of nets may be digits, entries are turned round, and a table may have a default.
-    (
-        b".model t\n.inputs a 7\n.outputs z\n.mv a, 7 3\n.table a 7 -> z\n2 !2 1\n.default 0\n.end\n",
-        b".model t\n.inputs a 7\n.outputs z\n.mv a 3\n.mv 7 3\n.table a 7 -> z\n.default 0\n2 (0,1) 1\n.end\n",
-        b"# done 2 2\n",
-    ),
-    // A partial table below a default.
-    (
-        b".model x\n.inputs a\n.outputs z\n.table a -> x\n0 1\n.table x -> z\n.default 1\n0 0\n.end\n",
-        b".model x\n.inputs a\n.outputs z\n.table a -> x\n0 1\n.table x -> z\n.default 1\n0 0\n.end\n",
-        b"# done 2 2\n",
-    ),
-    // Two columns of one net: a row that asks both values of it vanishes.
-    (
-        b".model m\n.inputs a\n.outputs z\n.table a a -> z\n0 1 1\n- 1 1\n0 0 0\n.end\n",
-        b".model m\n.inputs a\n.outputs z\n.table a -> z\n1 1\n0 0\n.end\n",
-        b"# done 2 2\n",
-    ),
-    // Ranges and names with hyphens.
-    (
-        b".model v\n.inputs s\n.outputs z\n.mv s 4 a b a-b c\n.table s -> z\n{a-b} 1\n{a-c} 0\n!{ a-b , c } (0,1)\n.end\n",
-        b".model v\n.inputs s\n.outputs z\n.mv s 4 a b a-b c\n.table s -> z\na-b 1\n- 0\n(a,b) -\n.end\n",
-        b"# done 2 2\n",
-    ),
-    // A default that names a column needs a mark.
-    (
-        b".model d\n.inputs a b\n.outputs z\n.table a b -> z\n1 - 1\n.default =b\n.end\n",
-        b".model d\n.inputs a b\n.outputs z\n.table a -> _m1\n.default 1\n1 0\n.table a b _m1 -> z\n1 - - 1\n- 0 1 0\n- 1 1 1\n.end\n",
-        b"# done 6 6\n",
-    ),
-    // The mark has the first number whose name is free.
-    (
-        b".model d\n.inputs _m1 b\n.outputs z\n.table _m1 b -> z\n1 - 1\n.default =b\n.end\n",
-        b".model d\n.inputs _m1 b\n.outputs z\n.table _m1 -> _m2\n.default 1\n1 0\n.table _m1 b _m2 -> z\n1 - - 1\n- 0 1 0\n- 1 1 1\n.end\n",
-        b"# done 6 6\n",
-    ),
-    // A row that says no value takes the default away where it matches.
-    (
-        b".model d\n.inputs a\n.outputs z\n.table a -> z\n.default 1\n0 !-\n.end\n",
-        b".model d\n.inputs a\n.outputs z\n.table a -> _m1\n.default 1\n0 0\n.table _m1 -> z\n1 1\n.end\n",
-        b"# done 2 2\n",
-    ),
-    // So it needs no mark where it always matches: nothing is allowed then.
-    (
-        b".model d\n.inputs a\n.outputs z\n.table a -> z\n.default 1\n- !-\n.end\n",
-        b".model d\n.inputs a\n.outputs z\n.table -> z\n.end\n",
-        b"# done 0 0\n",
-    ),
-    // A default beside a row without literals goes.
-    (
-        b".model d\n.inputs a\n.outputs z\n.table a -> z\n.default 1\n- 0\n.end\n",
-        b".model d\n.inputs a\n.outputs z\n.table -> z\n0\n.end\n",
-        b"# done 0 0\n",
-    ),
-    // Two tables give the value of one input.
-    (
-        b".model e\n.inputs a\n.outputs p q\n.mv a, p, q 3\n.table a -> p\n- =a\n.table a -> q\n(1,2) =a\n.end\n",
-        b".model e\n.inputs a\n.outputs p q\n.mv a 3\n.mv p 3\n.mv q 3\n.table a -> p\n0 0\n1 1\n2 2\n.table a -> q\n1 1\n2 2\n.end\n",
-        b"# done 5 5\n",
-    ),
-    // Values are matched by position, whatever their names.
-    (
-        b".model e\n.inputs a\n.outputs z\n.mv a 2 x y\n.mv z 2 y x\n.table a -> z\n- =a\n.end\n",
-        b".model e\n.inputs a\n.outputs z\n.mv a 2 x y\n.mv z 2 y x\n.table a -> z\nx y\ny x\n.end\n",
-        b"# done 2 2\n",
-    ),
-    // A net of one value: its full set is written `-`.
-    (
-        b".model o\n.inputs a\n.outputs z\n.mv a 1\n.mv z 1 only\n.table a -> z\n0 only\n.end\n",
-        b".model o\n.inputs a\n.outputs z\n.mv a 1\n.mv z 1 only\n.table -> z\n-\n.end\n",
-        b"# done 0 0\n",
-    ),
-    // Names as strange as they may be.
-    (
-        b".model m-1\n.inputs - = !a 7 a=b\n.outputs 0 -\n.mv = 3 x-y * <1>\n.table - = -> 0\n0 x-y 1\n1 (*,<1>) 0\n.end\n",
-        b".model m-1\n.inputs - = !a 7 a=b\n.outputs 0 -\n.mv = 3 x-y * <1>\n.table - = -> 0\n0 x-y 1\n1 (*,<1>) 0\n.end\n",
-        b"# done 4 4\n",
-    ),
-    // Values that are spelled out and are the numbers from 0 aren't written.
-    (
-        b".model n\n.inputs a b\n.outputs\n.mv a 3 0 1 2\n.mv b 2 0 1\n.end\n",
-        b".model n\n.inputs a b\n.outputs\n.mv a 3\n.end\n",
-        b"# done 0 0\n",
-    ),
-    // Lines may be left out, and a table's output may stand last without an arrow.
-    (
-        b".model m\n.inputs a\n.outputs z\n.names a z\n.def 0\n1 1\n.end\n",
-        b".model m\n.inputs a\n.outputs z\n.table a -> z\n.default 0\n1 1\n.end\n",
-        b"# done 1 1\n",
-    ),
-    // A table without rows, and no ports.
-    (
-        b".model m\n.table -> z\n.end\n",
-        b".model m\n.inputs\n.outputs\n.table -> z\n.end\n",
-        b"# done 0 0\n",
-    ),
-];
+const WRITTEN: &str = "\
+-- Blanks go, and columns stand in the order of the nets.
+ .model\tm \r;;.inputs b a;.outputs z;.table y ->  z;1 0;0 1;.table a b -> y;1 - 1;0 0 0;.table -> c;1;.end | .model m;.inputs b a;.outputs z;.table y -> z;1 0;0 1;.table b a -> y;- 1 1;0 0 0;.table -> c;1;.end; | # done 5 5;
+-- Names may have brackets and backslashes inside.
+.model m{1};.inputs a(b a\\b x{1} );.outputs \\z;.table a(b a\\b x{1} ) -> \\z;1 0 1 1 0;.end; | .model m{1};.inputs a(b a\\b x{1} );.outputs \\z;.table a(b a\\b x{1} ) -> \\z;1 0 1 1 0;.end; | # done 4 4;
+-- Names of nets may be digits, entries are turned round, and a table may have a default.
+.model t;.inputs a 7;.outputs z;.mv a, 7 3;.table a 7 -> z;2 !2 1;.default 0;.end; | .model t;.inputs a 7;.outputs z;.mv a 3;.mv 7 3;.table a 7 -> z;.default 0;2 (0,1) 1;.end; | # done 2 2;
+-- A partial table below a default.
+.model x;.inputs a;.outputs z;.table a -> x;0 1;.table x -> z;.default 1;0 0;.end; | .model x;.inputs a;.outputs z;.table a -> x;0 1;.table x -> z;.default 1;0 0;.end; | # done 2 2;
+-- Two columns of one net: a row that asks both values of it vanishes.
+.model m;.inputs a;.outputs z;.table a a -> z;0 1 1;- 1 1;0 0 0;.end; | .model m;.inputs a;.outputs z;.table a -> z;1 1;0 0;.end; | # done 2 2;
+-- Ranges and names with hyphens.
+.model v;.inputs s;.outputs z;.mv s 4 a b a-b c;.table s -> z;{a-b} 1;{a-c} 0;!{ a-b , c } (0,1);.end; | .model v;.inputs s;.outputs z;.mv s 4 a b a-b c;.table s -> z;a-b 1;- 0;(a,b) -;.end; | # done 2 2;
+-- A default that names a column needs a mark.
+.model d;.inputs a b;.outputs z;.table a b -> z;1 - 1;.default =b;.end; | .model d;.inputs a b;.outputs z;.table a -> _m1;.default 1;1 0;.table a b _m1 -> z;1 - - 1;- 0 1 0;- 1 1 1;.end; | # done 6 6;
+-- The mark has the first number whose name is free.
+.model d;.inputs _m1 b;.outputs z;.table _m1 b -> z;1 - 1;.default =b;.end; | .model d;.inputs _m1 b;.outputs z;.table _m1 -> _m2;.default 1;1 0;.table _m1 b _m2 -> z;1 - - 1;- 0 1 0;- 1 1 1;.end; | # done 6 6;
+-- A row that says no value takes the default away where it matches.
+.model d;.inputs a;.outputs z;.table a -> z;.default 1;0 !-;.end; | .model d;.inputs a;.outputs z;.table a -> _m1;.default 1;0 0;.table _m1 -> z;1 1;.end; | # done 2 2;
+-- So it needs no mark where it always matches: nothing is allowed then.
+.model d;.inputs a;.outputs z;.table a -> z;.default 1;- !-;.end; | .model d;.inputs a;.outputs z;.table -> z;.end; | # done 0 0;
+-- A default beside a row without literals goes.
+.model d;.inputs a;.outputs z;.table a -> z;.default 1;- 0;.end; | .model d;.inputs a;.outputs z;.table -> z;0;.end; | # done 0 0;
+-- Two tables give the value of one input.
+.model e;.inputs a;.outputs p q;.mv a, p, q 3;.table a -> p;- =a;.table a -> q;(1,2) =a;.end; | .model e;.inputs a;.outputs p q;.mv a 3;.mv p 3;.mv q 3;.table a -> p;0 0;1 1;2 2;.table a -> q;1 1;2 2;.end; | # done 5 5;
+-- Values are matched by position, whatever their names.
+.model e;.inputs a;.outputs z;.mv a 2 x y;.mv z 2 y x;.table a -> z;- =a;.end; | .model e;.inputs a;.outputs z;.mv a 2 x y;.mv z 2 y x;.table a -> z;x y;y x;.end; | # done 2 2;
+-- A net of one value: its full set is written `-`.
+.model o;.inputs a;.outputs z;.mv a 1;.mv z 1 only;.table a -> z;0 only;.end; | .model o;.inputs a;.outputs z;.mv a 1;.mv z 1 only;.table -> z;-;.end; | # done 0 0;
+-- Names as strange as they may be.
+.model m-1;.inputs - = !a 7 a=b;.outputs 0 -;.mv = 3 x-y * <1>;.table - = -> 0;0 x-y 1;1 (*,<1>) 0;.end; | .model m-1;.inputs - = !a 7 a=b;.outputs 0 -;.mv = 3 x-y * <1>;.table - = -> 0;0 x-y 1;1 (*,<1>) 0;.end; | # done 4 4;
+-- Values that are spelled out and are the numbers from 0 aren't written.
+.model n;.inputs a b;.outputs;.mv a 3 0 1 2;.mv b 2 0 1;.end; | .model n;.inputs a b;.outputs;.mv a 3;.end; | # done 0 0;
+-- Lines may be left out, and a table's output may stand last without an arrow.
+.model m;.inputs a;.outputs z;.names a z;.def 0;1 1;.end; | .model m;.inputs a;.outputs z;.table a -> z;.default 0;1 1;.end; | # done 1 1;
+-- A table without rows, and no ports.
+.model m;.table -> z;.end; | .model m;.inputs;.outputs;.table -> z;.end; | # done 0 0;
+-- Each mark has the first number whose name is free, behind the marks before it.
+.model m;.inputs _m1 _m3;.outputs z y;.table _m1 -> y;1 1;.default =_m1;.table _m1 -> z;0 0;.default =_m1;.end; | .model m;.inputs _m1 _m3;.outputs z y;.table _m1 -> _m2;.default 1;1 0;.table _m1 _m2 -> y;1 - 1;0 1 0;1 1 1;.table _m1 -> _m4;.default 1;0 0;.table _m1 _m4 -> z;0 - 0;0 1 0;1 1 1;.end; | # done 12 12;
+-- A mark's table has each cube once, also where the rows differ in their output.
+.model m;.inputs a b;.outputs z;.table a b -> z;1 - 0;1 - 1;.default =b;.end; | .model m;.inputs a b;.outputs z;.table a -> _m1;.default 1;1 0;.table a b _m1 -> z;1 - - 0;1 - - 1;- 0 1 0;- 1 1 1;.end; | # done 7 7;
+-- A row that says no value takes a default that names a column away where it matches.
+.model m;.inputs a;.outputs z;.table a -> z;0 !-;.default =a;.end; | .model m;.inputs a;.outputs z;.table a -> _m1;.default 1;0 0;.table a _m1 -> z;0 1 0;1 1 1;.end; | # done 5 5;
+-- A default beside a row without literals goes, and with it the need of a mark.
+.model m;.inputs a;.outputs z;.table a -> z;- 1;0 0;.default =a;.end; | .model m;.inputs a;.outputs z;.table a -> z;- 1;0 0;.end; | # done 1 1;
+-- A default that says no value is none, and then a row that says none goes.
+.model m;.inputs a;.outputs z;.table a -> z;0 !-;1 1;.default !-;.end; | .model m;.inputs a;.outputs z;.table a -> z;1 1;.end; | # done 1 1;
+-- Rows that are equal once columns of one net are met are written once, the first kept.
+.model m;.inputs a;.outputs z;.mv a 3;.table a a -> z;(0,1) (1,2) 1;2 - 0;- 1 1;.default -;.end; | .model m;.inputs a;.outputs z;.mv a 3;.table a -> z;.default -;1 1;2 0;.end; | # done 2 2;
+-- A row that names a column has a row for each value that both of its columns may have.
+.model m;.inputs a b;.outputs z;.mv a b z 3;.table a b a -> z;(0,1) 2 (1,2) =a;!0 - !1 =b;.end; | .model m;.inputs a b;.outputs z;.mv a 3;.mv b 3;.mv z 3;.table a b -> z;1 2 1;2 0 0;2 1 1;2 2 2;.end; | # done 8 8;
+-- Names of values are written unless they are the numbers from 0.
+.model m;.inputs a b;.outputs z;.mv z 2 no yes;.mv a 3 0 1 2;.mv b 1 0;.table a b -> z;!1 0 yes;1 - no;.end; | .model m;.inputs a b;.outputs z;.mv a 3;.mv b 1;.mv z 2 no yes;.table a -> z;(0,2) yes;1 no;.end; | # done 2 2;
+-- A default of several values stands in brackets.
+.model d;.inputs k;.outputs z;.mv k 1;.mv z 3;.table -> z;.default (0,2);.end; | .model d;.inputs k;.outputs z;.mv k 1;.mv z 3;.table -> z;.default (0,2);.end; | # done 0 0;
+-- An input may be an output too, and a default may name the only column.
+.model m;.inputs a;.outputs a z;.table a a -> z;.default =a;.end; | .model m;.inputs a;.outputs a z;.table -> _m1;.default 1;.table a _m1 -> z;0 1 0;1 1 1;.end; | # done 4 4;
+-- Commas may stand between names, and a net may be declared again in the same way.
+.model m;.inputs a b;.outputs;.mv a , b 3 x , y,z ,;.mv a b 3 x,y,z;.mv a a 03 x y z;.end; | .model m;.inputs a b;.outputs;.mv a 3 x y z;.mv b 3 x y z;.end; | # done 0 0;
+-- A net may have 128 values.
+.model m;.inputs a;.outputs;.mv a 128;.end; | .model m;.inputs a;.outputs;.mv a 128;.end; | # done 0 0;
+-- Each form of an entry.
+.model w;.inputs x y;.outputs z;.mv x 5 a b a-b c d;.mv y 18;.table x y -> z;- 0 1;a 1 1;d 2 1;a-b 3 1;!a 4 1;!!a 5 1;!!- 6 1;(a) 7 1;{a,c} 8 1;( c , a,c ) 9 1;{b-c} 10 1;{a-b-c} 11 1;{a-a-b} 12 1;{a-b} 13 1;{b-b} 14 1;!{a-b,c} 15 1;!!(b,d) 16 1;!- 17 1;.end; | .model w;.inputs x y;.outputs z;.mv x 5 a b a-b c d;.mv y 18;.table x y -> z;- 0 1;a 1 1;d 2 1;a-b 3 1;(b,a-b,c,d) 4 1;a 5 1;- 6 1;a 7 1;(a,c) 8 1;(a,c) 9 1;(b,a-b,c) 10 1;(a-b,c) 11 1;(a,b,a-b) 12 1;a-b 13 1;b 14 1;(a,b,d) 15 1;(b,d) 16 1;.end; | # done 32 32;
+";
 
 #[test]
 fn values_sets_and_defaults_are_written_in_one_form(rt: HostRuntime) -> Result<(), Fail> {
-    for (net, text, noted) in WRITTEN {
-        ends(&rt, rt.alloc(), opt(net, b""), written(text, noted))?;
-    }
-    Ok(())
+    are_written(&rt, rt.alloc(), b"", WRITTEN)
 }
 
 #[test]
 fn what_was_written_is_written_again_as_it_is(rt: HostRuntime) -> Result<(), Fail> {
-    for (_net, text, noted) in WRITTEN {
-        ends(&rt, rt.alloc(), opt(text, b""), written(text, noted))?;
+    for line in WRITTEN.lines() {
+        if is_case(line) {
+            let case = case_of(rt.alloc(), line)?;
+            let end = written(case.text.as_slice(), case.notes.as_slice());
+            ends(&rt, rt.alloc(), opt(case.text.as_slice(), b""), end)?;
+        }
     }
     Ok(())
 }
 
 /// The inverter's file with comments, joined lines, carriage returns and blanks.
-const DRESSED: &[&[u8]] = &[
-    b"# an inverter\n.model inv\n.inputs a # in\n.outputs z#out\n.table a -> z\n0 1\n1 0\n.end\n#",
-    b".model inv\n.inputs a\n.outputs z\n.table a -> z\n0 1 # \x80 \x00 (\n1 0\n.end # \xff",
-    b".model \\\ninv\n.inputs \\\n\\\na\n.outputs z\n.table a\\\n-> z\n0 1\n1\\\n0\n.end\\",
-    b".model inv\r\n.inputs a\r\n.outputs z\r\n.table a -> z\r\n0 1\r\n1 0\r\n.end\r\n",
-    b".model inv\n.inputs\\\r\na\n.outputs z\n.table a\r-> z\n0 1\n1 0\n.end\\\r",
-    b"\n\n \t\n.model inv\n\n.inputs\ta\n.outputs  z\n.table a -> z\n 0 1 \n1 0\n\n.end\n\n",
-    b".model inv\n.inputs a#\\\n.outputs z\n.table a -> z\n0 1\n1 0\n.end",
-    b"\\\n.model inv\n.inputs a\n# \\\n.outputs z\n.table a -> z\n0 1\n1 0\n.end\n",
-];
+const DRESSED: &str = "\
+# an inverter;.model inv;.inputs a # in;.outputs z#out;.table a -> z;0 1;1 0;.end;#
+.model inv;.inputs a;.outputs z;.table a -> z;0 1 # \u{80} \0 (;1 0;.end # \u{80}
+.model \\;inv;.inputs \\;\\;a;.outputs z;.table a\\;-> z;0 1;1\\;0;.end\\
+.model inv\r;.inputs a\r;.outputs z\r;.table a -> z\r;0 1\r;1 0\r;.end\r;
+.model inv;.inputs\\\r;a;.outputs z;.table a\r-> z;0 1;1 0;.end\\\r
+;; \t;.model inv;;.inputs\ta;.outputs  z;.table a -> z; 0 1 ;1 0;;.end;;
+.model inv;.inputs a#\\;.outputs z;.table a -> z;0 1;1 0;.end
+\\;.model inv;.inputs a;# \\;.outputs z;.table a -> z;0 1;1 0;.end;";
 
 #[test]
 fn comments_and_joined_lines_mean_nothing(rt: HostRuntime) -> Result<(), Fail> {
     let end = written(INVERTER, b"# done 2 2\n");
-    for net in DRESSED {
-        ends(&rt, rt.alloc(), opt(net, b""), end)?;
+    for line in DRESSED.split('\n') {
+        let net = text_of(rt.alloc(), line)?;
+        ends(&rt, rt.alloc(), opt(net.as_slice(), b""), end)?;
     }
     Ok(())
 }

@@ -1,12 +1,14 @@
 -- The walk passes what the other cube doesn't ask for, and stops at what this one lacks.
 use Rattle.std.proofs.Common.{◌∙◌, sym, arith}
 use Rattle.std.proofs.lemmas.Bool.{false≢true}
-use Rattle.mv_cover.proofs.Inclusion.{walked_none, walked_first, walked_both, walked_missing, walked_apart, walked_end}
+use Rattle.mv_cover.specs.Containing.{lies_in}
+use Rattle.mv_cover.proofs.Walking.{walked_none}
+use Rattle.mv_cover.proofs.Inclusion.{walked_first, walked_both, walked_missing, walked_apart, walked_end}
 use Rattle.mv_cover.proofs.contain.all_lie_in.Goals as goal
 use Rattle.mv_cover.proofs.contain.all_lie_in.Goals.{then-walk-test+else-j-b, else-walk-test}
 
 pub walk-init : goal.walk-init
-walk-init c = walked_none c.args.a.now c.args.b.now c.requires.first c.requires.second
+walk-init c = walked_none lies_in c.args.a.now c.args.b.now c.requires.first c.requires.second
 
 pub walk-preserved-then-inner-outer : goal.walk-preserved-then-inner-outer
 walk-preserved-then-inner-outer c =

@@ -2,8 +2,8 @@
 use Rattle.std.proofs.Common.{◌≡◌, ◌<◌, ◌∙◌, get_or, arith, subst, sym}
 use Rattle.mv_cover.specs.declared.covers.Choice.{Choice}
 use Rattle.mv_cover.specs.declared.covers.Choice.TheVariants.{Nowhere, On}
-use Rattle.mv_cover.specs.Cofactors.{literals_in, cofactor_of, IsChoice}
-use Rattle.mv_cover.proofs.Covering.{missed_by_none, part_within, part_smaller, part_covered, part_missed}
+use Rattle.mv_cover.specs.Cofactors.{cofactor_of, IsChoice}
+use Rattle.mv_cover.proofs.Covering.{literals_of_cubes, missed_by_none, part_within, part_smaller, part_covered, part_missed}
 use Rattle.mv_cover.proofs.ValueClasses.{settled_none, settled_known, settled_more}
 use Rattle.mv_cover.proofs.covers.+covers.Goals as goal
 
@@ -16,7 +16,7 @@ pub covers-requires : goal.covers-requires
 covers-requires t c =
     let same : c.as_slice.result.now ≡ cofactor_of c.in-On.net.0 c.loop-value.value c.args.cubes.now = c.as_slice.ensures ∙ c.in_ok-part.ensures in
     let read : IsChoice (On c.in-On.net) c.args.cubes.now = subst (λ (w : Choice). IsChoice w c.args.cubes.now) c.in-On.is c.in_ok-choice.ensures in
-    let less : literals_in c.as_slice.result.now < literals_in c.args.cubes.now = part_smaller c.as_slice.result.now c.args.cubes.now c.in-On.net.0 c.loop-value.value same read in
+    let less : literals_of_cubes c.as_slice.result.now < literals_of_cubes c.args.cubes.now = part_smaller c.as_slice.result.now c.args.cubes.now c.in-On.net.0 c.loop-value.value same read in
     (omega arith, part_within c.args.counts.now c.as_slice.result.now c.args.cubes.now c.in-On.net.0 c.loop-value.value same c.requires)
 
 pub returns-then-not-branch : goal.returns-then-not-branch

@@ -1,10 +1,12 @@
 -- The walk leaves out what no literal of the other cube meets.
 use Rattle.std.proofs.Common.{◌∙◌, sym, arith}
-use Rattle.mv_cover.proofs.Meeting.{walked_none, walked_first, walked_second, walked_both, walked_all_first, walked_all_second, lits_meet_test}
+use Rattle.mv_cover.specs.Overlap.{cubes_meet}
+use Rattle.mv_cover.proofs.Walking.{walked_none}
+use Rattle.mv_cover.proofs.Meeting.{walked_first, walked_second, walked_both, walked_all_first, walked_all_second, lits_meet_test}
 use Rattle.mv_cover.proofs.overlap.meet.Goals as goal
 
 pub walk-init : goal.walk-init
-walk-init c = walked_none c.args.a.now c.args.b.now c.requires.first c.requires.second
+walk-init c = walked_none cubes_meet c.args.a.now c.args.b.now c.requires.first c.requires.second
 
 pub walk-preserved-then-first-second : goal.walk-preserved-then-first-second
 walk-preserved-then-first-second c =

@@ -1,9 +1,10 @@
 use Rattle.std.proofs.Common.{length, ◌-◌, ◌+◌}
-use Rattle.mv_cover.proofs.Meeting.{Walked}
+use Rattle.mv_cover.specs.Overlap.{cubes_meet}
+use Rattle.mv_cover.proofs.Walking.{Walked}
 use Rattle.mv_cover.proofs.overlap.meet.Given as goal
 
 abbrev pub invariant-walk : goal.invariant-walk
-invariant-walk l = Walked l.a l.b l.i l.j
+invariant-walk l = Walked cubes_meet l.a l.b l.i l.j
 
 abbrev pub decreases-walk : goal.decreases-walk
 decreases-walk l = (length l.a - l.i) + (length l.b - l.j)

@@ -11,8 +11,8 @@ returns-clause-said c net e =
     let values = c.args.values.now in
     let nets = c.args.nets.now in
     let none : redeclared_faults c.args.line ds values nets ≡ [] = ap (λ v. redeclared_faults c.args.line ds v nets) (sym c.as_slice.ensures) ∙ c.in_ok-check_known.ensures in
-    ap (λ x. values_of x net) c.in_ok-declare_all.ensures ∙ said_line c.args.line ds values nets net none e
+    ap (λ x. values_of x net) c.in_ok-declare_all.ensures.ok ∙ said_line c.args.line ds values nets net none e
 
 pub returns-clause-kept : goal.returns-clause-kept
 returns-clause-kept c net e =
-    ap (λ x. values_of x net) c.in_ok-declare_all.ensures ∙ kept_line c.args.nets.now c.args.values.now c.args.decls.now net e
+    ap (λ x. values_of x net) c.in_ok-declare_all.ensures.ok ∙ kept_line c.args.nets.now c.args.values.now c.args.decls.now net e

@@ -4,7 +4,7 @@ use Rattle.mv_diagram.specs.Sound.{order, first}
 use Rattle.mv_diagram.specs.Results.{result_of}
 use Rattle.mv_diagram.proofs.Following.{order-lt}
 use Rattle.mv_diagram.proofs.Applying.{result_at_once, result_end, result_lacks_yes, result_lacks_no}
-use Rattle.mv_diagram.proofs.Tables.{Adds-same, Adds-more, table_held, table_first, table_parted, table_result}
+use Rattle.mv_diagram.proofs.Tables.{AddsNodes-same, AddsNodes-more, table_held, table_first, table_parted, table_result}
 use Rattle.mv_diagram.proofs.Adding.{from_yes, from_both}
 use Rattle.mv_diagram.proofs.apply.+apply.Goals as goal
 
@@ -52,12 +52,12 @@ apply-requires-2 t c =
     (subst Below c.decreases falls, (adds.sound, (c.apply.ensures.remembers, (table_held old new s adds a_no parted.left.no_held, table_held old new s adds b_no parted.right.no_held))))
 
 pub returns-in-Err-apply-clause-adds : goal.returns-in-Err-apply-clause-adds
-returns-in-Err-apply-clause-adds t c = Adds-more c.args.table.now c.apply.new.table c.apply-2.new.table c.apply.ensures.adds c.apply-2.ensures.adds
+returns-in-Err-apply-clause-adds t c = AddsNodes-more c.args.table.now c.apply.new.table c.apply-2.new.table c.apply.ensures.adds c.apply-2.ensures.adds
 
 pub returns-in-Err-apply-clause-lacking : goal.returns-in-Err-apply-clause-lacking
 returns-in-Err-apply-clause-lacking t c =
     let new = c.apply-2.new.table in
-    let adds = Adds-more c.args.table.now c.apply.new.table new c.apply.ensures.adds c.apply-2.ensures.adds in
+    let adds = AddsNodes-more c.args.table.now c.apply.new.table new c.apply.ensures.adds c.apply-2.ensures.adds in
     result_lacks_no new.counts.items new.pool.places adds.sound c.args.operation _ _ _ _ _ _ _ (table_parted c.args.table.now new c.requires.sound adds _ _ _ _ _ _ _ c.in-Some-part.ensures.some) c.in-Err-apply.ensures.lacking
 
 -- both
@@ -72,14 +72,14 @@ whole-requires-clause-sides t c =
       a_no = c.in-Some-part.at.no.0.0;
       b_yes = c.in-Some-part.at.yes.1.0;
       b_no = c.in-Some-part.at.no.1.0;
-      parted = table_parted c.args.table.now two c.requires.sound (Adds-more c.args.table.now one two c.apply.ensures.adds c.apply-2.ensures.adds) _ _ _ _ _ _ _ c.in-Some-part.ensures.some;
+      parted = table_parted c.args.table.now two c.requires.sound (AddsNodes-more c.args.table.now one two c.apply.ensures.adds c.apply-2.ensures.adds) _ _ _ _ _ _ _ c.in-Some-part.ensures.some;
       yes = table_result one two c.apply.ensures.adds.sound c.apply-2.ensures.adds c.args.operation _ _ c.in-Ok.d.0 c.in-Ok.ensures.ok;
       no = c.in-Ok-apply.ensures.ok;
     })
 
 pub returns-clause-adds : goal.returns-clause-adds
 returns-clause-adds t c =
-    Adds-more c.args.table.now c.apply-2.new.table c.whole.new.table (Adds-more c.args.table.now c.apply.new.table c.apply-2.new.table c.apply.ensures.adds c.apply-2.ensures.adds) c.whole.ensures.adds
+    AddsNodes-more c.args.table.now c.apply-2.new.table c.whole.new.table (AddsNodes-more c.args.table.now c.apply.new.table c.apply-2.new.table c.apply.ensures.adds c.apply-2.ensures.adds) c.whole.ensures.adds
 
 pub returns-clause-lacking : goal.returns-clause-lacking
 returns-clause-lacking t c = rw c.of-key.ensures at c.whole.ensures.lacking
@@ -93,7 +93,7 @@ returns-in-Err-clause-added t c =
     record {
       each = λ d held. elim (c.apply.ensures.added.each d held) [
         | inl was ↦ inl was
-        | inr r ↦ inr (from_yes c.args.operation c.args.table.now new c.requires.sound adds _ _ _ _ _ _ _ c.in-Some-part.ensures.some new adds (Adds-same new adds.sound) d held r)
+        | inr r ↦ inr (from_yes c.args.operation c.args.table.now new c.requires.sound adds _ _ _ _ _ _ _ c.in-Some-part.ensures.some new adds (AddsNodes-same new adds.sound) d held r)
       ];
     }
 
@@ -102,9 +102,9 @@ returns-in-Err-apply-clause-added t c =
     let old = c.args.table.now in
     let one = c.apply.new.table in
     let two = c.apply-2.new.table in
-    let both = Adds-more old one two c.apply.ensures.adds c.apply-2.ensures.adds in
+    let both = AddsNodes-more old one two c.apply.ensures.adds c.apply-2.ensures.adds in
     record {
-      each = from_both c.args.operation old two c.requires.sound both _ _ _ _ _ _ _ c.in-Some-part.ensures.some one two c.apply.ensures.adds c.apply-2.ensures.adds (Adds-same two both.sound) c.apply.ensures.added c.apply-2.ensures.added;
+      each = from_both c.args.operation old two c.requires.sound both _ _ _ _ _ _ _ c.in-Some-part.ensures.some one two c.apply.ensures.adds c.apply-2.ensures.adds (AddsNodes-same two both.sound) c.apply.ensures.added c.apply-2.ensures.added;
     }
 
 pub returns-clause-added : goal.returns-clause-added
@@ -113,11 +113,11 @@ returns-clause-added t c =
     let one = c.apply.new.table in
     let two = c.apply-2.new.table in
     let new = c.whole.new.table in
-    let both = Adds-more old one two c.apply.ensures.adds c.apply-2.ensures.adds in
+    let both = AddsNodes-more old one two c.apply.ensures.adds c.apply-2.ensures.adds in
     record {
       each = λ d held. elim ((rw c.of-key.ensures at c.whole.ensures.added).each d held) [
         | inr r ↦ inr r
-        | inl before ↦ from_both c.args.operation old new c.requires.sound (Adds-more old two new both c.whole.ensures.adds) _ _ _ _ _ _ _ c.in-Some-part.ensures.some one two
+        | inl before ↦ from_both c.args.operation old new c.requires.sound (AddsNodes-more old two new both c.whole.ensures.adds) _ _ _ _ _ _ _ c.in-Some-part.ensures.some one two
             c.apply.ensures.adds c.apply-2.ensures.adds c.whole.ensures.adds c.apply.ensures.added c.apply-2.ensures.added d before
       ];
     }

@@ -5,7 +5,7 @@ use Rattle.mv_diagram.proofs.Literals.{end_of, literal_last, literal_from, lacki
 use Rattle.mv_diagram.proofs.Lacking.{lacking_same}
 use Rattle.mv_diagram.specs.Parts.{AddsParts}
 use Rattle.mv_diagram.proofs.Adding.{parts_none, literal_whole, literal_down, made_parts, made_set}
-use Rattle.mv_diagram.proofs.Tables.{Adds-same, Adds-more}
+use Rattle.mv_diagram.proofs.Tables.{AddsNodes-same, AddsNodes-more}
 use Rattle.mv_diagram.proofs.literal.literal_of.Goals as goal
 
 pub loop-value-init : goal.loop-value-init
@@ -20,7 +20,7 @@ loop-value-init c =
     let end = end_of counts ns c.has.result c.end-rest.result.0 c.end-rest.ensures in
     let last = end.last in
     record {
-      adds = Adds-same c.args.table.now s;
+      adds = AddsNodes-same c.args.table.now s;
       below = omega arith;
       held = end.held;
       later = omega arith;
@@ -37,7 +37,7 @@ loop-value-preserved c =
     let within : c.args.var < length old.counts.items = rw (ap (λ v. v.items) is.adds.counts) c.requires.variable in
     let end = end_of old.counts.items old.pool.places c.has-in-loop-value.result c.end-yes.result.0 c.end-yes.ensures in
     record {
-      adds = Adds-more c.args.table.now old new is.adds adds;
+      adds = AddsNodes-more c.args.table.now old new is.adds adds;
       below = rw (ap (λ v. v.items) adds.counts) (omega (arith, is.below, c.loop-value-test.true));
       held = c.in-Ok.ensures.held;
       later = c.in-Ok.ensures.later;
@@ -46,7 +46,7 @@ loop-value-preserved c =
     }
 
 pub returns-in-Err-clause-adds : goal.returns-in-Err-clause-adds
-returns-in-Err-clause-adds c = Adds-more c.args.table.now c.loop-value.table c.make.new.table c.loop-value.invariant.adds c.make.ensures.adds
+returns-in-Err-clause-adds c = AddsNodes-more c.args.table.now c.loop-value.table c.make.new.table c.loop-value.invariant.adds c.make.ensures.adds
 
 pub returns-in-Err-clause-lacking : goal.returns-in-Err-clause-lacking
 returns-in-Err-clause-lacking c =

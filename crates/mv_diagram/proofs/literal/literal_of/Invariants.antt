@@ -1,14 +1,14 @@
 use Rattle.std.proofs.Common.{◌≡◌, ◌<◌, ◌≤◌, true, slice_index}
 use Rattle.mv_diagram.specs.Sets.{Point, holds, is_held}
 use Rattle.mv_diagram.specs.Sound.{first, order}
-use Rattle.mv_diagram.specs.Works.{Adds}
+use Rattle.mv_diagram.specs.Works.{AddsNodes}
 use Rattle.mv_diagram.specs.Parts.{AddsParts}
 use Rattle.mv_diagram.proofs.Literals.{literal_from}
 use Rattle.mv_diagram.proofs.literal.literal_of.Given as goal
 
 abbrev pub invariant-loop-value : goal.invariant-loop-value
 invariant-loop-value l = record {
-  adds : Adds l.fn.table l.table;
+  adds : AddsNodes l.fn.table l.table;
   below : l.value < slice_index l.table.counts.items l.var;
   held : is_held l.table.pool.places l.rest.0 ≡ true;
   later : order l.var l.value ≤ first l.table.counts.items l.table.pool.places l.rest.0;

@@ -10,8 +10,7 @@ loop-turn-preserved g c =
     let come = come_more _ _ _ _ _ _ _ _ c.loop-turn.invariant.come got (omega (arith, length-take {A = ℕ})) in
     record {
       come = come;
-      stay = stay_passed _ _ _ come.passed;
-      later = omega arith;
+      stay = stay_passed _ _ _ come.passed (omega arith);
     }
 
 pub returns-in-Ok-false-clause-ok : goal.returns-in-Ok-false-clause-ok

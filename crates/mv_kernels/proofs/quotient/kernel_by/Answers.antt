@@ -16,14 +16,14 @@ free_is part first second common third free a b c d e =
 pub returns-then-len-lt2-2-clause-none : goal.returns-then-len-lt2-2-clause-none
 returns-then-len-lt2-2-clause-none c =
     let part = c.in_ok-part.part.items in
-    let is = free_is part c.as_slice.result.now c.as_slice-2.result.now c.in_ok-common.common.items c.as_slice-3.result.now c.in_ok-quotient.field-0.items c.as_slice.ensures.value c.in_ok-common.ensures c.as_slice-2.ensures.value c.as_slice-3.ensures.value c.in_ok-quotient.ensures in
+    let is = free_is part c.as_slice.result.now c.as_slice-2.result.now c.in_ok-common.common.items c.as_slice-3.result.now c.in_ok-quotient.field-0.items c.as_slice.ensures.value c.in_ok-common.ensures c.as_slice-2.ensures.value c.as_slice-3.ensures.value c.in_ok-quotient.ensures.part in
     let same = subst (λ (x : List (List Lit)). SameCubes c.in_order-free.result.items x) is c.in_order-free.ensures.same in
-    subst (λ (x : List (List Lit)). HasOneCube x) c.in_ok-part.ensures (one_behind part c.in_order-free.result.items c.args.cubes.now c.args.symbols.now c.requires c.in_ok-part.ensures same (omega arith))
+    subst (λ (x : List (List Lit)). HasOneCube x) c.in_ok-part.ensures.part (one_behind part c.in_order-free.result.items c.args.cubes.now c.args.symbols.now c.in_ok-part.ensures.formed c.in_ok-part.ensures.part same (omega arith))
 
 pub returns-clause-some : goal.returns-clause-some
 returns-clause-some c =
     let part = c.in_ok-part.part.items in
-    let is = free_is part c.as_slice.result.now c.as_slice-2.result.now c.in_ok-common.common.items c.as_slice-3.result.now c.in_ok-quotient.field-0.items c.as_slice.ensures.value c.in_ok-common.ensures c.as_slice-2.ensures.value c.as_slice-3.ensures.value c.in_ok-quotient.ensures in
+    let is = free_is part c.as_slice.result.now c.as_slice-2.result.now c.in_ok-common.common.items c.as_slice-3.result.now c.in_ok-quotient.field-0.items c.as_slice.ensures.value c.in_ok-common.ensures c.as_slice-2.ensures.value c.as_slice-3.ensures.value c.in_ok-quotient.ensures.part in
     let same = subst (λ (x : List (List Lit)). SameCubes c.in_order-free.result.items x) is c.in_order-free.ensures.same in
     subst (λ (x : List (List Lit)). IsBelow c.args.cubes.now c.args.symbols.now x) (sym c.of.ensures)
-    (below_from c.args.cubes.now c.args.symbols.now part c.in_order-free.result.items c.in_ok-part.ensures same c.in_order-free.ensures.ascending (omega arith))
+    (below_from c.args.cubes.now c.args.symbols.now part c.in_order-free.result.items c.in_ok-part.ensures.part same c.in_order-free.ensures.ascending (omega arith))

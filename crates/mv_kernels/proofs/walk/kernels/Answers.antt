@@ -1,18 +1,12 @@
 -- Each turn puts the kernels below the next one to those found; behind the last one none is missed.
-use Rattle.std.proofs.Common.{◌≡◌, ◌∙◌, List, All, Contains, Some, None, slice_get, subst, sym, ap, arith}
+use Rattle.std.proofs.Common.{◌≡◌, ◌∙◌, List, Contains, Some, None, slice_get, subst, sym, ap, arith}
 use Rattle.std.specs.Option.{option_copied}
 use Rattle.mv_cover.specs.declared.cube.Lit.{Lit}
-use Rattle.mv_cover.specs.Cubes.{IsCube}
 use Rattle.mv_kernels.specs.declared.kernel.Kernel.{Kernel}
 use Rattle.mv_kernels.specs.Kernels.{AreKernels}
 use Rattle.mv_kernels.specs.Below.{AreBelow}
-use Rattle.mv_kernels.proofs.Walks.{formed_at_place, walked_more, walked_kernels, walked_to_end, few_found}
+use Rattle.mv_kernels.proofs.Walks.{walked_more, walked_kernels, walked_to_end, few_found}
 use Rattle.mv_kernels.proofs.walk.kernels.Goals as goal
-
-pub below-requires : goal.below-requires
-below-requires c =
-    let at : slice_get c.loop-kernel.found.keys c.loop-kernel.next ≡ Some c.in-Some.kernel.now = sym c.get_index.ensures.key ∙ ap option_copied c.in-Some.is in
-    subst (λ (x : List (List Lit)). All IsCube x) (sym c.as_slice.ensures) (formed_at_place c.args.cubes.now c.loop-kernel.found.keys c.loop-kernel.next c.loop-kernel.next c.in-Some.kernel.now c.are_formed.ensures at c.loop-kernel.invariant.walked)
 
 pub returns-then-len-gt-MAX_KERNELS-clause-many : goal.returns-then-len-gt-MAX_KERNELS-clause-many
 returns-then-len-gt-MAX_KERNELS-clause-many c _ =
@@ -39,10 +33,10 @@ pub returns-clause-all : goal.returns-clause-all
 returns-clause-all c k is =
     let none : slice_get c.loop-kernel.found.keys c.loop-kernel.next ≡ None = sym c.get_index.ensures.key ∙ ap option_copied c.in_default.is in
     subst (λ (x : List Kernel). Contains x k) (sym c.in_ok-listed.ensures.same)
-    (walked_to_end c.args.cubes.now c.loop-kernel.found.keys c.loop-kernel.next c.are_formed.ensures none c.loop-kernel.invariant.walked k is)
+    (walked_to_end c.args.cubes.now c.loop-kernel.found.keys c.loop-kernel.next c.in_ok-found.ensures.formed none c.loop-kernel.invariant.walked k is)
 
 pub returns-clause-few : goal.returns-clause-few
 returns-clause-few c =
     let none : slice_get c.loop-kernel.found.keys c.loop-kernel.next ≡ None = sym c.get_index.ensures.key ∙ ap option_copied c.in_default.is in
     few_found c.args.cubes.now c.loop-kernel.found.keys c.loop-kernel.invariant.few
-    (walked_to_end c.args.cubes.now c.loop-kernel.found.keys c.loop-kernel.next c.are_formed.ensures none c.loop-kernel.invariant.walked)
+    (walked_to_end c.args.cubes.now c.loop-kernel.found.keys c.loop-kernel.next c.in_ok-found.ensures.formed none c.loop-kernel.invariant.walked)

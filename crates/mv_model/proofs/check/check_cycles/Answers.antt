@@ -1,7 +1,7 @@
 -- The columns that are sorted are those of the model.
 use Rattle.std.proofs.Common.{ap, arith, length}
 use Rattle.std.proofs.lemmas.Option.{MatchOption-at_some}
-use Rattle.mv_net.specs.Ranks.{IsRanked}
+use Rattle.mv_graph.specs.Ranks.{IsRanked}
 use Rattle.mv_model.proofs.Turns.{columns_read, model_below, model_length, model_ranked}
 use Rattle.mv_model.proofs.check.check_cycles.Goals as goal
 

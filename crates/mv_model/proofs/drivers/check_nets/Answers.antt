@@ -3,7 +3,9 @@ use Rattle.std.proofs.Common.{◌∙◌, sym, ap}
 use Rattle.std.proofs.lemmas.Result.{err_from_is_err_and}
 use Rattle.mv_model.specs.Driving.{twice_faults, undriven_faults}
 use Rattle.mv_model.specs.Sound.{net_faults}
-use Rattle.mv_model.proofs.Faults.{twice_told, undriven_told, told_of}
+use Rattle.mv_fault.proofs.Firsts.{told_of}
+use Rattle.mv_model.specs.declared.fault.FlatFault.TheVariants.{Memory}
+use Rattle.mv_model.proofs.Faults.{twice_told, undriven_told}
 use Rattle.mv_model.proofs.drivers.check_nets.Goals as goal
 
 pub returns-in_err-check_twice : goal.returns-in_err-check_twice
@@ -12,7 +14,7 @@ returns-in_err-check_twice c =
     let d = c.in_ok-drivers.drivers in
     let e = err_from_is_err_and c.from_residual-in_err-check_twice.result c.from_residual-in_err-check_twice.ensures.1 in
     rw (e.1, e.2)
-    (told_of _ (twice_faults d c.as_slice.result.now) (net_faults m)
+    (told_of Memory _ (twice_faults d c.as_slice.result.now) (net_faults m)
     (λ f. twice_told m _ d f (c.as_slice.ensures ∙ c.requires) c.in_ok-drivers.ensures c.in_ok-check_count.ensures)
     c.in_err-check_twice.ensures)
 
@@ -22,7 +24,7 @@ returns-in_err-check_undriven c =
     let d = c.in_ok-drivers.drivers in
     let e = err_from_is_err_and c.from_residual-in_err-check_undriven.result c.from_residual-in_err-check_undriven.ensures.1 in
     rw (e.1, e.2)
-    (told_of _ (undriven_faults d c.as_slice-2.result.now) (net_faults m)
+    (told_of Memory _ (undriven_faults d c.as_slice-2.result.now) (net_faults m)
     (λ f. undriven_told m _ d f (c.as_slice-2.ensures ∙ c.requires) c.in_ok-drivers.ensures c.in_ok-check_count.ensures
     (ap (twice_faults d) (c.as_slice-2.ensures ∙ sym c.as_slice.ensures) ∙ c.in_ok-check_twice.ensures))
     c.in_err-check_undriven.ensures)

@@ -1,6 +1,6 @@
 use Rattle.std.proofs.Common.{◌≡◌, ℕ, None, length, if◌then◌else◌}
 use Rattle.mv_net.specs.Nets.{slot}
-use Rattle.mv_net.specs.Index.{has_id}
+use Rattle.mv_graph.specs.Nets.{has_id}
 use Rattle.mv_net.proofs.change.drop_nets.Given as goal
 
 abbrev pub invariant-all : goal.invariant-all

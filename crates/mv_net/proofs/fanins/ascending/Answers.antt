@@ -1,4 +1,4 @@
-use Rattle.mv_net.proofs.Orders.{ascending_kept}
+use Rattle.mv_graph.proofs.Nets.{ascending_kept}
 use Rattle.mv_net.proofs.fanins.ascending.Goals as goal
 
 pub returns : goal.returns

@@ -1,6 +1,7 @@
 use Rattle.std.proofs.Common.{◌∙◌, ap}
-use Rattle.mv_net.specs.Index.{has_id}
-use Rattle.mv_net.proofs.Orders.{IsAscending-same, has_id-line_nets}
+use Rattle.mv_graph.specs.Nets.{has_id}
+use Rattle.mv_graph.proofs.Nets.{IsAscending-same}
+use Rattle.mv_net.proofs.LineNets.{has_id-line_nets}
 use Rattle.mv_net.proofs.fanins.fanins_of_cover.Goals as goal
 
 pub returns : goal.returns

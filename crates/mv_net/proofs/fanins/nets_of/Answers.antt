@@ -1,6 +1,6 @@
 use Rattle.std.proofs.Common.{◌∙◌, ◌++◌, map, sym, ap, arith}
 use Rattle.mv_cover.specs.declared.cube.Lit.{Lit}
-use Rattle.mv_net.proofs.Orders.{line_nets-more}
+use Rattle.mv_net.proofs.LineNets.{line_nets-more}
 use Rattle.mv_net.proofs.fanins.nets_of.Goals as goal
 
 pub loop-line-preserved : goal.loop-line-preserved

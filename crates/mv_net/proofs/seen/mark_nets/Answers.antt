@@ -1,6 +1,6 @@
 use Rattle.std.proofs.Common.{length, arith}
 use Rattle.mv_base.specs.declared.number.NetId.{NetId}
-use Rattle.mv_net.proofs.Marks.{number_at, AreMarked-more}
+use Rattle.mv_net.proofs.Marks.{number_at, AlsoMarked-more}
 use Rattle.mv_net.proofs.seen.mark_nets.Goals as goal
 
 pub replace-requires : goal.replace-requires
@@ -10,4 +10,4 @@ replace-requires c =
 pub loop-net-preserved : goal.loop-net-preserved
 loop-net-preserved c =
     let low = number_at (λ (m : NetId). m.0) c.args.nets.now (length c.args.marks.now) c.loop-net.net-index (record { 0 = 0 }) c.requires (omega arith) in
-    AreMarked-more (λ (m : NetId). m.0) c.args.marks.now c.loop-net.marks c.replace.new.self c.args.nets.now c.loop-net.net-index (record { 0 = 0 }) (omega arith) (omega (arith, low, c.loop-net.invariant.long)) c.loop-net.invariant c.replace.ensures.items
+    AlsoMarked-more (λ (m : NetId). m.0) c.args.marks.now c.loop-net.marks c.replace.new.self c.args.nets.now c.loop-net.net-index (record { 0 = 0 }) (omega arith) (omega (arith, low, c.loop-net.invariant.long)) c.loop-net.invariant c.replace.ensures.items

@@ -1,7 +1,8 @@
 use Rattle.std.proofs.Common.{◌≤◌, None, sym, ◌∙◌, arith, ap}
 use Rattle.std.proofs.lemmas.List.{get_or_past}
 use Rattle.mv_pool.specs.Places.{least_free}
-use Rattle.mv_pool.proofs.Placing.{least-le, least-more, none_from}
+use Rattle.mv_base.proofs.Lists.{none_from}
+use Rattle.mv_pool.proofs.Placing.{least-le, least-more}
 use Rattle.mv_pool.proofs.Walking.{read_any}
 use Rattle.std.specs.Option.{is_some}
 use Rattle.mv_pool.proofs.pool.next_free.Goals as goal

@@ -4,7 +4,7 @@ use Rattle.std.proofs.lemmas.Bool.{eqb-true}
 use Rattle.std.proofs.lemmas.Grind.{get_or_default_zero}
 use Rattle.mv_base.specs.Set.{empty, one, meet}
 use Rattle.mv_rows.specs.Lines.{narrowed}
-use Rattle.mv_rows.proofs.Values.{no_value, fit_narrowed, Adds-none}
+use Rattle.mv_rows.proofs.Values.{no_value, fit_narrowed, AddsLines-none}
 use Rattle.mv_rows.proofs.lines.put_value.Goals as goal
 
 pub returns-then-eq : goal.returns-then-eq
@@ -12,7 +12,7 @@ returns-then-eq c =
     let here : c.index-sets-place.result ≡ get_or c.args.sets.now c.args.place 0 = c.index-sets-place.is ∙ get_or_default_zero _ _ _ c.requires.place in
     let met : c.meet-set.result ≡ meet (get_or c.args.sets.now c.args.place 0) (one c.args.value.0) = c.meet-set.ensures ∙ λ i. meet (here i) (c.one.ensures i) in
     let none : c.meet-set.result ≡ empty = eqb-true _ _ (sym c.eq.ensures ∙ c.if-eq.true) ∙ c.empty.ensures in
-    Adds-none _ _ (no_value c.args.frame.now.columns c.args.sets.now c.args.place c.args.value.0 c.requires.place (sym met ∙ none))
+    AddsLines-none _ _ (no_value c.args.frame.now.columns c.args.sets.now c.args.place c.args.value.0 c.requires.place (sym met ∙ none))
 
 pub put_line-requires-clause-sets : goal.put_line-requires-clause-sets
 put_line-requires-clause-sets c =

@@ -1,10 +1,10 @@
 use Rattle.std.proofs.Common.{◌≡◌, ◌∙◌, refl, arith}
 use Rattle.mv_rows.proofs.Orders.{fit_length}
-use Rattle.mv_rows.proofs.Values.{Adds-none, values_more}
+use Rattle.mv_rows.proofs.Values.{AddsLines-none, values_more}
 use Rattle.mv_rows.proofs.lines.put_values.Goals as goal
 
 pub loop-value-init : goal.loop-value-init
-loop-value-init c = Adds-none _ _ refl
+loop-value-init c = AddsLines-none _ _ refl
 
 pub put_value-requires-clause-place : goal.put_value-requires-clause-place
 put_value-requires-clause-place c = omega (arith, fit_length c.args.frame.now.columns c.args.sets.now c.requires.sets)

@@ -8,10 +8,10 @@ use Rattle.mv_sweep.proofs.unread.remove_each.Given as goal
 
 abbrev pub invariant-removing : goal.invariant-removing
 invariant-removing g l = record {
-  removed : HasRemoved l.fn.net l.net (g.E.Sink.told l.fn.notes) (g.E.Sink.told l.notes);
+  removed : HasRemoved l.fn.net l.net (g.E.Sink.state l.fn.notes) (g.E.Sink.state l.notes);
   below : NoneBelow l.net l.from;
   means : SameMeaning (of_net l.net) (of_net l.fn.net);
-  later : g.E.Sink.faults l.fn.notes ≤ g.E.Sink.faults l.notes;
+  later : (g.E.Sink.state l.fn.notes).faults ≤ (g.E.Sink.state l.notes).faults;
 }
 
 abbrev pub decreases-removing : goal.decreases-removing

@@ -1,5 +1,5 @@
 use Rattle.std.proofs.Common.{◌≡◌, refl, ◌∙◌, inl, inr, ⊎_elim}
-use Rattle.mv_table.specs.Tables.{lines_faults, table_faults}
+use Rattle.mv_table.specs.Tables.{lines_values_faults, table_faults}
 use Rattle.mv_table.proofs.Lines.{rows-next, default-next, fault-next, fault-here}
 use Rattle.mv_table.proofs.table.read_table.Goals as goal
 
@@ -14,5 +14,5 @@ pub returns-in-Err-clause-fault : goal.returns-in-Err-clause-fault
 unfolding table_faults
 returns-in-Err-clause-fault c =
     let here = rw (c.in_ok-columns.ensures.ins, c.in_ok-columns.ensures.outs) at c.in-Err.ensures.fault in
-    let all : lines_faults c.args.decls.now c.ins-ins.result.now c.outs-outs.result.now c.args.lines.now ≡ table_faults c.args.decls.now c.args.head.now c.args.lines.now = rw (c.ins-ins.ensures, c.outs-outs.ensures, c.behind_first.ensures, c.behind_first-2.ensures) refl in
+    let all : lines_values_faults c.args.decls.now c.ins-ins.result.now c.outs-outs.result.now c.args.lines.now ≡ table_faults c.args.decls.now c.args.head.now c.args.lines.now = rw (c.ins-ins.ensures, c.outs-outs.ensures, c.behind_first.ensures, c.behind_first-2.ensures) refl in
     ⊎_elim inl (λ e. inr (fault-here c.args.decls.now c.ins-ins.result.now c.outs-outs.result.now c.args.lines.now c.loop-line.line-index c.line-item.result _ _ c.loop-line-test.true c.line-item.is (c.loop-line.invariant.fault ∙ all) e)) here

@@ -1,5 +1,6 @@
 use Rattle.std.proofs.Common.{◌≡◌, ◌∙◌, [], ◌∷◌, ◌++◌, codes, decimal, refl, sym, ap}
 use Rattle.mv_base.proofs.Gains.{start, next, stop, last}
+use Rattle.mv_write.proofs.Paging.{adds}
 use Rattle.mv_lex.specs.Text.{spaced, line_text}
 use Rattle.mv_write.proofs.Lines.{declaration-text}
 use Rattle.mv_write.proofs.declarations.put_declaration.Goals as goal
@@ -8,7 +9,7 @@ pub returns-in_err-put_both : goal.returns-in_err-put_both
 returns-in_err-put_both g c =
     let count = decimal c.args.count in
     let names = c.args.names.now in
-    stop ((32 ∷ count) ++ (spaced names ++ 10 ∷ [])) _ _ (start _ _ _) (declaration-text c.args.name.now count names) c.in_err-put_both.ensures c.from_residual.ensures.1
+    stop adds ((32 ∷ count) ++ (spaced names ++ 10 ∷ [])) _ _ (start adds _ _) (declaration-text c.args.name.now count names) c.in_err-put_both.ensures c.from_residual.ensures.1
 
 pub returns-in_err-put_both-2 : goal.returns-in_err-put_both-2
 returns-in_err-put_both-2 g c =
@@ -16,7 +17,7 @@ returns-in_err-put_both-2 g c =
     let names = c.args.names.now in
     let digits : c.as_bytes.result.now ≡ decimal c.args.count = c.as_bytes.ensures.value ∙ c.format.ensures.text in
     let text = ap (λ d. line_text (codes ".mv" ∷ name ∷ d ∷ names)) (sym digits) ∙ declaration-text name c.as_bytes.result.now names in
-    stop (spaced names ++ 10 ∷ []) _ _ (next (start _ _ _) text c.in_ok-put_both.ensures) refl c.in_err-put_both-2.ensures c.from_residual-in_err-put_both-2.ensures.1
+    stop adds (spaced names ++ 10 ∷ []) _ _ (next adds (start adds _ _) text c.in_ok-put_both.ensures) refl c.in_err-put_both-2.ensures c.from_residual-in_err-put_both-2.ensures.1
 
 pub returns-in_err-put_spaced : goal.returns-in_err-put_spaced
 returns-in_err-put_spaced g c =
@@ -24,8 +25,8 @@ returns-in_err-put_spaced g c =
     let names = c.args.names.now in
     let digits : c.as_bytes.result.now ≡ decimal c.args.count = c.as_bytes.ensures.value ∙ c.format.ensures.text in
     let text = ap (λ d. line_text (codes ".mv" ∷ name ∷ d ∷ names)) (sym digits) ∙ declaration-text name c.as_bytes.result.now names in
-    let at = next (next (start _ _ _) text c.in_ok-put_both.ensures) refl c.in_ok-put_both-2.ensures in
-    stop (10 ∷ []) _ _ at refl c.in_err-put_spaced.ensures c.from_residual-in_err-put_spaced.ensures.1
+    let at = next adds (next adds (start adds _ _) text c.in_ok-put_both.ensures) refl c.in_ok-put_both-2.ensures in
+    stop adds (10 ∷ []) _ _ at refl c.in_err-put_spaced.ensures c.from_residual-in_err-put_spaced.ensures.1
 
 pub returns : goal.returns
 returns g c =
@@ -33,5 +34,5 @@ returns g c =
     let names = c.args.names.now in
     let digits : c.as_bytes.result.now ≡ decimal c.args.count = c.as_bytes.ensures.value ∙ c.format.ensures.text in
     let text = ap (λ d. line_text (codes ".mv" ∷ name ∷ d ∷ names)) (sym digits) ∙ declaration-text name c.as_bytes.result.now names in
-    let at = next (next (start _ _ _) text c.in_ok-put_both.ensures) refl c.in_ok-put_both-2.ensures in
-    last (next at refl c.in_ok-put_spaced.ensures) c.put_piece.ensures
+    let at = next adds (next adds (start adds _ _) text c.in_ok-put_both.ensures) refl c.in_ok-put_both-2.ensures in
+    last adds (next adds at refl c.in_ok-put_spaced.ensures) c.put.ensures

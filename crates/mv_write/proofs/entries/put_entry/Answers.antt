@@ -1,5 +1,6 @@
 use Rattle.std.proofs.Common.{◌≡◌, ◌∙◌, ◌++◌, sym, ap}
 use Rattle.mv_base.proofs.Gains.{start, next, last}
+use Rattle.mv_write.proofs.Paging.{adds}
 use Rattle.mv_net.specs.Nets.{slot, spelled_in, spelled_values}
 use Rattle.mv_write.specs.Text.{entry_word}
 use Rattle.mv_write.proofs.Spelling.{spelled-is, are-values}
@@ -14,4 +15,4 @@ returns g c =
     let f = slot c.args.net.now.nets c.args.n.0 in
     let spelled : spelled_values c.values.result c.value_names.result.now ≡ spelled_in f = (λ i. spelled_values (c.values.ensures i) (c.value_names.ensures i)) ∙ spelled-is f c.requires.held in
     let text = ap (λ values. entry_word values c.args.set ++ c.args.behind.now) (sym spelled) in
-    last (next (start _ _ _) text c.in_ok-put_set.ensures) c.put_piece.ensures
+    last adds (next adds (start adds _ _) text c.in_ok-put_set.ensures) c.put.ensures

@@ -2,28 +2,29 @@ use Rattle.std.proofs.Common.{[], ◌∷◌, ◌++◌, codes, refl}
 use Rattle.mv_lex.specs.Text.{spaced}
 use Rattle.mv_write.specs.Text.{names_of}
 use Rattle.mv_base.proofs.Gains.{start, next, stop, last}
+use Rattle.mv_write.proofs.Paging.{adds}
 use Rattle.mv_write.proofs.Lines.{head-text}
 use Rattle.mv_write.proofs.pieces.put_head.Goals as goal
 
-pub returns-in_err-put_piece : goal.returns-in_err-put_piece
-returns-in_err-put_piece g c =
+pub returns-in_err-put : goal.returns-in_err-put
+returns-in_err-put g c =
     let names = names_of c.args.net.now.nets c.args.fanins.now in
-    stop (spaced names ++ ((codes " -> " ++ c.args.name.now) ++ 10 ∷ [])) _ _ (start _ _ _) (head-text names c.args.name.now) c.in_err-put_piece.ensures c.from_residual.ensures.1
+    stop adds (spaced names ++ ((codes " -> " ++ c.args.name.now) ++ 10 ∷ [])) _ _ (start adds _ _) (head-text names c.args.name.now) c.in_err-put.ensures c.from_residual.ensures.1
 
 pub returns-in_err-put_names : goal.returns-in_err-put_names
 returns-in_err-put_names g c =
     let names = names_of c.args.net.now.nets c.args.fanins.now in
-    let at = next (start _ _ _) (head-text names c.args.name.now) c.in_ok-put_piece.ensures in
-    stop ((codes " -> " ++ c.args.name.now) ++ 10 ∷ []) _ _ at refl c.in_err-put_names.ensures c.from_residual-in_err-put_names.ensures.1
+    let at = next adds (start adds _ _) (head-text names c.args.name.now) c.in_ok-put.ensures in
+    stop adds ((codes " -> " ++ c.args.name.now) ++ 10 ∷ []) _ _ at refl c.in_err-put_names.ensures c.from_residual-in_err-put_names.ensures.1
 
 pub returns-in_err-put_both : goal.returns-in_err-put_both
 returns-in_err-put_both g c =
     let names = names_of c.args.net.now.nets c.args.fanins.now in
-    let at = next (start _ _ _) (head-text names c.args.name.now) c.in_ok-put_piece.ensures in
-    stop (10 ∷ []) _ _ (next at refl c.in_ok-put_names.ensures) refl c.in_err-put_both.ensures c.from_residual-in_err-put_both.ensures.1
+    let at = next adds (start adds _ _) (head-text names c.args.name.now) c.in_ok-put.ensures in
+    stop adds (10 ∷ []) _ _ (next adds at refl c.in_ok-put_names.ensures) refl c.in_err-put_both.ensures c.from_residual-in_err-put_both.ensures.1
 
 pub returns : goal.returns
 returns g c =
     let names = names_of c.args.net.now.nets c.args.fanins.now in
-    let at = next (start _ _ _) (head-text names c.args.name.now) c.in_ok-put_piece.ensures in
-    last (next (next at refl c.in_ok-put_names.ensures) refl c.in_ok-put_both.ensures) c.put_piece-2.ensures
+    let at = next adds (start adds _ _) (head-text names c.args.name.now) c.in_ok-put.ensures in
+    last adds (next adds (next adds at refl c.in_ok-put_names.ensures) refl c.in_ok-put_both.ensures) c.put-2.ensures

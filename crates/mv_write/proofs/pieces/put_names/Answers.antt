@@ -2,6 +2,7 @@ use Rattle.std.proofs.Common.{◌+◌, drop}
 use Rattle.mv_lex.specs.Text.{spaced}
 use Rattle.mv_write.specs.Text.{names_of}
 use Rattle.mv_base.proofs.Gains.{next, stop, finish}
+use Rattle.mv_write.proofs.Paging.{adds}
 use Rattle.mv_write.proofs.Lines.{names-more, names-none}
 use Rattle.mv_write.proofs.Held.{has-at}
 use Rattle.mv_write.proofs.pieces.put_names.Goals as goal
@@ -14,12 +15,12 @@ returns-in_err-put_both g c =
     let nets = c.args.net.now.nets in
     let list = c.args.nets.now in
     let i = c.loop-n.n-index in
-    stop (spaced (names_of nets (drop (i + 1) list))) _ _ c.loop-n.invariant (names-more nets list i c.name.result.now c.loop-n-test.true c.name.ensures) c.in_err-put_both.ensures c.from_residual.ensures.1
+    stop adds (spaced (names_of nets (drop (i + 1) list))) _ _ c.loop-n.invariant (names-more nets list i c.name.result.now c.loop-n-test.true c.name.ensures) c.in_err-put_both.ensures c.from_residual.ensures.1
 
 pub loop-n-preserved : goal.loop-n-preserved
 loop-n-preserved g c =
-    next c.loop-n.invariant (names-more c.args.net.now.nets c.args.nets.now c.loop-n.n-index c.name.result.now c.loop-n-test.true c.name.ensures) c.in_ok-put_both.ensures
+    next adds c.loop-n.invariant (names-more c.args.net.now.nets c.args.nets.now c.loop-n.n-index c.name.result.now c.loop-n-test.true c.name.ensures) c.in_ok-put_both.ensures
 
 pub returns : goal.returns
 returns g c =
-    finish c.loop-n.invariant (names-none c.args.net.now.nets c.args.nets.now c.loop-n.n-index c.loop-n-test.false)
+    finish adds c.loop-n.invariant (names-none c.args.net.now.nets c.args.nets.now c.loop-n.n-index c.loop-n-test.false)

@@ -1,11 +1,15 @@
 use Rattle.std.proofs.Common.{◌+◌, drop}
-use Rattle.mv_base.proofs.Gains.{next, stop, finish}
+use Rattle.mv_base.proofs.Gains.{start, next, stop, finish}
+use Rattle.mv_write.proofs.Paging.{adds}
 use Rattle.mv_net.proofs.Known.{values_few}
 use Rattle.mv_write.specs.Walk.{walked, entries_text}
 use Rattle.mv_write.proofs.Held.{has-at}
 use Rattle.mv_write.proofs.Literals.{first-output, behind-literals}
 use Rattle.mv_write.proofs.Lines.{entries-more, entries-none}
 use Rattle.mv_write.proofs.rows.put_entries.Goals as goal
+
+pub loop-n-init : goal.loop-n-init
+loop-n-init g c = record { going = start adds _ _; literals = c.requires.literals }
 
 pub values-requires : goal.values-requires
 values-requires g c = c.requires.held.each _ (has-at c.args.fanins.now c.loop-n.n-index c.loop-n-test.true)
@@ -27,16 +31,16 @@ returns-in_err-put_entry g c =
     let fanins = c.args.fanins.now in
     let rest = c.first_of-set.result.1.now in
     let i = c.loop-n.n-index in
-    stop (entries_text (walked nets rest (drop (i + 1) fanins))) _ _ c.loop-n.invariant.going (entries-more nets c.loop-n.left.now rest fanins i c.values.result c.first_of-set.result.0 c.loop-n-test.true c.values.ensures c.first_of-set.ensures.set c.first_of-set.ensures.rest) c.in_err-put_entry.ensures c.from_residual.ensures.1
+    stop adds (entries_text (walked nets rest (drop (i + 1) fanins))) _ _ c.loop-n.invariant.going (entries-more nets c.loop-n.left.now rest fanins i c.values.result c.first_of-set.result.0 c.loop-n-test.true c.values.ensures c.first_of-set.ensures.set c.first_of-set.ensures.rest) c.in_err-put_entry.ensures c.from_residual.ensures.1
 
 pub loop-n-preserved : goal.loop-n-preserved
 loop-n-preserved g c =
     let nets = c.args.net.now.nets in
     record {
-      going = next c.loop-n.invariant.going (entries-more nets c.loop-n.left.now c.first_of-set.result.1.now c.args.fanins.now c.loop-n.n-index c.values.result c.first_of-set.result.0 c.loop-n-test.true c.values.ensures c.first_of-set.ensures.set c.first_of-set.ensures.rest) c.in_ok-put_entry.ensures;
+      going = next adds c.loop-n.invariant.going (entries-more nets c.loop-n.left.now c.first_of-set.result.1.now c.args.fanins.now c.loop-n.n-index c.values.result c.first_of-set.result.0 c.loop-n-test.true c.values.ensures c.first_of-set.ensures.set c.first_of-set.ensures.rest) c.in_ok-put_entry.ensures;
       literals = rw c.first_of-set.ensures.rest (behind-literals nets c.loop-n.left.now _ c.loop-n.invariant.literals);
     }
 
 pub returns : goal.returns
 returns g c =
-    finish c.loop-n.invariant.going (entries-none c.args.net.now.nets c.loop-n.left.now c.args.fanins.now c.loop-n.n-index c.loop-n-test.false)
+    finish adds c.loop-n.invariant.going (entries-none c.args.net.now.nets c.loop-n.left.now c.args.fanins.now c.loop-n.n-index c.loop-n-test.false)

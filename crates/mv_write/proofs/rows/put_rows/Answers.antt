@@ -1,6 +1,7 @@
 use Rattle.std.proofs.Common.{◌+◌, drop}
 use Rattle.std.specs.List.{flat_map}
 use Rattle.mv_base.proofs.Gains.{next, stop, finish}
+use Rattle.mv_write.proofs.Paging.{adds}
 use Rattle.mv_lex.specs.Text.{line_text}
 use Rattle.mv_cover.specs.declared.line.Line.{Line}
 use Rattle.mv_net.specs.Nets.{slot, spelled_in, values_in}
@@ -24,16 +25,16 @@ pub returns-in_err-put_row : goal.returns-in_err-put_row
 returns-in_err-put_row g c =
     let nets = c.args.net.now.nets in
     let text = λ (x : Line). line_text (line_words nets (spelled_in (slot nets c.args.n.0)) (numbers c.args.fanins.now) x) in
-    stop (flat_map text (drop (c.loop-line.line-index + 1) c.args.lines.now)) _ _ c.loop-line.invariant (rest-more text c.args.lines.now c.loop-line.line-index c.line-item.result c.loop-line-test.true c.line-item.is) c.in_err-put_row.ensures c.from_residual.ensures.1
+    stop adds (flat_map text (drop (c.loop-line.line-index + 1) c.args.lines.now)) _ _ c.loop-line.invariant (rest-more text c.args.lines.now c.loop-line.line-index c.line-item.result c.loop-line-test.true c.line-item.is) c.in_err-put_row.ensures c.from_residual.ensures.1
 
 pub loop-line-preserved : goal.loop-line-preserved
 loop-line-preserved g c =
     let nets = c.args.net.now.nets in
     let text = λ (x : Line). line_text (line_words nets (spelled_in (slot nets c.args.n.0)) (numbers c.args.fanins.now) x) in
-    next c.loop-line.invariant (rest-more text c.args.lines.now c.loop-line.line-index c.line-item.result c.loop-line-test.true c.line-item.is) c.in_ok-put_row.ensures
+    next adds c.loop-line.invariant (rest-more text c.args.lines.now c.loop-line.line-index c.line-item.result c.loop-line-test.true c.line-item.is) c.in_ok-put_row.ensures
 
 pub returns : goal.returns
 returns g c =
     let nets = c.args.net.now.nets in
     let text = λ (x : Line). line_text (line_words nets (spelled_in (slot nets c.args.n.0)) (numbers c.args.fanins.now) x) in
-    finish c.loop-line.invariant (rest-none text c.args.lines.now c.loop-line.line-index c.loop-line-test.false)
+    finish adds c.loop-line.invariant (rest-none text c.args.lines.now c.loop-line.line-index c.loop-line-test.false)

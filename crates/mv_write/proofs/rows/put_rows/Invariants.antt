@@ -1,6 +1,7 @@
 use Rattle.std.proofs.Common.{drop}
 use Rattle.std.specs.List.{flat_map}
 use Rattle.mv_base.proofs.Gains.{Going}
+use Rattle.mv_write.specs.Page.{AddsPiece, paged}
 use Rattle.mv_lex.specs.Text.{line_text}
 use Rattle.mv_net.specs.Nets.{slot, spelled_in}
 use Rattle.mv_write.specs.Text.{line_words}
@@ -9,4 +10,4 @@ use Rattle.mv_write.proofs.rows.put_rows.Given as goal
 
 abbrev pub invariant-loop-line : goal.invariant-loop-line
 invariant-loop-line g l =
-    Going (g.K.Sink.told l.fn.out) (g.K.Sink.told l.out) (g.K.Sink.faults l.fn.out) (g.K.Sink.faults l.out) (flat_map (λ x. line_text (line_words l.net.nets (spelled_in (slot l.net.nets l.n.0)) (numbers l.fanins) x)) (drop l.line-index l.lines)) (flat_map (λ x. line_text (line_words l.net.nets (spelled_in (slot l.net.nets l.n.0)) (numbers l.fanins) x)) l.lines)
+    Going AddsPiece (paged (g.K.Sink.state l.fn.out) l.fn.page) (paged (g.K.Sink.state l.out) l.page) (flat_map (λ x. line_text (line_words l.net.nets (spelled_in (slot l.net.nets l.n.0)) (numbers l.fanins) x)) (drop l.line-index l.lines)) (flat_map (λ x. line_text (line_words l.net.nets (spelled_in (slot l.net.nets l.n.0)) (numbers l.fanins) x)) l.lines)

@@ -1,6 +1,7 @@
 use Rattle.std.proofs.Common.{◌++◌, refl}
 use Rattle.std.specs.List.{flat_map}
 use Rattle.mv_base.proofs.Gains.{start, next, stop, last}
+use Rattle.mv_write.proofs.Paging.{adds}
 use Rattle.mv_lex.specs.Text.{line_text}
 use Rattle.mv_cover.specs.declared.line.Line.{Line}
 use Rattle.mv_net.specs.Nets.{slot, name_in, spelled_in}
@@ -37,7 +38,7 @@ returns-in_err-put_head g c =
     let ns = fanins-are c.args.net.now c.args.n.0 fanins cover c.well_formed-2.ensures c.requires.table c.fanins-fanins.ensures in
     let rows = flat_map (λ (l : Line). line_text (line_words nets values (numbers fanins) l)) cover.lines in
     let text = table-text nets cover values fanins c.name.result.now (name_in (slot nets c.args.n.0)) cover.lines ns c.name.ensures refl in
-    stop (flat_map line_text (default_words values cover.default) ++ rows) _ _ (start _ _ _) text c.in_err-put_head.ensures c.from_residual.ensures.1
+    stop adds (flat_map line_text (default_words values cover.default) ++ rows) _ _ (start adds _ _) text c.in_err-put_head.ensures c.from_residual.ensures.1
 
 pub returns-in_err-put_default : goal.returns-in_err-put_default
 returns-in_err-put_default g c =
@@ -48,7 +49,7 @@ returns-in_err-put_default g c =
     let ns = fanins-are c.args.net.now c.args.n.0 fanins cover c.well_formed-2.ensures c.requires.table c.fanins-fanins.ensures in
     let rows = flat_map (λ (l : Line). line_text (line_words nets values (numbers fanins) l)) cover.lines in
     let text = table-text nets cover values fanins c.name.result.now (name_in (slot nets c.args.n.0)) cover.lines ns c.name.ensures refl in
-    stop rows _ _ (next (start _ _ _) text c.in_ok-put_head.ensures) refl c.in_err-put_default.ensures c.from_residual-in_err-put_default.ensures.1
+    stop adds rows _ _ (next adds (start adds _ _) text c.in_ok-put_head.ensures) refl c.in_err-put_default.ensures c.from_residual-in_err-put_default.ensures.1
 
 pub returns : goal.returns
 returns g c =
@@ -58,5 +59,5 @@ returns g c =
     let values = spelled_in (slot nets c.args.n.0) in
     let ns = fanins-are c.args.net.now c.args.n.0 fanins cover c.well_formed-2.ensures c.requires.table c.fanins-fanins.ensures in
     let text = table-text nets cover values fanins c.name.result.now (name_in (slot nets c.args.n.0)) c.as_slice.result.now ns c.name.ensures c.as_slice.ensures in
-    let at = next (start _ _ _) text c.in_ok-put_head.ensures in
-    last (next at refl c.in_ok-put_default.ensures) c.put_rows.ensures
+    let at = next adds (start adds _ _) text c.in_ok-put_head.ensures in
+    last adds (next adds at refl c.in_ok-put_default.ensures) c.put_rows.ensures

@@ -1,10 +1,11 @@
 use Rattle.std.proofs.Common.{drop}
 use Rattle.std.specs.List.{flat_map}
 use Rattle.mv_base.proofs.Gains.{Going}
+use Rattle.mv_write.specs.Page.{AddsPiece, paged}
 use Rattle.mv_lex.specs.Text.{line_text}
 use Rattle.mv_write.specs.Text.{net_words}
 use Rattle.mv_write.proofs.tables.put_tables.Given as goal
 
 abbrev pub invariant-loop-n : goal.invariant-loop-n
 invariant-loop-n g l =
-    Going (g.K.Sink.told l.fn.out) (g.K.Sink.told l.out) (g.K.Sink.faults l.fn.out) (g.K.Sink.faults l.out) (flat_map line_text (flat_map (net_words l.net.nets) (drop l.n l.net.nets))) (flat_map line_text (flat_map (net_words l.net.nets) l.net.nets))
+    Going AddsPiece (paged (g.K.Sink.state l.fn.out) l.fn.page) (paged (g.K.Sink.state l.out) l.page) (flat_map line_text (flat_map (net_words l.net.nets) (drop l.n l.net.nets))) (flat_map line_text (flat_map (net_words l.net.nets) l.net.nets))

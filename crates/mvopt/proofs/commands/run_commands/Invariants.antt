@@ -7,7 +7,7 @@ use Rattle.mvopt.proofs.commands.run_commands.Given as goal
 
 abbrev pub invariant-loop-command : goal.invariant-loop-command
 invariant-loop-command g l = record {
-  ran : HasRun (take l.command-index l.commands) l.fn.net l.net (g.E.Sink.told l.fn.notes) (g.E.Sink.told l.notes);
+  ran : HasRun (take l.command-index l.commands) l.fn.net l.net (g.E.Sink.state l.fn.notes) (g.E.Sink.state l.notes);
   means : SameMeaning (of_net l.net) (of_net l.fn.net);
-  later : g.E.Sink.faults l.fn.notes ≤ g.E.Sink.faults l.notes;
+  later : (g.E.Sink.state l.fn.notes).faults ≤ (g.E.Sink.state l.notes).faults;
 }

@@ -19,4 +19,4 @@ returns-in-Ok-finish-clause-ok g c =
 pub returns-clause-write : goal.returns-clause-write
 returns-clause-write g c =
     let ran = rw c.as_slice.ensures at c.in-Ok.ensures.ok in
-    λ e. work_cut _ _ c.run_commands.new.net _ _ _ _ _ _ _ _ _ _ _ c.literals-before.ensures ran c.in-Ok.ensures.later c.in-Err.ensures.cut
+    λ e. work_cut _ _ c.run_commands.new.net _ _ _ _ _ _ c.literals-before.ensures ran c.in-Ok.ensures.later c.in-Err.ensures.cut

@@ -5,7 +5,7 @@ use Rattle.mvopt.proofs.work.finish.Goals as goal
 pub returns-in-Err-clause-cut : goal.returns-in-Err-clause-cut
 returns-in-Err-clause-cut g c =
     let part = rw c.literals.ensures at c.in-Err.ensures.part in
-    done_cut _ _ _ _ _ _ _ _ _ part c.in-Err.ensures.cause.failed
+    done_cut _ _ _ _ _ part c.in-Err.ensures.cause.failed
 
 pub returns-clause-noted : goal.returns-clause-noted
 returns-clause-noted g c =
@@ -15,4 +15,4 @@ returns-clause-noted g c =
 pub returns-clause-cut : goal.returns-clause-cut
 returns-clause-cut g c =
     let line = rw c.literals.ensures at c.in-Ok.ensures.ok in
-    end_cut c.write.result _ _ _ _ _ _ _ _ _ _ line c.write.ensures.part c.write.ensures.cause
+    end_cut c.write.result _ _ _ _ _ _ line c.write.ensures

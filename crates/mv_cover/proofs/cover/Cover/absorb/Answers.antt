@@ -10,11 +10,11 @@ use Rattle.mv_cover.proofs.cover.Cover.absorb.Goals as goal
 
 pub returns-clause-tidied : goal.returns-clause-tidied
 returns-clause-tidied c =
-    absorbed_is c.args.self.now c.in_ok-lines.lines c.as_slice-3.result.now c.default_beside-default.result (c.in_ok-lines.ensures ∙ ap (λ (ls : List Line). unswallowed (firsts ls)) c.as_slice-2.ensures) c.as_slice-3.ensures c.default_beside-default.ensures
+    absorbed_is c.args.self.now c.in_ok-lines.lines c.as_slice-2.result.now c.default_beside-default.result (c.in_ok-lines.ensures.left ∙ ap (λ (ls : List Line). unswallowed (firsts ls)) c.as_slice.ensures) c.as_slice-2.ensures c.default_beside-default.ensures
 
 pub returns-clause-same : goal.returns-clause-same
 returns-clause-same c at value =
-    let formed : All (λ (l : Line). IsCube l.cube) c.args.self.now.lines = subst (λ (ls : List Line). All (λ (l : Line). IsCube l.cube) ls) c.as_slice.ensures c.are_formed.ensures in
+    let formed : All (λ (l : Line). IsCube l.cube) c.args.self.now.lines = subst (λ (ls : List Line). All (λ (l : Line). IsCube l.cube) ls) c.as_slice.ensures c.in_ok-lines.ensures.formed in
     ap (λ (x : Cover). allowed x at value)
-    (absorbed_is c.args.self.now c.in_ok-lines.lines c.as_slice-3.result.now c.default_beside-default.result (c.in_ok-lines.ensures ∙ ap (λ (ls : List Line). unswallowed (firsts ls)) c.as_slice-2.ensures) c.as_slice-3.ensures c.default_beside-default.ensures)
+    (absorbed_is c.args.self.now c.in_ok-lines.lines c.as_slice-2.result.now c.default_beside-default.result (c.in_ok-lines.ensures.left ∙ ap (λ (ls : List Line). unswallowed (firsts ls)) c.as_slice.ensures) c.as_slice-2.ensures c.default_beside-default.ensures)
     ∙ allowed-absorbed c.args.self.now formed at value

@@ -8,7 +8,7 @@ use Rattle.mv_cover.proofs.cube.Cube.without.Goals as goal
 pub returns-then-not-meet : goal.returns-then-not-meet
 returns-then-not-meet c =
     let apart : cubes_meet c.args.self.now c.args.other.now ≡ false = (λ i. cubes_meet (sym c.lits.ensures.lits i) (sym c.lits-2.ensures.lits i)) ∙ sym c.if-not-meet.ensures in
-    let put = pushed_first c.push.new.self.items c.new-cubes.result.items c.in_ok-copy.field-0 c.args.self.now c.in_ok-push.ensures.items c.new-cubes.ensures.items c.in_ok-copy.ensures in
+    let put = pushed_first c.push.new.self.items c.new-cubes.result.items c.in_ok-copy.field-0 c.args.self.now c.in_ok-push.ensures.items c.new-cubes.ensures.items c.in_ok-copy.ensures.copy in
     let list = sharp_alone c.args.counts.now c.args.self.now c.args.other.now [] c.push.new.self.items apart put in
     let is = IsSharp-sharp_of c.args.counts.now c.args.self.now c.args.other.now c.push.new.self.items list c.lits.ensures.formed c.lits-2.ensures.formed c.requires.own c.requires.other in
     record { list = is.list; points = is.points; apart = is.apart; suited = is.suited }

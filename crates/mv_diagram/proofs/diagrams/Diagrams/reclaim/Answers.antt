@@ -1,5 +1,5 @@
 use Rattle.std.proofs.Common.{◌<◌, ◌^◌, length, refl, arith}
-use Rattle.mv_diagram.proofs.Growing.{IsSound-fewer}
+use Rattle.mv_diagram.proofs.Growing.{IsReduced-fewer}
 use Rattle.mv_diagram.proofs.Tables.{remembers_none}
 use Rattle.mv_diagram.proofs.Reclaiming.{links_held, roots_held, fewer_reclaimed, reclaimed_kept, reclaimed_only}
 use Rattle.mv_diagram.proofs.Showing.{Loses-fewer, all_held}
@@ -25,7 +25,7 @@ invariant_of-self c =
     let small : length new < 2 ^ 32 = omega (arith, r.long, c.len-places.ensures.len, c.len-places.type_inv) in
     rw c.clear.ensures
     (record {
-      sound = IsSound-fewer counts ns new s (fewer_reclaimed counts ns s c.args.roots.now c.gather.new.ids.items c.gather.ensures.gathered held new r small);
+      sound = IsReduced-fewer counts ns new s (fewer_reclaimed counts ns s c.args.roots.now c.gather.new.ids.items c.gather.ensures.gathered held new r small);
       remembers = remembers_none counts new;
       ascends = λ none. absurd (omega (arith, c.saturating_add-self-inside.ensures));
       marked = omega (arith, c.reclaim.ensures.cap, c.self.invariant.marked, c.gather.ensures.marks);

@@ -1,6 +1,6 @@
 use Rattle.std.proofs.Common.{refl, take}
 use Rattle.mv_diagram.specs.declared.table.Table.{Table}
-use Rattle.mv_diagram.proofs.Growing.{IsSound-fewer}
+use Rattle.mv_diagram.proofs.Growing.{IsReduced-fewer}
 use Rattle.mv_diagram.proofs.Tables.{remembers_none}
 use Rattle.mv_diagram.proofs.Reclaiming.{fewer_take, ascends_take}
 use Rattle.mv_diagram.proofs.Showing.{Loses-fewer}
@@ -14,7 +14,7 @@ invariant_of-self c =
     let up = c.self.invariant.ascends (rw (← c.self.view_is) at c.requires.none) in
     rw (c.release.ensures, c.clear.ensures)
     (record {
-      sound = IsSound-fewer counts ns (take c.args.mark.0 ns) s (fewer_take counts ns s up c.args.mark.0);
+      sound = IsReduced-fewer counts ns (take c.args.mark.0 ns) s (fewer_take counts ns s up c.args.mark.0);
       remembers = remembers_none counts (take c.args.mark.0 ns);
       ascends = λ none. ascends_take counts ns s up c.args.mark.0;
       marked = c.self.invariant.marked;

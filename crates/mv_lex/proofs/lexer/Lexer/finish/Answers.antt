@@ -5,4 +5,4 @@ use Rattle.mv_lex.proofs.lexer.Lexer.finish.Goals as goal
 
 pub returns-in-Ok-clause-lines : goal.returns-in-Ok-clause-lines
 returns-in-Ok-clause-lines c =
-    λ bytes earlier h e. on_ok_weaker c.give_line.result (λ l. finished_lines c.args.self bytes earlier _ _ h e (rw c.in-Ok.ensures.ok at l)) c.give_line.ensures.lines
+    on_ok_weaker c.give_line.result (λ l. finished_lines c.args.self _ _ (rw c.in-Ok.ensures.ok at l)) c.give_line.ensures.lines

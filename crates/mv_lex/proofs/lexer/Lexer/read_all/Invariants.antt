@@ -1,5 +1,5 @@
 use Rattle.std.proofs.Common.{◌≤◌, ◌-◌, length, take}
-use Rattle.mv_lex.specs.Reading.{HasRead}
+use Rattle.mv_lex.specs.Steps.{HasRead}
 use Rattle.mv_lex.proofs.lexer.Lexer.read_all.Given as goal
 
 abbrev pub invariant-loop-at : goal.invariant-loop-at

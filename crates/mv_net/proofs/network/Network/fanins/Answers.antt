@@ -2,7 +2,7 @@ use Rattle.std.proofs.Common.{List, subst}
 use Rattle.mv_base.specs.declared.number.NetId.{NetId}
 use Rattle.mv_net.specs.declared.parts.NetParts.{NetParts}
 use Rattle.mv_net.specs.Nets.{slot, net_reads}
-use Rattle.mv_net.specs.Index.{IsAscending}
+use Rattle.mv_graph.specs.Nets.{IsAscending}
 use Rattle.mv_net.proofs.Known.{row_kept}
 use Rattle.mv_net.proofs.network.Network.fanins.Goals as goal
 

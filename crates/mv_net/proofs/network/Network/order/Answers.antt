@@ -6,9 +6,11 @@ use Rattle.mv_base.specs.declared.number.NetId.{NetId}
 use Rattle.mv_net.specs.declared.parts.NetParts.{NetParts}
 use Rattle.mv_net.specs.Index.{is_held, AreFanins}
 use Rattle.mv_net.specs.Order.{IsOrder}
-use Rattle.mv_net.specs.Ranks.{AllBelow, IsSortedBy}
+use Rattle.mv_graph.specs.Nets.{AllBelow}
+use Rattle.mv_graph.specs.Ranks.{IsSortedBy}
 use Rattle.mv_net.specs.Formed.{WellFormed}
-use Rattle.mv_net.proofs.HeldOrder.{passing, fanins_below, held_order}
+use Rattle.mv_net.proofs.Known.{fanins_below}
+use Rattle.mv_net.proofs.HeldOrder.{passing, held_order}
 use Rattle.mv_net.proofs.network.Network.order.Goals as goal
 
 pub sorted-requires-clause-below : goal.sorted-requires-clause-below

@@ -1,0 +1,9 @@
+pub mod Nets
+pub mod Columns
+pub mod Transposes
+pub mod Waiting
+pub mod Finished
+pub mod Walks
+pub mod Clear
+pub mod Turned
+pub mod Spared

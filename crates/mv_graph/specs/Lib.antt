@@ -1,0 +1,10 @@
+pub mod Nets
+pub mod Ranks
+pub mod Transpose
+pub mod Cycles
+-- what private functions alone cite
+pub mod Marks
+pub mod Sorting
+pub mod Transposing
+pub mod Walking
+pub mod Suspects

@@ -1,0 +1,6 @@
+-- Marks of nets by number.
+use Rattle.std.specs.Prelude.{ℕ, Bool, false, List, slice_index_or}
+
+-- the number is marked
+abbrev pub is_marked : List Bool → ℕ → Bool
+is_marked marks n = slice_index_or marks n false

@@ -1,5 +1,0 @@
-use Rattle.mv_net.specs.Sorting.{ArePlaced}
-use Rattle.mv_net.proofs.sorting.Sorting.look_at_each.Given as goal
-
-abbrev pub invariant-loop-number : goal.invariant-loop-number
-invariant-loop-number l = ArePlaced l.columns l.self 0 l.number

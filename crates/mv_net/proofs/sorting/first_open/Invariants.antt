@@ -1,7 +1,0 @@
-use Rattle.std.proofs.Common.{ℕ, ◌<◌, ◌≤◌}
-use Rattle.std.specs.Prelude.{slice_index}
-use Rattle.mv_net.specs.Sorting.{net_at}
-use Rattle.mv_net.proofs.sorting.first_open.Given as goal
-
-abbrev pub invariant-loop-place : goal.invariant-loop-place
-invariant-loop-place l = (k : ℕ) → l.start ≤ k → k < l.place → 0 < slice_index l.ranks (net_at l.nets k)

@@ -1,0 +1,52 @@
+//! The examples of this repository, whose files stand in `examples/`, and what was worked out by hand of each.
+use super::texts::are_written;
+use std::test::Fail;
+
+/// The network of each example, what is written of it and what is noted.
+const EXAMPLES: &str = "\
+-- A grant that may be held: a default that names a column, and a net that goes.
+# A priority arbiter: of three requests the first is granted. While the lock is held the last grant stays.;\
+.model arbiter;.inputs a b c last lock;.outputs grant busy;.mv last, pick, grant 4 NONE A B C;\
+.mv lock 2 OPEN HELD;;# whose turn it would be;.table a b c -> pick;.default NONE;1 - - A;\
+0 1 - B;0 0 1 C;;# a held grant stays, and else it is the one picked;\
+.table lock last pick -> grant;HELD {A-C} - =last;.default =pick;;.table grant -> busy;\
+.default 1;NONE 0;;# how many ask, which nobody looks at;.mv asking 3 NOBODY ONE SEVERAL;\
+.table a b c -> asking;.default SEVERAL;0 0 0 NOBODY;1 0 0 ONE;0 1 0 ONE;0 0 1 ONE;.end; | \
+.model arbiter;.inputs a b c last lock;.outputs grant busy;.mv last 4 NONE A B C;\
+.mv lock 2 OPEN HELD;.mv pick 4 NONE A B C;.mv grant 4 NONE A B C;.table a b c -> pick;\
+.default NONE;1 - - A;0 1 - B;0 0 1 C;.table last lock -> _m1;.default 1;A HELD 0;B HELD 0;\
+C HELD 0;.table last lock pick _m1 -> grant;A HELD - - A;B HELD - - B;C HELD - - C;\
+- - NONE 1 NONE;- - A 1 A;- - B 1 B;- - C 1 C;.table grant -> busy;.default 1;NONE 0;.end; | \
+# begin drop;remove asking;# end 27;# done 39 27;
+-- Sets and ranges of named values, and a net that goes.
+# A decoder of instructions: which unit does the work, and how wide its operands are.;\
+.model decoder;.inputs op size;.outputs unit width;.mv op 8 NOP LOAD STORE ADD SUB AND OR JUMP;\
+.mv size, width 3 BYTE HALF WORD;.mv unit 4 IDLE MEMORY ALU BRANCH;;.table op -> unit;\
+.default ALU;NOP IDLE;{LOAD-STORE} MEMORY;JUMP BRANCH;;\
+# memory takes the size as it is, the rest works on half a word at least, and without work any width will do;\
+.table op size -> width;.default WORD;{LOAD,STORE} - =size;{ADD-OR} !WORD HALF;NOP - -;;\
+# nobody asks whether it is a jump;.table unit -> jumps;- 0;BRANCH 1;.end; | \
+.model decoder;.inputs op size;.outputs unit width;.mv op 8 NOP LOAD STORE ADD SUB AND OR JUMP;\
+.mv size 3 BYTE HALF WORD;.mv unit 4 IDLE MEMORY ALU BRANCH;.mv width 3 BYTE HALF WORD;\
+.table op -> unit;.default ALU;NOP IDLE;(LOAD,STORE) MEMORY;JUMP BRANCH;.table op size -> width;\
+.default WORD;(LOAD,STORE) BYTE BYTE;(LOAD,STORE) HALF HALF;(LOAD,STORE) WORD WORD;\
+(ADD,SUB,AND,OR) (BYTE,HALF) HALF;NOP - -;.end; | \
+# begin drop;remove jumps;# end 12;# done 13 12;
+-- Two nets go, one behind the other, and a partial table stays.
+.model spare;.inputs a b c;.outputs most;.table a b c -> most;1 1 - 1;1 - 1 1;- 1 1 1;0 0 - 0;\
+0 - 0 0;- 0 0 0;.table a b c -> all;1 1 1 1;0 - - 0;- 0 - 0;- - 0 0;.table all most -> odd;\
+1 0 1;0 - 0;- 1 0;.table a c -> legal;0 - 1;- 0 1;.end; | \
+.model spare;.inputs a b c;.outputs most;.table a b c -> most;1 1 - 1;1 - 1 1;- 1 1 1;0 0 - 0;\
+0 - 0 0;- 0 0 0;.table a c -> legal;0 - 1;- 0 1;.end; | \
+# begin drop;remove odd;remove all;# end 14;# done 24 14;
+";
+
+#[test]
+fn the_examples_are_written_as_worked_out(rt: HostRuntime) -> Result<(), Fail> {
+    are_written(
+        &rt,
+        rt.alloc(),
+        b"drop # what nobody sees or reads\n",
+        EXAMPLES,
+    )
+}
