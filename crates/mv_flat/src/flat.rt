@@ -8,64 +8,71 @@ ghost use Rattle.mv_flat.specs.Built.{IsBuilt};
 ghost use Rattle.mv_flat.specs.Flat.{IsFlat};
 ghost use Rattle.mv_flat.specs.Placed.{ArePlaced};
 
-use crate::nets::input_nets;
-use crate::tables::put_tables;
+use crate::tables::nets;
 use mv_base::{Items, Memory};
-use mv_decl::Declared;
 use mv_design::{Design, FileModel};
 use mv_model::{FlatFault, Numbers, numbered};
 use mv_net::{NetParts, Network};
 use std::alloc::Global;
 
 /// The network of a sound design: a net for each input, and for each table a net for its output, and before that one for
-/// the mark that its default may need. The fault is the first of the design's nets.
-#[tactic(auto, using(crate::proofs::Whole::flat_design, crate::proofs::Whole::well_formed, crate::proofs::Whole::few_nets))]
+/// the mark that its default may need. The fault is the first of the design's nets. It works on a copy of the design,
+/// which `flatten_owned` spares.
 pub fn flatten(alloc: Global, design: &Design) -> Result<Network, FlatFault>
     requires { IsProper design.now }
     ensures ok { IfOk result (λ net. IsFlat net design.now) }
     ensures fault { IfErr result (IsFault (root_of design.now)) }
 {
+    flatten_owned(alloc, design.copy()?)
+}
+
+/// The same for a design that isn't needed any more: each of its tables is let go as soon as its nets are made, so that
+/// the whole design never stands in memory beside the whole network.
+#[tactic(auto, using(crate::proofs::Whole::flat_design, crate::proofs::Whole::well_formed, crate::proofs::Whole::few_nets))]
+pub fn flatten_owned(alloc: Global, design: Design) -> Result<Network, FlatFault>
+    requires { IsProper design }
+    ensures ok { IfOk result (λ net. IsFlat net design) }
+    ensures fault { IfErr result (IsFault (root_of design)) }
+{
     let model = root(design);
-    let names = numbered(alloc, model)?;
+    let names = numbered(alloc, &model)?;
     let parts = built(alloc, model, &names)?;
+    drop(names);
     Ok(Network::make(alloc, parts)?)
 }
 
 /// The root of the design.
-fn root(design: &Design) -> &FileModel
-    requires { IsProper design.now }
-    ensures { result.now ≡ root_of design.now }
+fn root(design: Design) -> FileModel
+    requires { IsProper design }
+    ensures { result ≡ root_of design }
 {
-    &design.models.as_slice()[design.root as usize]
+    let mut models = design.models.into_vec();
+    models.swap_remove(design.root as usize)
 }
 
 /// The parts of a sound model's network.
 #[tactic(auto, using(crate::proofs::Behinds::placed))]
-fn built(alloc: Global, model: &FileModel, names: &Numbers) -> Result<NetParts, Memory>
-    requires proper { IsProperModel model.now }
-    requires sound { IsSoundModel model.now }
-    requires names { names.now ≡ places model.now }
+fn built(alloc: Global, model: FileModel, names: &Numbers) -> Result<NetParts, Memory>
+    requires proper { IsProperModel model }
+    requires sound { IsSoundModel model }
+    requires names { names.now ≡ places model }
     requires few { length names.now ≤ MAX_NETS }
-    ensures { IfOk result (λ net. IsBuilt model.now net) }
+    ensures { IfOk result (λ net. IsBuilt model net) }
 {
     parts(alloc, model, names)
 }
 
 /// The parts of the network of a model whose nets have numbers.
-fn parts(alloc: Global, model: &FileModel, names: &Numbers) -> Result<NetParts, Memory>
-    requires proper { IsProperModel model.now }
-    requires placed { ArePlaced model.now names.now }
-    ensures { IfOk result (λ net. IsBuilt model.now net) }
+fn parts(alloc: Global, model: FileModel, names: &Numbers) -> Result<NetParts, Memory>
+    requires proper { IsProperModel model }
+    requires placed { ArePlaced model names.now }
+    ensures { IfOk result (λ net. IsBuilt model net) }
 {
-    let decls = Declared::of(alloc, model.decls.as_slice())?;
-    let inputs = model.inputs.as_slice();
-    let mut nets = input_nets(alloc, &decls, inputs)?;
-    put_tables(&mut nets, alloc, &decls, names, model)?;
     Ok(NetParts {
         root: model.name.copy()?,
-        inputs: names.list(alloc, inputs)?,
+        inputs: names.list(alloc, model.inputs.as_slice())?,
         outputs: names.list(alloc, model.outputs.as_slice())?,
         latches: Items::new(alloc),
-        nets,
+        nets: nets(alloc, model, names)?,
     })
 }

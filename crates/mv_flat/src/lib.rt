@@ -9,5 +9,5 @@ mod nets;
 mod tables;
 mod values;
 
-pub use flat::flatten;
+pub use flat::{flatten, flatten_owned};
 pub use mv_model::FlatFault;

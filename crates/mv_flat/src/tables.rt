@@ -1,5 +1,7 @@
 //! The nets of tables.
-ghost use Rattle.std.specs.Prelude.{◌≡◌, ◌+◌, ◌<◌, ◌≤◌, ◌^◌, length, IfOk, OnOk, All};
+ghost use Rattle.std.specs.Prelude.{◌≡◌, ◌+◌, ◌<◌, ◌≤◌, ◌^◌, None, length, map, IfOk, OnOk, All};
+ghost use Rattle.mv_net.specs.declared.parts.Kind.TheVariants.{Input};
+ghost use Rattle.mv_flat.specs.Built.{file_net};
 ghost use Rattle.mv_base.specs.declared.limits.TheConstants.{MAX_NETS};
 ghost use Rattle.mv_model.specs.Proper.{IsProperModel, IsFileDecl};
 ghost use Rattle.mv_rows.specs.Flat.{IsMade};
@@ -10,7 +12,7 @@ ghost use Rattle.mv_flat.specs.Placed.{IsPlacedTable, ArePlaced, AddsTables};
 
 use crate::columns::{columns, mark_of};
 use crate::marks::put_mark;
-use crate::nets::file_net;
+use crate::nets::{file_net, input_nets};
 use mv_base::{Items, Memory};
 use mv_decl::Declared;
 use mv_design::{FileModel, FileTable};
@@ -19,25 +21,30 @@ use mv_net::{FlatNet, Kind};
 use mv_rows::{FlatTable, flat_table};
 use std::alloc::Global;
 
-/// Adds the nets of the tables, table after table.
+/// The nets of the model: those of its inputs, and those of its tables, table after table. A table is let go behind its nets.
 #[tactic(auto, using(crate::proofs::Behinds::tabled))]
-pub fn put_tables(
-    nets: &mut Items<Option<FlatNet>>,
+pub fn nets(
     alloc: Global,
-    decls: &Declared,
+    model: FileModel,
     names: &Numbers,
-    model: &FileModel,
-) -> Result<(), Memory>
-    requires declared { decls.now ≡ model.now.decls }
-    requires proper { IsProperModel model.now }
-    requires placed { ArePlaced model.now names.now }
-    ensures { OnOk result (AddsTables model.now nets.old nets.new) }
+) -> Result<Items<Option<FlatNet>>, Memory>
+    requires proper { IsProperModel model }
+    requires placed { ArePlaced model names.now }
+    ensures { IfOk result (λ nets. AddsTables model (map (file_net model.decls Input None) model.inputs) nets) }
 {
+    let FileModel {
+        inputs,
+        decls,
+        tables,
+        ..
+    } = model;
+    let decls = Declared::of(alloc, decls.as_slice())?;
+    let mut nets = input_nets(alloc, &decls, inputs.as_slice())?;
     let mut last = 0;
-    for table in model.tables.as_slice() {
-        put_table(nets, &mut last, alloc, decls, names, table)?;
+    for table in tables.into_vec() {
+        put_table(&mut nets, &mut last, alloc, &decls, names, &table)?;
     }
-    Ok(())
+    Ok(nets)
 }
 
 /// Adds the nets of a table. `last` is the number of the last made name.

@@ -8,7 +8,7 @@ use Rattle.mv_flat.proofs.flat.root.Goals as goal
 pub returns : goal.returns
 unfolding root_of
 returns c =
-    let d = c.args.design.now in
-    let model = c.index-as_slice-design.result in
+    let d = c.args.design in
+    let model = c.swap_remove.result in
     let low : d.root < length d.models = omega (arith, c.requires.single, c.requires.root_is) in
-    c.index-as_slice-design.is ∙ (ap (λ (models : List FileModel). get_or models d.root model) c.as_slice.ensures ∙ get_or_default d.models d.root model no_model low)
+    c.swap_remove.ensures.value ∙ (ap (λ (models : List FileModel). get_or models d.root model) c.into_vec-models.ensures ∙ get_or_default d.models d.root model no_model low)
