@@ -10,4 +10,4 @@ mod tables;
 
 pub use mv_design::{Bind, Decl, Design, Entry, FileLatch, FileModel, FileTable, Part, Row};
 pub use mv_fault::{ParseFault, Which, put_parse_fault};
-pub use reader::{one_answer, parse};
+pub use reader::{one_answer, parse, parse_owned};

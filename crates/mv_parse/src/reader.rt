@@ -1,4 +1,4 @@
-ghost use Rattle.std.specs.Prelude.{◌≡◌, ◌⊎◌, ◌+◌, ◌<◌, ◌^◌, if◌then◌else◌, List, OnOk, IfOk, IfErr};
+ghost use Rattle.std.specs.Prelude.{◌≡◌, ◌⊎◌, ◌++◌, ◌∷◌, [], if◌then◌else◌, List, OnOk, IfOk, IfErr};
 ghost use Rattle.mv_lex.specs.declared.lines.LexLine.{LexLine};
 ghost use Rattle.mv_design.specs.declared.design.Design.{Design};
 ghost use Rattle.mv_fault.specs.declared.fault.ParseFault.{ParseFault};
@@ -28,35 +28,39 @@ fn end_file(known: Known) -> Result<Design, ParseFault>
     }
 }
 
-/// The place of the first line of the open model behind its own, once a line at this place has been read.
-fn next_first(command: Command, first: usize, at: usize) -> usize
-    requires { at + 1 < 2 ^ 64 }
-    ensures { result ≡ (if is_bound command then at + 1 else first) }
+/// Keeps a line that has been read with those of the open model behind its first, which a line that begins or ends a model
+/// lets go.
+fn keep_line(body: &mut Items<LexLine>, command: Command, line: LexLine) -> Result<(), ParseFault>
+    ensures fault { IfErr result (λ f. f ≡ ParseFault.Memory) }
+    ensures ok { OnOk result (body.new ≡ (if is_bound command then [] else body.old ++ line ∷ [])) }
 {
-    if is_bound(command) { at + 1 } else { first }
+    if is_bound(command) {
+        body.truncate(0);
+    } else {
+        body.push(line)?;
+    }
+    Ok(())
 }
 
 /// Reads all lines in turn.
 #[tactic(auto, using(mv_fault::proofs::Firsts::firsts))]
-fn read_lines(alloc: Global, lines: &[LexLine]) -> Result<Design, ParseFault>
-    ensures fault { Tells result (faults_of lines.now) }
-    ensures ok { IfOk result (λ design. design ≡ design_of lines.now) }
+fn read_lines(alloc: Global, lines: Vec<LexLine>) -> Result<Design, ParseFault>
+    ensures fault { Tells result (faults_of lines.items) }
+    ensures ok { IfOk result (λ design. design ≡ design_of lines.items) }
 {
     let mut known = Known {
         models: Items::new(alloc),
         inside: None,
     };
-    // the place of the first line of the open model behind its own
-    let mut first = 0;
-    for (at, line) in lines.iter().enumerate() {
-        let command = command_at(line);
-        let (before, _behind) = lines.split_at(at);
-        let (_ended, open) = before.split_at(first);
-        match take_line(alloc, &mut known, command, open, line) {
+    // the lines of the open model behind its first
+    let mut body = Items::new(alloc);
+    for line in lines {
+        let command = command_at(&line);
+        match take_line(alloc, &mut known, command, &mut body, &line) {
             Ok(()) => {}
             Err(fault) => return Err(fault),
         }
-        first = next_first(command, first, at);
+        keep_line(&mut body, command, line)?;
     }
     end_file(known)
 }
@@ -68,7 +72,17 @@ pub fn parse(alloc: Global, lines: &Lines) -> Result<Design, ParseFault>
     ensures within { OnOk result (IsWithin lines.now) }
     ensures fault { IfErr result (λ f. (f ≡ ParseFault.Memory) ⊎ FirstFault lines.now f) }
 {
-    read_lines(alloc, lines.as_slice())
+    parse_owned(alloc, lines.copy()?)
+}
+
+/// The same for lines that aren't needed any more: each is let go as soon as the design has what it says, so that the lines
+/// and the design never stand whole in memory together.
+pub fn parse_owned(alloc: Global, lines: Lines) -> Result<Design, ParseFault>
+    ensures ok { IfOk result (λ design. IsDesign lines design) }
+    ensures within { OnOk result (IsWithin lines) }
+    ensures fault { IfErr result (λ f. (f ≡ ParseFault.Memory) ⊎ FirstFault lines f) }
+{
+    read_lines(alloc, lines.list)
 }
 
 /// Lines with a first fault say no design within the limits. So `parse` is Ok exactly where lines say a design within the

@@ -15,13 +15,14 @@ use crate::lines::{
     begin_table, count_default, count_row, model_name, read_decls, read_inputs, read_outputs,
 };
 use crate::tables::end_model;
-use mv_base::{Name, NameSet};
+use mv_base::{Items, Name, NameSet};
 use mv_decl::Decls;
 use mv_design::FileModel;
 use mv_fault::ParseFault;
 use mv_lex::LexLine;
 use mv_table::{behind_first, has_several_outputs};
 use std::alloc::Global;
+use std::mem;
 
 /// Refuses a line that this version doesn't read: a second model, and a table with several outputs.
 fn check_read(known: &Known, command: Command, line: &LexLine) -> Result<(), ParseFault>
@@ -76,12 +77,12 @@ fn outside_line(alloc: Global, command: Command, line: &LexLine) -> Result<OpenM
 fn end_line(
     alloc: Global,
     model: OpenModel,
-    lines: &[LexLine],
+    lines: Items<LexLine>,
     line: &LexLine,
 ) -> Result<FileModel, ParseFault>
-    requires { All (λ (l : LexLine). HasFewColumns l) lines.now }
-    ensures fault { Tells result (end_faults line.now.number (first_word line.now) (behind_first line.now) model.decls lines.now) }
-    ensures ok { IfOk result (λ ended. ended ≡ file_model model lines.now) }
+    requires { All (λ (l : LexLine). HasFewColumns l) lines }
+    ensures fault { Tells result (end_faults line.now.number (first_word line.now) (behind_first line.now) model.decls lines) }
+    ensures ok { IfOk result (λ ended. ended ≡ file_model model lines) }
 {
     if !behind_first(line).is_empty() {
         return Err(ParseFault::Extra {
@@ -159,38 +160,43 @@ fn end_open(
     alloc: Global,
     known: &mut Known,
     command: Command,
-    lines: &[LexLine],
+    body: &mut Items<LexLine>,
     line: &LexLine,
 ) -> Result<(), ParseFault>
-    requires narrow { All (λ (l : LexLine). HasFewColumns l) lines.now }
+    requires narrow { All (λ (l : LexLine). HasFewColumns l) body.old }
     requires ends { is_end command ≡ true }
-    ensures fault { Tells result (placed_faults command known.old.inside lines.now line.now) }
-    ensures ok { OnOk result (known.new ≡ line_step command known.old lines.now line.now) }
+    ensures fault { Tells result (placed_faults command known.old.inside body.old line.now) }
+    ensures ok { OnOk result (known.new ≡ line_step command known.old body.old line.now) }
 {
     match known.inside.take() {
         None => known.inside = Some(outside_line(alloc, command, line)?),
-        Some(model) => known.models.push(end_line(alloc, model, lines, line)?)?,
+        Some(model) => {
+            let lines = mem::replace(body, Items::new(alloc));
+            known.models.push(end_line(alloc, model, lines, line)?)?;
+        }
     }
     Ok(())
 }
 
-/// Reads a line: what is known behind it, or its first fault. `lines` are those of the open model behind its first.
+/// Reads a line: what is known behind it, or its first fault. `body` are the lines of the open model behind its
+/// first, which only the line that ends it takes.
 #[tactic(auto, using(mv_fault::proofs::Firsts::firsts), unfolding(crate::specs::Grammar::line_faults, crate::specs::Steps::line_step))]
 pub fn take_line(
     alloc: Global,
     known: &mut Known,
     command: Command,
-    lines: &[LexLine],
+    body: &mut Items<LexLine>,
     line: &LexLine,
 ) -> Result<(), ParseFault>
     requires small { IsSmall known.old }
-    requires narrow { All (λ (l : LexLine). HasFewColumns l) lines.now }
-    ensures fault { Tells result (line_faults command known.old lines.now line.now) }
-    ensures ok { OnOk result (known.new ≡ line_step command known.old lines.now line.now) }
+    requires narrow { All (λ (l : LexLine). HasFewColumns l) body.old }
+    ensures fault { Tells result (line_faults command known.old body.old line.now) }
+    ensures ok { OnOk result (known.new ≡ line_step command known.old body.old line.now) }
+    ensures same { is_end command ≡ false → body.new ≡ body.old }
 {
     check_read(known, command, line)?;
     if is_end(command) {
-        return end_open(alloc, known, command, lines, line);
+        return end_open(alloc, known, command, body, line);
     }
     match &mut known.inside {
         None => {

@@ -27,18 +27,24 @@ fn front_rows(lines: &[LexLine]) -> &[LexLine]
     lines
 }
 
-/// The tables among the lines of a model behind its first.
+/// The tables among the lines of a model behind its first. Each line is let go once its table has been read.
 #[tactic(auto, using(mv_fault::proofs::Firsts::firsts))]
-fn tables(alloc: Global, decls: &Decls, lines: &[LexLine]) -> Result<Items<FileTable>, ParseFault>
-    requires { All (λ (l : LexLine). HasFewColumns l) lines.now }
-    ensures fault { Tells result (tables_faults decls.now lines.now) }
-    ensures ok { IfOk result (λ tables. tables ≡ tables_of decls.now lines.now) }
+fn tables(
+    alloc: Global,
+    decls: &Decls,
+    lines: Items<LexLine>,
+) -> Result<Items<FileTable>, ParseFault>
+    requires { All (λ (l : LexLine). HasFewColumns l) lines }
+    ensures fault { Tells result (tables_faults decls.now lines) }
+    ensures ok { IfOk result (λ tables. tables ≡ tables_of decls.now lines) }
 {
     let mut tables = Items::new(alloc);
-    for (at, line) in lines.iter().enumerate() {
-        if is_table(command_at(line)) {
-            let (_before, behind) = lines.split_at(at + 1);
-            match read_table(alloc, decls, line, front_rows(behind)) {
+    let mut left = lines;
+    for at in 0..left.len() {
+        let line = left.replace(at, LexLine::empty(alloc));
+        if is_table(command_at(&line)) {
+            let (_before, behind) = left.as_slice().split_at(at + 1);
+            match read_table(alloc, decls, &line, front_rows(behind)) {
                 Ok(table) => tables.push(table)?,
                 Err(fault) => return Err(fault),
             }
@@ -51,11 +57,11 @@ fn tables(alloc: Global, decls: &Decls, lines: &[LexLine]) -> Result<Items<FileT
 pub fn end_model(
     alloc: Global,
     model: OpenModel,
-    lines: &[LexLine],
+    lines: Items<LexLine>,
 ) -> Result<FileModel, ParseFault>
-    requires { All (λ (l : LexLine). HasFewColumns l) lines.now }
-    ensures fault { Tells result (tables_faults model.decls lines.now) }
-    ensures ok { IfOk result (λ ended. ended ≡ file_model model lines.now) }
+    requires { All (λ (l : LexLine). HasFewColumns l) lines }
+    ensures fault { Tells result (tables_faults model.decls lines) }
+    ensures ok { IfOk result (λ ended. ended ≡ file_model model lines) }
 {
     let tables = tables(alloc, &model.decls, lines)?;
     Ok(FileModel {
