@@ -5,7 +5,7 @@ use mv_flat::flatten;
 use mv_lex::Lines;
 use mv_model::FlatFault;
 use mv_net::Network;
-use mv_parse::{ParseFault, parse};
+use mv_parse::{ParseFault, parse_owned};
 use std::alloc::Global;
 
 /// Why lines give no network: their first fault, a fault of the design that they say, or want of memory.
@@ -36,17 +36,16 @@ fn flat_refused(fault: FlatFault) -> NetFault
     }
 }
 
-/// The network that the lines say. The lines are let go before it is made.
+/// The network that the lines say. The lines are let go while their design is made.
 #[tactic(auto, using(crate::proofs::Refused::networks))]
 pub fn network_of(alloc: Global, lines: Lines) -> Result<Network, NetFault>
     ensures ok { IfOk result (λ net. IsNetOf lines net) }
     ensures fault { IfErr result (IsFaultOf lines) }
 {
-    let design = match parse(alloc, &lines) {
+    let design = match parse_owned(alloc, lines) {
         Ok(design) => design,
         Err(fault) => return Err(parse_refused(fault)),
     };
-    drop(lines);
     match flatten(alloc, &design) {
         Ok(net) => Ok(net),
         Err(fault) => Err(flat_refused(fault)),
