@@ -1,7 +1,7 @@
 ghost use Rattle.std.specs.Prelude.{◌≡◌, IfOk, IfErr};
 ghost use Rattle.mv_read.specs.Reads.{IsNetOf, IsFaultOf, parse_refused, flat_refused};
 
-use mv_flat::flatten;
+use mv_flat::flatten_owned;
 use mv_lex::Lines;
 use mv_model::FlatFault;
 use mv_net::Network;
@@ -36,7 +36,7 @@ fn flat_refused(fault: FlatFault) -> NetFault
     }
 }
 
-/// The network that the lines say. The lines are let go while their design is made.
+/// The network that the lines say. The lines are let go while their design is made, and its tables while the network is.
 #[tactic(auto, using(crate::proofs::Refused::networks))]
 pub fn network_of(alloc: Global, lines: Lines) -> Result<Network, NetFault>
     ensures ok { IfOk result (λ net. IsNetOf lines net) }
@@ -46,7 +46,7 @@ pub fn network_of(alloc: Global, lines: Lines) -> Result<Network, NetFault>
         Ok(design) => design,
         Err(fault) => return Err(parse_refused(fault)),
     };
-    match flatten(alloc, &design) {
+    match flatten_owned(alloc, design) {
         Ok(net) => Ok(net),
         Err(fault) => Err(flat_refused(fault)),
     }
