@@ -23,7 +23,7 @@ use Rattle.mv_net.proofs.Latchless.{no_values, values_from, no_resets, resets_fr
 use Rattle.mv_write.specs.Text.{fanins_of, names_of}
 use Rattle.mv_write.specs.Walk.{numbers}
 use Rattle.mv_back.proofs.TextModel.{fanin_names, IsModelOf}
-use Rattle.mv_back.proofs.Numbers.{IsHeldAt, AllHeld, number_of, number_of-held}
+use Rattle.mv_back.proofs.Numbers.{IsHeldAt, AllHeld, number_named, number_named-held}
 use Rattle.mv_back.proofs.CoverRows.{is_low}
 use Rattle.mv_back.proofs.ModelTables.{IsOfNet, AllOfNets, all_of_nets, table_at}
 use Rattle.mv_back.proofs.Driven.{IsLatchless, one_name, inputs_held, outputs_held, held_driver}
@@ -83,10 +83,10 @@ assigned net m plain model i s o n r a = record {
 -- ---- from an assignment to a valuation
 
 abbrev by_number : NetParts → (ℕ → ℕ) → List ℕ → ℕ
-by_number net at w = at (number_of w net.nets)
+by_number net at w = at (number_named w net.nets)
 
 value_of : (net : NetParts) → WellFormed net → (at : ℕ → ℕ) (k : ℕ) → IsHeldAt net.nets k → by_number net at (name_in (slot net.nets k)) ≡ at k
-value_of net formed at k h = ap at (number_of-held net.nets (one_name net formed) k h)
+value_of net formed at k h = ap at (number_named-held net.nets (one_name net formed) k h)
 
 same_by_number : (net : NetParts) → WellFormed net → (at : ℕ → ℕ) (ks : List ℕ) → AllHeld net.nets ks → Same (by_number net at) at net.nets ks
 same_by_number net formed at [] h = tt

@@ -7,13 +7,15 @@ use Rattle.mv_base.specs.Names.{same_word, among, names_differ}
 use Rattle.mv_base.proofs.NameLemmas.{same_word_is}
 use Rattle.mv_design.specs.declared.design.FileModel.{FileModel}
 use Rattle.mv_model.specs.Nets.{nets_of, drivers}
-use Rattle.mv_model.specs.Sound.{reads_through, reads, HasRank, IsSoundModel}
+use Rattle.mv_model.specs.Sound.{reads_through, reads, IsSoundModel}
+use Rattle.mv_graph.specs.Above.{IsAcyclic}
+use Rattle.mv_graph.proofs.Paths.{acyclic_mapped}
 use Rattle.mv_net.specs.declared.parts.NetParts.{NetParts}
-use Rattle.mv_net.specs.Nets.{slot, name_in}
+use Rattle.mv_net.specs.Nets.{slot, name_in, reads_in}
 use Rattle.mv_net.specs.Formed.{WellFormed}
 use Rattle.mv_write.specs.Text.{fanins_of}
 use Rattle.mv_back.proofs.TextModel.{IsModelOf}
-use Rattle.mv_back.proofs.Numbers.{IsHeldAt, held_in, number_of, number_of-held}
+use Rattle.mv_back.proofs.Numbers.{IsHeldAt, held_in, number_named, number_named-held}
 use Rattle.mv_back.proofs.ModelTables.{Passes, some_passes, all_of_nets}
 use Rattle.mv_back.proofs.Driven.{IsLatchless, one_name, drivers_differ, held_driver}
 use Rattle.mv_model.proofs.Named.{among-nets_of}
@@ -49,35 +51,33 @@ driven_once net m plain model w h =
     let n = named_held net m plain.formed model w (sym (among-nets_of w m) ∙ h) in
     ap (λ v. among v (drivers m)) n.is ∙ held_driver net m plain model n.number n.held
 
-abbrev rank_of : (net : NetParts) → WellFormed net → List ℕ → ℕ
-rank_of net formed w = formed.acyclic.rank (number_of w net.nets)
+-- the number of a held net, by its name
+number_at : (net : NetParts) → WellFormed net → (k : ℕ) (w : List ℕ) → IsHeldAt net.nets k → w ≡ name_in (slot net.nets k) → number_named w net.nets ≡ k
+number_at net formed k w h e = ap (λ v. number_named v net.nets) e ∙ number_named-held net.nets (one_name net formed) k h
 
-rank_at : (net : NetParts) (formed : WellFormed net) (k : ℕ) (w : List ℕ) → IsHeldAt net.nets k → w ≡ name_in (slot net.nets k) → rank_of net formed w ≡ formed.acyclic.rank k
-rank_at net formed k w h e =
-    ap (rank_of net formed) e ∙ ap formed.acyclic.rank (number_of-held net.nets (one_name net formed) k h)
-
-falls_at : (net : NetParts) (formed : WellFormed net) (w above : List ℕ) → Passes net.nets (reads_through w above) → rank_of net formed above < rank_of net formed w
-falls_at net formed w above t =
+-- what a net reads by name it reads by number
+reads_number : (net : NetParts) → WellFormed net → (w above : List ℕ) → Passes net.nets (reads_through w above) → reads_in net.nets (number_named w net.nets) (number_named above net.nets) ≡ true
+reads_number net formed w above t =
     let o = t.of_net in
     let p = and_parts (among w t.table.outputs) (among above t.table.inputs) t.passes in
     let fanins = fanins_of (length net.nets) o.cover in
     let n = name_in_list net.nets fanins above (ap (among above) (sym o.is.inputs) ∙ p.1) in
     let held = held_in net.nets fanins n.number (fanins_held net formed o.number o.net o.cover o.held o.table) n.among in
-    let low = rank_at net formed n.number above held n.is in
-    let high = rank_at net formed o.number w (record { net = o.net; held = o.held }) (output_is net.nets t.table o w p.0) in
-    rw (low, high) (formed.acyclic.falls o.number n.number (fanin_read net o.number o.net o.cover o.held o.table n.number n.among))
+    let low = number_at net formed n.number above held n.is in
+    let high = number_at net formed o.number w (record { net = o.net; held = o.held }) (output_is net.nets t.table o w p.0) in
+    rw (low, high) (fanin_read net o.number o.net o.cover o.held o.table n.number n.among)
 
-ranked : (net : NetParts) (m : FileModel) → WellFormed net → IsModelOf net m → HasRank m
+acyclic : (net : NetParts) (m : FileModel) → WellFormed net → IsModelOf net m → IsAcyclic (reads m)
 unfolding reads
-ranked net m formed model = record {
-  rank = rank_of net formed;
-  falls = λ w above e. falls_at net formed w above (some_passes net.nets (reads_through w above) m.tables (all_of_nets net.nets m.tables model.tables) e);
-}
+acyclic net m formed model =
+    acyclic_mapped (reads m) (reads_in net.nets) (λ w. number_named w net.nets)
+    (λ w above e. reads_number net formed w above (some_passes net.nets (reads_through w above) m.tables (all_of_nets net.nets m.tables model.tables) e))
+    formed.acyclic
 
 pub sound-back : (net : NetParts) (m : FileModel) → WellFormed net → net.latches ≡ [] → IsModelOf net m → IsSoundModel m
 sound-back net m formed latches model =
     let plain : IsLatchless net = record { formed = formed; latches = latches } in
     record {
       driven = record { once = λ w h. counted_once w (drivers m) (drivers_differ net m formed model) (driven_once net m plain model w h) };
-      acyclic = ranked net m formed model;
+      acyclic = acyclic net m formed model;
     }

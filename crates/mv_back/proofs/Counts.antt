@@ -5,7 +5,7 @@ use Rattle.std.proofs.lemmas.Bool.{and_from, le-leb}
 use Rattle.std.proofs.lemmas.List.Folds.{list_all-append}
 use Rattle.std.proofs.lemmas.Nat.{div-add-mod'}
 use Rattle.std.proofs.lemmas.Fmt.{decimal_by_steps}
-use Rattle.mv_decl.specs.Line.{is_digits, number_of}
+use Rattle.mv_decl.specs.Line.{is_digits, number_said}
 use Rattle.mv_decl.proofs.Numbers.{number_more}
 
 digit : (d : ℕ) → d < 10 → is_digits ((48 + d) ∷ []) ≡ true
@@ -18,9 +18,9 @@ decimal-digits =
     (λ m ds large h. list_all-append (λ b. nat_le 48 b && nat_le b 57) ds ((48 + m % 10) ∷ []) ∙ and_from _ _ h (digit (m % 10) (omega arith)))
 
 -- its digits say it
-pub number-decimal : (n : ℕ) → n < 2 ^ 64 → number_of (decimal n) ≡ n
+pub number-decimal : (n : ℕ) → n < 2 ^ 64 → number_said (decimal n) ≡ n
 number-decimal =
-    decimal_by_steps (λ m ds. number_of ds ≡ m)
+    decimal_by_steps (λ m ds. number_said ds ≡ m)
     (λ m small. omega arith)
     (λ m ds large h.
     let more = number_more ds (48 + m % 10) in

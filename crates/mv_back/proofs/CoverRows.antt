@@ -12,7 +12,7 @@ use Rattle.mv_cover.specs.declared.cover.Cover.{Cover}
 use Rattle.mv_cover.specs.Cubes.{holds, matches, nets_ascend}
 use Rattle.mv_cover.specs.Covers.{some_matches, some_gives, default_gives, allowed, cube_reads, lines_read}
 use Rattle.mv_cover.proofs.Meeting.{above, above_tail}
-use Rattle.mv_cover.proofs.Walking.{ascend_tail}
+use Rattle.mv_cover.proofs.Walking.{nets_ascend-tail}
 use Rattle.mv_rows.specs.Tables.{row_matches, some_row_matches, some_row_holds, default_holds, table_allows}
 use Rattle.mv_net.specs.declared.parts.FlatNet.{FlatNet}
 use Rattle.mv_net.specs.Nets.{slot, values_in}
@@ -58,7 +58,7 @@ sets_in : (nets : List (Option FlatNet)) (cube : List Lit) → nets_ascend cube 
 sets_in nets [] e = tt
 sets_in nets (l ∷ ls) e = (
   cond-true (nat_eq l.net.0 l.net.0) l.set (set_in nets ls l.net.0) (eq-eqb l.net.0 l.net.0 refl),
-  sets_more nets l ls ls (above_tail l.net.0 l ls e (omega arith)) (sets_in nets ls (ascend_tail l ls e)),
+  sets_more nets l ls ls (above_tail l.net.0 l ls e (omega arith)) (sets_in nets ls (nets_ascend-tail l ls e)),
 )
 
 -- ---- a row matches where the cube does

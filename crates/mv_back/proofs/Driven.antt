@@ -7,7 +7,7 @@ use Rattle.std.proofs.lemmas.Bool.{or_left, or_right, false≢true}
 use Rattle.mv_base.specs.Names.{among, names_differ}
 use Rattle.mv_base.specs.declared.number.NetId.{NetId}
 use Rattle.mv_design.specs.declared.design.FileModel.{FileModel}
-use Rattle.mv_model.specs.Nets.{outputs_of, drivers}
+use Rattle.mv_model.specs.Nets.{nets_driven, drivers}
 use Rattle.mv_net.specs.declared.parts.Kind.{Kind}
 use Rattle.mv_net.specs.declared.parts.Kind.TheVariants.{Input, Latch, Table, Reset}
 use Rattle.mv_net.specs.declared.parts.FlatNet.{FlatNet}
@@ -40,7 +40,7 @@ pub drivers_are : (net : NetParts) (m : FileModel) → IsModelOf net m → drive
 unfolding drivers
 drivers_are net m model =
     let ins = model.inputs ∙ names_at-numbers net.nets net.inputs in
-    ap (λ ws. ws ++ flat_map outputs_of m.tables) ins ∙ (ap (λ ws. names_at net.nets (numbers net.inputs) ++ ws) (outputs_are net.nets m.tables model.tables) ∙ sym (names_at-append net.nets (numbers net.inputs) (tabled net.nets)))
+    ap (λ ws. ws ++ flat_map nets_driven m.tables) ins ∙ (ap (λ ws. names_at net.nets (numbers net.inputs) ++ ws) (outputs_are net.nets m.tables model.tables) ∙ sym (names_at-append net.nets (numbers net.inputs) (tabled net.nets)))
 
 -- ---- they are held and differ
 

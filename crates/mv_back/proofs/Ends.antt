@@ -5,7 +5,7 @@ use Rattle.std.specs.List.{list_all}
 use Rattle.std.proofs.lemmas.Bool.{cond-false, and_parts, and_left, lt-ltb, or_from, not-true}
 use Rattle.std.proofs.lemmas.List.{append-nil}
 use Rattle.mv_base.specs.Names.{ends_with}
-use Rattle.mv_lex.specs.Lines.{is_hash, has_hash, is_end, is_empty, tail_of, before_tail, certain, joins, text_of, texts}
+use Rattle.mv_lex.specs.Lines.{is_hash, has_hash, is_line_end, is_empty, tail_of, before_tail, certain, joins, text_of, texts}
 use Rattle.mv_lex.proofs.Tails.{before_tail-tail, tail_of-skip, certain-clear}
 use Rattle.mv_lex.proofs.After.{joins-clear}
 
@@ -27,9 +27,9 @@ ends_with-behind e (x ∷ y ∷ xs) c bs = ends_with-skip e x y (xs ++ c ∷ bs)
 
 -- ---- the tail
 
-is_end-other : (b : ℕ) (bs : List ℕ) → not (b == 13) ≡ true → is_end (b ∷ bs) ≡ false
-is_end-other b [] h = not-true (b == 13) h
-is_end-other b (c ∷ bs) h = refl
+is_line_end-other : (b : ℕ) (bs : List ℕ) → not (b == 13) ≡ true → is_line_end (b ∷ bs) ≡ false
+is_line_end-other b [] h = not-true (b == 13) h
+is_line_end-other b (c ∷ bs) h = refl
 
 tail_of-none : (line : List ℕ) → list_all (λ b. not (b == 13)) line ≡ true → ends_with 92 line ≡ false → tail_of line ≡ []
 tail_of-none [] h e = refl
@@ -37,7 +37,7 @@ tail_of-none (b ∷ []) h e = cond-false ((b == 92) && true) _ _ (and_left (b ==
 tail_of-none (b ∷ c ∷ bs) h e =
     let rest = (and_parts (not (b == 13)) (list_all (λ x. not (x == 13)) (c ∷ bs)) h).1 in
     let first = (and_parts (not (c == 13)) (list_all (λ x. not (x == 13)) bs) rest).0 in
-    tail_of-skip b (c ∷ bs) (is_end-other c bs first) ∙ tail_of-none (c ∷ bs) rest (sym (ends_with-skip 92 b c bs) ∙ e)
+    tail_of-skip b (c ∷ bs) (is_line_end-other c bs first) ∙ tail_of-none (c ∷ bs) rest (sym (ends_with-skip 92 b c bs) ∙ e)
 
 -- ---- the text
 

@@ -6,7 +6,7 @@ use Rattle.std.proofs.lemmas.Bool.{and_parts, or_cases}
 use Rattle.std.proofs.lemmas.Option.{same_Some}
 use Rattle.mv_cover.specs.declared.cover.Cover.{Cover}
 use Rattle.mv_design.specs.declared.table.FileTable.{FileTable}
-use Rattle.mv_model.specs.Nets.{outputs_of}
+use Rattle.mv_model.specs.Nets.{nets_driven}
 use Rattle.mv_net.specs.declared.parts.FlatNet.{FlatNet}
 use Rattle.mv_net.specs.Nets.{slot, name_in, table_in}
 use Rattle.mv_back.proofs.TextModel.{IsTableOf, TableOrNot, AreTablesOf}
@@ -95,14 +95,14 @@ has_table_at nets k = is_some (table_in (slot nets k))
 abbrev if_tabled : List (Option FlatNet) → ℕ → List ℕ → Bool → List (List ℕ)
 if_tabled nets a ks b = names_at nets (cond b (a ∷ ks) ks)
 
-output_if : (nets : List (Option FlatNet)) (f : FlatNet) (o : Option Cover) (a : ℕ) (ks : List ℕ) (Rest : List FileTable → Type 0) (ts : List FileTable) → slot nets a ≡ Some f → f.table ≡ o → TableOrNot nets f o Rest ts → ((us : List FileTable) → Rest us → flat_map outputs_of us ≡ names_at nets ks) → flat_map outputs_of ts ≡ if_tabled nets a ks (has_table_at nets a)
+output_if : (nets : List (Option FlatNet)) (f : FlatNet) (o : Option Cover) (a : ℕ) (ks : List ℕ) (Rest : List FileTable → Type 0) (ts : List FileTable) → slot nets a ≡ Some f → f.table ≡ o → TableOrNot nets f o Rest ts → ((us : List FileTable) → Rest us → flat_map nets_driven us ≡ names_at nets ks) → flat_map nets_driven ts ≡ if_tabled nets a ks (has_table_at nets a)
 output_if nets f None a ks Rest ts h e t rest =
     let test : has_table_at nets a ≡ false = ap (λ g. is_some (table_in g)) h ∙ ap is_some e in
     rest ts t ∙ ap (if_tabled nets a ks) (sym test)
 output_if nets f (Some c) a ks Rest [] h e t rest = absurd t
 output_if nets f (Some c) a ks Rest (u ∷ us) h e t rest =
     let test : has_table_at nets a ≡ true = ap (λ g. is_some (table_in g)) h ∙ ap is_some e in
-    ap (λ ws. ws ++ flat_map outputs_of us) t.0.outputs ∙ (ap (λ ws. f.name ∷ ws) (rest us t.1) ∙ (ap (λ w. w ∷ names_at nets ks) (sym (ap name_in h)) ∙ ap (if_tabled nets a ks) (sym test)))
+    ap (λ ws. ws ++ flat_map nets_driven us) t.0.outputs ∙ (ap (λ ws. f.name ∷ ws) (rest us t.1) ∙ (ap (λ w. w ∷ names_at nets ks) (sym (ap name_in h)) ∙ ap (if_tabled nets a ks) (sym test)))
 
 plus_zero : (a : ℕ) → a ≡ a + 0
 plus_zero a = omega arith
@@ -110,8 +110,8 @@ plus_zero a = omega arith
 plus_one : (a j : ℕ) → (a + 1) + j ≡ a + suc j
 plus_one a j = omega arith
 
-outputs_from : (nets fs : List (Option FlatNet)) (ts : List FileTable) (a : ℕ) → ((j : ℕ) → slot nets (a + j) ≡ slot fs j) → AreTablesOf nets fs ts → flat_map outputs_of ts ≡ names_at nets (filter (has_table_at nets) (range_with_len a (length fs)))
-outputs_from nets [] ts a same t = ap (flat_map outputs_of) t
+outputs_from : (nets fs : List (Option FlatNet)) (ts : List FileTable) (a : ℕ) → ((j : ℕ) → slot nets (a + j) ≡ slot fs j) → AreTablesOf nets fs ts → flat_map nets_driven ts ≡ names_at nets (filter (has_table_at nets) (range_with_len a (length fs)))
+outputs_from nets [] ts a same t = ap (flat_map nets_driven) t
 outputs_from nets (None ∷ fs) ts a same t =
     let test : has_table_at nets a ≡ false = ap (λ k. has_table_at nets k) (plus_zero a) ∙ ap (λ g. is_some (table_in g)) (same 0) in
     outputs_from nets fs ts (a + 1) (λ j. ap (slot nets) (plus_one a j) ∙ same (suc j)) t ∙ ap (if_tabled nets a (filter (has_table_at nets) (range_with_len (a + 1) (length fs)))) (sym test)
@@ -122,5 +122,5 @@ zero_plus : (j : ℕ) → 0 + j ≡ j
 zero_plus j = omega arith
 
 -- they are the names of the nets with tables, by ascending number
-pub outputs_are : (nets : List (Option FlatNet)) (ts : List FileTable) → AreTablesOf nets nets ts → flat_map outputs_of ts ≡ names_at nets (filter (has_table_at nets) (range_with_len 0 (length nets)))
+pub outputs_are : (nets : List (Option FlatNet)) (ts : List FileTable) → AreTablesOf nets nets ts → flat_map nets_driven ts ≡ names_at nets (filter (has_table_at nets) (range_with_len 0 (length nets)))
 outputs_are nets ts t = outputs_from nets nets ts 0 (λ j. ap (slot nets) (zero_plus j)) t

@@ -93,14 +93,14 @@ is_named w None = false
 is_named w (Some f) = same_word w f.name
 
 -- the number of the first net with this name
-abbrev pub number_of : List ℕ → List (Option FlatNet) → ℕ
-number_of w [] = 0
-number_of w (f ∷ fs) = if is_named w f then 0 else suc (number_of w fs)
+abbrev pub number_named : List ℕ → List (Option FlatNet) → ℕ
+number_named w [] = 0
+number_named w (f ∷ fs) = if is_named w f then 0 else suc (number_named w fs)
 
-named_first : (w : List ℕ) (f : Option FlatNet) (fs : List (Option FlatNet)) → is_named w f ≡ true → number_of w (f ∷ fs) ≡ 0
+named_first : (w : List ℕ) (f : Option FlatNet) (fs : List (Option FlatNet)) → is_named w f ≡ true → number_named w (f ∷ fs) ≡ 0
 named_first w f fs e = rw e refl
 
-named_later : (w : List ℕ) (f : Option FlatNet) (fs : List (Option FlatNet)) → is_named w f ≡ false → number_of w (f ∷ fs) ≡ suc (number_of w fs)
+named_later : (w : List ℕ) (f : Option FlatNet) (fs : List (Option FlatNet)) → is_named w f ≡ false → number_named w (f ∷ fs) ≡ suc (number_named w fs)
 named_later w f fs e = rw e refl
 
 named_some : (w : List ℕ) (f : Option FlatNet) → is_named w f ≡ true → (g : FlatNet) × (f ≡ Some g) × (w ≡ g.name)
@@ -113,7 +113,7 @@ suc_same m n e = omega arith
 zero_suc : (n : ℕ) → 0 ≡ suc n → ⊥
 zero_suc n e = omega arith
 
-number_found : (w : List ℕ) (fs : List (Option FlatNet)) (k : ℕ) (f : FlatNet) → slot fs k ≡ Some f → w ≡ f.name → ((m : ℕ) (g : FlatNet) → slot fs m ≡ Some g → w ≡ g.name → m ≡ k) → number_of w fs ≡ k
+number_found : (w : List ℕ) (fs : List (Option FlatNet)) (k : ℕ) (f : FlatNet) → slot fs k ≡ Some f → w ≡ f.name → ((m : ℕ) (g : FlatNet) → slot fs m ≡ Some g → w ≡ g.name → m ≡ k) → number_named w fs ≡ k
 number_found w [] k f e same only = cc
 number_found w (g ∷ fs) zero f e same only =
     named_first w g fs (rw (e, same) (same_word_refl f.name))
@@ -126,8 +126,8 @@ number_found w (g ∷ fs) (suc k) f e same only =
         let found = named_some w g y in
         absurd (zero_suc k (only 0 found.0 found.1 found.2))
 
-pub number_of-held : (nets : List (Option FlatNet)) → OneName nets → (k : ℕ) → IsHeldAt nets k → number_of (name_in (slot nets k)) nets ≡ k
-number_of-held nets one k h =
+pub number_named-held : (nets : List (Option FlatNet)) → OneName nets → (k : ℕ) → IsHeldAt nets k → number_named (name_in (slot nets k)) nets ≡ k
+number_named-held nets one k h =
     number_found (name_in (slot nets k)) nets k h.net h.held (name_is nets k h) (λ m g e s. one.only m k g h.net e h.held (sym s ∙ name_is nets k h))
 
 -- ---- numbers from a range

@@ -13,7 +13,7 @@ use Rattle.mv_cover.specs.Lines.{IsOutput}
 use Rattle.mv_word.specs.Entries.{word_set}
 use Rattle.mv_decl.specs.Nets.{values_of}
 use Rattle.mv_table.specs.Entries.{in_said, out_word, out_said, set_entry, ins_faults, ins_said, outs_faults, outs_said}
-use Rattle.mv_table.specs.Tables.{row_of, entries_faults}
+use Rattle.mv_table.specs.Tables.{row_of_words, entries_faults}
 use Rattle.mv_net.specs.declared.parts.FlatNet.{FlatNet}
 use Rattle.mv_net.specs.Nets.{slot, name_in, values_in, spelled_in}
 use Rattle.mv_net.specs.Formed.{AllLiterals}
@@ -92,7 +92,7 @@ module _ (nets : List (Option FlatNet)) (ds : List Decl) where
       rw (ins_none n l.cube ms last all each, behind_ins l.cube ms last) (outs-none n ds (map name_at ms) name values names l.out is out)
 
   -- and they are those of its line
-  pub row-is : (ms : List ℕ) (name : List ℕ) (values : ℕ) (names : List (List ℕ)) (l : Line) → AllByRecursion IsFanin ms → IsColumn ds name values names → AllLiterals nets l.cube → IsOutput values l.out → row_of ds (map name_at ms) (name ∷ []) (line_words nets names ms l) ≡ row_said nets ms l
+  pub row-is : (ms : List ℕ) (name : List ℕ) (values : ℕ) (names : List (List ℕ)) (l : Line) → AllByRecursion IsFanin ms → IsColumn ds name values names → AllLiterals nets l.cube → IsOutput values l.out → row_of_words ds (map name_at ms) (name ∷ []) (line_words nets names ms l) ≡ row_said nets ms l
   row-is ms name values names l each is all out =
       let last = entry_word names l.out ∷ [] in
       rw (ins_are l.cube ms last all each, behind_ins l.cube ms last, outs-are ds (map name_at ms) name values names l.out is out) refl

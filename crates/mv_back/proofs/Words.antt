@@ -1,40 +1,16 @@
 -- Words that are written are cut back as they were, by a blank behind them and by the end of the text.
-use Rattle.std.proofs.Common.{◌≡◌, ℕ, ◌⊎◌, true, false, not, ◌&&◌, ◌||◌, ◌==◌, List, [], ◌∷◌, ◌++◌, length, refl, ap, sym, ◌∙◌, subst, arith, append_assoc, inl, inr, ⊎_elim}
-use Rattle.std.specs.Prelude.{nat_le}
+use Rattle.std.proofs.Common.{◌≡◌, ℕ, ◌⊎◌, true, false, not, ◌&&◌, ◌==◌, List, [], ◌∷◌, ◌++◌, length, refl, ap, sym, ◌∙◌, subst, arith, append_assoc, inl, inr, ⊎_elim}
 use Rattle.std.specs.List.{list_all}
-use Rattle.std.proofs.lemmas.Bool.{cases_Bool, cond-true, cond-false, and_parts, and_from, or_cases, or_right, or_parts, leb-true, ne_eqb, eqb-true, or_from, not-true, false≢true}
+use Rattle.std.proofs.lemmas.Bool.{cases_Bool, cond-true, cond-false, and_parts, and_from, or_cases, or_parts, eqb-true, not-true, false≢true}
 use Rattle.std.proofs.lemmas.List.{append-nil}
-use Rattle.mv_base.specs.Names.{is_visible, is_bracketed, ends_with}
+use Rattle.mv_base.specs.Names.{is_bracketed, ends_with}
 use Rattle.mv_lex.specs.declared.parts.Kind.TheVariants.{Start, Plain, Bracketed}
-use Rattle.mv_lex.specs.Words.{is_blank, is_bang, opens, Cut, finished, waits}
-use Rattle.mv_lex.specs.Lines.{is_acceptable, is_line_feed, is_hash}
+use Rattle.mv_lex.specs.Words.{is_bang, opens, Cut, finished, waits}
 use Rattle.mv_lex.specs.Steps.{ended_word, with_byte, with_bytes}
+use Rattle.mv_lex.proofs.Letters.{word_byte}
 use Rattle.mv_lex.proofs.Cutting.{cut_at, nonempty-some, some_front, start-bang, start-plain, start-opens, start-blank, plain-blank, plain-solid, bracketed-end, bracketed-solid}
 use Rattle.mv_back.proofs.TextWords.{is_word_byte, is_list_rest, is_list_word, is_written_word, is_plain_word}
 use Rattle.mv_back.proofs.Ends.{ends_with-skip}
-
--- ---- bytes of words
-
--- what a byte of a word isn't
-pub record IsWordByte (b : ℕ) : Type 0 where
-  pub acceptable : is_acceptable b ≡ true
-  pub blank : is_blank b ≡ false
-  pub feed : is_line_feed b ≡ false
-  pub hash : is_hash b ≡ false
-  pub returns : (b == 13) ≡ false
-
-pub word_byte : (b : ℕ) → is_word_byte b ≡ true → IsWordByte b
-word_byte b h =
-    let p = and_parts (is_visible b) (not (b == 35)) h in
-    let low = leb-true 33 b (and_parts (nat_le 33 b) (nat_le b 126) p.0).0 in
-    let r = ne_eqb b 13 (λ e. omega arith) in
-    record {
-      acceptable = or_right (is_line_feed b || is_blank b) (is_visible b) p.0;
-      blank = or_from ((b == 32) || (b == 9)) (b == 13) (or_from (b == 32) (b == 9) (ne_eqb b 32 (λ e. omega arith)) (ne_eqb b 9 (λ e. omega arith))) r;
-      feed = ne_eqb b 10 (λ e. omega arith);
-      hash = not-true (b == 35) p.1;
-      returns = r;
-    }
 
 -- ---- lists in brackets
 
@@ -87,11 +63,11 @@ pub record IsWritten (w : List ℕ) : Type 0 where
   pub ends : ends_with 92 w ≡ false
 
 -- a plain one isn't bracketed besides
-record IsPlain (w : List ℕ) : Type 0 where
+record IsPlainWord (w : List ℕ) : Type 0 where
   written : IsWritten w
   unbracketed : is_bracketed w ≡ false
 
-plain_word : (w : List ℕ) → is_plain_word w ≡ true → IsPlain w
+plain_word : (w : List ℕ) → is_plain_word w ≡ true → IsPlainWord w
 plain_word w h =
     let p = and_parts (not (length w == 0) && list_all is_word_byte w && not (is_bracketed w)) (not (ends_with 92 w)) h in
     let q = and_parts (not (length w == 0) && list_all is_word_byte w) (not (is_bracketed w)) p.0 in

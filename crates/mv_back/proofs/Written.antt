@@ -15,7 +15,8 @@ use Rattle.mv_lex.proofs.Cutting.{cut_at, cut_of-bytes, with_bytes-append}
 use Rattle.mv_lex.proofs.Tails.{before_hash-clear}
 use Rattle.mv_back.proofs.TextWords.{is_word_byte, is_written_word, is_written_line, lines_from}
 use Rattle.mv_back.proofs.Ends.{ends_with-behind, own_text}
-use Rattle.mv_back.proofs.Words.{word_byte, written_word, cut-back}
+use Rattle.mv_lex.proofs.Letters.{word_byte}
+use Rattle.mv_back.proofs.Words.{written_word, cut-back}
 
 -- ---- words parted by spaces
 

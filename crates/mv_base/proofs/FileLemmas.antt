@@ -11,7 +11,7 @@ use Rattle.std.specs.declared.alloc.Global.{Global}
 use Rattle.mv_base.specs.declared.outside.Failed.{Failed}
 use Rattle.mv_base.specs.Names.{same_word}
 use Rattle.mv_base.specs.Outside.{Held, Begins, Continues, file_named}
-use Rattle.mv_base.specs.Entries.{entry_of, file_at, IsNamed}
+use Rattle.mv_base.specs.Entries.{entry_of, file_at, IsFirstNamed}
 use Rattle.mv_base.proofs.NameLemmas.{same_word_is}
 
 -- ---- a start
@@ -78,8 +78,8 @@ pub named_behind : (name : List ℕ) (files : List (List ℕ × List ℕ)) (plac
 named_behind name files place within other =
     rw (add-one, drop-cons files place ([], []) within, other) refl
 
-pub IsNamed-here : (name : List ℕ) (files : List (List ℕ × List ℕ)) (place : ℕ) → place < length files → same_word name (file_at files place).0 ≡ true → file_named name (drop place files) ≡ file_named name files → IsNamed name files place
-IsNamed-here name files place within same none_before =
+pub IsFirstNamed-here : (name : List ℕ) (files : List (List ℕ × List ℕ)) (place : ℕ) → place < length files → same_word name (file_at files place).0 ≡ true → file_named name (drop place files) ≡ file_named name files → IsFirstNamed name files place
+IsFirstNamed-here name files place within same none_before =
     record { within = within; name_is = sym (same_word_is name _ same); content = sym none_before ∙ rw (drop-cons files place ([], []) within, same) refl }
 
 -- ---- a piece of a content

@@ -28,8 +28,10 @@ abbrev pub IsPlace : List (List ℕ × List ℕ) → Option ℕ → ℕ → Type
 IsPlace files None at = Unit {0}
 IsPlace files (Some place) at = (place < length files) × (at ≤ length (file_at files place).1)
 
+-- ---- what private functions alone cite
+
 -- the file at the place is the first with this name
-pub record IsNamed (name : List ℕ) (files : List (List ℕ × List ℕ)) (place : ℕ) : Type 0 where
+pub record IsFirstNamed (name : List ℕ) (files : List (List ℕ × List ℕ)) (place : ℕ) : Type 0 where
   pub within : place < length files
   pub name_is : (file_at files place).0 ≡ name
   pub content : file_named name files ≡ Some (file_at files place).1

@@ -1,5 +1,6 @@
 -- Names as BLIF-MV files spell them, as lists of bytes.
-use Rattle.std.specs.Prelude.{◌≡◌, ℕ, Bool, true, false, not, Option, position, slice_index, ◌-◌, ◌&&◌, ◌||◌, ◌==◌, nat_le, nat_eq, nat_lt, List, [], ◌∷◌, length, codes}
+use Rattle.std.specs.Prelude.{◌≡◌, ℕ, Bool, true, false, not, Option, position, slice_index, ◌-◌, ◌&&◌}
+use Rattle.std.specs.Prelude.{◌||◌, ◌==◌, nat_le, nat_eq, nat_lt, List, [], ◌∷◌, length, codes}
 use Rattle.std.specs.List.{list_all, list_any}
 use Rattle.std.specs.Cmp.Lexicographic.{pointwise}
 
@@ -39,7 +40,9 @@ is_model_name w = is_net_name w && not (list_any (λ b. b == 61) w)
 
 -- a lawful name of a value: besides it isn't `-`, doesn't begin with `!` or `=`, and has no bracket
 unfoldable pub is_value_name : List ℕ → Bool
-is_value_name w = is_net_name w && not (same_word w (codes "-")) && not (begins_with 33 w) && not (begins_with 61 w) && not (list_any (λ b. (b == 40) || (b == 41) || (b == 123) || (b == 125)) w)
+is_value_name w =
+    is_net_name w && not (same_word w (codes "-")) && not (begins_with 33 w) && not (begins_with 61 w)
+    && not (list_any (λ b. (b == 40) || (b == 41) || (b == 123) || (b == 125)) w)
 
 -- the word is one of these
 abbrev pub among : List ℕ → List (List ℕ) → Bool

@@ -1,5 +1,6 @@
 -- Files that are read and sinks that are written, as their owner sees them.
-use Rattle.std.specs.Prelude.{◌≡◌, ℕ, ◌+◌, ◌-◌, ◌^◌, ◌<◌, ◌≤◌, min, Bool, IsTrue, List, [], ◌∷◌, ◌++◌, length, take, Option, Some, None, Result, IsOk, IfOk, IfSome, IsSomeAnd, OnOk, OnErr, if◌then◌else◌}
+use Rattle.std.specs.Prelude.{◌≡◌, ℕ, ◌+◌, ◌-◌, ◌^◌, ◌<◌, ◌≤◌, min, Bool, IsTrue, List, [], ◌∷◌, ◌++◌, length, take}
+use Rattle.std.specs.Prelude.{Option, Some, None, Result, IsOk, IfOk, IfSome, IsSomeAnd, OnOk, OnErr, if◌then◌else◌}
 use Rattle.mv_base.specs.Names.{same_word}
 use Rattle.mv_base.specs.declared.outside.Failed.{Failed}
 

@@ -1,4 +1,6 @@
-ghost use Rattle.std.specs.Prelude.{◌≡◌, ◌==◌, ◌<◌, ◌∷◌, ◌++◌, [], length, slice_get, slice_set, take, option_copied, IfOk, IfNone, IfSome, OnOk, OnErr, IfErr, Some};
+ghost use Rattle.std.specs.Prelude.{◌≡◌, ◌==◌, ◌<◌, ◌≤◌, ◌∷◌, ◌++◌, [], length, slice_get, slice_set, take};
+ghost use Rattle.std.specs.Prelude.{option_copied, IfOk, IfNone, IfSome, OnOk, OnErr, IfErr, Some};
+ghost use Rattle.std.specs.List.{insert, remove};
 
 use crate::{Memory, Name};
 use std::alloc::{AllocFailed, Global};
@@ -98,6 +100,25 @@ impl<T> Items<T> {
         ensures item { IfErr result (λ failed. failed.value ≡ item) }
     {
         self.list.push(item)
+    }
+
+    /// Puts an element at the place, before those from there on. On an error the list is as before.
+    pub fn insert(&mut self, index: usize, item: T) -> Result<(), AllocFailed<T>>
+        requires { index ≤ length self.old }
+        ensures ok { OnOk result (self.new ≡ insert self.old index item) }
+        ensures err { OnErr result (self.new ≡ self.old) }
+        ensures item { IfErr result (λ failed. failed.value ≡ item) }
+    {
+        self.list.insert(index, item)
+    }
+
+    /// Takes the element at the place; those behind it close up.
+    pub fn remove(&mut self, index: usize) -> T
+        requires { index < length self.old }
+        ensures items { self.new ≡ remove self.old index }
+        ensures before { slice_get self.old index ≡ Some result }
+    {
+        self.list.remove(index)
     }
 
     /// Keeps the first `len` elements.

@@ -29,7 +29,7 @@ pub use limits::{
 pub use memory::Memory;
 pub use memory_files::MemoryFiles;
 pub use memory_sink::MemorySink;
-pub use name::Name;
+pub use name::{Name, same_bytes};
 pub use name_set::NameSet;
 pub use number::{NetId, Value};
 pub use outside::{Failed, Files, Sink};

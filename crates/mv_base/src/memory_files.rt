@@ -1,7 +1,7 @@
 ghost use Rattle.std.specs.Prelude.{◌≡◌, ◌==◌, ◌-◌, ◌≤◌, [], ◌++◌, None, Some, length, take, drop, min, map, not, is_ok, IfOk, IfSome, IfNone, OnOk, OnErr};
 ghost use Rattle.std.specs.List.{list_any};
 ghost use Rattle.mv_base.specs.Memory.{stored_of, is_listed, starts, after_fault, after_start, after_next};
-ghost use Rattle.mv_base.specs.Entries.{entry_of, IsNamed};
+ghost use Rattle.mv_base.specs.Entries.{entry_of, IsFirstNamed};
 ghost use Rattle.mv_base.specs.Outside.{HasCause, StillTell, Begins, Continues, file_named};
 
 use crate::{Failed, Files};
@@ -26,7 +26,14 @@ impl Model for MemoryFiles {
 
     ghost use Rattle.mv_base.specs.Entries.{entry_of, name_at, rest_at, IsPlace};
 
-    ghost view = { λ k. record { files = map entry_of k.files.items; current = name_at (map entry_of k.files.items) k.current; rest = rest_at (map entry_of k.files.items) k.current k.at; fails = k.fails.items; calls = k.calls; faults = k.faults } };
+    ghost view = { λ k. record {
+      files = map entry_of k.files.items;
+      current = name_at (map entry_of k.files.items) k.current;
+      rest = rest_at (map entry_of k.files.items) k.current k.at;
+      fails = k.fails.items;
+      calls = k.calls;
+      faults = k.faults;
+    } };
 
     ghost invariant = { λ k. IsPlace (map entry_of k.files.items) k.current k.at };
 }
@@ -34,7 +41,7 @@ impl Model for MemoryFiles {
 /// The place of the first file with this name.
 fn place_of(files: &[(String, Vec<u8>)], name: &str) -> Option<usize>
     ensures none { IfNone result (file_named name.now (map entry_of files.now) ≡ None) }
-    ensures some { IfSome result (IsNamed name.now (map entry_of files.now)) }
+    ensures some { IfSome result (IsFirstNamed name.now (map entry_of files.now)) }
 {
     for place in 0..files.len() {
         if name == files[place].0.as_str() {

@@ -1,5 +1,6 @@
 ghost use Rattle.std.specs.Prelude.{◌≡◌, IfOk};
 ghost use Rattle.mv_base.specs.NameBytes.{bytes_of};
+ghost use Rattle.mv_base.specs.Names.{same_word};
 
 use crate::Memory;
 use crate::inline_bytes::{INLINE, InlineBytes};
@@ -84,7 +85,7 @@ impl PartialEq for Name {
     ghost laws = { Prim.search (comparing, rules) };
 
     fn eq(&self, other: &Name) -> bool {
-        self.bytes() == other.bytes()
+        same_bytes(self.bytes(), other.bytes())
     }
 }
 
@@ -142,4 +143,22 @@ impl Hash for Name {
     fn hash<H: Hasher>(&self, state: &mut H) {
         self.bytes().hash(state);
     }
+}
+
+/// Whether these are the same bytes. Few are held against each other one by one, up to the first that differs.
+pub fn same_bytes(a: &[u8], b: &[u8]) -> bool
+    ensures { result ≡ same_word a.now b.now }
+{
+    if a.len() != b.len() {
+        return false;
+    }
+    if a.len() > INLINE {
+        return a == b;
+    }
+    for at in 0..a.len() {
+        if a[at] != b[at] {
+            return false;
+        }
+    }
+    true
 }

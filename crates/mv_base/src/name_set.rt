@@ -30,6 +30,15 @@ impl NameSet {
         }
     }
 
+    /// The set without names, with room for so many.
+    pub fn with_room(alloc: Global, room: usize) -> Result<Self, Memory>
+        ensures { IfOk result (λ set. set ≡ []) }
+    {
+        Ok(NameSet {
+            set: IndexSet::with_capacity(alloc, room)?,
+        })
+    }
+
     /// Whether the name is in the set.
     pub fn contains(&self, name: &Name) -> bool
         ensures { result ≡ among name.now self.now }

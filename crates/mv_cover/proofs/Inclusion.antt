@@ -56,8 +56,8 @@ walked_apart a b i j l m in_a in_b at_i at_j n apart w =
     sym (tested lies_in a b i j l m in_a in_b at_i at_j w) ∙ and_left (set_lies (literal_at (l ∷ xs) m.net.0) m.set) (lies_in (l ∷ xs) ys) none
 
 -- the cube without literals doesn't lie in one that has literals left
-behind : (a b : List Lit) (i j : ℕ) → j < length b → length a ≤ i → lies_in (drop i a) (drop j b) ≡ false
-behind a b i j low end =
+bare_lies_outside : (a b : List Lit) (i j : ℕ) → j < length b → length a ≤ i → lies_in (drop i a) (drop j b) ≡ false
+bare_lies_outside a b i j low end =
     (λ k. lies_in (drop_all i a end k) (drop-cons b j (record { net = record { 0 = 0 }; set = 0 }) low k))
 
 -- at the end the cube lies in the other where no literal of that one is left
@@ -70,5 +70,5 @@ walked_end a b i j ended w =
       | inr f ↦
           let ne : j ≡ length b → ⊥ = λ e. false≢true (sym f ∙ eq-eqb j (length b) e) in
           let low : j < length b = (let k = w.within in omega arith) in
-          f ∙ (sym (behind a b i j low (ended low)) ∙ w.same)
+          f ∙ (sym (bare_lies_outside a b i j low (ended low)) ∙ w.same)
     ]

@@ -15,7 +15,7 @@ use Rattle.mv_cover.specs.Cofactors.{cube_allows}
 use Rattle.mv_cover.specs.Overlap.{lits_meet, cubes_meet}
 use Rattle.mv_cover.specs.Plain.{Agree}
 use Rattle.mv_cover.proofs.Members.{member_of}
-use Rattle.mv_cover.proofs.Walking.{ascend_tail, drop_true, Walked, ascends_first, ascends_second, past_first, past_second, past_both}
+use Rattle.mv_cover.proofs.Walking.{nets_ascend-tail, drop_true, Walked, ascends_first, ascends_second, past_first, past_second, past_both}
 
 -- a test of each element passes at each
 pub list_all-Contains : {X : Type 0} (p : X → Bool) (xs : List X) (x : X) → Contains xs x → list_all p xs ≡ true → p x ≡ true
@@ -90,7 +90,7 @@ on_net n (l ∷ ls) h =
           and_from (not (nat_eq l.net.0 n) || has l.set v) (cube_allows n v ls)
           (or_left (not (nat_eq l.net.0 n)) (has l.set v) (not_from_false (nat_eq l.net.0 n) f)) k
           in
-          elim (on_net n ls (ascend_tail l ls h)) [
+          elim (on_net n ls (nets_ascend-tail l ls h)) [
             | inl free ↦ inl (λ v. skip v (free v))
             | inr o ↦
                 inr (record {

@@ -4,9 +4,9 @@ use Rattle.std.proofs.lemmas.Bool.{false≢true, and_parts}
 use Rattle.mv_cover.specs.declared.cube.Lit.{Lit}
 use Rattle.mv_cover.specs.Cubes.{nets_ascend}
 
-pub ascend_tail : (l : Lit) (ls : List Lit) → nets_ascend (l ∷ ls) ≡ true → nets_ascend ls ≡ true
-ascend_tail l [] h = refl
-ascend_tail l (m ∷ ls) h = (and_parts (nat_lt l.net.0 m.net.0) (nets_ascend (m ∷ ls)) h).1
+pub nets_ascend-tail : (l : Lit) (ls : List Lit) → nets_ascend (l ∷ ls) ≡ true → nets_ascend ls ≡ true
+nets_ascend-tail l [] h = refl
+nets_ascend-tail l (m ∷ ls) h = (and_parts (nat_lt l.net.0 m.net.0) (nets_ascend (m ∷ ls)) h).1
 
 -- the rest of a list from its place
 pub rest_at : (a : List Lit) (i : ℕ) (l : Lit) → i < length a → l ≡ get_or a i l → drop i a ≡ l ∷ drop (i + 1) a
@@ -43,7 +43,7 @@ module _ (test : List Lit → List Lit → Bool) (a b : List Lit) (i j : ℕ) (l
   pub past_first : test (l ∷ drop (i + 1) a) (m ∷ drop (j + 1) b) ≡ test (drop (i + 1) a) (m ∷ drop (j + 1) b) → Walked test a b (i + 1) j
   past_first step = record {
     same = ap (λ (z : List Lit). test (drop (i + 1) a) z) (rest_at b j m in_b at_j) ∙ (sym step ∙ tested);
-    first = ascend_tail l (drop (i + 1) a) ascends_first;
+    first = nets_ascend-tail l (drop (i + 1) a) ascends_first;
     second = w.second;
     within = w.within;
   }
@@ -52,14 +52,14 @@ module _ (test : List Lit → List Lit → Bool) (a b : List Lit) (i j : ℕ) (l
   past_second step = record {
     same = ap (λ (z : List Lit). test z (drop (j + 1) b)) (rest_at a i l in_a at_i) ∙ (sym step ∙ tested);
     first = w.first;
-    second = ascend_tail m (drop (j + 1) b) ascends_second;
+    second = nets_ascend-tail m (drop (j + 1) b) ascends_second;
     within = let low = in_b in omega arith;
   }
 
   pub past_both : test (l ∷ drop (i + 1) a) (m ∷ drop (j + 1) b) ≡ test (drop (i + 1) a) (drop (j + 1) b) → Walked test a b (i + 1) (j + 1)
   past_both step = record {
     same = sym step ∙ tested;
-    first = ascend_tail l (drop (i + 1) a) ascends_first;
-    second = ascend_tail m (drop (j + 1) b) ascends_second;
+    first = nets_ascend-tail l (drop (i + 1) a) ascends_first;
+    second = nets_ascend-tail m (drop (j + 1) b) ascends_second;
     within = let low = in_b in omega arith;
   }

@@ -21,18 +21,22 @@ pub record IsMet (a b c : List Lit) : Type 0 where
   pub cube : IsCube c
   pub sets : (n : ℕ) → literal_at c n ≡ both (literal_at a n) (literal_at b n)
 
+-- ---- what private functions alone cite
+
 -- the list with a literal put in, where `rest` merges what is behind it
 unfoldable pub put_in : Lit → (List Lit → List Lit) → List Lit → List Lit
 put_in l rest [] = l ∷ rest []
-put_in l rest (m ∷ ms) = if nat_lt l.net.0 m.net.0 then l ∷ rest (m ∷ ms) else if nat_lt m.net.0 l.net.0 then m ∷ put_in l rest ms else record { net = l.net; set = meet l.set m.set } ∷ rest ms
+put_in l rest (m ∷ ms) =
+    if nat_lt l.net.0 m.net.0 then l ∷ rest (m ∷ ms) else if nat_lt m.net.0 l.net.0 then m ∷ put_in l rest ms
+    else record { net = l.net; set = meet l.set m.set } ∷ rest ms
 
 -- the literals of both lists by ascending net, with the meet where both have one
 unfoldable pub merged : List Lit → List Lit → List Lit
 merged [] b = b
 merged (l ∷ ls) b = put_in l (λ c. merged ls c) b
 
--- ---- what private functions alone cite
-
 -- the literal of the lesser net, or the meet of two on one net, and how many literals it takes of each list
 abbrev pub next_of : Lit → Lit → Step
-next_of l m = if nat_lt l.net.0 m.net.0 then record { lit = l; left = 1; right = 0 } else if nat_lt m.net.0 l.net.0 then record { lit = m; left = 0; right = 1 } else record { lit = record { net = l.net; set = meet l.set m.set }; left = 1; right = 1 }
+next_of l m =
+    if nat_lt l.net.0 m.net.0 then record { lit = l; left = 1; right = 0 } else if nat_lt m.net.0 l.net.0 then record { lit = m; left = 0; right = 1 }
+    else record { lit = record { net = l.net; set = meet l.set m.set }; left = 1; right = 1 }

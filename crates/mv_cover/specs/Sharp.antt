@@ -39,7 +39,9 @@ inside_of counts c l = with_literal (record { net = l.net; set = meet (values_le
 
 -- the cube c with, on the net of the literal, only those of c's values that the literal hasn't: none where it has all
 unfoldable pub outside_of : List ℕ → List Lit → Lit → List (List Lit)
-outside_of counts c l = if nat_eq (minus (values_left counts c l.net.0) l.set) empty then [] else with_literal (record { net = l.net; set = minus (values_left counts c l.net.0) l.set }) c ∷ []
+outside_of counts c l =
+    if nat_eq (minus (values_left counts c l.net.0) l.set) empty then []
+    else with_literal (record { net = l.net; set = minus (values_left counts c l.net.0) l.set }) c ∷ []
 
 -- for each literal of the second cube the first outside that literal and inside those before it
 unfoldable pub parts_outside : List ℕ → List Lit → List Lit → List (List Lit)

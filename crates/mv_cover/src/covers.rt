@@ -116,7 +116,7 @@ fn cofactor(
     let mut part = Items::new(alloc);
     for cube in cubes {
         if allows(cube.as_slice(), net, value) {
-            part.push(without(alloc, cube.as_slice(), net)?)?;
+            part.push(cube_without(alloc, cube.as_slice(), net)?)?;
         }
     }
     Ok(part)
@@ -130,7 +130,7 @@ fn allows(cube: &[Lit], net: NetId, value: Value) -> bool
 }
 
 /// The literals that aren't on the net.
-fn without(alloc: Global, cube: &[Lit], net: NetId) -> Result<Items<Lit>, Memory>
+fn cube_without(alloc: Global, cube: &[Lit], net: NetId) -> Result<Items<Lit>, Memory>
     ensures { IfOk result (λ rest. rest ≡ cube_without net.0 cube.now) }
 {
     let rest = cube

@@ -3,7 +3,8 @@ ghost use Rattle.mv_cover.specs.Cubes.{matches, IsCube};
 ghost use Rattle.mv_cover.specs.Covering.{IsPoint};
 ghost use Rattle.mv_cover.specs.Cofactors.{cubes_match};
 ghost use Rattle.mv_cover.specs.Overlap.{cubes_meet};
-ghost use Rattle.mv_cover.specs.Sharp.{Suits, IsCubeOver, AreDisjoint, values_left, literals_below, with_literal, inside_of, outside_of, parts_outside, sharp_of};
+ghost use Rattle.mv_cover.specs.Sharp.{Suits, IsCubeOver, AreDisjoint, values_left, literals_below};
+ghost use Rattle.mv_cover.specs.Sharp.{with_literal, inside_of, outside_of, parts_outside, sharp_of};
 
 use crate::count::count_of;
 use crate::{Cube, Lit, overlap};
@@ -16,7 +17,8 @@ impl Cube {
         requires own { Suits counts.now self.now }
         requires other { Suits counts.now other.now }
         ensures list { IfOk result (λ cubes. cubes.items ≡ sharp_of counts.now self.now other.now) }
-        ensures points { IfOk result (λ cubes. (at : ℕ → ℕ) → IsPoint counts.now at → cubes_match at cubes.items ≡ (matches at self.now && not (matches at other.now))) }
+        ensures points { IfOk result (λ cubes. (at : ℕ → ℕ) → IsPoint counts.now at
+            → cubes_match at cubes.items ≡ (matches at self.now && not (matches at other.now))) }
         ensures apart { IfOk result (λ cubes. AllPairs (AreDisjoint counts.now) cubes.items) }
         ensures suited { IfOk result (λ cubes. All (IsCubeOver counts.now) cubes.items) }
     {

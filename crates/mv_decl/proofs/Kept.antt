@@ -28,9 +28,9 @@ record IsBehind (o : Option ℕ) (k : ℕ) : Type 0 where
   next : suc at ≡ k
   place : o ≡ Some at
 
-behind : (o : Option ℕ) (k : ℕ) → option_map suc o ≡ Some k → IsBehind o k
-behind None k e = cc
-behind (Some j) k e = record { at = j; next = cc; place = refl }
+is_behind : (o : Option ℕ) (k : ℕ) → option_map suc o ≡ Some k → IsBehind o k
+is_behind None k e = cc
+is_behind (Some j) k e = record { at = j; next = cc; place = refl }
 
 pub found : (ds : List Decl) (net : List ℕ) (k : ℕ) → place_of net (declared_of ds) ≡ Some k → IsFound ds net k
 found [] net k e = cc
@@ -43,7 +43,7 @@ found (d ∷ ds) net k e =
     ))
     (λ (other : same_word net d.net ≡ false). (
     let next : option_map suc (place_of net (declared_of ds)) ≡ Some k = sym (place_of-cons net d.net (declared_of ds) ∙ cond-false _ _ _ other) ∙ e in
-    let b = behind (place_of net (declared_of ds)) k next in
+    let b = is_behind (place_of net (declared_of ds)) k next in
     subst (λ n. IsFound (d ∷ ds) net n) b.next (found_behind d ds net b.at other (found ds net b.at b.place))
     ))
     (cases_Bool (same_word net d.net))

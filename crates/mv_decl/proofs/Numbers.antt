@@ -3,10 +3,10 @@ use Rattle.std.proofs.Common.{◌≡◌, ℕ, ◌+◌, ◌*◌, ◌-◌, List, [
 use Rattle.std.proofs.Math.Nat.{pow-suc, mul_assoc}
 use Rattle.std.specs.Prelude.{decimal, min, ◌^◌}
 use Rattle.std.proofs.lemmas.List.FromFn.{map-range_with_len_more, length-map-range_with_len}
-use Rattle.mv_decl.specs.Line.{number_of, numbers_below, told_number}
+use Rattle.mv_decl.specs.Line.{number_said, numbers_below, told_number}
 
 -- with one more digit
-pub number_more : (w : List ℕ) (b : ℕ) → number_of (w ++ b ∷ []) ≡ number_of w * 10 + (b - 48)
+pub number_more : (w : List ℕ) (b : ℕ) → number_said (w ++ b ∷ []) ≡ number_said w * 10 + (b - 48)
 number_more [] b = omega arith
 number_more (d ∷ w) b =
     let longer : length (w ++ b ∷ []) ≡ length w + 1 = simp length-append in

@@ -10,7 +10,7 @@ use Rattle.mv_base.proofs.Lists.{all-weaker}
 use Rattle.mv_fault.specs.declared.fault.ParseFault.{ParseFault}
 use Rattle.mv_fault.specs.declared.fault.ParseFault.TheVariants.{Missing}
 use Rattle.mv_design.specs.declared.design.Decl.{Decl}
-use Rattle.mv_decl.specs.Line.{is_comma, is_digits, Front, lacking, with_net, front_of, behind_name, net_name_faults, lacking_faults, front_faults, number_of, numbers_below, value_names, named_values, count_faults, name_faults, length_faults, is_redeclared, redeclared_faults, pieces_of, commas_apart, values_from, front_said, nets_said, values_said, count_line_faults, decl_faults}
+use Rattle.mv_decl.specs.Line.{is_comma, is_digits, Front, lacking, with_net, front_of, behind_name, net_name_faults, lacking_faults, front_faults, number_said, numbers_below, value_names, named_values, count_faults, name_faults, length_faults, is_redeclared, redeclared_faults, pieces_of, commas_apart, values_from, front_said, nets_said, values_said, count_line_faults, decl_faults}
 use Rattle.mv_decl.specs.Nets.{declared_of}
 use Rattle.mv_decl.proofs.Fronts.{front_left}
 use Rattle.mv_decl.specs.Plain.{IsPlainLine, SayTheSame}
@@ -47,7 +47,7 @@ lawful_none n (w ∷ ws) e = let p = and_parts (is_net_name w) (list_all is_net_
 -- what a whole plain line reads as
 record IsPlain (words nets : List (List ℕ)) (count : List ℕ) (values : List (List ℕ)) : Type 0 where
   named : nets_said words ≡ nets
-  valued : values_said words ≡ named_values (number_of count) values
+  valued : values_said words ≡ named_values (number_said count) values
   faults : (n : ℕ) (word : List ℕ) (ds : List Decl) → decl_faults n word ds words ≡ count_line_faults n ds nets (count ∷ values)
 
 read_all : (words nets : List (List ℕ)) (count : List ℕ) (values : List (List ℕ)) → IsPlainLine words nets count values → IsPlain words nets count values
@@ -64,7 +64,7 @@ read_all words (w ∷ ws) count values line =
     let front : front_said words ≡ front_with (w ∷ ws) (count ∷ values) = ap front_of cut ∙ rw (no_word w first) (ap (with_net w) (read_on ws count values others line.behind number line.digits)) in
     record {
       named = ap (λ (f : Front). f.nets) front;
-      valued = ap (λ (f : Front). values_from f.rest) front ∙ ap (named_values (number_of count)) (names_kept values names);
+      valued = ap (λ (f : Front). values_from f.rest) front ∙ ap (named_values (number_said count)) (names_kept values names);
       faults = λ n word ds.
           ap (λ (f : Front). front_faults n word f ++ count_line_faults n ds f.nets f.rest) front
           ∙ ap (λ (fs : List ParseFault). (fs ++ []) ++ count_line_faults n ds (w ∷ ws) (count ∷ values)) (lawful_none n (w ∷ ws) line.lawful);
@@ -78,13 +78,13 @@ named_are count [] some = absurd (omega (arith, some))
 named_are count (v ∷ vs) some = refl
 
 pub plain_names : (words nets : List (List ℕ)) (count : List ℕ) (values : List (List ℕ)) → IsPlainLine words nets count values → 0 < length values → values_said words ≡ values
-plain_names words nets count values line some = (read_all words nets count values line).valued ∙ named_are (number_of count) values some
+plain_names words nets count values line some = (read_all words nets count values line).valued ∙ named_are (number_said count) values some
 
-pub plain_numbers : (words nets : List (List ℕ)) (count : List ℕ) → IsPlainLine words nets count [] → values_said words ≡ numbers_below (number_of count)
+pub plain_numbers : (words nets : List (List ℕ)) (count : List ℕ) → IsPlainLine words nets count [] → values_said words ≡ numbers_below (number_said count)
 plain_numbers words nets count line = (read_all words nets count [] line).valued
 
-pub plain_faults : (words nets : List (List ℕ)) (count : List ℕ) (values : List (List ℕ)) → IsPlainLine words nets count values → (n : ℕ) (word : List ℕ) (ds : List Decl) → decl_faults n word ds words ≡ count_faults n count ++ name_faults n [] values ++ length_faults n (number_of count) values ++ redeclared_faults n ds (named_values (number_of count) values) nets
-plain_faults words nets count values line n word ds = (read_all words nets count values line).faults n word ds ∙ ap (λ names. count_faults n count ++ name_faults n [] names ++ length_faults n (number_of count) names ++ redeclared_faults n ds (named_values (number_of count) names) nets) (names_kept values (all-weaker is_value_name is_piece value_piece values line.spelled))
+pub plain_faults : (words nets : List (List ℕ)) (count : List ℕ) (values : List (List ℕ)) → IsPlainLine words nets count values → (n : ℕ) (word : List ℕ) (ds : List Decl) → decl_faults n word ds words ≡ count_faults n count ++ name_faults n [] values ++ length_faults n (number_said count) values ++ redeclared_faults n ds (named_values (number_said count) values) nets
+plain_faults words nets count values line n word ds = (read_all words nets count values line).faults n word ds ∙ ap (λ names. count_faults n count ++ name_faults n [] names ++ length_faults n (number_said count) names ++ redeclared_faults n ds (named_values (number_said count) names) nets) (names_kept values (all-weaker is_value_name is_piece value_piece values line.spelled))
 
 -- ---- a comma where a name has to stand, and behind a name
 
@@ -146,7 +146,7 @@ alike_if false f g h i s t = t
 
 alike_values : (ws vs : List (List ℕ)) → SameRest ws vs → values_from ws ≡ values_from vs
 alike_values [] [] s = refl
-alike_values (c ∷ ws) (d ∷ vs) s = ap₂ (λ k names. named_values (number_of k) names) s.0 s.1
+alike_values (c ∷ ws) (d ∷ vs) s = ap₂ (λ k names. named_values (number_said k) names) s.0 s.1
 alike_values [] (d ∷ vs) s = absurd s
 alike_values (c ∷ ws) [] s = absurd s
 
@@ -157,7 +157,7 @@ module _ (n : ℕ) (word : List ℕ) (ds : List Decl) where
   rest_faults : (nets ws vs : List (List ℕ)) → SameRest ws vs → faults_with nets ws ≡ faults_with nets vs
   rest_faults nets [] [] s = refl
   rest_faults nets (c ∷ ws) (d ∷ vs) s =
-      ap₂ (λ k names. (flat_map (net_name_faults n) nets ++ []) ++ (count_faults n k ++ name_faults n [] names ++ length_faults n (number_of k) names ++ redeclared_faults n ds (named_values (number_of k) names) nets)) s.0 s.1
+      ap₂ (λ k names. (flat_map (net_name_faults n) nets ++ []) ++ (count_faults n k ++ name_faults n [] names ++ length_faults n (number_said k) names ++ redeclared_faults n ds (named_values (number_said k) names) nets)) s.0 s.1
   rest_faults nets [] (d ∷ vs) s = absurd s
   rest_faults nets (c ∷ ws) [] s = absurd s
 

@@ -1,6 +1,7 @@
 -- The line that declares nets, `.mv NAMES COUNT VALUES`, after the description of BLIF-MV by Kukimoto: its faults in the
 -- order in which they are told, and what it declares.
-use Rattle.std.specs.Prelude.{ℕ, ◌+◌, ◌*◌, ◌-◌, ◌^◌, Bool, not, ◌&&◌, ◌==◌, nat_lt, nat_le, nat_eq, min, List, [], ◌∷◌, ◌++◌, length, map, drop, filter, codes, decimal, if◌then◌else◌}
+use Rattle.std.specs.Prelude.{ℕ, ◌+◌, ◌*◌, ◌-◌, ◌^◌, Bool, not, ◌&&◌, ◌==◌, nat_lt, nat_le, nat_eq, min, List}
+use Rattle.std.specs.Prelude.{[], ◌∷◌, ◌++◌, length, map, drop, filter, codes, decimal, if◌then◌else◌}
 use Rattle.std.specs.List.{list_all, flat_map, slice_split, range_with_len}
 use Rattle.std.specs.Cmp.Lexicographic.{pointwise}
 use Rattle.mv_base.specs.Names.{same_word, among, is_net_name, is_value_name}
@@ -85,9 +86,9 @@ front_faults n word front = flat_map (net_name_faults n) front.nets ++ lacking_f
 -- ---- the count and the names of values behind it
 
 -- the number that digits say: each counts as often as its place says
-abbrev pub number_of : List ℕ → ℕ
-number_of [] = 0
-number_of (b ∷ bs) = (b - 48) * 10 ^ length bs + number_of bs
+abbrev pub number_said : List ℕ → ℕ
+number_said [] = 0
+number_said (b ∷ bs) = (b - 48) * 10 ^ length bs + number_said bs
 
 -- the numbers below a count, spelled
 abbrev pub numbers_below : ℕ → List (List ℕ)
@@ -108,7 +109,7 @@ told_number n = min n (2 ^ 64 - 1)
 
 -- a count is at least 1, and at most the values that a net may have
 unfoldable pub count_faults : ℕ → List ℕ → List ParseFault
-count_faults n w = when (number_of w == 0) (BadCount n w) ++ when (nat_lt MAX_VALUES (number_of w)) (Limit n Values (told_number (number_of w)))
+count_faults n w = when (number_said w == 0) (BadCount n w) ++ when (nat_lt MAX_VALUES (number_said w)) (Limit n Values (told_number (number_said w)))
 
 -- a name of a value, behind these others
 unfoldable pub value_faults : ℕ → List (List ℕ) → List ℕ → List ParseFault
@@ -142,7 +143,7 @@ redeclared_faults n ds values (net ∷ nets) = when (is_redeclared ds values net
 -- the values that the words from the count on say
 abbrev pub values_from : List (List ℕ) → List (List ℕ)
 values_from [] = []
-values_from (w ∷ ws) = named_values (number_of w) (value_names ws)
+values_from (w ∷ ws) = named_values (number_said w) (value_names ws)
 
 -- the front of a line
 abbrev pub front_said : List (List ℕ) → Front
@@ -168,8 +169,8 @@ decls_said words = decls_for (values_said words) (nets_said words)
 abbrev pub count_line_faults : ℕ → List Decl → List (List ℕ) → List (List ℕ) → List ParseFault
 count_line_faults n ds nets [] = []
 count_line_faults n ds nets (w ∷ ws) =
-    count_faults n w ++ name_faults n [] (value_names ws) ++ length_faults n (number_of w) (value_names ws)
-    ++ redeclared_faults n ds (named_values (number_of w) (value_names ws)) nets
+    count_faults n w ++ name_faults n [] (value_names ws) ++ length_faults n (number_said w) (value_names ws)
+    ++ redeclared_faults n ds (named_values (number_said w) (value_names ws)) nets
 
 -- all faults of the words behind `.mv`, which is `word`, on the line n, behind these declarations
 unfoldable pub decl_faults : ℕ → List ℕ → List Decl → List (List ℕ) → List ParseFault

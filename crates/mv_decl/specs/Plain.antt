@@ -20,3 +20,9 @@ pub record SayTheSame (words others : List (List ℕ)) : Type 0 where
   pub nets : nets_said words ≡ nets_said others
   pub values : values_said words ≡ values_said others
   pub faults : (n : ℕ) (word : List ℕ) (ds : List Decl) → decl_faults n word ds words ≡ decl_faults n word ds others
+
+-- words made of the names of two nets, of which the second has more than digits, say the same as the two names
+abbrev pub SayTwoNames : (List ℕ → List ℕ → List (List ℕ)) → Type 0
+SayTwoNames made =
+    (a : List (List ℕ)) (w x : List ℕ) (b : List (List ℕ)) → IsTrue (is_net_name w) → IsTrue (is_net_name x) → IsTrue (not (is_digits x))
+    → SayTheSame (a ++ (made w x ++ b)) (a ++ w ∷ x ∷ b)

@@ -1,7 +1,8 @@
 ghost use Rattle.std.specs.Prelude.{◌≡◌, ◌<◌, ◌≤◌, ◌∷◌, ◌++◌, [], length, IfOk, OnOk};
 ghost use Rattle.mv_base.specs.declared.limits.TheConstants.{MAX_VALUES as most_values};
 ghost use Rattle.mv_fault.specs.Tells.{Tells};
-ghost use Rattle.mv_decl.specs.Line.{is_digits, number_of, told_number, numbers_below, value_names, named_values, count_faults, value_faults, name_faults, length_faults};
+ghost use Rattle.mv_decl.specs.Line.{is_digits, number_said, told_number, numbers_below, value_names, named_values};
+ghost use Rattle.mv_decl.specs.Line.{count_faults, value_faults, name_faults, length_faults};
 
 use crate::commas::is_comma;
 use itoa::Buffer;
@@ -21,7 +22,7 @@ pub fn is_digits(word: &Name) -> bool
 
 /// The number that digits say, or the greatest one of the type, if it is larger.
 fn number(digits: &[u8]) -> u64
-    ensures { result ≡ told_number (number_of digits.now) }
+    ensures { result ≡ told_number (number_said digits.now) }
 {
     let mut number = 0_u64;
     for byte in digits {
@@ -35,7 +36,7 @@ fn number(digits: &[u8]) -> u64
 #[tactic(auto, unfolding(crate::specs::Line::count_faults))]
 fn count(line: u32, word: &Name) -> Result<u16, ParseFault>
     ensures fault { Tells result (count_faults line word.now) }
-    ensures ok { IfOk result (λ n. n ≡ number_of word.now) }
+    ensures ok { IfOk result (λ n. n ≡ number_said word.now) }
     ensures some { IfOk result (λ n. 0 < n) }
     ensures within { IfOk result (λ n. n ≤ most_values) }
 {
@@ -117,8 +118,9 @@ pub fn values(
     word: &Name,
     words: &[Name],
 ) -> Result<Items<Name>, ParseFault>
-    ensures fault { Tells result (count_faults line word.now ++ name_faults line [] (value_names words.now) ++ length_faults line (number_of word.now) (value_names words.now)) }
-    ensures ok { IfOk result (λ values. values ≡ named_values (number_of word.now) (value_names words.now)) }
+    ensures fault { Tells result (count_faults line word.now ++ name_faults line [] (value_names words.now)
+        ++ length_faults line (number_said word.now) (value_names words.now)) }
+    ensures ok { IfOk result (λ values. values ≡ named_values (number_said word.now) (value_names words.now)) }
     ensures some { IfOk result (λ values. 0 < length values) }
     ensures within { IfOk result (λ values. length values ≤ most_values) }
 {

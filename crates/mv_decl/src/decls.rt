@@ -66,6 +66,9 @@ impl Decls {
     pub fn place(&self, net: &Name) -> Option<usize>
         ensures { result ≡ place_of net.now (declared_of self.now) }
     {
+        if self.list.is_empty() {
+            return None;
+        }
         self.nets.get_index_of(net)
     }
 

@@ -31,7 +31,8 @@ pub fn declare(
     ensures ok { OnOk result (decls.new ≡ with_decls decls.old (decls_said words.now)) }
     ensures err { OnErr result (decls.new ≡ decls.old) }
     ensures said { OnOk result ((net : List ℕ) → among net (nets_said words.now) ≡ true → values_of decls.new net ≡ values_said words.now) }
-    ensures kept { OnOk result ((net : List ℕ) → (among net (declared_of decls.old) || not (among net (nets_said words.now))) ≡ true → values_of decls.new net ≡ values_of decls.old net) }
+    ensures kept { OnOk result ((net : List ℕ) → (among net (declared_of decls.old) || not (among net (nets_said words.now))) ≡ true
+        → values_of decls.new net ≡ values_of decls.old net) }
 {
     let words = apart(alloc, words)?;
     let head = read_head(alloc, number, word, words.as_slice())?;
@@ -107,7 +108,8 @@ fn declare_nets(
     ensures ok { OnOk result (decls.new ≡ with_decls decls.old (decls_for values.now nets.now)) }
     ensures err { OnErr result (decls.new ≡ decls.old) }
     ensures said { OnOk result ((net : List ℕ) → among net nets.now ≡ true → values_of decls.new net ≡ values.now) }
-    ensures kept { OnOk result ((net : List ℕ) → (among net (declared_of decls.old) || not (among net nets.now)) ≡ true → values_of decls.new net ≡ values_of decls.old net) }
+    ensures kept { OnOk result ((net : List ℕ) → (among net (declared_of decls.old) || not (among net nets.now)) ≡ true
+        → values_of decls.new net ≡ values_of decls.old net) }
 {
     check_known(decls, line, nets, values.as_slice())?;
     declare_all(decls, nets, values)?;

@@ -23,14 +23,14 @@ pub struct Declared<'a> {
 
 impl<'a> Model for Declared<'a> {
     ghost use Rattle.std.specs.Prelude.{List};
-    ghost use Rattle.mv_decl.specs.Nets.{IsKept};
+    ghost use Rattle.mv_decl.specs.Nets.{AreIndexed};
     ghost use Rattle.mv_design.specs.declared.design.Decl.{Decl};
 
     ghost Value = { List Decl };
 
     ghost view = { λ d. d.decls.now };
 
-    ghost invariant = { λ d. IsKept d.places d.decls.now d.two };
+    ghost invariant = { λ d. AreIndexed d.places d.decls.now d.two };
 }
 
 impl<'a> Declared<'a> {
@@ -62,6 +62,9 @@ impl<'a> Declared<'a> {
     fn place(&self, net: &Name) -> Option<usize>
         ensures { result ≡ place_of net.now (declared_of self.now) }
     {
+        if self.decls.is_empty() {
+            return None;
+        }
         self.places.get(net).copied()
     }
 }

@@ -3,7 +3,7 @@ use Rattle.std.proofs.Common.{◌≡◌, ℕ, zero, suc, add-one, ◌+◌, ◌-�
 use Rattle.mv_pool.specs.Places.{Contents, with_item}
 use Rattle.mv_diagram.specs.declared.node.Node.{Node}
 use Rattle.mv_diagram.specs.declared.table.Table.{Table}
-use Rattle.mv_diagram.specs.Sets.{Point, InRange, node_at, holds, is_held}
+use Rattle.mv_diagram.specs.Sets.{Point, InRange, node_at, holds, has_diagram}
 use Rattle.mv_diagram.specs.Sound.{AreCounts, IsNode, IsReduced}
 use Rattle.mv_diagram.specs.Works.{AddsNodes, HasPut, IsAbsent}
 use Rattle.mv_diagram.specs.Parts.{no_variable, IsRestriction, AddsParts}
@@ -71,7 +71,7 @@ parts_put counts old new n d from s is put reads = elim put.change [
 
 module _ (old new : Table) (s : IsReduced old.counts.items old.pool.places) (adds : AddsNodes old new) where
   -- a restriction stays one
-  pub table_part : (d : ℕ) (whole : Point → Bool) → is_held old.pool.places d ≡ true → IsRestriction old.counts.items no_variable whole (λ p. holds old.counts.items old.pool.places d p) → IsRestriction new.counts.items no_variable whole (λ p. holds new.counts.items new.pool.places d p)
+  pub table_part : (d : ℕ) (whole : Point → Bool) → has_diagram old.pool.places d ≡ true → IsRestriction old.counts.items no_variable whole (λ p. holds old.counts.items old.pool.places d p) → IsRestriction new.counts.items no_variable whole (λ p. holds new.counts.items new.pool.places d p)
   table_part d whole held r = restriction_same new.counts.items adds.sound.values no_variable whole whole _ _ (λ p range. refl) (λ p. sym (table_holds old new s adds d p held))
       (subst (λ v. IsRestriction v no_variable whole (λ p. holds old.counts.items old.pool.places d p)) (sym (ap (λ v. v.items) adds.counts)) r)
 
@@ -80,7 +80,7 @@ module _ (operation : Operation) (old new : Table) (s : IsReduced old.counts.ite
   whole p = result_of operation (holds new.counts.items new.pool.places a p) (holds new.counts.items new.pool.places b p)
 
   -- a restriction of the result of two diagrams stays one
-  operands_part : (mid : Table) → IsReduced mid.counts.items mid.pool.places → AddsNodes mid new → (x y d : ℕ) → is_held mid.pool.places x ≡ true → is_held mid.pool.places y ≡ true → is_held mid.pool.places d ≡ true
+  operands_part : (mid : Table) → IsReduced mid.counts.items mid.pool.places → AddsNodes mid new → (x y d : ℕ) → has_diagram mid.pool.places x ≡ true → has_diagram mid.pool.places y ≡ true → has_diagram mid.pool.places d ≡ true
       → IsRestriction mid.counts.items no_variable (λ p. result_of operation (holds mid.counts.items mid.pool.places x p) (holds mid.counts.items mid.pool.places y p)) (λ p. holds mid.counts.items mid.pool.places d p)
       → IsRestriction new.counts.items no_variable (λ p. result_of operation (holds new.counts.items new.pool.places x p) (holds new.counts.items new.pool.places y p)) (λ p. holds new.counts.items new.pool.places d p)
   operands_part mid sm more x y d hx hy hd r = restriction_same new.counts.items adds.sound.values no_variable _ _ _ _
@@ -88,14 +88,14 @@ module _ (operation : Operation) (old new : Table) (s : IsReduced old.counts.ite
       (table_part mid new sm more d _ hd r)
 
   -- what the results of the two sides add
-  pub from_yes : (mid : Table) → AddsNodes old mid → AddsNodes mid new → (d : ℕ) → is_held mid.pool.places d ≡ true
+  pub from_yes : (mid : Table) → AddsNodes old mid → AddsNodes mid new → (d : ℕ) → has_diagram mid.pool.places d ≡ true
       → IsRestriction mid.counts.items no_variable (λ p. result_of operation (holds mid.counts.items mid.pool.places ay p) (holds mid.counts.items mid.pool.places by p)) (λ p. holds mid.counts.items mid.pool.places d p)
       → IsRestriction new.counts.items no_variable whole (λ p. holds new.counts.items new.pool.places d p)
   from_yes mid first more d hd r =
       parts_yes new.counts.items new.pool.places adds.sound operation a b t ay an by bn (table_parted old new s adds a b t ay an by bn parted) _
       (operands_part mid first.sound more ay by d (table_held old mid s first ay parted.left.yes_held) (table_held old mid s first by parted.right.yes_held) hd r)
 
-  from_no : (mid : Table) → AddsNodes old mid → AddsNodes mid new → (d : ℕ) → is_held mid.pool.places d ≡ true
+  from_no : (mid : Table) → AddsNodes old mid → AddsNodes mid new → (d : ℕ) → has_diagram mid.pool.places d ≡ true
       → IsRestriction mid.counts.items no_variable (λ p. result_of operation (holds mid.counts.items mid.pool.places an p) (holds mid.counts.items mid.pool.places bn p)) (λ p. holds mid.counts.items mid.pool.places d p)
       → IsRestriction new.counts.items no_variable whole (λ p. holds new.counts.items new.pool.places d p)
   from_no mid first more d hd r =
@@ -106,7 +106,7 @@ module _ (operation : Operation) (old new : Table) (s : IsReduced old.counts.ite
   pub from_both : (one two : Table) → AddsNodes old one → AddsNodes one two → AddsNodes two new
       → AddsParts one.counts.items old.pool.places one.pool.places (λ p. result_of operation (holds one.counts.items one.pool.places ay p) (holds one.counts.items one.pool.places by p))
       → AddsParts two.counts.items one.pool.places two.pool.places (λ p. result_of operation (holds two.counts.items two.pool.places an p) (holds two.counts.items two.pool.places bn p))
-      → (d : ℕ) → is_held two.pool.places d ≡ true → (is_held old.pool.places d ≡ true) ⊎ IsRestriction new.counts.items no_variable whole (λ p. holds new.counts.items new.pool.places d p)
+      → (d : ℕ) → has_diagram two.pool.places d ≡ true → (has_diagram old.pool.places d ≡ true) ⊎ IsRestriction new.counts.items no_variable whole (λ p. holds new.counts.items new.pool.places d p)
   from_both one two first second third ones twos d held = elim (twos.each d held) [
     | inr r ↦ inr (from_no two (AddsNodes-more old one two first second) third d held r)
     | inl before ↦ elim (ones.each d before) [

@@ -4,7 +4,7 @@ use Rattle.std.proofs.lemmas.Bool.{eq-eqb, ne_eqb, le-leb, leb-true}
 use Rattle.mv_diagram.specs.declared.node.Node.{Node}
 use Rattle.mv_diagram.specs.declared.node.Test.{Test}
 use Rattle.mv_diagram.specs.declared.memo.Operation.{Operation}
-use Rattle.mv_diagram.specs.Sets.{Point, node_at, with_value, holds, is_held}
+use Rattle.mv_diagram.specs.Sets.{Point, node_at, with_value, holds, has_diagram}
 use Rattle.mv_diagram.specs.Sound.{order, first, IsReduced}
 use Rattle.mv_diagram.specs.Works.{IsLacking}
 use Rattle.mv_diagram.specs.First.{AreParted, IsSplit}
@@ -19,14 +19,14 @@ use Rattle.mv_diagram.proofs.Lacking.{Reads, Reads-diagram, lacking_yes, lacking
 pub both_same : (operation : Operation) (x y u v : Bool) → x ≡ u → y ≡ v → result_of operation x y ≡ result_of operation u v
 both_same operation x y u v e f = ap (λ z. result_of operation z y) e ∙ ap (result_of operation u) f
 
-module _ (counts : List ℕ) (ns : List (Option Node)) (s : IsReduced counts ns) (operation : Operation) (a b : ℕ) (ha : is_held ns a ≡ true) (hb : is_held ns b ≡ true) where
+module _ (counts : List ℕ) (ns : List (Option Node)) (s : IsReduced counts ns) (operation : Operation) (a b : ℕ) (ha : has_diagram ns a ≡ true) (hb : has_diagram ns b ≡ true) where
   -- a result that is known at once
   pub result_at_once : (d : ℕ) → ((f : ℕ → Bool) → f 0 ≡ false → f 1 ≡ true → f d ≡ result_of operation (f a) (f b))
       → ((f : ℕ → Bool) → f 0 ≡ true → f 1 ≡ true → f a ≡ true → f b ≡ true → f d ≡ true) → IsResult counts ns operation a b d
   result_at_once d set among = record {
     left = ha;
     right = hb;
-    held = among (is_held ns) (held_low ns 0 (omega arith)) (held_low ns 1 (omega arith)) ha hb;
+    held = among (has_diagram ns) (held_low ns 0 (omega arith)) (held_low ns 1 (omega arith)) ha hb;
     later = λ from low also.
         let end = first-end counts ns 0 (no_node ns 0 (omega arith)) in
         let end' = first-end counts ns 1 (no_node ns 1 (omega arith)) in
@@ -70,7 +70,7 @@ module _ (counts : List ℕ) (ns : List (Option Node)) (s : IsReduced counts ns)
       by_test false = in'.set p
 
   -- a diagram with these points and no earlier test is the result
-  pub result_parted : (d : ℕ) → is_held ns d ≡ true → order t.var t.value ≤ first counts ns d → ((p : Point) → holds counts ns d p ≡ combined p) → IsResult counts ns operation a b d
+  pub result_parted : (d : ℕ) → has_diagram ns d ≡ true → order t.var t.value ≤ first counts ns d → ((p : Point) → holds counts ns d p ≡ combined p) → IsResult counts ns operation a b d
   result_parted d held later set = record {
     left = parted.left_held;
     right = parted.right_held;

@@ -4,13 +4,13 @@ use Rattle.std.proofs.lemmas.Bool.{cases_order, eqb-true, or_cases, ltb-true, eq
 use Rattle.std.proofs.lemmas.Bool.Decides.{nat_tests}
 use Rattle.mv_diagram.specs.declared.node.Node.{Node}
 use Rattle.mv_diagram.specs.declared.node.Test.{Test}
-use Rattle.mv_diagram.specs.Sets.{Point, InRange, SameSet, with_value, greatest, node_at, is_held, holds}
+use Rattle.mv_diagram.specs.Sets.{Point, InRange, SameSet, with_value, greatest, node_at, has_diagram, holds}
 use Rattle.mv_diagram.specs.Sound.{order, first, IsTest, AreCounts, IsReduced}
 use Rattle.mv_diagram.proofs.Following.{steps, holds_end, ended, node_is, node_placed, first-node, first-end, first-le, order-lt, yes-later, no-later}
 use Rattle.mv_diagram.proofs.Points.{beside, InRange-with, InRange-beside, greatest_lt, holds_both, holds_yes, holds_no, holds_no_beside, value_there, value-lt_greatest}
 
 -- a held diagram without a node is zero or one
-pub ends : (ns : List (Option Node)) (d : ℕ) → is_held ns d ≡ true → node_at ns d ≡ None → d < 2
+pub ends : (ns : List (Option Node)) (d : ℕ) → has_diagram ns d ≡ true → node_at ns d ≡ None → d < 2
 ends ns d held e = elim (or_cases (nat_lt d 2) (is_some (node_at ns d)) held) [
   | inl low ↦ ltb-true d 2 low
   | inr some ↦ absurd (gone (node_at ns d) e some)
@@ -115,7 +115,7 @@ module _ (counts : List ℕ) (ns : List (Option Node)) (s : IsReduced counts ns)
           (n, e, test_is n.test t parts.0 parts.1)
 
   -- zero and one have different points
-  same_end : (a b : ℕ) → is_held ns a ≡ true → is_held ns b ≡ true → node_at ns a ≡ None → node_at ns b ≡ None → SameSet counts (set_of a) (set_of b) → a ≡ b
+  same_end : (a b : ℕ) → has_diagram ns a ≡ true → has_diagram ns b ≡ true → node_at ns a ≡ None → node_at ns b ≡ None → SameSet counts (set_of a) (set_of b) → a ≡ b
   same_end a b ha hb ea eb same =
       let la = ends ns a ha ea in
       let lb = ends ns b hb eb in
@@ -150,7 +150,7 @@ module _ (counts : List ℕ) (ns : List (Option Node)) (s : IsReduced counts ns)
       omega (arith, pa.2, pb.2)
 
   -- the theorem, by the tests that are left
-  same_within : (k a b : ℕ) → steps counts ≤ first counts ns a + k → is_held ns a ≡ true → is_held ns b ≡ true → SameSet counts (set_of a) (set_of b) → a ≡ b
+  same_within : (k a b : ℕ) → steps counts ≤ first counts ns a + k → has_diagram ns a ≡ true → has_diagram ns b ≡ true → SameSet counts (set_of a) (set_of b) → a ≡ b
   same_within zero a b enough ha hb same = elim (cases_order (first counts ns a) (first counts ns b)) [
     | inl level ↦ same_end a b ha hb (ended counts ns s a (omega arith)) (ended counts ns s b (omega arith)) same
     | inr apart ↦ absurd (uneven a b same apart)
@@ -161,7 +161,7 @@ module _ (counts : List ℕ) (ns : List (Option Node)) (s : IsReduced counts ns)
   ]
     where
       by : (o q : Option Node) → node_at ns a ≡ o → node_at ns b ≡ q → first counts ns a ≡ first counts ns b
-          → ((c d : ℕ) → first counts ns a < first counts ns c → is_held ns c ≡ true → is_held ns d ≡ true → SameSet counts (set_of c) (set_of d) → c ≡ d) → a ≡ b
+          → ((c d : ℕ) → first counts ns a < first counts ns c → has_diagram ns c ≡ true → has_diagram ns d ≡ true → SameSet counts (set_of c) (set_of d) → c ≡ d) → a ≡ b
       by None None ea eb level below = same_end a b ha hb ea eb same
       by None (Some m) ea eb level below =
           let end = first-end counts ns a ea in let there = first-node counts ns b m eb in let before = order-lt counts ns s m.test (node_is counts ns s b m eb).test in absurd (omega arith)
@@ -177,5 +177,5 @@ module _ (counts : List ℕ) (ns : List (Option Node)) (s : IsReduced counts ns)
           one_place a b n ea (eb ∙ ap (λ x. Some x) (sym (node_is_made n m tests yes no)))
 
   -- held diagrams with the same points have the same number
-  pub same_number : (a b : ℕ) → is_held ns a ≡ true → is_held ns b ≡ true → SameSet counts (set_of a) (set_of b) → a ≡ b
+  pub same_number : (a b : ℕ) → has_diagram ns a ≡ true → has_diagram ns b ≡ true → SameSet counts (set_of a) (set_of b) → a ≡ b
   same_number a b ha hb same = same_within (steps counts) a b (omega arith) ha hb same

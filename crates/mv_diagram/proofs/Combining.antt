@@ -5,7 +5,7 @@ use Rattle.std.proofs.lemmas.Bool.{cases_Bool}
 use Rattle.mv_diagram.specs.declared.node.Node.{Node}
 use Rattle.mv_diagram.specs.declared.node.Test.{Test}
 use Rattle.mv_diagram.specs.declared.table.Table.{Table}
-use Rattle.mv_diagram.specs.Sets.{Point, InRange, with_value, greatest, node_at, holds, is_held}
+use Rattle.mv_diagram.specs.Sets.{Point, InRange, with_value, greatest, node_at, holds, has_diagram}
 use Rattle.mv_diagram.specs.Sound.{order, IsTest, IsReduced, AreCounts}
 use Rattle.mv_diagram.specs.Works.{AddsNodes}
 use Rattle.mv_diagram.specs.Quantified.{AgreesOutside, IsQuantified, joined_set}
@@ -101,7 +101,7 @@ module _ (chosen : ℕ → Bool) (answer : Bool) (old new : Table) (s : IsReduce
   test = (node_is new.counts.items new.pool.places adds.sound d n there).test
 
   -- what is combined stays so as nodes are added
-  combined_later : (mid : Table) → IsReduced mid.counts.items mid.pool.places → AddsNodes mid new → (c x : ℕ) → is_held mid.pool.places c ≡ true → is_held mid.pool.places x ≡ true
+  combined_later : (mid : Table) → IsReduced mid.counts.items mid.pool.places → AddsNodes mid new → (c x : ℕ) → has_diagram mid.pool.places c ≡ true → has_diagram mid.pool.places x ≡ true
       → IsCombined mid.counts.items chosen answer (λ p. holds mid.counts.items mid.pool.places c p) (λ p. holds mid.counts.items mid.pool.places x p)
       → IsCombined new.counts.items chosen answer (λ p. holds new.counts.items new.pool.places c p) (λ p. holds new.counts.items new.pool.places x p)
   combined_later mid sm more c x hc hx m = combined_same new.counts.items adds.sound.values chosen answer _ _ _ _
@@ -110,7 +110,7 @@ module _ (chosen : ℕ → Bool) (answer : Bool) (old new : Table) (s : IsReduce
 
   pub added_yes : (base : List (Option Node)) (mid : Table) → AddsNodes old mid → AddsNodes mid new
       → AddsCombined mid.counts.items chosen answer base mid.pool.places (λ p. holds mid.counts.items mid.pool.places n.yes.0 p)
-      → (x : ℕ) → is_held mid.pool.places x ≡ true → (is_held base x ≡ true) ⊎ IsCombined new.counts.items chosen answer whole (λ p. holds new.counts.items new.pool.places x p)
+      → (x : ℕ) → has_diagram mid.pool.places x ≡ true → (has_diagram base x ≡ true) ⊎ IsCombined new.counts.items chosen answer whole (λ p. holds new.counts.items new.pool.places x p)
   added_yes base mid first more added x held = elim (added.each x held) [
     | inl was ↦ inl was
     | inr m ↦ inr (combined_yes new.counts.items adds.sound.values chosen answer n.test test whole reads _
@@ -120,7 +120,7 @@ module _ (chosen : ℕ → Bool) (answer : Bool) (old new : Table) (s : IsReduce
 
   pub added_no : (base : List (Option Node)) (mid : Table) → AddsNodes old mid → AddsNodes mid new
       → AddsCombined mid.counts.items chosen answer base mid.pool.places (λ p. holds mid.counts.items mid.pool.places n.no.0 p)
-      → (x : ℕ) → is_held mid.pool.places x ≡ true → (is_held base x ≡ true) ⊎ IsCombined new.counts.items chosen answer whole (λ p. holds new.counts.items new.pool.places x p)
+      → (x : ℕ) → has_diagram mid.pool.places x ≡ true → (has_diagram base x ≡ true) ⊎ IsCombined new.counts.items chosen answer whole (λ p. holds new.counts.items new.pool.places x p)
   added_no base mid first more added x held = elim (added.each x held) [
     | inl was ↦ inl was
     | inr m ↦ inr (combined_no new.counts.items adds.sound.values chosen answer n.test test whole reads _
@@ -131,7 +131,7 @@ module _ (chosen : ℕ → Bool) (answer : Bool) (old new : Table) (s : IsReduce
   pub added_join : (base : List (Option Node)) (joined : Bool) (y m : ℕ) → joined ≡ chosen n.test.var
       → IsQuantified new.counts.items new.pool.places chosen answer n.yes.0 y → IsQuantified new.counts.items new.pool.places chosen answer n.no.0 m
       → AddsParts new.counts.items base new.pool.places (λ p. joined_set new.counts.items new.pool.places joined answer n.test y m p)
-      → (x : ℕ) → is_held new.pool.places x ≡ true → (is_held base x ≡ true) ⊎ IsCombined new.counts.items chosen answer whole (λ p. holds new.counts.items new.pool.places x p)
+      → (x : ℕ) → has_diagram new.pool.places x ≡ true → (has_diagram base x ≡ true) ⊎ IsCombined new.counts.items chosen answer whole (λ p. holds new.counts.items new.pool.places x p)
   added_join base joined y m is iy im added x held = elim (added.each x held) [
     | inl was ↦ inl was
     | inr r ↦ inr (combined_answers new.counts.items adds.sound.values chosen answer whole _ _ (order n.test.var n.test.value) reads

@@ -11,7 +11,7 @@ use Rattle.mv_pool.specs.declared.pool.Id.{Id}
 use Rattle.mv_pool.proofs.Placing.{item_at-with, item_at-with_other, free_there, least-le, with_item-push}
 use Rattle.mv_diagram.specs.declared.node.Node.{Node}
 use Rattle.mv_diagram.specs.Links.{place_of}
-use Rattle.mv_diagram.specs.Sets.{Point, with_value, greatest, node_at, is_held, holds, holds_within}
+use Rattle.mv_diagram.specs.Sets.{Point, with_value, greatest, node_at, has_diagram, holds, holds_within}
 use Rattle.mv_diagram.specs.Sound.{order, first, IsNode, IsReduced, Ascends}
 use Rattle.mv_diagram.specs.Works.{Grows, IsAbsent}
 use Rattle.mv_diagram.proofs.Following.{if_same, node_is, within-node, within-end, node_placed}
@@ -21,10 +21,10 @@ use Rattle.mv_diagram.proofs.Canonical.{ends}
 pub no_node : (ns : List (Option Node)) (d : ℕ) → d < 2 → node_at ns d ≡ None
 no_node ns d low = ap (λ b. option_and_then (λ (id : Id). item_at ns id.0) (if b && nat_lt (d - 2) (2 ^ 32) then Some (record { 0 = d - 2 }) else None)) (lt-leb 2 d low)
 
-pub held_low : (ns : List (Option Node)) (d : ℕ) → d < 2 → is_held ns d ≡ true
+pub held_low : (ns : List (Option Node)) (d : ℕ) → d < 2 → has_diagram ns d ≡ true
 held_low ns d low = ap (λ b. b || is_some (node_at ns d)) (lt-ltb d 2 low)
 
-pub held_node : (ns : List (Option Node)) (d : ℕ) (n : Node) → node_at ns d ≡ Some n → is_held ns d ≡ true
+pub held_node : (ns : List (Option Node)) (d : ℕ) (n : Node) → node_at ns d ≡ Some n → has_diagram ns d ≡ true
 held_node ns d n e = or_from (nat_lt d 2) (is_some (node_at ns d)) (ap is_some e)
   where
     or_from : (x y : Bool) → y ≡ true → (x || y) ≡ true
@@ -33,15 +33,15 @@ held_node ns d n e = or_from (nat_lt d 2) (is_some (node_at ns d)) (ap is_some e
 
 -- the children of each node are held
 pub record IsClosed (ns : List (Option Node)) : Type 0 where
-  pub yes : (d : ℕ) (n : Node) → node_at ns d ≡ Some n → is_held ns n.yes.0 ≡ true
-  pub no : (d : ℕ) (n : Node) → node_at ns d ≡ Some n → is_held ns n.no.0 ≡ true
+  pub yes : (d : ℕ) (n : Node) → node_at ns d ≡ Some n → has_diagram ns n.yes.0 ≡ true
+  pub no : (d : ℕ) (n : Node) → node_at ns d ≡ Some n → has_diagram ns n.no.0 ≡ true
 
 closed_sound : (counts : List ℕ) (ns : List (Option Node)) → IsReduced counts ns → IsClosed ns
 closed_sound counts ns s = record { yes = λ d n e. (node_is counts ns s d n e).yes_held; no = λ d n e. (node_is counts ns s d n e).no_held }
 
 module _ (counts : List ℕ) (old new : List (Option Node)) (g : Grows old new) where
   -- the node of a held diagram stays
-  pub node_stays : (d : ℕ) → is_held old d ≡ true → node_at new d ≡ node_at old d
+  pub node_stays : (d : ℕ) → has_diagram old d ≡ true → node_at new d ≡ node_at old d
   node_stays d held = by (node_at old d) refl
     where
       by : (o : Option Node) → node_at old d ≡ o → node_at new d ≡ node_at old d
@@ -49,29 +49,29 @@ module _ (counts : List ℕ) (old new : List (Option Node)) (g : Grows old new) 
       by (Some n) e = option_and_then_some (λ (id : Id). item_at old id.0) (place_of d) n e
           (λ id at there. ap (option_and_then (λ (id : Id). item_at new id.0)) at ∙ g.keeps id.0 n there ∙ sym e)
 
-  pub held_stays : (d : ℕ) → is_held old d ≡ true → is_held new d ≡ true
+  pub held_stays : (d : ℕ) → has_diagram old d ≡ true → has_diagram new d ≡ true
   held_stays d held = ap (λ o. nat_lt d 2 || is_some o) (node_stays d held) ∙ held
 
-  pub first_stays : (d : ℕ) → is_held old d ≡ true → first counts new d ≡ first counts old d
+  pub first_stays : (d : ℕ) → has_diagram old d ≡ true → first counts new d ≡ first counts old d
   first_stays d held = ap (λ o. option_map_or (λ (n : Node). order n.test.var n.test.value) o (length counts * MAX_VALUES)) (node_stays d held)
 
   module _ (closed : IsClosed old) where
-    within_stays : (k d : ℕ) (p : Point) → is_held old d ≡ true → holds_within k new d p ≡ holds_within k old d p
+    within_stays : (k d : ℕ) (p : Point) → has_diagram old d ≡ true → holds_within k new d p ≡ holds_within k old d p
     within_stays zero d p held = refl
     within_stays (suc k) d p held = by (node_at old d) refl (λ c h. within_stays k c p h)
       where
-        by : (o : Option Node) → node_at old d ≡ o → ((c : ℕ) → is_held old c ≡ true → holds_within k new c p ≡ holds_within k old c p) → holds_within (suc k) new d p ≡ holds_within (suc k) old d p
+        by : (o : Option Node) → node_at old d ≡ o → ((c : ℕ) → has_diagram old c ≡ true → holds_within k new c p ≡ holds_within k old c p) → holds_within (suc k) new d p ≡ holds_within (suc k) old d p
         by None e below = within-end counts new (suc k) d p (node_stays d held ∙ e) ∙ sym (within-end counts old (suc k) d p e)
         by (Some n) e below =
             within-node counts new k d n p (node_stays d held ∙ e) ∙ if_same _ _ _ _ _ _ refl (below n.yes.0 (closed.yes d n e)) (below n.no.0 (closed.no d n e)) ∙ sym (within-node counts old k d n p e)
 
     -- and so does its set
-    pub set_stays : (d : ℕ) (p : Point) → is_held old d ≡ true → holds counts new d p ≡ holds counts old d p
+    pub set_stays : (d : ℕ) (p : Point) → has_diagram old d ≡ true → holds counts new d p ≡ holds counts old d p
     unfolding holds
     set_stays d p held = within_stays (length counts * MAX_VALUES) d p held
 
   module _ (s : IsReduced counts old) where
-    pub holds_stays : (d : ℕ) (p : Point) → is_held old d ≡ true → holds counts new d p ≡ holds counts old d p
+    pub holds_stays : (d : ℕ) (p : Point) → has_diagram old d ≡ true → holds counts new d p ≡ holds counts old d p
     holds_stays d p held = set_stays (closed_sound counts old s) d p held
 
     -- a node that is right stays so
@@ -133,7 +133,7 @@ module _ (counts : List ℕ) (ns : List (Option Node)) (n : Node) (s : IsReduced
 -- fewer nodes, whose children are among them
 pub record Fewer (ns fewer : List (Option Node)) : Type 0 where
   pub grows : Grows fewer ns
-  pub closed : (place : ℕ) (n : Node) → item_at fewer place ≡ Some n → (is_held fewer n.yes.0 ≡ true) × (is_held fewer n.no.0 ≡ true)
+  pub closed : (place : ℕ) (n : Node) → item_at fewer place ≡ Some n → (has_diagram fewer n.yes.0 ≡ true) × (has_diagram fewer n.no.0 ≡ true)
 
 module _ (counts : List ℕ) (ns fewer : List (Option Node)) (s : IsReduced counts ns) (f : Fewer ns fewer) where
   closed_fewer : IsClosed fewer
@@ -143,7 +143,7 @@ module _ (counts : List ℕ) (ns fewer : List (Option Node)) (s : IsReduced coun
   }
 
   -- what is held keeps its set
-  pub set_fewer : (d : ℕ) (p : Point) → is_held fewer d ≡ true → holds counts fewer d p ≡ holds counts ns d p
+  pub set_fewer : (d : ℕ) (p : Point) → has_diagram fewer d ≡ true → holds counts fewer d p ≡ holds counts ns d p
   set_fewer d p held = sym (set_stays counts fewer ns f.grows closed_fewer d p held)
 
   -- they are sound
@@ -172,7 +172,7 @@ module _ (counts : List ℕ) (ns fewer : List (Option Node)) (s : IsReduced coun
           }
 
 -- the place of a held child
-pub child_placed : (ns : List (Option Node)) (d : ℕ) → is_held ns d ≡ true → d < length ns + 2
+pub child_placed : (ns : List (Option Node)) (d : ℕ) → has_diagram ns d ≡ true → d < length ns + 2
 child_placed ns d held = by (node_at ns d) refl
   where
     by : (o : Option Node) → node_at ns d ≡ o → d < length ns + 2

@@ -4,7 +4,7 @@ use Rattle.std.proofs.lemmas.Bool.{cases_eq, cases_lt, cases_order}
 use Rattle.mv_base.specs.declared.limits.TheConstants.{MAX_VALUES}
 use Rattle.mv_diagram.specs.declared.node.Node.{Node}
 use Rattle.mv_diagram.specs.declared.node.Test.{Test}
-use Rattle.mv_diagram.specs.Sets.{Point, SameSet, with_value, greatest, node_at, is_held, holds}
+use Rattle.mv_diagram.specs.Sets.{Point, SameSet, with_value, greatest, node_at, has_diagram, holds}
 use Rattle.mv_diagram.specs.Sound.{order, first, IsTest, IsReduced}
 use Rattle.mv_diagram.specs.Works.{IsLacking}
 use Rattle.mv_diagram.proofs.Following.{Agree, holds_agree, holds_end, steps, node_is, first-node, first-end, no-later, ended}
@@ -42,14 +42,14 @@ module _ (counts : List ℕ) (ns : List (Option Node)) (s : IsReduced counts ns)
           ∙ sym (same.each _ (InRange-with counts p n.test.var (greatest counts n.test.var) range low))))
 
   -- what a held diagram is at the greatest value of a variable is held
-  rest_of : (k d var : ℕ) → steps counts ≤ first counts ns d + k → is_held ns d ≡ true → order var 0 ≤ first counts ns d
-      → (r : ℕ) × (is_held ns r ≡ true) × ((p : Point) → holds counts ns r p ≡ holds counts ns d (with_value p var (greatest counts var)))
+  rest_of : (k d var : ℕ) → steps counts ≤ first counts ns d + k → has_diagram ns d ≡ true → order var 0 ≤ first counts ns d
+      → (r : ℕ) × (has_diagram ns r ≡ true) × ((p : Point) → holds counts ns r p ≡ holds counts ns d (with_value p var (greatest counts var)))
   rest_of zero d var enough held later = let none = ended counts ns s d (omega arith) in (d, held, λ p. holds_end counts ns d p none ∙ sym (holds_end counts ns d (with_value p var (greatest counts var)) none))
   rest_of (suc k) d var enough held later = by (node_at ns d) refl (λ c more hc. rest_of k c var (omega arith) hc (omega arith))
     where
       by : (o : Option Node) → node_at ns d ≡ o
-          → ((c : ℕ) → first counts ns d < first counts ns c → is_held ns c ≡ true → (r : ℕ) × (is_held ns r ≡ true) × ((p : Point) → holds counts ns r p ≡ holds counts ns c (with_value p var (greatest counts var))))
-          → (r : ℕ) × (is_held ns r ≡ true) × ((p : Point) → holds counts ns r p ≡ holds counts ns d (with_value p var (greatest counts var)))
+          → ((c : ℕ) → first counts ns d < first counts ns c → has_diagram ns c ≡ true → (r : ℕ) × (has_diagram ns r ≡ true) × ((p : Point) → holds counts ns r p ≡ holds counts ns c (with_value p var (greatest counts var))))
+          → (r : ℕ) × (has_diagram ns r ≡ true) × ((p : Point) → holds counts ns r p ≡ holds counts ns d (with_value p var (greatest counts var)))
       by None e below = (d, held, λ p. holds_end counts ns d p e ∙ sym (holds_end counts ns d (with_value p var (greatest counts var)) e))
       by (Some n) e below = elim (cases_eq n.test.var var) [
         | inl same ↦
@@ -64,9 +64,9 @@ module _ (counts : List ℕ) (ns : List (Option Node)) (s : IsReduced counts ns)
         | inr other ↦ (d, held, λ p. sym (holds_later counts ns s d p var (greatest counts var) (rest_later counts ns s d var n e other later)))
       ]
 
-  module _ (d : ℕ) (t : Test) (is : IsTest counts t) (held : is_held ns d ≡ true) (later : order t.var t.value ≤ first counts ns d) where
+  module _ (d : ℕ) (t : Test) (is : IsTest counts t) (held : has_diagram ns d ≡ true) (later : order t.var t.value ≤ first counts ns d) where
     -- and so is what it is where a test says yes, and where it says no
-    yes_of : (r : ℕ) × (is_held ns r ≡ true) × ((p : Point) → holds counts ns r p ≡ holds counts ns d (with_value p t.var t.value))
+    yes_of : (r : ℕ) × (has_diagram ns r ≡ true) × ((p : Point) → holds counts ns r p ≡ holds counts ns d (with_value p t.var t.value))
     yes_of = elim (cases_order (order t.var t.value) (first counts ns d)) [
       | inl level ↦
           let here = test_here counts ns s d t is level in
@@ -80,7 +80,7 @@ module _ (counts : List ℕ) (ns : List (Option Node)) (s : IsReduced counts ns)
       ]
     ]
 
-    no_of : (r : ℕ) × (is_held ns r ≡ true) × ((p : Point) → holds counts ns r p ≡ holds counts ns d (beside counts t p))
+    no_of : (r : ℕ) × (has_diagram ns r ≡ true) × ((p : Point) → holds counts ns r p ≡ holds counts ns d (beside counts t p))
     no_of = elim (cases_order (order t.var t.value) (first counts ns d)) [
       | inl level ↦
           let here = test_here counts ns s d t is level in

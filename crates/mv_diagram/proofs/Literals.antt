@@ -5,7 +5,7 @@ use Rattle.mv_base.specs.declared.limits.TheConstants.{MAX_VALUES}
 use Rattle.mv_base.specs.Set.{has}
 use Rattle.mv_diagram.specs.declared.node.Node.{Node}
 use Rattle.mv_diagram.specs.declared.node.Test.{Test}
-use Rattle.mv_diagram.specs.Sets.{Point, greatest, is_held, holds}
+use Rattle.mv_diagram.specs.Sets.{Point, greatest, has_diagram, holds}
 use Rattle.mv_diagram.specs.Sound.{order, first, IsTest, IsReduced}
 use Rattle.mv_diagram.specs.Works.{IsLacking}
 use Rattle.mv_diagram.proofs.Following.{Agree, first-end, holds_end}
@@ -55,7 +55,7 @@ literal_from counts var set low p = has set (seen (slice_index counts var) low (
 
 -- zero or one, by whether it has all points
 pub record IsEnd (counts : List ℕ) (ns : List (Option Node)) (b : Bool) (d : ℕ) : Type 0 where
-  pub held : is_held ns d ≡ true
+  pub held : has_diagram ns d ≡ true
   pub last : first counts ns d ≡ length counts * MAX_VALUES
   pub all : (p : Point) → holds counts ns d p ≡ b
 

@@ -12,7 +12,7 @@ use Rattle.mv_diagram.specs.declared.node.Dd.{Dd}
 use Rattle.mv_diagram.specs.declared.node.Node.{Node}
 use Rattle.mv_diagram.specs.declared.node.Test.{Test}
 use Rattle.mv_diagram.specs.Links.{place_of}
-use Rattle.mv_diagram.specs.Sets.{Point, SameSet, with_value, greatest, node_at, is_held, holds}
+use Rattle.mv_diagram.specs.Sets.{Point, SameSet, with_value, greatest, node_at, has_diagram, holds}
 use Rattle.mv_diagram.specs.Sound.{order, first, IsTest, IsNode, IsReduced, Ascends}
 use Rattle.mv_diagram.specs.Works.{Grows, IsLacking, IsAbsent, HasPut}
 use Rattle.mv_diagram.proofs.Following.{if_same, holds_node, node_is, node_placed}
@@ -22,9 +22,9 @@ use Rattle.mv_diagram.proofs.Growing.{Grows-same, Grows-with, longer_with, IsRed
 use Rattle.mv_diagram.proofs.Lacking.{Reads, Reads-diagram, first_reads}
 
 module _ (counts : List ℕ) (ns : List (Option Node)) (s : IsReduced counts ns) (n : Node) (q : Dd) (test : IsTest counts n.test)
-    (yes_held : is_held ns n.yes.0 ≡ true) (no_held : is_held ns n.no.0 ≡ true)
+    (yes_held : has_diagram ns n.yes.0 ≡ true) (no_held : has_diagram ns n.no.0 ≡ true)
     (yes_later : order (n.test.var + 1) 0 ≤ first counts ns n.yes.0) (no_later : order n.test.var n.test.value < first counts ns n.no.0)
-    (q_held : is_held ns q.0 ≡ true) (rest : (p : Point) → holds counts ns q.0 p ≡ holds counts ns n.no.0 (with_value p n.test.var (greatest counts n.test.var)))
+    (q_held : has_diagram ns q.0 ≡ true) (rest : (p : Point) → holds counts ns q.0 p ≡ holds counts ns n.no.0 (with_value p n.test.var (greatest counts n.test.var)))
     (apart : q.0 ≡ n.yes.0 → ⊥) where
   -- the node is right
   pub IsNode-made : IsNode counts ns n
@@ -57,7 +57,7 @@ module _ (counts : List ℕ) (ns : List (Option Node)) (s : IsReduced counts ns)
         ((Reads-diagram counts ns s n.no.0 (order n.test.var n.test.value) (omega arith)).each p q agree);
   }
 
-  module _ (d : ℕ) (held : is_held ns d ≡ true) (same : SameSet counts (λ p. holds counts ns d p) set) where
+  module _ (d : ℕ) (held : has_diagram ns d ≡ true) (same : SameSet counts (λ p. holds counts ns d p) set) where
     -- a diagram with that set has the test first
     earlier : order n.test.var n.test.value < first counts ns d → ⊥
     earlier less = IsNode-made.reduced (record {

@@ -3,7 +3,7 @@ use Rattle.std.proofs.Common.{◌≡◌, ℕ, ◌+◌, ◌<◌, ◌≤◌, ◌==
 use Rattle.std.proofs.lemmas.Bool.{cases_eq, cases_order, eq-eqb, ne_eqb}
 use Rattle.mv_diagram.specs.declared.node.Node.{Node}
 use Rattle.mv_diagram.specs.declared.node.Test.{Test}
-use Rattle.mv_diagram.specs.Sets.{Point, InRange, with_value, greatest, node_at, is_held, holds}
+use Rattle.mv_diagram.specs.Sets.{Point, InRange, with_value, greatest, node_at, has_diagram, holds}
 use Rattle.mv_diagram.specs.Sound.{order, first, IsTest, IsReduced}
 use Rattle.mv_diagram.specs.First.{IsSplit}
 use Rattle.mv_diagram.proofs.Following.{Agree, holds_agree, holds_node, node_is, first-node, first-end, order-lt}
@@ -169,7 +169,7 @@ module _ (counts : List ℕ) (ns : List (Option Node)) (s : IsReduced counts ns)
   })
 
   -- where it has none
-  pub split_end : (d : ℕ) (t : Test) → IsTest counts t → is_held ns d ≡ true → node_at ns d ≡ None → IsSplit counts ns d t d d
+  pub split_end : (d : ℕ) (t : Test) → IsTest counts t → has_diagram ns d ≡ true → node_at ns d ≡ None → IsSplit counts ns d t d d
   split_end d t is held e =
       let end = first-end counts ns d e in
       let inside = is.variable in

@@ -8,10 +8,10 @@ use Rattle.mv_diagram.specs.declared.node.Test.{Test}
 use Rattle.mv_diagram.specs.declared.memo.Key.{Key}
 use Rattle.mv_diagram.specs.declared.memo.Operation.{Operation}
 use Rattle.mv_diagram.specs.declared.table.Table.{Table}
-use Rattle.mv_diagram.specs.Sets.{Point, InRange, with_value, greatest, node_at, holds, is_held}
+use Rattle.mv_diagram.specs.Sets.{Point, InRange, with_value, greatest, node_at, holds, has_diagram}
 use Rattle.mv_diagram.specs.Sound.{order, first, IsTest, IsReduced}
 use Rattle.mv_diagram.specs.Works.{AddsNodes}
-use Rattle.mv_diagram.specs.Results.{IsResult, IsKept, result_of}
+use Rattle.mv_diagram.specs.Results.{IsResult, IsRemembered, result_of}
 use Rattle.mv_diagram.specs.Quantified.{AgreesOutside, Agreeing, IsQuantified, Quantifies, IsJoined, joined_set, joining}
 use Rattle.mv_diagram.proofs.Following.{if_same, node_is, holds_end, first-node}
 use Rattle.mv_diagram.proofs.Points.{beside, beside_there, beside_elsewhere, InRange-with, InRange-beside, value_elsewhere, holds_yes, holds_no_beside}
@@ -54,7 +54,7 @@ pub record Answers (counts : List ℕ) (vars : ℕ → Bool) (answer : Bool) (wh
 
 module _ (counts : List ℕ) (ns : List (Option Node)) (s : IsReduced counts ns) (vars : ℕ → Bool) (answer : Bool) where
   -- a diagram without tests
-  pub quantified_end : (d : ℕ) → is_held ns d ≡ true → node_at ns d ≡ None → IsQuantified counts ns vars answer d d
+  pub quantified_end : (d : ℕ) → has_diagram ns d ≡ true → node_at ns d ≡ None → IsQuantified counts ns vars answer d d
   quantified_end d held e = record {
     operand = held;
     held = held;
@@ -123,7 +123,7 @@ module _ (counts : List ℕ) (ns : List (Option Node)) (s : IsReduced counts ns)
     answers_joined = record { some = λ p range is. some joined refl p range is; all = λ p q range agrees is. all joined refl p q range agrees is }
 
   -- a diagram with a first test
-  pub quantified_node : (d r y m : ℕ) (n : Node) (joined : Bool) → node_at ns d ≡ Some n → is_held ns d ≡ true → joined ≡ vars n.test.var
+  pub quantified_node : (d r y m : ℕ) (n : Node) (joined : Bool) → node_at ns d ≡ Some n → has_diagram ns d ≡ true → joined ≡ vars n.test.var
       → IsQuantified counts ns vars answer n.yes.0 y → IsQuantified counts ns vars answer n.no.0 m → IsJoined counts ns joined answer n.test y m r → IsQuantified counts ns vars answer d r
   quantified_node d r y m n joined e hd chosen iy im ij = let is = answers_joined d y m n joined e chosen iy im (λ p. holds counts ns r p) ij.set in record {
     operand = hd;
@@ -174,13 +174,13 @@ module _ (vars : ℕ → Bool) (answer : Bool) (old one two new : Table) (d : �
   no_in_all = table_quantified two new made.second.sound made.third vars answer n.no.0 m made.no
 
   -- what is joined of them
-  pub quantified_all : (r : ℕ) → is_held old.pool.places d ≡ true → IsJoined new.counts.items new.pool.places joined answer n.test y m r → IsQuantified new.counts.items new.pool.places vars answer d r
+  pub quantified_all : (r : ℕ) → has_diagram old.pool.places d ≡ true → IsJoined new.counts.items new.pool.places joined answer n.test y m r → IsQuantified new.counts.items new.pool.places vars answer d r
   quantified_all r held ij =
       quantified_node new.counts.items new.pool.places adds_all.sound vars answer d r y m n joined (table_node old new adds_all d n made.node) (table_held old new made.sound adds_all d held) made.chosen
       yes_in_all no_in_all ij
 
 -- with one result more what is remembered is right
-pub quantifies_more : (counts : List ℕ) (ns : List (Option Node)) (vars : ℕ → Bool) (answer : Bool) (old new : List (Key × Dd)) (key : Key) (d : Dd) → Quantifies counts ns vars answer old → IsKept old new key d → IsQuantified counts ns vars answer key.left.0 d.0 → Quantifies counts ns vars answer new
+pub quantifies_more : (counts : List ℕ) (ns : List (Option Node)) (vars : ℕ → Bool) (answer : Bool) (old new : List (Key × Dd)) (key : Key) (d : Dd) → Quantifies counts ns vars answer old → IsRemembered old new key d → IsQuantified counts ns vars answer key.left.0 d.0 → Quantifies counts ns vars answer new
 quantifies_more counts ns vars answer old new key d are kept is = record {
   each = λ k r there. elim (kept.each k r there) [
     | inl was ↦ are.each k r was
@@ -195,7 +195,7 @@ set_operation counts ns joined answer operation t y n j o p =
     ap (λ o. result_of o (holds counts ns y p) (holds counts ns n p)) o ∙ ap (λ b. joined_set counts ns b answer t y n p) (sym j)
 
 -- the set that the test makes
-pub set_test : (old new : Table) → IsReduced old.counts.items old.pool.places → AddsNodes old new → (joined answer : Bool) (t : Test) (y n : ℕ) → joined ≡ false → is_held old.pool.places y ≡ true → is_held old.pool.places n ≡ true
+pub set_test : (old new : Table) → IsReduced old.counts.items old.pool.places → AddsNodes old new → (joined answer : Bool) (t : Test) (y n : ℕ) → joined ≡ false → has_diagram old.pool.places y ≡ true → has_diagram old.pool.places n ≡ true
     → (p : Point) → (if p t.var == t.value then holds old.counts.items old.pool.places y p else holds old.counts.items old.pool.places n p) ≡ joined_set new.counts.items new.pool.places joined answer t y n p
 set_test old new s adds joined answer t y n j hy hn p =
     sym (if_same _ _ _ _ _ _ refl (table_holds old new s adds y p hy) (table_holds old new s adds n p hn)) ∙ ap (λ b. joined_set new.counts.items new.pool.places b answer t y n p) (sym j)
@@ -211,8 +211,8 @@ joined_result counts ns joined answer operation t y n (Ok d) j o ly ln is = reco
 }
 
 -- what is made by the test
-pub joined_test : (old new : Table) → IsReduced old.counts.items old.pool.places → AddsNodes old new → (joined answer : Bool) (t : Test) (y n : ℕ) (r : Result Dd Nodes) → joined ≡ false → is_held old.pool.places y ≡ true → is_held old.pool.places n ≡ true
-    → IfOk r (λ d. is_held new.pool.places d.0 ≡ true) → IfOk r (λ d. order t.var t.value ≤ first new.counts.items new.pool.places d.0)
+pub joined_test : (old new : Table) → IsReduced old.counts.items old.pool.places → AddsNodes old new → (joined answer : Bool) (t : Test) (y n : ℕ) (r : Result Dd Nodes) → joined ≡ false → has_diagram old.pool.places y ≡ true → has_diagram old.pool.places n ≡ true
+    → IfOk r (λ d. has_diagram new.pool.places d.0 ≡ true) → IfOk r (λ d. order t.var t.value ≤ first new.counts.items new.pool.places d.0)
     → IfOk r (λ d. (p : Point) → holds new.counts.items new.pool.places d.0 p ≡ (if p t.var == t.value then holds old.counts.items old.pool.places y p else holds old.counts.items old.pool.places n p))
     → IfOk r (λ d. IsJoined new.counts.items new.pool.places joined answer t y n d.0)
 joined_test old new s adds joined answer t y n (Err e) j hy hn held later set = tt

@@ -12,7 +12,7 @@ use Rattle.mv_pool.proofs.Positions.{passes_within}
 use Rattle.mv_diagram.specs.declared.node.Dd.{Dd}
 use Rattle.mv_diagram.specs.declared.node.Node.{Node}
 use Rattle.mv_diagram.specs.Links.{place_of}
-use Rattle.mv_diagram.specs.Sets.{node_at, is_held}
+use Rattle.mv_diagram.specs.Sets.{node_at, has_diagram}
 use Rattle.mv_diagram.specs.Sound.{Ascends, IsReduced}
 use Rattle.mv_diagram.specs.Works.{Grows}
 use Rattle.mv_diagram.specs.Roots.{AreGathered}
@@ -37,7 +37,7 @@ module _ (ns : List (Option Node)) where
   node_there d id e = ap (option_and_then (λ (i : Id). item_at ns i.0)) e
 
   -- the place of a held diagram has a node
-  pub held_place : (d : ℕ) (id : Id) → is_held ns d ≡ true → place_of d ≡ Some id → is_some (item_at ns id.0) ≡ true
+  pub held_place : (d : ℕ) (id : Id) → has_diagram ns d ≡ true → place_of d ≡ Some id → is_some (item_at ns id.0) ≡ true
   held_place d id held e = by (node_at ns d) refl
     where
       by : (o : Option Node) → node_at ns d ≡ o → is_some (item_at ns id.0) ≡ true
@@ -45,7 +45,7 @@ module _ (ns : List (Option Node)) where
       by (Some m) n = ap is_some (sym (node_there d id e) ∙ n)
 
   -- a held diagram is zero or one, or has a place
-  pub held_by : {P : Type 0} (d : ℕ) → is_held ns d ≡ true → (d < 2 → P) → ((id : Id) → place_of d ≡ Some id → is_some (item_at ns id.0) ≡ true → P) → P
+  pub held_by : {P : Type 0} (d : ℕ) → has_diagram ns d ≡ true → (d < 2 → P) → ((id : Id) → place_of d ≡ Some id → is_some (item_at ns id.0) ≡ true → P) → P
   held_by {P} d held low there = by (place_of d) refl
     where
       by : (o : Option Id) → place_of d ≡ o → P
@@ -53,7 +53,7 @@ module _ (ns : List (Option Node)) where
       by (Some id) e = there id e (held_place d id held e)
 
   -- a place with a node makes a diagram held
-  pub held_from : (d : ℕ) (id : Id) → place_of d ≡ Some id → is_some (item_at ns id.0) ≡ true → is_held ns d ≡ true
+  pub held_from : (d : ℕ) (id : Id) → place_of d ≡ Some id → is_some (item_at ns id.0) ≡ true → has_diagram ns d ≡ true
   held_from d id e some = or_right (nat_lt d 2) (is_some (node_at ns d)) (ap is_some (node_there d id e) ∙ some)
     where
       or_right : (x y : Bool) → y ≡ true → (x || y) ≡ true
@@ -76,7 +76,7 @@ module _ (counts : List ℕ) (ns : List (Option Node)) (s : IsReduced counts ns)
   grows_take = record { keeps = λ place n e. sym (item_at-take ns m place (before place n e)) ∙ e }
 
   -- an earlier diagram is held still
-  pub held_take : (d : ℕ) → is_held ns d ≡ true → d < m + 2 → is_held (take m ns) d ≡ true
+  pub held_take : (d : ℕ) → has_diagram ns d ≡ true → d < m + 2 → has_diagram (take m ns) d ≡ true
   held_take d held less = held_by ns d held (held_low (take m ns) d)
       (λ id at some. let is = placed_is d id at in held_from (take m ns) d id at (ap is_some (item_at-take ns m id.0 (omega arith)) ∙ some))
 
@@ -111,15 +111,15 @@ module _ (counts : List ℕ) (ns : List (Option Node)) (s : IsReduced counts ns)
       by true n item id there is = held_place ns item.yes.0 id (s.nodes n item there).yes_held is
       by false n item id there is = held_place ns item.no.0 id (s.nodes n item there).no_held is
 
-  module _ (roots : List Dd) (ids : List Id) (gathered : AreGathered roots ids (length roots)) (held : All (λ (root : Dd). is_held ns root.0 ≡ true) roots) where
+  module _ (roots : List Dd) (ids : List Id) (gathered : AreGathered roots ids (length roots)) (held : All (λ (root : Dd). has_diagram ns root.0 ≡ true) roots) where
     pub roots_held : All (λ (id : Id). is_some (item_at ns id.0) ≡ true) ids
-    roots_held = gathered.inside (λ n. is_some (item_at ns n)) (λ k id e less is. held_place ns (get_or roots k e).0 id (All-get_or (λ (root : Dd). is_held ns root.0 ≡ true) roots k e less held) is)
+    roots_held = gathered.inside (λ n. is_some (item_at ns n)) (λ k id e less is. held_place ns (get_or roots k e).0 id (All-get_or (λ (root : Dd). has_diagram ns root.0 ≡ true) roots k e less held) is)
 
     module _ (new : List (Option Node)) (r : IsReclaimed link_of ns ids new) (small : length new < 2 ^ 32) where
       reached_there : (place : ℕ) (n : Node) → item_at new place ≡ Some n → item_at ns place ≡ Some n
       reached_there place n e = sym (r.kept place (r.freed place (ap is_some e))) ∙ e
 
-      child_there : (place k : ℕ) (n : Node) (c : ℕ) → k < 2 → c ≡ (if k == 0 then n.yes.0 else n.no.0) → item_at new place ≡ Some n → is_held ns c ≡ true → is_held new c ≡ true
+      child_there : (place k : ℕ) (n : Node) (c : ℕ) → k < 2 → c ≡ (if k == 0 then n.yes.0 else n.no.0) → item_at new place ≡ Some n → has_diagram ns c ≡ true → has_diagram new c ≡ true
       child_there place k n c low is e hc = held_by ns c hc (held_low new c) (λ id at some.
           let reached : IsReached link_of ns ids id.0 = λ set all closed.
           closed.each place k n id (r.freed place (ap is_some e) set all closed) (reached_there place n e) low (ap place_of (sym is) ∙ at) in
@@ -133,11 +133,11 @@ module _ (counts : List ℕ) (ns : List (Option Node)) (s : IsReduced counts ns)
             (child_there place 0 n n.yes.0 (omega arith) refl e is.yes_held, child_there place 1 n n.no.0 (omega arith) refl e is.no_held);
       }
 
-      pub reclaimed_kept : (d : ℕ) → Reaches ns roots d → is_held new d ≡ true
-      reclaimed_kept d reaches = reaches (is_held new) (held_low new 0 (omega arith)) (held_low new 1 (omega arith))
-          (All-from_get_or (λ (root : Dd). is_held new root.0 ≡ true) roots (record { 0 = 0 }) (λ k less.
+      pub reclaimed_kept : (d : ℕ) → Reaches ns roots d → has_diagram new d ≡ true
+      reclaimed_kept d reaches = reaches (has_diagram new) (held_low new 0 (omega arith)) (held_low new 1 (omega arith))
+          (All-from_get_or (λ (root : Dd). has_diagram new root.0 ≡ true) roots (record { 0 = 0 }) (λ k less.
           let root : Dd = get_or roots k (record { 0 = 0 }) in
-          held_by ns root.0 (All-get_or (λ (root : Dd). is_held ns root.0 ≡ true) roots k (record { 0 = 0 }) less held) (held_low new root.0)
+          held_by ns root.0 (All-get_or (λ (root : Dd). has_diagram ns root.0 ≡ true) roots k (record { 0 = 0 }) less held) (held_low new root.0)
           (λ id at some.
           let reached : IsReached link_of ns ids id.0 = λ set all closed. gathered.all set all k id (record { 0 = 0 }) less at in
           held_from new root.0 id at (ap is_some (r.kept id.0 reached) ∙ some))))
@@ -146,7 +146,7 @@ module _ (counts : List ℕ) (ns : List (Option Node)) (s : IsReduced counts ns)
           let same = same_Some n have.0 (sym there ∙ reached_there id.0 have.0 have.1) in
           fewer_reclaimed.closed id.0 n (have.1 ∙ ap (λ x. Some x) (sym same))))
 
-      pub reclaimed_only : (d : ℕ) → is_held new d ≡ true → Reaches ns roots d
+      pub reclaimed_only : (d : ℕ) → has_diagram new d ≡ true → Reaches ns roots d
       reclaimed_only d hd set zero_in one_in all step = held_by new d hd low (λ id at some.
           rw (placed_is d id at) (r.freed id.0 some (λ p. set (p + 2)) in_ids closed))
         where

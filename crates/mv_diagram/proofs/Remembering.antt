@@ -10,7 +10,7 @@ use Rattle.mv_diagram.specs.declared.memo.Key.{Key}
 use Rattle.mv_diagram.specs.declared.memo.Operation.{Operation}
 use Rattle.mv_diagram.specs.contracts.memo.Operation.{the_type}
 use Rattle.mv_diagram.specs.contracts.memo.KeyPartialEq.TheImpl.{eq-value}
-use Rattle.mv_diagram.specs.Results.{IsKept}
+use Rattle.mv_diagram.specs.Results.{IsRemembered}
 
 -- equal keys by their test are equal
 pub key_from : (k j : Key) → eq-value.it k j ≡ true → k ≡ j
@@ -28,7 +28,7 @@ found test key exact es None e = tt
 found test key exact es (Some d) e = let at = Contains-lookup test es d (sym e) in subst (λ k. Contains es (k, d)) (exact at.0 at.2) at.1
 
 -- what is kept besides what was there
-pub kept : {A B : Type 0} (old new : LruCache Key Dd) (key : Key) (d : Dd) (result : Result A B) → OnOk result (new ≡ lru_cache (put_entries eq-value.it old key d) old.cap) → OnErr result (new ≡ old) → IsKept old.entries new.entries key d
+pub kept : {A B : Type 0} (old new : LruCache Key Dd) (key : Key) (d : Dd) (result : Result A B) → OnOk result (new ≡ lru_cache (put_entries eq-value.it old key d) old.cap) → OnErr result (new ≡ old) → IsRemembered old.entries new.entries key d
 kept old new key d (Err e) ok err = record { each = λ k r there. inl (subst (λ (c : LruCache Key Dd). Contains c.entries (k, r)) err there) }
 kept old new key d (Ok v) ok err = record {
   each = λ k r there.

@@ -6,7 +6,7 @@ use Rattle.std.proofs.lemmas.List.Elements.{All-weaker}
 use Rattle.mv_diagram.specs.declared.node.Dd.{Dd}
 use Rattle.mv_diagram.specs.declared.node.Node.{Node}
 use Rattle.mv_diagram.specs.declared.table.Table.{Table}
-use Rattle.mv_diagram.specs.Sets.{Point, holds, is_held}
+use Rattle.mv_diagram.specs.Sets.{Point, holds, has_diagram}
 use Rattle.mv_diagram.specs.Sound.{AreCounts, IsReduced}
 use Rattle.mv_diagram.specs.Works.{AddsNodes, IsLacking}
 use Rattle.mv_diagram.specs.Diagrams.{Contents, IsHeld, Keeps, AddsRestrictions, Lacks, Loses, has}
@@ -121,8 +121,8 @@ Loses-fewer old new n k s f counts cap = record {
   sets = λ d p h. ap (λ v. holds v new.pool.places d.0 p) (ap (λ v. v.items) counts) ∙ set_fewer old.counts.items old.pool.places new.pool.places s f d.0 p h.is;
 }
 
-pub all_held : (c : Contents) (roots : List Dd) → All (IsHeld c) roots → All (λ (root : Dd). is_held c.nodes root.0 ≡ true) roots
-all_held c roots held = All-weaker (IsHeld c) (λ (root : Dd). is_held c.nodes root.0 ≡ true) (λ root h. h.is) roots held
+pub all_held : (c : Contents) (roots : List Dd) → All (IsHeld c) roots → All (λ (root : Dd). has_diagram c.nodes root.0 ≡ true) roots
+all_held c roots held = All-weaker (IsHeld c) (λ (root : Dd). has_diagram c.nodes root.0 ≡ true) (λ root h. h.is) roots held
 
 module _ (old new : Table) (n : ℕ) (a : Dd) (vars : List ℕ) (chosen : ℕ → Bool) (same : (v : ℕ) → chosen v ≡ is_one_of vars v) (s : IsReduced old.counts.items old.pool.places) (adds : AddsNodes old new) (ha : IsHeld (shown old n) a) where
   agrees_chosen : (p q : Point) → AgreesOutside (is_one_of vars) p q → AgreesOutside chosen p q

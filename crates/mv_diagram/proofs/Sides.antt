@@ -4,7 +4,7 @@ use Rattle.mv_diagram.specs.declared.node.Node.{Node}
 use Rattle.mv_diagram.specs.declared.node.Test.{Test}
 use Rattle.mv_diagram.specs.declared.table.Table.{Table}
 use Rattle.mv_diagram.specs.declared.memo.Operation.{Operation}
-use Rattle.mv_diagram.specs.Sets.{Point, holds, is_held}
+use Rattle.mv_diagram.specs.Sets.{Point, holds, has_diagram}
 use Rattle.mv_diagram.specs.Sound.{order, first, IsReduced}
 use Rattle.mv_diagram.specs.Works.{AddsNodes}
 use Rattle.mv_diagram.specs.Results.{AreSides, IsResult, result_of}
@@ -34,7 +34,7 @@ module _ (old new : Table) (s : IsReduced old.counts.items old.pool.places) (add
       (table_parted old new s adds a b t sides.a_yes sides.a_no sides.b_yes sides.b_no sides.parted) y n
       (table_result old new s adds operation sides.a_yes sides.b_yes y sides.yes) (table_result old new s adds operation sides.a_no sides.b_no n sides.no) p
 
-  pub sides_result : (d : ℕ) → is_held new.pool.places d ≡ true → order t.var t.value ≤ first new.counts.items new.pool.places d
+  pub sides_result : (d : ℕ) → has_diagram new.pool.places d ≡ true → order t.var t.value ≤ first new.counts.items new.pool.places d
       → ((p : Point) → holds new.counts.items new.pool.places d p ≡ (if p t.var == t.value then holds old.counts.items old.pool.places y p else holds old.counts.items old.pool.places n p))
       → IsResult new.counts.items new.pool.places operation a b d
   sides_result d held later set = result_parted new.counts.items new.pool.places adds.sound operation a b t sides.a_yes sides.a_no sides.b_yes sides.b_no

@@ -7,11 +7,11 @@ use Rattle.mv_diagram.specs.declared.node.Test.{Test}
 use Rattle.mv_diagram.specs.declared.memo.Key.{Key}
 use Rattle.mv_diagram.specs.declared.memo.Operation.{Operation}
 use Rattle.mv_diagram.specs.declared.table.Table.{Table}
-use Rattle.mv_diagram.specs.Sets.{Point, holds, is_held, node_at}
+use Rattle.mv_diagram.specs.Sets.{Point, holds, has_diagram, node_at}
 use Rattle.mv_diagram.specs.Sound.{first, IsTest, IsReduced}
 use Rattle.mv_diagram.specs.Works.{AddsNodes}
 use Rattle.mv_diagram.specs.First.{AreParted, IsFirstTest, IsSplit}
-use Rattle.mv_diagram.specs.Results.{IsKept, IsResult, Remembers, result_of}
+use Rattle.mv_diagram.specs.Results.{IsRemembered, IsResult, Remembers, result_of}
 use Rattle.mv_diagram.proofs.Following.{if_same}
 use Rattle.mv_diagram.proofs.Growing.{Grows-same, Grows-more, held_node, node_stays, held_stays, first_stays, holds_stays}
 
@@ -22,21 +22,21 @@ pub AddsNodes-more : (a b c : Table) → AddsNodes a b → AddsNodes b c → Add
 AddsNodes-more a b c g h = record { counts = h.counts ∙ g.counts; cap = h.cap ∙ g.cap; grows = Grows-more a.pool.places b.pool.places c.pool.places g.grows h.grows; sound = h.sound; ascends = λ x. h.ascends (g.ascends x); longer = let first = g.longer in let second = h.longer in omega arith }
 
 module _ (old new : Table) (s : IsReduced old.counts.items old.pool.places) (adds : AddsNodes old new) where
-  pub table_held : (d : ℕ) → is_held old.pool.places d ≡ true → is_held new.pool.places d ≡ true
+  pub table_held : (d : ℕ) → has_diagram old.pool.places d ≡ true → has_diagram new.pool.places d ≡ true
   table_held d held = held_stays old.counts.items old.pool.places new.pool.places adds.grows d held
 
-  pub table_first : (d : ℕ) → is_held old.pool.places d ≡ true → first new.counts.items new.pool.places d ≡ first old.counts.items old.pool.places d
+  pub table_first : (d : ℕ) → has_diagram old.pool.places d ≡ true → first new.counts.items new.pool.places d ≡ first old.counts.items old.pool.places d
   table_first d held =
       ap (λ v. first v new.pool.places d) (ap (λ c. c.items) adds.counts) ∙ first_stays old.counts.items old.pool.places new.pool.places adds.grows d held
 
-  pub table_holds : (d : ℕ) (p : Point) → is_held old.pool.places d ≡ true → holds new.counts.items new.pool.places d p ≡ holds old.counts.items old.pool.places d p
+  pub table_holds : (d : ℕ) (p : Point) → has_diagram old.pool.places d ≡ true → holds new.counts.items new.pool.places d p ≡ holds old.counts.items old.pool.places d p
   table_holds d p held =
       ap (λ v. holds v new.pool.places d p) (ap (λ c. c.items) adds.counts) ∙ holds_stays old.counts.items old.pool.places new.pool.places adds.grows s d p held
 
   pub table_test : (t : Test) → IsTest old.counts.items t → IsTest new.counts.items t
   table_test t is = subst (λ v. IsTest v t) (sym (ap (λ c. c.items) adds.counts)) is
 
-  table_split : (d : ℕ) (t : Test) (yes no : ℕ) → is_held old.pool.places d ≡ true → IsSplit old.counts.items old.pool.places d t yes no → IsSplit new.counts.items new.pool.places d t yes no
+  table_split : (d : ℕ) (t : Test) (yes no : ℕ) → has_diagram old.pool.places d ≡ true → IsSplit old.counts.items old.pool.places d t yes no → IsSplit new.counts.items new.pool.places d t yes no
   table_split d t y n held is = record {
     yes_held = table_held y is.yes_held;
     no_held = table_held n is.no_held;
@@ -59,7 +59,7 @@ module _ (old new : Table) (s : IsReduced old.counts.items old.pool.places) (add
   pub table_remembers : (entries : List (Key × Dd)) → Remembers old.counts.items old.pool.places entries → Remembers new.counts.items new.pool.places entries
   table_remembers entries are = record { each = λ k d there. table_result k.operation k.left.0 k.right.0 d.0 (are.each k d there) }
 
-  table_first_of : (a b : ℕ) (t : Test) → is_held old.pool.places a ≡ true → is_held old.pool.places b ≡ true → IsFirstTest old.counts.items old.pool.places a b t → IsFirstTest new.counts.items new.pool.places a b t
+  table_first_of : (a b : ℕ) (t : Test) → has_diagram old.pool.places a ≡ true → has_diagram old.pool.places b ≡ true → IsFirstTest old.counts.items old.pool.places a b t → IsFirstTest new.counts.items new.pool.places a b t
   table_first_of a b t ha hb is = record {
     test = table_test t is.test;
     left = rw (table_first a ha) is.left;
@@ -77,7 +77,7 @@ module _ (old new : Table) (s : IsReduced old.counts.items old.pool.places) (add
   }
 
 -- with one result more what is remembered is right
-pub remembers_more : (counts : List ℕ) (ns : List (Option Node)) (old new : List (Key × Dd)) (key : Key) (d : Dd) → Remembers counts ns old → IsKept old new key d → IsResult counts ns key.operation key.left.0 key.right.0 d.0 → Remembers counts ns new
+pub remembers_more : (counts : List ℕ) (ns : List (Option Node)) (old new : List (Key × Dd)) (key : Key) (d : Dd) → Remembers counts ns old → IsRemembered old new key d → IsResult counts ns key.operation key.left.0 key.right.0 d.0 → Remembers counts ns new
 remembers_more counts ns old new key d are kept is = record {
   each = λ k r there. elim (kept.each k r there) [
     | inl was ↦ are.each k r was

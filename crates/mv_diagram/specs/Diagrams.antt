@@ -6,7 +6,7 @@ use Rattle.mv_diagram.specs.declared.node.Dd.{Dd}
 use Rattle.mv_diagram.specs.declared.node.Node.{Node}
 use Rattle.mv_diagram.specs.declared.node.Nodes.{Nodes}
 use Rattle.mv_diagram.specs.Parts.{no_variable, IsRestriction}
-use Rattle.mv_diagram.specs.Sets.{Point, InRange, SameSet, holds, is_held, node_at}
+use Rattle.mv_diagram.specs.Sets.{Point, InRange, SameSet, holds, has_diagram, node_at}
 
 -- the numbers of values of the variables, the nodes at their places, how many there is room for, and how often places
 -- were given back
@@ -18,7 +18,7 @@ pub record Contents : Type 0 where
 
 -- the diagram is held
 pub record IsHeld (c : Contents) (d : Dd) : Type 0 where
-  pub is : is_held c.nodes d.0 ≡ true
+  pub is : has_diagram c.nodes d.0 ≡ true
 
 -- whether a point is in the set of a diagram
 abbrev pub has : Contents → Dd → Point → Bool

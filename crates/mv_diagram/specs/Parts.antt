@@ -1,7 +1,7 @@
 -- What is left of a set where some variables are given values and some values are read as the greatest.
 use Rattle.std.specs.Prelude.{◌≡◌, ◌==◌, ◌&&◌, ◌||◌, ◌⊎◌, ℕ, Bool, true, false, List, Option, nat_lt, if◌then◌else◌}
 use Rattle.mv_diagram.specs.declared.node.Node.{Node}
-use Rattle.mv_diagram.specs.Sets.{Point, InRange, greatest, holds, is_held}
+use Rattle.mv_diagram.specs.Sets.{Point, InRange, greatest, holds, has_diagram}
 
 -- whether a variable is given a value: it is chosen, or stands before one
 abbrev pub is_given : (ℕ → Bool) → ℕ → ℕ → Bool
@@ -42,8 +42,8 @@ pub record IsCombined (counts : List ℕ) (chosen : ℕ → Bool) (answer : Bool
 
 -- each diagram that is held now and wasn't has a restriction of the set
 pub record AddsParts (counts : List ℕ) (old new : List (Option Node)) (whole : Point → Bool) : Type 0 where
-  pub each : (d : ℕ) → is_held new d ≡ true → (is_held old d ≡ true) ⊎ IsRestriction counts no_variable whole (λ p. holds counts new d p)
+  pub each : (d : ℕ) → has_diagram new d ≡ true → (has_diagram old d ≡ true) ⊎ IsRestriction counts no_variable whole (λ p. holds counts new d p)
 
 -- each diagram that is held now and wasn't has the answer where one of some restrictions of the set has it
 pub record AddsCombined (counts : List ℕ) (chosen : ℕ → Bool) (answer : Bool) (old new : List (Option Node)) (whole : Point → Bool) : Type 0 where
-  pub each : (d : ℕ) → is_held new d ≡ true → (is_held old d ≡ true) ⊎ IsCombined counts chosen answer whole (λ p. holds counts new d p)
+  pub each : (d : ℕ) → has_diagram new d ≡ true → (has_diagram old d ≡ true) ⊎ IsCombined counts chosen answer whole (λ p. holds counts new d p)

@@ -7,7 +7,7 @@ use Rattle.mv_diagram.specs.declared.node.Test.{Test}
 use Rattle.mv_diagram.specs.declared.memo.Key.{Key}
 use Rattle.mv_diagram.specs.declared.memo.Operation.{Operation}
 use Rattle.mv_diagram.specs.declared.memo.Operation.TheVariants.{And, Or}
-use Rattle.mv_diagram.specs.Sets.{Point, InRange, holds, is_held}
+use Rattle.mv_diagram.specs.Sets.{Point, InRange, holds, has_diagram}
 use Rattle.mv_diagram.specs.Sound.{order, first}
 use Rattle.mv_diagram.specs.Results.{result_of}
 use Rattle.mv_diagram.specs.Diagrams.{Contents, IsHeld, has}
@@ -40,7 +40,8 @@ Exists old new vars a d = Spreads old new vars true a d
 -- it has each point with which all that agree outside these variables are in the set, and no other
 pub record Forall (old new : Contents) (vars : List ℕ) (a d : Dd) : Type 0 where
   pub every : (p q : Point) → has new d p ≡ true → InRange new.counts q → AgreesOutside (is_one_of vars) p q → has old a q ≡ true
-  pub all : (p : Point) → InRange new.counts p → ((q : Point) → InRange new.counts q → AgreesOutside (is_one_of vars) p q → has old a q ≡ true) → has new d p ≡ true
+  pub all : (p : Point) → InRange new.counts p → ((q : Point) → InRange new.counts q → AgreesOutside (is_one_of vars) p q → has old a q ≡ true)
+      → has new d p ≡ true
 
 -- each diagram that is held now and wasn't has the answer exactly where one of some restrictions of the set has it, in
 -- which these variables have values
@@ -59,8 +60,8 @@ AddsMeets old new vars set = AddsAnswers old new vars false set
 
 -- a diagram has the answer exactly where its operand has it at some point that agrees
 pub record IsQuantified (counts : List ℕ) (ns : List (Option Node)) (vars : ℕ → Bool) (answer : Bool) (a d : ℕ) : Type 0 where
-  pub operand : is_held ns a ≡ true
-  pub held : is_held ns d ≡ true
+  pub operand : has_diagram ns a ≡ true
+  pub held : has_diagram ns d ≡ true
   pub later : first counts ns a ≤ first counts ns d
   pub some : (p : Point) → InRange counts p → holds counts ns d p ≡ answer → Agreeing counts vars (λ q. holds counts ns a q) answer p
   pub all : (p q : Point) → InRange counts q → AgreesOutside vars p q → holds counts ns a q ≡ answer → holds counts ns d p ≡ answer
@@ -76,10 +77,11 @@ joining answer = if answer then Or else And
 -- what is made of the sets for yes and no: by the operation, or by the test
 abbrev pub joined_set : List ℕ → List (Option Node) → Bool → Bool → Test → ℕ → ℕ → Point → Bool
 joined_set counts ns joined answer t y n p =
-    if joined then result_of (joining answer) (holds counts ns y p) (holds counts ns n p) else (if p t.var == t.value then holds counts ns y p else holds counts ns n p)
+    if joined then result_of (joining answer) (holds counts ns y p) (holds counts ns n p)
+    else (if p t.var == t.value then holds counts ns y p else holds counts ns n p)
 
 -- a diagram is made of those for yes and no
 pub record IsJoined (counts : List ℕ) (ns : List (Option Node)) (joined answer : Bool) (t : Test) (yes no d : ℕ) : Type 0 where
-  pub held : is_held ns d ≡ true
+  pub held : has_diagram ns d ≡ true
   pub later : order t.var t.value ≤ first counts ns d
   pub set : (p : Point) → holds counts ns d p ≡ joined_set counts ns joined answer t yes no p

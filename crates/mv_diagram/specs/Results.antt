@@ -6,7 +6,7 @@ use Rattle.mv_diagram.specs.declared.node.Test.{Test}
 use Rattle.mv_diagram.specs.declared.memo.Key.{Key}
 use Rattle.mv_diagram.specs.declared.memo.Operation.{Operation}
 use Rattle.mv_diagram.specs.declared.memo.Operation.TheVariants.{And, Or, Nand}
-use Rattle.mv_diagram.specs.Sets.{holds, is_held}
+use Rattle.mv_diagram.specs.Sets.{holds, has_diagram}
 use Rattle.mv_diagram.specs.Sound.{first}
 use Rattle.mv_diagram.specs.First.{AreParted}
 
@@ -18,9 +18,9 @@ result_of Nand x y = not (x && y)
 
 -- a diagram is the result of an operation on two others, and has no earlier test than they have
 pub record IsResult (counts : List ℕ) (ns : List (Option Node)) (operation : Operation) (a b d : ℕ) : Type 0 where
-  pub left : is_held ns a ≡ true
-  pub right : is_held ns b ≡ true
-  pub held : is_held ns d ≡ true
+  pub left : has_diagram ns a ≡ true
+  pub right : has_diagram ns b ≡ true
+  pub held : has_diagram ns d ≡ true
   pub later : (from : ℕ) → from ≤ first counts ns a → from ≤ first counts ns b → from ≤ first counts ns d
   pub set : (p : ℕ → ℕ) → holds counts ns d p ≡ result_of operation (holds counts ns a p) (holds counts ns b p)
 
@@ -41,5 +41,5 @@ pub record AreSides (counts : List ℕ) (ns : List (Option Node)) (operation : O
   pub no : IsResult counts ns operation a_no b_no n
 
 -- nothing is remembered besides what was and this one
-pub record IsKept (old new : List (Key × Dd)) (key : Key) (d : Dd) : Type 0 where
+pub record IsRemembered (old new : List (Key × Dd)) (key : Key) (d : Dd) : Type 0 where
   pub each : (k : Key) (r : Dd) → Contains new (k, r) → Contains old (k, r) ⊎ ((k ≡ key) × (r ≡ d))

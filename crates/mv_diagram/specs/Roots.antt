@@ -24,5 +24,7 @@ pub record IsAdded (place : Option Id) (marks : List Bool) (ids : List Id) (mark
 
 -- a set has all these places just where it has those of the first so many roots
 pub record AreGathered (roots : List Dd) (ids : List Id) (count : ℕ) : Type 0 where
-  pub inside : (set : ℕ → Bool) → ((k : ℕ) (id : Id) (e : Dd) → k < count → place_of (slice_index_or roots k e).0 ≡ Some id → set id.0 ≡ true) → All (λ (id : Id). set id.0 ≡ true) ids
-  pub all : (set : ℕ → Bool) → All (λ (id : Id). set id.0 ≡ true) ids → (k : ℕ) (id : Id) (e : Dd) → k < count → place_of (slice_index_or roots k e).0 ≡ Some id → set id.0 ≡ true
+  pub inside : (set : ℕ → Bool) → ((k : ℕ) (id : Id) (e : Dd) → k < count → place_of (slice_index_or roots k e).0 ≡ Some id → set id.0 ≡ true)
+      → All (λ (id : Id). set id.0 ≡ true) ids
+  pub all : (set : ℕ → Bool) → All (λ (id : Id). set id.0 ≡ true) ids → (k : ℕ) (id : Id) (e : Dd) → k < count
+      → place_of (slice_index_or roots k e).0 ≡ Some id → set id.0 ≡ true

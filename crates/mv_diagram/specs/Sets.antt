@@ -29,8 +29,8 @@ abbrev pub node_at : List (Option Node) → ℕ → Option Node
 node_at ns d = option_and_then (λ (id : Id). item_at ns id.0) (place_of d)
 
 -- whether a diagram is held: zero and one are, and each whose first node is
-abbrev pub is_held : List (Option Node) → ℕ → Bool
-is_held ns d = nat_lt d 2 || is_some (node_at ns d)
+abbrev pub has_diagram : List (Option Node) → ℕ → Bool
+has_diagram ns d = nat_lt d 2 || is_some (node_at ns d)
 
 -- whether a point is in the set of a diagram: the tests are followed from its first node to zero or one, by at most
 -- so many steps

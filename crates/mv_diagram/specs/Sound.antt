@@ -5,7 +5,7 @@ use Rattle.mv_base.specs.declared.limits.TheConstants.{MAX_VALUES}
 use Rattle.mv_pool.specs.Places.{item_at}
 use Rattle.mv_diagram.specs.declared.node.Node.{Node}
 use Rattle.mv_diagram.specs.declared.node.Test.{Test}
-use Rattle.mv_diagram.specs.Sets.{SameSet, holds, is_held, node_at, with_value, greatest}
+use Rattle.mv_diagram.specs.Sets.{SameSet, holds, has_diagram, node_at, with_value, greatest}
 
 -- where a test stands in the order: by variable, then by value
 abbrev pub order : ℕ → ℕ → ℕ
@@ -24,8 +24,8 @@ pub record IsTest (counts : List ℕ) (t : Test) : Type 0 where
 -- this value isn't the set at the greatest value
 pub record IsNode (counts : List ℕ) (ns : List (Option Node)) (n : Node) : Type 0 where
   pub test : IsTest counts n.test
-  pub yes_held : is_held ns n.yes.0 ≡ true
-  pub no_held : is_held ns n.no.0 ≡ true
+  pub yes_held : has_diagram ns n.yes.0 ≡ true
+  pub no_held : has_diagram ns n.no.0 ≡ true
   pub yes_later : order (n.test.var + 1) 0 ≤ first counts ns n.yes.0
   pub no_later : order n.test.var n.test.value < first counts ns n.no.0
   pub reduced : SameSet counts (λ p. holds counts ns n.yes.0 p) (λ p. holds counts ns n.no.0 (with_value p n.test.var (greatest counts n.test.var))) → ⊥

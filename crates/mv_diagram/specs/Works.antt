@@ -4,7 +4,7 @@ use Rattle.mv_pool.specs.Places.{Contents, item_at, held_in, with_item}
 use Rattle.mv_diagram.specs.declared.node.Node.{Node}
 use Rattle.mv_diagram.specs.declared.node.Nodes.{Nodes}
 use Rattle.mv_diagram.specs.declared.table.Table.{Table}
-use Rattle.mv_diagram.specs.Sets.{Point, SameSet, holds, is_held, node_at}
+use Rattle.mv_diagram.specs.Sets.{Point, SameSet, holds, has_diagram, node_at}
 use Rattle.mv_diagram.specs.Sound.{Ascends, IsReduced}
 
 -- each node stays where it is
@@ -32,7 +32,7 @@ pub record HasPut (old new : Contents Node) (n : Node) (d : ℕ) : Type 0 where
 
 -- no diagram that is held has this set
 pub record IsLacking (counts : List ℕ) (ns : List (Option Node)) (set : Point → Bool) : Type 0 where
-  pub none : (d : ℕ) → is_held ns d ≡ true → SameSet counts (λ p. holds counts ns d p) set → ⊥
+  pub none : (d : ℕ) → has_diagram ns d ≡ true → SameSet counts (λ p. holds counts ns d p) set → ⊥
 
 -- there is no room for a node more
 pub record IsFull (pool : Contents Node) (stop : Nodes) : Type 0 where

@@ -1,6 +1,6 @@
 ghost use Rattle.std.specs.Prelude.{◌≡◌, ◌+◌, ◌<◌, ◌≤◌, ℕ, Bool, true, false, None, IfOk, IfErr, IfSome, IfNone, if◌then◌else◌};
 ghost use Rattle.mv_base.specs.declared.limits.TheConstants.{MAX_VALUES};
-ghost use Rattle.mv_diagram.specs.Sets.{Point, holds, is_held, node_at};
+ghost use Rattle.mv_diagram.specs.Sets.{Point, holds, has_diagram, node_at};
 ghost use Rattle.mv_diagram.specs.Sound.{IsReduced};
 ghost use Rattle.mv_diagram.specs.Works.{AddsNodes, IsFull, IsLacking};
 ghost use Rattle.mv_diagram.specs.Results.{AreSides, IsResult, Remembers, result_of};
@@ -60,8 +60,8 @@ fn earlier(t: Test, u: Test) -> Test
 /// The first test of two diagrams, or None where neither has one.
 fn first_test(table: &Table, a: Dd, b: Dd) -> Option<Test>
     requires sound { IsReduced table.now.counts.items table.now.pool.places }
-    requires left { is_held table.now.pool.places a.0 ≡ true }
-    requires right { is_held table.now.pool.places b.0 ≡ true }
+    requires left { has_diagram table.now.pool.places a.0 ≡ true }
+    requires right { has_diagram table.now.pool.places b.0 ≡ true }
     ensures some { IfSome result (IsFirstTest table.now.counts.items table.now.pool.places a.0 b.0) }
     ensures left { IfNone result (node_at table.now.pool.places a.0 ≡ None) }
     ensures right { IfNone result (node_at table.now.pool.places b.0 ≡ None) }
@@ -85,8 +85,8 @@ struct Parted {
 /// Parts two diagrams by their first test, or answers None where neither has one.
 fn part(table: &Table, a: Dd, b: Dd) -> Option<Parted>
     requires sound { IsReduced table.now.counts.items table.now.pool.places }
-    requires left { is_held table.now.pool.places a.0 ≡ true }
-    requires right { is_held table.now.pool.places b.0 ≡ true }
+    requires left { has_diagram table.now.pool.places a.0 ≡ true }
+    requires right { has_diagram table.now.pool.places b.0 ≡ true }
     ensures some { IfSome result (λ at. AreParted table.now.counts.items table.now.pool.places a.0 b.0 at.test at.yes.0.0 at.no.0.0 at.yes.1.0 at.no.1.0) }
     ensures left { IfNone result (node_at table.now.pool.places a.0 ≡ None) }
     ensures right { IfNone result (node_at table.now.pool.places b.0 ≡ None) }
@@ -126,10 +126,12 @@ fn whole(
     ensures remembers { Remembers table.new.counts.items table.new.pool.places memo.new.entries }
     ensures ok { IfOk result (λ d. IsResult table.new.counts.items table.new.pool.places key.operation key.left.0 key.right.0 d.0) }
     ensures added { AddsParts table.new.counts.items table.old.pool.places table.new.pool.places (λ p.
-        result_of key.operation (holds table.new.counts.items table.new.pool.places key.left.0 p) (holds table.new.counts.items table.new.pool.places key.right.0 p)) }
+        result_of key.operation (holds table.new.counts.items table.new.pool.places key.left.0 p)
+        (holds table.new.counts.items table.new.pool.places key.right.0 p)) }
     ensures full { IfErr result (IsFull table.new.pool) }
     ensures lacking { IfErr result (λ e. IsLacking table.new.counts.items table.new.pool.places (λ p.
-        result_of key.operation (holds table.new.counts.items table.new.pool.places key.left.0 p) (holds table.new.counts.items table.new.pool.places key.right.0 p))) }
+        result_of key.operation (holds table.new.counts.items table.new.pool.places key.left.0 p)
+        (holds table.new.counts.items table.new.pool.places key.right.0 p))) }
 {
     match make(table, test, yes, no) {
         Ok(d) => {
@@ -151,8 +153,8 @@ pub fn apply(
 ) -> Result<Dd, Nodes>
     requires sound { IsReduced table.old.counts.items table.old.pool.places }
     requires remembers { Remembers table.old.counts.items table.old.pool.places memo.old.entries }
-    requires left { is_held table.old.pool.places a.0 ≡ true }
-    requires right { is_held table.old.pool.places b.0 ≡ true }
+    requires left { has_diagram table.old.pool.places a.0 ≡ true }
+    requires right { has_diagram table.old.pool.places b.0 ≡ true }
     ensures adds { AddsNodes table.old table.new }
     ensures remembers { Remembers table.new.counts.items table.new.pool.places memo.new.entries }
     ensures ok { IfOk result (λ d. IsResult table.new.counts.items table.new.pool.places operation a.0 b.0 d.0) }

@@ -50,7 +50,8 @@ impl Model for Diagrams {
 
     ghost view = { λ d. record { counts = d.table.counts.items; nodes = d.table.pool.places; cap = d.table.pool.cap; reclaims = d.reclaims } };
 
-    ghost invariant = { λ d. IsWhole d.table.counts.items d.table.pool.places d.memo.entries d.table.pool.cap d.reclaims (vec_capacity d.marks) (vec_capacity d.ids) (vec_capacity d.chosen) };
+    ghost invariant = { λ d. IsWhole d.table.counts.items d.table.pool.places d.memo.entries d.table.pool.cap d.reclaims (vec_capacity d.marks)
+        (vec_capacity d.ids) (vec_capacity d.chosen) };
 }
 
 impl Diagrams {

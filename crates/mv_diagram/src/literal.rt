@@ -1,6 +1,6 @@
 ghost use Rattle.std.specs.Prelude.{◌≡◌, ◌<◌, ℕ, true, length, IfOk, IfErr};
 ghost use Rattle.mv_base.specs.Set.{has as has_value};
-ghost use Rattle.mv_diagram.specs.Sets.{Point, InRange, holds, is_held};
+ghost use Rattle.mv_diagram.specs.Sets.{Point, InRange, holds, has_diagram};
 ghost use Rattle.mv_diagram.specs.Sound.{IsReduced};
 ghost use Rattle.mv_diagram.specs.Parts.{AddsParts};
 ghost use Rattle.mv_diagram.specs.Works.{AddsNodes, IsFull, IsLacking};
@@ -15,8 +15,9 @@ pub fn literal_of(table: &mut Table, var: u32, set: ValueSet) -> Result<Dd, Node
     requires sound { IsReduced table.old.counts.items table.old.pool.places }
     requires variable { var < length table.old.counts.items }
     ensures adds { AddsNodes table.old table.new }
-    ensures held { IfOk result (λ d. is_held table.new.pool.places d.0 ≡ true) }
-    ensures set { IfOk result (λ d. (p : Point) → InRange table.new.counts.items p → holds table.new.counts.items table.new.pool.places d.0 p ≡ has_value set (p var)) }
+    ensures held { IfOk result (λ d. has_diagram table.new.pool.places d.0 ≡ true) }
+    ensures set { IfOk result (λ d. (p : Point) → InRange table.new.counts.items p
+        → holds table.new.counts.items table.new.pool.places d.0 p ≡ has_value set (p var)) }
     ensures added { AddsParts table.new.counts.items table.old.pool.places table.new.pool.places (λ p. has_value set (p var)) }
     ensures full { IfErr result (IsFull table.new.pool) }
     ensures lacking { IfErr result (λ e. IsLacking table.new.counts.items table.new.pool.places (λ p. has_value set (p var))) }

@@ -1,6 +1,6 @@
 ghost use Rattle.std.specs.Prelude.{◌≡◌, ℕ, true};
 ghost use Rattle.std.specs.Bool.{OnTrue, OnFalse};
-ghost use Rattle.mv_diagram.specs.Sets.{Point, InRange, holds, is_held};
+ghost use Rattle.mv_diagram.specs.Sets.{Point, InRange, holds, has_diagram};
 ghost use Rattle.mv_diagram.specs.Sound.{IsReduced};
 ghost use Rattle.mv_diagram.specs.Diagrams.{IsPoint, point_of};
 
@@ -12,7 +12,7 @@ use mv_base::Value;
 /// Whether the point is in the diagram: its tests are followed.
 pub fn contains(table: &Table, d: Dd, point: &[Value]) -> bool
     requires sound { IsReduced table.now.counts.items table.now.pool.places }
-    requires held { is_held table.now.pool.places d.0 ≡ true }
+    requires held { has_diagram table.now.pool.places d.0 ≡ true }
     requires point { IsPoint table.now.counts.items point.now }
     ensures { result ≡ holds table.now.counts.items table.now.pool.places d.0 (point_of point.now) }
 {
@@ -32,7 +32,7 @@ pub fn contains(table: &Table, d: Dd, point: &[Value]) -> bool
 /// tests in their order.
 pub fn pick_in(table: &Table, d: Dd, point: &mut [Value]) -> bool
     requires sound { IsReduced table.now.counts.items table.now.pool.places }
-    requires held { is_held table.now.pool.places d.0 ≡ true }
+    requires held { has_diagram table.now.pool.places d.0 ≡ true }
     requires point { IsPoint table.now.counts.items point.old }
     ensures point { IsPoint table.now.counts.items point.new }
     ensures some { OnTrue result (holds table.now.counts.items table.now.pool.places d.0 (point_of point.new) ≡ true) }

@@ -1,5 +1,5 @@
 ghost use Rattle.std.specs.Prelude.{◌≡◌, IfSome, Contains};
-ghost use Rattle.mv_diagram.specs.Results.{IsKept};
+ghost use Rattle.mv_diagram.specs.Results.{IsRemembered};
 
 use crate::Dd;
 use lru::LruCache;
@@ -45,7 +45,7 @@ pub fn recall(memo: &Memo, key: Key) -> Option<Dd>
 
 /// Remembers a result, if there is memory for it.
 pub fn keep(memo: &mut Memo, key: Key, d: Dd)
-    ensures { IsKept memo.old.entries memo.new.entries key d }
+    ensures { IsRemembered memo.old.entries memo.new.entries key d }
 {
     let _ = memo.put(key, d);
 }

@@ -1,6 +1,6 @@
 ghost use Rattle.std.specs.Prelude.{◌≡◌, ◌+◌, ◌<◌, ◌≤◌, ℕ, true, length, IfOk, IfErr, All, vec_capacity, if◌then◌else◌};
 ghost use Rattle.mv_pool.specs.Walks.{mark};
-ghost use Rattle.mv_diagram.specs.Sets.{holds, is_held};
+ghost use Rattle.mv_diagram.specs.Sets.{holds, has_diagram};
 ghost use Rattle.mv_diagram.specs.Sound.{IsReduced, IsTest, first, order};
 ghost use Rattle.mv_diagram.specs.Works.{AddsNodes, IsFull};
 ghost use Rattle.mv_diagram.specs.Results.{Remembers};
@@ -51,14 +51,15 @@ fn join(
     requires sound { IsReduced table.old.counts.items table.old.pool.places }
     requires remembers { Remembers table.old.counts.items table.old.pool.places memo.old.entries }
     requires test { IsTest table.old.counts.items test }
-    requires yes_held { is_held table.old.pool.places yes.0 ≡ true }
-    requires no_held { is_held table.old.pool.places no.0 ≡ true }
+    requires yes_held { has_diagram table.old.pool.places yes.0 ≡ true }
+    requires no_held { has_diagram table.old.pool.places no.0 ≡ true }
     requires yes_later { order (test.var + 1) 0 ≤ first table.old.counts.items table.old.pool.places yes.0 }
     requires no_later { order test.var test.value < first table.old.counts.items table.old.pool.places no.0 }
     ensures adds { AddsNodes table.old table.new }
     ensures remembers { Remembers table.new.counts.items table.new.pool.places memo.new.entries }
     ensures ok { IfOk result (λ d. IsJoined table.new.counts.items table.new.pool.places joined answer test yes.0 no.0 d.0) }
-    ensures added { AddsParts table.new.counts.items table.old.pool.places table.new.pool.places (λ p. joined_set table.new.counts.items table.new.pool.places joined answer test yes.0 no.0 p) }
+    ensures added { AddsParts table.new.counts.items table.old.pool.places table.new.pool.places
+        (λ p. joined_set table.new.counts.items table.new.pool.places joined answer test yes.0 no.0 p) }
     ensures full { IfErr result (IsFull table.new.pool) }
 {
     if joined {
@@ -82,12 +83,13 @@ pub fn quantify(
     requires remembers { Remembers table.old.counts.items table.old.pool.places memo.old.entries }
     requires quantifies { Quantifies table.old.counts.items table.old.pool.places (mark chosen.now) answer done.old.entries }
     requires chosen { length chosen.now ≡ length table.old.counts.items }
-    requires held { is_held table.old.pool.places d.0 ≡ true }
+    requires held { has_diagram table.old.pool.places d.0 ≡ true }
     ensures adds { AddsNodes table.old table.new }
     ensures remembers { Remembers table.new.counts.items table.new.pool.places memo.new.entries }
     ensures quantifies { Quantifies table.new.counts.items table.new.pool.places (mark chosen.now) answer done.new.entries }
     ensures ok { IfOk result (λ r. IsQuantified table.new.counts.items table.new.pool.places (mark chosen.now) answer d.0 r.0) }
-    ensures added { AddsCombined table.new.counts.items (mark chosen.now) answer table.old.pool.places table.new.pool.places (λ p. holds table.new.counts.items table.new.pool.places d.0 p) }
+    ensures added { AddsCombined table.new.counts.items (mark chosen.now) answer table.old.pool.places table.new.pool.places
+        (λ p. holds table.new.counts.items table.new.pool.places d.0 p) }
     ensures full { IfErr result (IsFull table.new.pool) }
 {
     let Some(node) = node(table, d) else {

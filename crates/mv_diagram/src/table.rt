@@ -1,5 +1,5 @@
 ghost use Rattle.std.specs.Prelude.{◌≡◌, ◌+◌, ◌<◌, ◌≤◌, ◌==◌, ℕ, true, length, IfOk, IfErr, OnErr, if◌then◌else◌};
-ghost use Rattle.mv_diagram.specs.Sets.{Point, greatest, holds, is_held, node_at, with_value};
+ghost use Rattle.mv_diagram.specs.Sets.{Point, greatest, holds, has_diagram, node_at, with_value};
 ghost use Rattle.mv_diagram.specs.Sound.{IsReduced, IsTest, first, order};
 ghost use Rattle.mv_diagram.specs.Works.{AddsNodes, HasPut, IsAbsent, IsFull, IsLacking};
 ghost use Rattle.mv_diagram.specs.First.{IsSplit};
@@ -18,7 +18,7 @@ pub struct Table {
 
 /// The first node of a diagram, or None for zero and one.
 pub fn node(table: &Table, d: Dd) -> Option<Node>
-    requires { is_held table.now.pool.places d.0 ≡ true }
+    requires { has_diagram table.now.pool.places d.0 ≡ true }
     ensures { result ≡ node_at table.now.pool.places d.0 }
 {
     match d.place() {
@@ -32,9 +32,9 @@ pub fn node(table: &Table, d: Dd) -> Option<Node>
 pub fn otherwise(table: &Table, d: Dd, var: u32) -> Dd
     requires sound { IsReduced table.now.counts.items table.now.pool.places }
     requires variable { var < length table.now.counts.items }
-    requires held { is_held table.now.pool.places d.0 ≡ true }
+    requires held { has_diagram table.now.pool.places d.0 ≡ true }
     requires later { order var 0 ≤ first table.now.counts.items table.now.pool.places d.0 }
-    ensures held { is_held table.now.pool.places result.0 ≡ true }
+    ensures held { has_diagram table.now.pool.places result.0 ≡ true }
     ensures later { order (var + 1) 0 ≤ first table.now.counts.items table.now.pool.places result.0 }
     ensures set { (p : Point) → holds table.now.counts.items table.now.pool.places result.0 p ≡
         holds table.now.counts.items table.now.pool.places d.0 (with_value p var (greatest table.now.counts.items var)) }
@@ -52,7 +52,7 @@ pub fn otherwise(table: &Table, d: Dd, var: u32) -> Dd
 pub fn split(table: &Table, d: Dd, test: Test) -> (Dd, Dd)
     requires sound { IsReduced table.now.counts.items table.now.pool.places }
     requires test { IsTest table.now.counts.items test }
-    requires held { is_held table.now.pool.places d.0 ≡ true }
+    requires held { has_diagram table.now.pool.places d.0 ≡ true }
     requires later { order test.var test.value ≤ first table.now.counts.items table.now.pool.places d.0 }
     ensures { IsSplit table.now.counts.items table.now.pool.places d.0 test result.0.0 result.1.0 }
 {
@@ -83,12 +83,12 @@ fn put(pool: &mut Pool<Node>, node: Node) -> Result<Dd, Full>
 pub fn make(table: &mut Table, test: Test, yes: Dd, no: Dd) -> Result<Dd, Nodes>
     requires sound { IsReduced table.old.counts.items table.old.pool.places }
     requires test { IsTest table.old.counts.items test }
-    requires yes_held { is_held table.old.pool.places yes.0 ≡ true }
-    requires no_held { is_held table.old.pool.places no.0 ≡ true }
+    requires yes_held { has_diagram table.old.pool.places yes.0 ≡ true }
+    requires no_held { has_diagram table.old.pool.places no.0 ≡ true }
     requires yes_later { order (test.var + 1) 0 ≤ first table.old.counts.items table.old.pool.places yes.0 }
     requires no_later { order test.var test.value < first table.old.counts.items table.old.pool.places no.0 }
     ensures adds { AddsNodes table.old table.new }
-    ensures held { IfOk result (λ d. is_held table.new.pool.places d.0 ≡ true) }
+    ensures held { IfOk result (λ d. has_diagram table.new.pool.places d.0 ≡ true) }
     ensures later { IfOk result (λ d. order test.var test.value ≤ first table.new.counts.items table.new.pool.places d.0) }
     ensures set { IfOk result (λ d. (p : Point) → holds table.new.counts.items table.new.pool.places d.0 p ≡
         (if p test.var == test.value then holds table.old.counts.items table.old.pool.places yes.0 p

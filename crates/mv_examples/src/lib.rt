@@ -13,3 +13,5 @@ mod kernels;
 mod networks;
 #[cfg(test)]
 mod text;
+#[cfg(test)]
+mod windows;

@@ -1,23 +1,15 @@
 //! What a network answers of itself and of its nets, as it is read and behind a `drop`.
-use crate::text::network;
+use crate::text::{network, put_nets, says};
 use mv_base::{MemorySink, NetId};
 use mv_net::Network;
 use mv_sweep::remove_unread;
 use std::alloc::Global;
-use std::process::Abort;
 use std::test::Fail;
 
 /// The table of `z` is partial. Nobody reads `y` and `x`. The mark of `x`, which would be number 4, isn't needed.
 const NETWORK: &str =
-    ".model n;.inputs a b;.outputs z;.mv b, x 3 low mid high;.table a b -> z;0 - 1;1 {low-mid} 0;.table z -> y;.default 1;0 0;.table b -> x;- low;.default =b;.end";
-
-/// Puts the numbers of nets.
-fn put_nets(said: &mut String, nets: &[NetId]) -> Result<(), Fail> {
-    for net in nets {
-        write!(said, " {}", net.0)?;
-    }
-    Ok(())
-}
+    ".model n;.inputs a b;.outputs z;.mv b, x 3 low mid high;.table a b -> z;0 - 1;1 {low-mid} 0;\
+.table z -> y;.default 1;0 0;.table b -> x;- low;.default =b;.end";
 
 /// Puts what a network answers of itself.
 fn put_network(said: &mut String, net: &Network) -> Result<(), Fail> {
@@ -81,11 +73,6 @@ const BEHIND_A_DROP: &str = "\
 3 literals, next 6, inputs 0 1, outputs 2, 0 latches; \
 0 Input of 2, 0 named, fanins, readers 2; 1 Input of 3, 3 named, fanins, readers 2; \
 2 Table of 2, 0 named, fanins 0 1, readers, seen; 3 none; 4 none; 5 none";
-
-/// What was said is what was wanted.
-fn says(rt: &impl Abort, said: &str, wanted: &str) {
-    assert_eq!(rt; said, wanted);
-}
 
 #[test]
 fn a_network_answers_of_itself_and_of_its_nets(rt: HostRuntime) -> Result<(), Fail> {

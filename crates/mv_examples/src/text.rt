@@ -1,10 +1,11 @@
 //! Texts on one line, in which `;` stands for a line's end, and the networks that they say.
-use mv_base::MAX_NETWORK_BYTES;
+use mv_base::{MAX_NETWORK_BYTES, NetId};
 use mv_cover::Cover;
 use mv_lex::{Lexer, Lines};
 use mv_net::Network;
 use mv_read::network_of;
 use std::alloc::Global;
+use std::process::Abort;
 use std::test::Fail;
 
 /// The lines of a text.
@@ -31,4 +32,17 @@ pub fn cover(alloc: Global, text: &str) -> Result<Cover, Fail> {
         Some(z) if net.holds(z) => Ok(net.table(z).ok_or("no table")?.copy()?),
         _ => Err("no net")?,
     }
+}
+
+/// Puts the numbers of nets.
+pub fn put_nets(said: &mut String, nets: &[NetId]) -> Result<(), Fail> {
+    for net in nets {
+        write!(said, " {}", net.0)?;
+    }
+    Ok(())
+}
+
+/// What was said is what was wanted.
+pub fn says(rt: &impl Abort, said: &str, wanted: &str) {
+    assert_eq!(rt; said, wanted);
 }

@@ -1,9 +1,13 @@
 -- The line that tells a fault.
 use Rattle.std.specs.Prelude.{ℕ, List, [], ◌∷◌, ◌++◌, codes, decimal}
 use Rattle.mv_fault.specs.declared.fault.Which.{Which}
-use Rattle.mv_fault.specs.declared.fault.Which.TheVariants.{Values, Columns as TooManyColumns, TableLines, Models, Depth, Instances, Nets, NetName, FlatLines, FlatEntries}
+use Rattle.mv_fault.specs.declared.fault.Which.TheVariants.{Values, Columns as TooManyColumns, TableLines, Models, Depth}
+use Rattle.mv_fault.specs.declared.fault.Which.TheVariants.{Instances, Nets, NetName, FlatLines, FlatEntries}
 use Rattle.mv_fault.specs.declared.fault.ParseFault.{ParseFault}
-use Rattle.mv_fault.specs.declared.fault.ParseFault.TheVariants.{UnknownCommand, OutsideModel, NoEnd, Missing, Extra, BadCount, ValueNames, Redeclared, Columns, UnknownValue, BadEqual, DefaultTwice, ModelTwice, RootFault, Repeated, NoModel, Limit, BadName, NoTable, LatchValues, NotBuilt, Memory}
+use Rattle.mv_fault.specs.declared.fault.ParseFault.TheVariants.{UnknownCommand, OutsideModel, NoEnd, Missing, Extra}
+use Rattle.mv_fault.specs.declared.fault.ParseFault.TheVariants.{BadCount, ValueNames, Redeclared, Columns, UnknownValue, BadEqual}
+use Rattle.mv_fault.specs.declared.fault.ParseFault.TheVariants.{DefaultTwice, ModelTwice, RootFault, Repeated, NoModel}
+use Rattle.mv_fault.specs.declared.fault.ParseFault.TheVariants.{Limit, BadName, NoTable, LatchValues, NotBuilt, Memory}
 
 -- the name of a limit
 abbrev pub which_name : Which → List ℕ

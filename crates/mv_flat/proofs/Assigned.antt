@@ -14,7 +14,7 @@ use Rattle.mv_rows.specs.Covers.{mark_value, MarkHas}
 use Rattle.mv_net.specs.declared.parts.NetParts.{NetParts}
 use Rattle.mv_net.specs.Nets.{slot}
 use Rattle.mv_net.specs.Allowed.{net_allows, Agrees}
-use Rattle.mv_model.specs.Nets.{count_of, drivers, nets_named, outputs_of}
+use Rattle.mv_model.specs.Nets.{count_of, drivers, nets_named, nets_driven}
 use Rattle.mv_model.specs.Numbers.{places, may_mark, mark_name, number_in}
 use Rattle.mv_model.specs.Meaning.{in_values, table_holds}
 use Rattle.mv_flat.specs.Numbers.{output_of, mark_at}
@@ -59,18 +59,18 @@ apart_left (u ∷ us) ws w a h =
     false≢true (sym (or_parts (among u us) (among u ws) (sym (among-append u us ws) ∙ a.0)).1 ∙ here)))
     (apart_left us ws w a.1 h)
 
-outputs_apart : (m : FileModel) → IsDistinct (drivers m) → AreApart (flat_map outputs_of m.tables)
+outputs_apart : (m : FileModel) → IsDistinct (drivers m) → AreApart (flat_map nets_driven m.tables)
 unfolding drivers
-outputs_apart m d = apart_right m.inputs (flat_map outputs_of m.tables) d.apart
+outputs_apart m d = apart_right m.inputs (flat_map nets_driven m.tables) d.apart
 
-found_mark : (value : List ℕ → ℕ) (ts : List FileTable) (k : ℕ) (t : FileTable) (w : List ℕ) → AreApart (flat_map outputs_of ts) → slice_get ts k ≡ Some t → among w t.outputs ≡ true → marked_in value ts w ≡ mark_value t.rows (map value t.inputs)
+found_mark : (value : List ℕ → ℕ) (ts : List FileTable) (k : ℕ) (t : FileTable) (w : List ℕ) → AreApart (flat_map nets_driven ts) → slice_get ts k ≡ Some t → among w t.outputs ≡ true → marked_in value ts w ≡ mark_value t.rows (map value t.inputs)
 found_mark value [] k t w a e h = absurd (none-some t e)
 found_mark value (u ∷ us) zero t w a e h =
     cond-true (among w u.outputs) _ _ (ap (λ (x : FileTable). among w x.outputs) (same_Some u t e) ∙ h)
     ∙ ap (λ (x : FileTable). mark_value x.rows (map value x.inputs)) (same_Some u t e)
 found_mark value (u ∷ us) (suc k) t w a e h =
-    cond-false (among w u.outputs) _ _ (apart_left u.outputs (flat_map outputs_of us) w a (in_tables outputs_of us k t w e h))
-    ∙ found_mark value us k t w (apart_right u.outputs (flat_map outputs_of us) a) e h
+    cond-false (among w u.outputs) _ _ (apart_left u.outputs (flat_map nets_driven us) w a (in_tables nets_driven us k t w e h))
+    ∙ found_mark value us k t w (apart_right u.outputs (flat_map nets_driven us) a) e h
 
 -- ---- the assignment follows the valuation
 

@@ -17,7 +17,7 @@ use Rattle.mv_rows.specs.Flat.{IsMade}
 use Rattle.mv_rows.specs.Covers.{IsFlatTable}
 use Rattle.mv_net.specs.declared.parts.FlatNet.{FlatNet}
 use Rattle.mv_net.specs.declared.parts.Kind.TheVariants.{Table}
-use Rattle.mv_model.specs.Nets.{outputs_of, columns_of, nets_named, drivers}
+use Rattle.mv_model.specs.Nets.{nets_driven, columns_of, nets_named, drivers}
 use Rattle.mv_model.specs.Numbers.{may_mark, mark_name, table_places, places}
 use Rattle.mv_model.specs.Proper.{IsFileTable, IsProperModel}
 use Rattle.mv_model.specs.Sound.{IsDrivenOnce, IsSoundModel}
@@ -79,17 +79,17 @@ made_places k os true = sym (among-append (made_name k) (map mark_name os) os �
     unmarked [] = refl
     unmarked (w ∷ ws) = unmarked ws
 
-made_in_tables : (k : ℕ) (ts : List FileTable) → among (made_name k) (flat_map outputs_of ts) ≡ among (made_name k) (flat_map table_places ts)
+made_in_tables : (k : ℕ) (ts : List FileTable) → among (made_name k) (flat_map nets_driven ts) ≡ among (made_name k) (flat_map table_places ts)
 made_in_tables k [] = refl
 made_in_tables k (t ∷ ts) =
-    among-append (made_name k) t.outputs (flat_map outputs_of ts)
-    ∙ (ap (λ b. b || among (made_name k) (flat_map outputs_of ts)) (made_places k t.outputs (may_mark t))
+    among-append (made_name k) t.outputs (flat_map nets_driven ts)
+    ∙ (ap (λ b. b || among (made_name k) (flat_map nets_driven ts)) (made_places k t.outputs (may_mark t))
     ∙ (ap (λ b. among (made_name k) (table_places t) || b) (made_in_tables k ts) ∙ sym (among-append (made_name k) (table_places t) (flat_map table_places ts))))
 
 made_held : (m : FileModel) (k : ℕ) → among (made_name k) (drivers m) ≡ among (made_name k) (places m)
 unfolding drivers places
 made_held m k =
-    among-append (made_name k) m.inputs (flat_map outputs_of m.tables)
+    among-append (made_name k) m.inputs (flat_map nets_driven m.tables)
     ∙ (ap (λ b. among (made_name k) m.inputs || b) (made_in_tables k m.tables) ∙ sym (among-append (made_name k) m.inputs (flat_map table_places m.tables)))
 
 pub tables_first : (m : FileModel) (names : List (List ℕ)) (nets : List (Option FlatNet)) → ArePlaced m names → TablesMade m names 0 0 nets nets
@@ -177,27 +177,27 @@ outputs_few : (os : List (List ℕ)) (b : Bool) → length os ≤ length (if b t
 outputs_few os false = omega arith
 outputs_few os true = let l = length-append (map mark_name os) os in omega arith
 
-drivers_few : (ts : List FileTable) → length (flat_map outputs_of ts) ≤ length (flat_map table_places ts)
+drivers_few : (ts : List FileTable) → length (flat_map nets_driven ts) ≤ length (flat_map table_places ts)
 drivers_few [] = omega arith
 drivers_few (t ∷ ts) =
-    let a = length-append t.outputs (flat_map outputs_of ts) in
+    let a = length-append t.outputs (flat_map nets_driven ts) in
     let b = length-append (table_places t) (flat_map table_places ts) in
     let c = outputs_few t.outputs (may_mark t) in
     let r = drivers_few ts in
     omega arith
 
-tables_few : (ds : List Decl) (ts : List FileTable) → All (IsFileTable ds) ts → length ts ≤ length (flat_map outputs_of ts)
+tables_few : (ds : List Decl) (ts : List FileTable) → All (IsFileTable ds) ts → length ts ≤ length (flat_map nets_driven ts)
 tables_few ds [] all = omega arith
 tables_few ds (t ∷ ts) all =
     let s = (All-head (IsFileTable ds) t ts all).single in
-    let a = length-append t.outputs (flat_map outputs_of ts) in
+    let a = length-append t.outputs (flat_map nets_driven ts) in
     let r = tables_few ds ts (All-tail (IsFileTable ds) t ts all) in
     omega arith
 
 driven_few : (m : FileModel) → IsProperModel m → length (places m) ≤ MAX_NETS → length (drivers m) + length m.tables ≤ 2 * MAX_NETS
 unfolding drivers places
 driven_few m p few =
-    let a = length-append m.inputs (flat_map outputs_of m.tables) in
+    let a = length-append m.inputs (flat_map nets_driven m.tables) in
     let b = length-append m.inputs (flat_map table_places m.tables) in
     let c = drivers_few m.tables in
     let d = tables_few m.decls m.tables p.tables in

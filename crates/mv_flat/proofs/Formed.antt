@@ -7,7 +7,7 @@ use Rattle.mv_net.specs.declared.parts.FlatLatch.{FlatLatch}
 use Rattle.mv_net.specs.declared.parts.NetParts.{NetParts}
 use Rattle.mv_net.specs.declared.parts.Kind.TheVariants.{Latch, Reset}
 use Rattle.mv_net.specs.Formed.{AllLatches, latch_outputs, latch_resets, ResetsStandAlone, WellFormed}
-use Rattle.mv_model.specs.Sound.{HasRank}
+use Rattle.mv_model.specs.Sound.{IsSoundModel}
 use Rattle.mv_flat.proofs.Places.{IsModelNet}
 use Rattle.mv_flat.proofs.FormedNames.{nets_differ}
 use Rattle.mv_flat.proofs.FormedNets.{nets_formed}
@@ -19,14 +19,11 @@ alone : (m : FileModel) (net : NetParts) → IsModelNet m net → ResetsStandAlo
 alone m net is =
     let none = none_of_kind m net is Latch (λ e. cc) (λ e. cc) [] refl in
     record {
-      below = λ n. false;
-      latches = λ n k. none.all (record { 0 = n }) k;
-      readers = λ n k h y. absurd (false≢true y);
-      resets = λ n k. refl;
+      none = λ n m latch reset above. false≢true (none.all (record { 0 = n }) latch);
     }
 
-pub net_formed : (m : FileModel) (net : NetParts) → IsModelNet m net → HasRank m → WellFormed net
-net_formed m net is ranked = record {
+pub net_formed : (m : FileModel) (net : NetParts) → IsModelNet m net → IsSoundModel m → WellFormed net
+net_formed m net is sound = record {
   root = ap is_model_name is.built.root ∙ is.proper.name;
   nets = nets_formed m net is;
   names = nets_differ m net is;
@@ -36,6 +33,6 @@ net_formed m net is ranked = record {
   latches = let P : List FlatLatch → Type 0 = AllLatches net.nets in subst P (sym is.built.latches) tt;
   states = none_of_kind m net is Latch (λ e. cc) (λ e. cc) (latch_outputs net.latches) (ap latch_outputs is.built.latches);
   resets = none_of_kind m net is Reset (λ e. cc) (λ e. cc) (latch_resets net.latches) (ap latch_resets is.built.latches);
-  acyclic = acyclic_nets m net is ranked;
+  acyclic = acyclic_nets m net is sound;
   alone = alone m net is;
 }

@@ -13,7 +13,7 @@ use Rattle.mv_net.specs.declared.parts.FlatNet.{FlatNet}
 use Rattle.mv_net.specs.declared.parts.NetParts.{NetParts}
 use Rattle.mv_net.specs.declared.parts.Kind.TheVariants.{Input}
 use Rattle.mv_net.specs.Nets.{slot}
-use Rattle.mv_model.specs.Nets.{drivers, outputs_of}
+use Rattle.mv_model.specs.Nets.{drivers, nets_driven}
 use Rattle.mv_model.specs.Numbers.{places, may_mark}
 use Rattle.mv_flat.specs.Built.{file_net, IsMark, AreTables}
 use Rattle.mv_flat.proofs.Blocks.{AreSingle}
@@ -123,17 +123,17 @@ mark_named left held false None mark after f fs h next =
     let Q : List (List ℕ) → Type 0 = λ ws. IsNext (λ rest. AreNamed rest ws fs) left f.name in
     subst P (sym h.nets_are) (inl (subst Q h.after_is next))
 
-tables_named : (ds : List Decl) (names : List (List ℕ)) (ts : List FileTable) (held : List (List ℕ)) (fs : List (Option FlatNet)) → AreSingle ts → AreTables ds names ts held fs → AreNamed (flat_map outputs_of ts) held fs
+tables_named : (ds : List Decl) (names : List (List ℕ)) (ts : List FileTable) (held : List (List ℕ)) (fs : List (Option FlatNet)) → AreSingle ts → AreTables ds names ts held fs → AreNamed (flat_map nets_driven ts) held fs
 tables_named ds names [] held fs single a =
     let P : List (Option FlatNet) → Type 0 = AreNamed [] held in
     subst P (sym a) tt
 tables_named ds names (t ∷ ts) held fs single a =
-    let P : List (Option FlatNet) → Type 0 = AreNamed (flat_map outputs_of (t ∷ ts)) held in
+    let P : List (Option FlatNet) → Type 0 = AreNamed (flat_map nets_driven (t ∷ ts)) held in
     subst P (sym (a.joined ∙ ap (λ x. x ++ a.rest) a.are_here.nets_are))
-    (mark_named (flat_map outputs_of (t ∷ ts)) held (may_mark t) a.are_here.flat.mark a.are_here.mark a.after _ a.rest a.are_here.marked
+    (mark_named (flat_map nets_driven (t ∷ ts)) held (may_mark t) a.are_here.flat.mark a.are_here.mark a.after _ a.rest a.are_here.marked
     (record {
-      rest = flat_map outputs_of ts;
-      is = ap (λ os. os ++ flat_map outputs_of ts) (outputs_are t (single 0 t refl));
+      rest = flat_map nets_driven ts;
+      is = ap (λ os. os ++ flat_map nets_driven ts) (outputs_are t (single 0 t refl));
       are = tables_named ds names ts a.after a.rest (λ k. single (suc k)) a.are_rest;
     }))
 
@@ -146,7 +146,7 @@ unfolding drivers
 all_named m net is =
     let P : List (Option FlatNet) → Type 0 = AreNamed (drivers m) (drivers m) in
     subst P (sym is.built.nets_are)
-    (inputs_named m.decls m.inputs (flat_map outputs_of m.tables) (drivers m) is.built.of_tables
+    (inputs_named m.decls m.inputs (flat_map nets_driven m.tables) (drivers m) is.built.of_tables
     (tables_named m.decls (places m) m.tables (drivers m) is.built.of_tables (single_tables m net is) is.built.are_tables))
 
 -- no two nets have one name

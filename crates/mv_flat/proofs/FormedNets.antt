@@ -16,7 +16,7 @@ use Rattle.mv_net.specs.Formed.{has_table, IsCover, IsNet}
 use Rattle.mv_model.specs.Nets.{count_of, nets_named}
 use Rattle.mv_model.specs.Numbers.{places}
 use Rattle.mv_flat.specs.Numbers.{output_of, made_name}
-use Rattle.mv_flat.specs.Built.{file_net, made_net}
+use Rattle.mv_flat.specs.Built.{file_net, fresh_net}
 use Rattle.mv_model.proofs.Decimals.{numbered-net_name}
 use Rattle.mv_flat.proofs.Slots.{IsTableAt, mark_net}
 use Rattle.mv_flat.proofs.Places.{IsModelNet, table_of, single_tables, input_slot, InputPlace, OutputPlace, MarkPlace, place_at, no_slot}
@@ -70,7 +70,7 @@ output_formed m net is n p =
 lawful_made : (n : ℕ) → n < 2 ^ 32 → is_net_name (made_name n) ≡ true
 lawful_made n small = numbered-net_name (codes "_m") n (omega arith) refl
 
-made_formed : (nets : List (Option FlatNet)) (name : List ℕ) (c : Cover) → is_net_name name ≡ true → IsCover nets 2 c → IsFormed nets (made_net name c)
+made_formed : (nets : List (Option FlatNet)) (name : List ℕ) (c : Cover) → is_net_name name ≡ true → IsCover nets 2 c → IsFormed nets (fresh_net name c)
 made_formed nets name c lawful cover =
     let Q : Cover → Type 0 = IsCover nets 2 in
     formed_some nets _

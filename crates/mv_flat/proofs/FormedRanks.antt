@@ -10,11 +10,13 @@ use Rattle.mv_design.specs.declared.design.FileModel.{FileModel}
 use Rattle.mv_design.specs.declared.table.FileTable.{FileTable}
 use Rattle.mv_net.specs.declared.parts.FlatNet.{FlatNet}
 use Rattle.mv_net.specs.declared.parts.NetParts.{NetParts}
-use Rattle.mv_net.specs.Nets.{slot, net_reads}
-use Rattle.mv_net.specs.Formed.{Acyclic}
+use Rattle.mv_net.specs.Nets.{slot, net_reads, reads_in}
+use Rattle.mv_graph.specs.Above.{IsAcyclic}
+use Rattle.mv_graph.proofs.Ranks.{IsRanked, ranked_acyclic}
+use Rattle.mv_model.proofs.Turns.{not_unranked_model}
 use Rattle.mv_model.specs.Nets.{nets_named}
 use Rattle.mv_model.specs.Numbers.{places, may_mark, mark_name, number_in}
-use Rattle.mv_model.specs.Sound.{reads_through, reads, HasRank}
+use Rattle.mv_model.specs.Sound.{reads_through, reads, IsSoundModel}
 use Rattle.mv_flat.specs.Numbers.{output_of, mark_at}
 use Rattle.mv_model.proofs.Listed.{name_at}
 use Rattle.mv_model.proofs.Distinct.{is_dotted, lawful_undotted}
@@ -61,7 +63,7 @@ record IsColumnBelow (m : FileModel) (rank : List ℕ → ℕ) (t : FileTable) (
   is : rank_by_number m rank n ≡ 2 * rank name + 1
   below : rank name < rank (output_of t)
 
-column_below : (m : FileModel) (net : NetParts) → IsModelNet m net → (r : HasRank m) (k : ℕ) (t : FileTable) → slice_get m.tables k ≡ Some t → (n : ℕ) → IsNumberOf (places m) t.inputs n → IsColumnBelow m r.rank t n
+column_below : (m : FileModel) (net : NetParts) → IsModelNet m net → (r : IsRanked (reads m)) (k : ℕ) (t : FileTable) → slice_get m.tables k ≡ Some t → (n : ℕ) → IsNumberOf (places m) t.inputs n → IsColumnBelow m r.rank t n
 column_below m net is r k t e n c = record {
   name = c.name;
   is = ap (rank_by_number m r.rank) (sym c.number) ∙ net_rank m net is r.rank c.name (table_input_named m k t c.name e c.listed);
@@ -73,7 +75,7 @@ column_below m net is r k t e n c = record {
 abbrev Falls : FileModel → (List ℕ → ℕ) → Option FlatNet → ℕ → Type 0
 Falls m rank s n = (k : ℕ) → net_reads s k ≡ true → rank_by_number m rank k < rank_by_number m rank n
 
-output_falls : (m : FileModel) (net : NetParts) → IsModelNet m net → (r : HasRank m) (n : ℕ) → OutputPlace m n → Falls m r.rank (slot net.nets n) n
+output_falls : (m : FileModel) (net : NetParts) → IsModelNet m net → (r : IsRanked (reads m)) (n : ℕ) → OutputPlace m n → Falls m r.rank (slot net.nets n) n
 output_falls m net is r n p k h =
     let here = table_of m net is p.place p.table p.listed in
     let there = ap (rank_by_number m r.rank) p.number ∙ output_rank m net is r.rank p.place p.table p.listed in
@@ -89,7 +91,7 @@ output_falls m net is r n p k h =
     omega arith)
     (output_above m net is p.place p.table p.listed k (sym (ap (λ s. net_reads s k) (ap (slot net.nets) p.number ∙ here.output)) ∙ h))
 
-mark_falls : (m : FileModel) (net : NetParts) → IsModelNet m net → (r : HasRank m) (n : ℕ) → MarkPlace m n → Falls m r.rank (slot net.nets n) n
+mark_falls : (m : FileModel) (net : NetParts) → IsModelNet m net → (r : IsRanked (reads m)) (n : ℕ) → MarkPlace m n → Falls m r.rank (slot net.nets n) n
 mark_falls m net is r n p k h = by_mark here.flat.mark refl (sym (ap (λ s. net_reads s k) (ap (slot net.nets) p.number ∙ here.mark p.may)) ∙ h)
   where
     here : IsTableAt m.decls (places m) net.nets p.table
@@ -104,11 +106,11 @@ mark_falls m net is r n p k h = by_mark here.flat.mark refl (sym (ap (λ s. net_
         let l = b.below in
         omega arith
 
-input_falls : (m : FileModel) (net : NetParts) → IsModelNet m net → (r : HasRank m) (n : ℕ) → InputPlace m n → Falls m r.rank (slot net.nets n) n
+input_falls : (m : FileModel) (net : NetParts) → IsModelNet m net → (r : IsRanked (reads m)) (n : ℕ) → InputPlace m n → Falls m r.rank (slot net.nets n) n
 input_falls m net is r n p k h =
     absurd (false≢true (sym (ap (λ s. net_reads s k) (ap (slot net.nets) p.number ∙ input_slot m net is p.name p.listed)) ∙ h))
 
-falls_at : (m : FileModel) (net : NetParts) → IsModelNet m net → (r : HasRank m) (n : ℕ) → Falls m r.rank (slot net.nets n) n
+falls_at : (m : FileModel) (net : NetParts) → IsModelNet m net → (r : IsRanked (reads m)) (n : ℕ) → Falls m r.rank (slot net.nets n) n
 falls_at m net is r n =
     ⊎_elim
     (λ (low : n < length (places m)).
@@ -117,5 +119,8 @@ falls_at m net is r n =
     (λ (high : length (places m) ≤ n) (k : ℕ) h. absurd (false≢true (sym (ap (λ s. net_reads s k) (no_slot m net is n high)) ∙ h)))
     (cases_lt n (length (places m)))
 
-pub acyclic_nets : (m : FileModel) (net : NetParts) → IsModelNet m net → HasRank m → Acyclic net.nets
-acyclic_nets m net is r = record { rank = rank_by_number m r.rank; falls = λ n k h. falls_at m net is r n k h }
+pub acyclic_nets : (m : FileModel) (net : NetParts) → IsModelNet m net → IsSoundModel m → IsAcyclic (reads_in net.nets)
+acyclic_nets m net is sound = record { none = λ n a. not_unranked_model m is.proper sound.driven sound.acyclic (λ r. (ranked_acyclic (reads_in net.nets) (ranks r)).none n a) }
+  where
+    ranks : IsRanked (reads m) → IsRanked (reads_in net.nets)
+    ranks r = record { rank = rank_by_number m r.rank; falls = λ n k h. falls_at m net is r n k h }

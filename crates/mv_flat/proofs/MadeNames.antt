@@ -13,7 +13,7 @@ use Rattle.mv_net.specs.declared.parts.FlatNet.{FlatNet}
 use Rattle.mv_model.proofs.Distinct.{apart_length}
 use Rattle.mv_model.proofs.Soundness.{in_left, in_right}
 use Rattle.mv_flat.specs.Numbers.{made_name}
-use Rattle.mv_flat.specs.Built.{made_net}
+use Rattle.mv_flat.specs.Built.{fresh_net}
 use Rattle.mv_flat.specs.Marks.{IsLast, IsNext, AddsNets, MarkNets}
 
 -- ---- different numbers
@@ -117,7 +117,7 @@ last_more names held before number name h n = record {
         (λ (b : k ≤ before). h.before k low b)
         (cases_lt before k)
 
-mark_here : (names : List (List ℕ)) (before number : ℕ) (name : List ℕ) (cover : Cover) (net : FlatNet) (old new : List (Option FlatNet)) (may : Bool) → may ≡ true → IsNext names before number name → Some net ≡ made_net name cover → new ≡ old ++ Some net ∷ [] → AddsNets (MarkNets may (Some cover)) names before number old new
+mark_here : (names : List (List ℕ)) (before number : ℕ) (name : List ℕ) (cover : Cover) (net : FlatNet) (old new : List (Option FlatNet)) (may : Bool) → may ≡ true → IsNext names before number name → Some net ≡ fresh_net name cover → new ≡ old ++ Some net ∷ [] → AddsNets (MarkNets may (Some cover)) names before number old new
 mark_here names before number name cover net old new true y n is e = record {
   here = Some net ∷ [];
   joined = e;
@@ -145,7 +145,7 @@ mark_here names before number name cover net old new true y n is e = record {
 }
 mark_here names before number name cover net old new false y n is e = absurd (false≢true y)
 
-pub adds_mark : (names : List (List ℕ)) (before number : ℕ) (name : List ℕ) (mark : Option Cover) (cover : Cover) (net : FlatNet) (old new : List (Option FlatNet)) (may : Bool) → mark ≡ Some cover → may ≡ true → IsNext names before number name → Some net ≡ made_net name cover → new ≡ old ++ Some net ∷ [] → AddsNets (MarkNets may mark) names before number old new
+pub adds_mark : (names : List (List ℕ)) (before number : ℕ) (name : List ℕ) (mark : Option Cover) (cover : Cover) (net : FlatNet) (old new : List (Option FlatNet)) (may : Bool) → mark ≡ Some cover → may ≡ true → IsNext names before number name → Some net ≡ fresh_net name cover → new ≡ old ++ Some net ∷ [] → AddsNets (MarkNets may mark) names before number old new
 adds_mark names before number name mark cover net old new may m y n is e =
     let P : Option Cover → Type 0 = λ o. AddsNets (MarkNets may o) names before number old new in
     subst P (sym m) (mark_here names before number name cover net old new may y n is e)

@@ -16,7 +16,7 @@ use Rattle.mv_net.specs.declared.parts.NetParts.{NetParts}
 use Rattle.mv_net.specs.declared.parts.Kind.{Kind}
 use Rattle.mv_net.specs.declared.parts.Kind.TheVariants.{Input, Table, Reset}
 use Rattle.mv_net.specs.Nets.{slot}
-use Rattle.mv_model.specs.Nets.{drivers, outputs_of, nets_named}
+use Rattle.mv_model.specs.Nets.{drivers, nets_driven, nets_named}
 use Rattle.mv_model.specs.Numbers.{places, table_places, may_mark, mark_name, number_in}
 use Rattle.mv_model.specs.Proper.{IsProperModel, IsFileTable}
 use Rattle.mv_flat.specs.Numbers.{output_of, mark_at}
@@ -111,7 +111,7 @@ single_list (w ∷ u ∷ ws) one = absurd (omega arith)
 pub outputs_are : (t : FileTable) → length t.outputs ≡ 1 → t.outputs ≡ output_of t ∷ []
 outputs_are t one = single_list t.outputs one
 
-pub outputs_in : (ts : List FileTable) (w : List ℕ) → AreSingle ts → among w (flat_map outputs_of ts) ≡ true → IsTableOutput ts w
+pub outputs_in : (ts : List FileTable) (w : List ℕ) → AreSingle ts → among w (flat_map nets_driven ts) ≡ true → IsTableOutput ts w
 outputs_in [] w single h = absurd (false≢true h)
 outputs_in (t ∷ ts) w single h =
     ⊎_elim
@@ -119,8 +119,8 @@ outputs_in (t ∷ ts) w single h =
     let e : among w (output_of t ∷ []) ≡ true = ap (among w) (sym (outputs_are t (single 0 t refl))) ∙ y in
     let o : IsTableOutput (t ∷ ts) w = record { place = 0; table = t; listed = refl; is = only_one w (output_of t) e } in
     o)
-    (λ (y : among w (flat_map outputs_of ts) ≡ true). output_later t ts w (outputs_in ts w (λ k. single (suc k)) y))
-    (or_cases (among w t.outputs) (among w (flat_map outputs_of ts)) (sym (among-append w t.outputs (flat_map outputs_of ts)) ∙ h))
+    (λ (y : among w (flat_map nets_driven ts) ≡ true). output_later t ts w (outputs_in ts w (λ k. single (suc k)) y))
+    (or_cases (among w t.outputs) (among w (flat_map nets_driven ts)) (sym (among-append w t.outputs (flat_map nets_driven ts)) ∙ h))
 
 marks_in : (b : Bool) (w u : List ℕ) → among w (if b then u ∷ [] else []) ≡ true → (b ≡ true) × (w ≡ u)
 marks_in true w u h = (refl, only_one w u h)
@@ -205,8 +205,8 @@ no_slot m net is n high = get_or_past net.nets n None (let size = nets_size m ne
 pub driven_by : (m : FileModel) (net : NetParts) → IsModelNet m net → (w : List ℕ) → among w (drivers m) ≡ true → (among w m.inputs ≡ true) ⊎ IsTableOutput m.tables w
 unfolding drivers
 driven_by m net is w h =
-    ⊎_elim (λ (y : among w m.inputs ≡ true). inl y) (λ (y : among w (flat_map outputs_of m.tables) ≡ true). inr (outputs_in m.tables w (single_tables m net is) y))
-    (or_cases (among w m.inputs) (among w (flat_map outputs_of m.tables)) (sym (among-append w m.inputs (flat_map outputs_of m.tables)) ∙ h))
+    ⊎_elim (λ (y : among w m.inputs ≡ true). inl y) (λ (y : among w (flat_map nets_driven m.tables) ≡ true). inr (outputs_in m.tables w (single_tables m net is) y))
+    (or_cases (among w m.inputs) (among w (flat_map nets_driven m.tables)) (sym (among-append w m.inputs (flat_map nets_driven m.tables)) ∙ h))
 
 -- a net of the model, which can be read, with a place
 pub record IsFileNet (m : FileModel) (nets : List (Option FlatNet)) (w : List ℕ) : Type 0 where

@@ -17,7 +17,7 @@ use Rattle.mv_net.specs.declared.parts.Kind.TheVariants.{Table}
 use Rattle.mv_net.specs.Nets.{slot}
 use Rattle.mv_model.specs.Numbers.{may_mark, mark_name, number_in}
 use Rattle.mv_flat.specs.Numbers.{columns_at, output_of, mark_at}
-use Rattle.mv_flat.specs.Built.{file_net, made_net, IsFreshName, IsMark}
+use Rattle.mv_flat.specs.Built.{file_net, fresh_net, IsFreshName, IsMark}
 use Rattle.mv_model.proofs.Listed.{number_at}
 use Rattle.mv_flat.proofs.Numbered.{mark_number}
 use Rattle.mv_flat.proofs.Blocks.{IsBlock, marks_of, places_of, mark_size}
@@ -25,7 +25,7 @@ use Rattle.mv_flat.proofs.Blocks.{IsBlock, marks_of, places_of, mark_size}
 -- what stands at a mark's place
 abbrev pub mark_net : List ℕ → Option Cover → Option FlatNet
 mark_net name None = None
-mark_net name (Some c) = made_net name c
+mark_net name (Some c) = fresh_net name c
 
 -- ---- the mark of a table
 

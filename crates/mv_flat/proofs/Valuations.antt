@@ -23,7 +23,7 @@ use Rattle.mv_model.specs.Nets.{count_of, nets_named}
 use Rattle.mv_model.specs.Numbers.{places, may_mark, number_in}
 use Rattle.mv_model.specs.Meaning.{table_holds}
 use Rattle.mv_flat.specs.Numbers.{column_of, columns_at, output_of, mark_at}
-use Rattle.mv_flat.specs.Built.{made_net}
+use Rattle.mv_flat.specs.Built.{fresh_net}
 use Rattle.mv_flat.proofs.Slots.{IsTableAt, mark_net}
 use Rattle.mv_flat.proofs.Places.{IsModelNet, table_of, single_tables, outputs_are}
 use Rattle.mv_flat.proofs.Naming.{all_map, map_same, output_of_among, table_input_named, table_output_named}
@@ -74,7 +74,7 @@ marked_may ds names nets t here c e =
     ⊎_elim (λ (y : may_mark t ≡ true). y) (λ (n : may_mark t ≡ false). absurd (none-some c (sym (here.unmarked n) ∙ e))) (cases_Bool (may_mark t))
 
 -- and the mark's net stands at its number
-pub mark_slot : (ds : List Decl) (names : List (List ℕ)) (nets : List (Option FlatNet)) (t : FileTable) (here : IsTableAt ds names nets t) (c : Cover) → here.flat.mark ≡ Some c → slot nets (mark_at names t).0 ≡ made_net here.name c
+pub mark_slot : (ds : List Decl) (names : List (List ℕ)) (nets : List (Option FlatNet)) (t : FileTable) (here : IsTableAt ds names nets t) (c : Cover) → here.flat.mark ≡ Some c → slot nets (mark_at names t).0 ≡ fresh_net here.name c
 mark_slot ds names nets t here c e = here.mark (marked_may ds names nets t here c e) ∙ ap (mark_net here.name) e
 
 mark_allows : (ds : List Decl) (names : List (List ℕ)) (nets : List (Option FlatNet)) (t : FileTable) (here : IsTableAt ds names nets t) (c : Cover) → here.flat.mark ≡ Some c → (at : ℕ → ℕ) → in_range at (columns_at ds names t) ≡ true → net_allows (slot nets (mark_at names t).0) at (at (mark_at names t).0) ≡ (nat_lt (at (mark_at names t).0) 2 && nat_eq (at (mark_at names t).0) (mark_value t.rows (column_values at (columns_at ds names t))))

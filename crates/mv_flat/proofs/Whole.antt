@@ -39,7 +39,7 @@ model_net m net proper sound built = record {
 -- ---- the network
 
 pub well_formed : (m : FileModel) (net : NetParts) → IsProperModel m → IsSoundModel m → IsBuilt m net → WellFormed net
-well_formed m net proper sound built = net_formed m net (model_net m net proper sound built) sound.acyclic
+well_formed m net proper sound built = net_formed m net (model_net m net proper sound built) sound
 
 pub few_nets : (m : FileModel) (net : NetParts) → IsProperModel m → IsSoundModel m → length (nets_of m) ≤ MAX_FLAT_NETS → IsBuilt m net → length net.nets ≤ MAX_NETS
 few_nets m net proper sound few built =

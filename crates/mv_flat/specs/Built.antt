@@ -23,8 +23,8 @@ abbrev pub file_net : List Decl → Kind → Option Cover → List ℕ → Optio
 file_net ds kind table net = Some (record { name = net; values = count_of ds net; value_names = kept_names (values_of ds net); kind = kind; table = table })
 
 -- a net that is made, of two values
-abbrev pub made_net : List ℕ → Cover → Option FlatNet
-made_net name cover = Some (record { name = name; values = 2; value_names = []; kind = Table; table = Some cover })
+abbrev pub fresh_net : List ℕ → Cover → Option FlatNet
+fresh_net name cover = Some (record { name = name; values = 2; value_names = []; kind = Table; table = Some cover })
 
 -- the name is that of the least positive number whose name isn't held
 pub record IsFreshName (held : List (List ℕ)) (name : List ℕ) : Type 0 where
@@ -39,7 +39,7 @@ pub record IsFreshName (held : List (List ℕ)) (name : List ℕ) : Type 0 where
 pub record IsMadeMark (held : List (List ℕ)) (cover : Cover) (nets : List (Option FlatNet)) (after : List (List ℕ)) : Type 0 where
   pub name : List ℕ
   pub fresh : IsFreshName held name
-  pub nets_are : nets ≡ made_net name cover ∷ []
+  pub nets_are : nets ≡ fresh_net name cover ∷ []
   pub after_is : after ≡ held ++ name ∷ []
 
 -- no net is made: `place` stands there, and the same names are held
@@ -65,7 +65,8 @@ pub record AreTableNets (ds : List Decl) (names held : List (List ℕ)) (t : Fil
   pub nets_are : nets ≡ mark ++ file_net ds Table (Some flat.cover) (output_of t) ∷ []
 
 -- some nets, and others behind them that know of their names
-pub record AreFollowed (Here : List (Option FlatNet) → List (List ℕ) → Type 0) (Behind : List (List ℕ) → List (Option FlatNet) → Type 0) (nets : List (Option FlatNet)) : Type 0 where
+pub record AreFollowed (Here : List (Option FlatNet) → List (List ℕ) → Type 0) (Behind : List (List ℕ) → List (Option FlatNet) → Type 0)
+    (nets : List (Option FlatNet)) : Type 0 where
   pub here : List (Option FlatNet)
   pub rest : List (Option FlatNet)
   pub after : List (List ℕ)

@@ -1,4 +1,4 @@
--- The names of marks, in the order in which they are made.
+-- The names of marks, in the order in which they are made. For private functions.
 use Rattle.std.specs.Prelude.{◌≡◌, ℕ, ◌+◌, ◌<◌, ◌≤◌, ◌^◌, Bool, true, false, Option, List, ◌++◌, length}
 use Rattle.mv_base.specs.Names.{among}
 use Rattle.mv_cover.specs.declared.cover.Cover.{Cover}
@@ -23,14 +23,16 @@ pub record IsNext (names : List (List ℕ)) (last number : ℕ) (name : List ℕ
   pub least : (k : ℕ) → last < k → k < number → among (made_name k) names ≡ true
 
 -- what some nets are behind the names that are held, and the number of the last made name then
-pub record Behind (Nets : List (List ℕ) → List (Option FlatNet) → List (List ℕ) → Type 0) (names held : List (List ℕ)) (here : List (Option FlatNet)) (last : ℕ) : Type 0 where
+pub record Behind (Nets : List (List ℕ) → List (Option FlatNet) → List (List ℕ) → Type 0) (names held : List (List ℕ)) (here : List (Option FlatNet))
+    (last : ℕ) : Type 0 where
   pub after : List (List ℕ)
   pub are : Nets held here after
   pub lasts : IsLast names after last
   pub few : length after ≤ length held + 1
 
 -- nets with some more behind them, whatever names were held
-pub record AddsNets (Nets : List (List ℕ) → List (Option FlatNet) → List (List ℕ) → Type 0) (names : List (List ℕ)) (before last : ℕ) (old new : List (Option FlatNet)) : Type 0 where
+pub record AddsNets (Nets : List (List ℕ) → List (Option FlatNet) → List (List ℕ) → Type 0) (names : List (List ℕ)) (before last : ℕ)
+    (old new : List (Option FlatNet)) : Type 0 where
   pub here : List (Option FlatNet)
   pub joined : new ≡ old ++ here
   pub behind : (held : List (List ℕ)) → IsLast names held before → Behind Nets names held here last

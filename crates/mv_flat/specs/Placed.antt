@@ -1,4 +1,4 @@
--- Models whose nets have numbers, and the nets of their tables behind others.
+-- Models whose nets have numbers, and the nets of their tables behind others. For private functions.
 use Rattle.std.specs.Prelude.{◌≡◌, ℕ, ◌+◌, ◌*◌, ◌≤◌, Bool, true, Option, List, ◌++◌, length, All}
 use Rattle.std.specs.List.{list_all}
 use Rattle.mv_base.specs.Names.{among}

@@ -1,4 +1,4 @@
--- Names of values that are numbers.
+-- Names of values that are numbers. For private functions.
 use Rattle.std.specs.Prelude.{ℕ, ◌+◌, Bool, true, ◌&&◌, List, [], ◌∷◌, nat_eq, decimal}
 use Rattle.std.specs.Cmp.Lexicographic.{pointwise}
 

@@ -5,7 +5,7 @@ ghost use Rattle.mv_model.specs.Numbers.{may_mark};
 ghost use Rattle.mv_flat.specs.Marks.{AddsNets, MarkNets};
 
 use crate::fresh::next_made;
-use crate::nets::made_net;
+use crate::nets::fresh_net;
 use mv_base::{Items, Memory};
 use mv_cover::Cover;
 use mv_design::FileTable;
@@ -31,7 +31,7 @@ pub fn put_mark(
     match mark {
         Some(cover) => {
             let made = next_made(alloc, names, *last)?;
-            nets.push(Some(made_net(alloc, made.name, cover)))?;
+            nets.push(Some(fresh_net(alloc, made.name, cover)))?;
             *last = made.number;
         }
         None => {

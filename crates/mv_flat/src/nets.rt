@@ -1,7 +1,7 @@
 //! The nets of a network.
 ghost use Rattle.std.specs.Prelude.{◌≡◌, Some, IfOk, None, map};
 ghost use Rattle.mv_net.specs.declared.parts.Kind.TheVariants.{Input};
-ghost use Rattle.mv_flat.specs.Built.{file_net, made_net};
+ghost use Rattle.mv_flat.specs.Built.{file_net, fresh_net};
 
 use crate::values::{count_of, kept_names};
 use mv_base::{Items, Memory, Name};
@@ -31,8 +31,8 @@ pub fn file_net(
 }
 
 /// A net that is made, of two values.
-pub fn made_net(alloc: Global, name: Name, cover: Cover) -> FlatNet
-    ensures { Some result ≡ made_net name cover }
+pub fn fresh_net(alloc: Global, name: Name, cover: Cover) -> FlatNet
+    ensures { Some result ≡ fresh_net name cover }
 {
     FlatNet {
         name,

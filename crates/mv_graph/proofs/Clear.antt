@@ -6,12 +6,13 @@ use Rattle.std.proofs.lemmas.Bool.{false≢true, cases_Bool, cases_lt}
 use Rattle.std.proofs.lemmas.List.{get_or_past}
 use Rattle.mv_base.specs.declared.number.NetId.{NetId}
 use Rattle.mv_graph.specs.Nets.{has_id, row, AllBelow}
-use Rattle.mv_graph.specs.Ranks.{IsRanked}
 use Rattle.mv_graph.specs.Marks.{is_marked}
-use Rattle.mv_graph.specs.Cycles.{GoesOn, IsAbove, NoneTurns}
+use Rattle.mv_graph.specs.Above.{GoesOn, IsAbove, IsAcyclic, reads_by}
+use Rattle.mv_graph.specs.Cycles.{NoneTurns}
 use Rattle.mv_graph.specs.Walking.{AreAbove}
 use Rattle.mv_graph.proofs.Columns.{column_below, none_in}
-use Rattle.mv_graph.proofs.Walks.{above_more}
+use Rattle.mv_graph.proofs.Paths.{above_more}
+use Rattle.mv_graph.proofs.Ranks.{IsRanked}
 
 -- how many marks there are
 abbrev marked : List Bool → ℕ
@@ -44,7 +45,7 @@ less (true ∷ us) (false ∷ vs) (suc m) h n e = absurd (false≢true (h 0 refl
 less (false ∷ us) (v ∷ vs) (suc m) h n e = let l = less us vs m (λ k. h (suc k)) n e in omega arith
 
 -- what is above a marked net is marked
-pub goes_inside : (columns : List (List NetId)) (n : ℕ) (marks : List Bool) → AreAbove columns n marks → (path : List ℕ) (m k : ℕ) → is_marked marks m ≡ true → GoesOn columns k m path → is_marked marks k ≡ true
+pub goes_inside : (columns : List (List NetId)) (n : ℕ) (marks : List Bool) → AreAbove columns n marks → (path : List ℕ) (m k : ℕ) → is_marked marks m ≡ true → GoesOn (reads_by columns) k m path → is_marked marks k ≡ true
 goes_inside columns n marks a [] m k e g = a.closed m k e g
 goes_inside columns n marks a (j ∷ path) m k e g = goes_inside columns n marks a path j k (a.closed m j e g.0) g.1
 
@@ -76,7 +77,7 @@ rank_falls columns clear below n m (inl low) (inl l) h = clear_less columns n m 
 rank_falls columns clear below n m (inl low) (inr r) h = let l = column_below columns n m below h in absurd (omega arith)
 
 -- nets that are all clear have ranks
-ranked_clear : (columns : List (List NetId)) → AllBelow columns → AreClear columns → IsRanked columns
+ranked_clear : (columns : List (List NetId)) → AllBelow columns → AreClear columns → IsRanked (reads_by columns)
 ranked_clear columns below clear = record {
   rank = λ n. rank_of columns clear n (cases_lt n (length columns));
   falls = λ n m h. rank_falls columns clear below n m (cases_lt n (length columns)) (cases_lt m (length columns)) h;
@@ -119,13 +120,13 @@ decided : (P : ℕ → Type 0) (size : ℕ) → (Decided P size → ⊥) → ⊥
 decided P zero never = never (record { marks = []; long = refl; holds = λ k e. absurd (false≢true e); has = λ k l q. absurd (omega arith) })
 decided P (suc size) never = decided (λ k. P (suc k)) size (λ d. either (P 0) (λ w. never (with_first P size d w)))
 
-clear_from : (columns : List (List NetId)) (n : ℕ) → AllBelow columns → (IsAbove columns n n → ⊥) → Decided (IsAbove columns n) (length columns) → IsClear columns n
+clear_from : (columns : List (List NetId)) (n : ℕ) → AllBelow columns → (IsAbove (reads_by columns) n n → ⊥) → Decided (λ k. IsAbove (reads_by columns) k n) (length columns) → IsClear columns n
 clear_from columns n below not d = record {
   marks = d.marks;
   are = record {
     long = d.long;
     first = λ m h. d.has m (column_below columns n m below h) (record { path = []; goes = h });
-    closed = λ k m e h. d.has m (column_below columns k m below h) (above_more columns n k m (d.holds k e) h);
+    closed = λ k m e h. d.has m (column_below columns k m below h) (above_more (reads_by columns) n k m (d.holds k e) h);
     above = d.holds;
   };
   clear = ⊎_elim (λ (y : is_marked d.marks n ≡ true). absurd (not (d.holds n y))) (λ (f : is_marked d.marks n ≡ false). f) (cases_Bool (is_marked d.marks n));
@@ -141,19 +142,20 @@ all_below P (suc size) each never =
     same n e p = subst P e p
 
 -- nets none of which is above itself can't be without ranks
-pub not_unranked : (columns : List (List NetId)) → AllBelow columns → ((n : ℕ) → IsAbove columns n n → ⊥) → (IsRanked columns → ⊥) → ⊥
-not_unranked columns below none never =
+pub not_unranked : (columns : List (List NetId)) → AllBelow columns → IsAcyclic (reads_by columns) → (IsRanked (reads_by columns) → ⊥) → ⊥
+not_unranked columns below acyclic never =
     all_below (IsClear columns) (length columns)
-    (λ n l out. decided (IsAbove columns n) (length columns) (λ d. out (clear_from columns n below (none n) d)))
+    (λ n l out. decided (λ k. IsAbove (reads_by columns) k n) (length columns) (λ d. out (clear_from columns n below (acyclic.none n) d)))
     (λ clear. never (ranked_clear columns below clear))
 
 -- the list has each net that has columns
 abbrev pub ListsEachReader : List (List NetId) → List NetId → Type 0
 ListsEachReader columns order = (n m : ℕ) → has_id (row columns n) m ≡ true → has_id order n ≡ true
 
-covered : (columns : List (List NetId)) (order : List NetId) → ListsEachReader columns order → (n above : ℕ) (path : List ℕ) → GoesOn columns above n path → has_id order n ≡ true
+covered : (columns : List (List NetId)) (order : List NetId) → ListsEachReader columns order → (n above : ℕ) (path : List ℕ) → GoesOn (reads_by columns) above n path → has_id order n ≡ true
 covered columns order c n above [] g = c n above g
 covered columns order c n above (k ∷ path) g = c n k g.0
 
-pub none_above : (columns : List (List NetId)) (order : List NetId) → ListsEachReader columns order → NoneTurns columns order → (n : ℕ) → IsAbove columns n n → ⊥
-none_above columns order c t n a = t.none n (covered columns order c n n a.path a.goes) a
+-- where none of them is above itself, no net is
+pub none_turns_acyclic : (columns : List (List NetId)) (order : List NetId) → ListsEachReader columns order → NoneTurns columns order → IsAcyclic (reads_by columns)
+none_turns_acyclic columns order c t = record { none = λ n a. t.none n (covered columns order c n n a.path a.goes) a }

@@ -8,19 +8,22 @@ use Rattle.std.proofs.lemmas.Option.{slice_get_within, get_or_from_slice_get}
 use Rattle.mv_base.specs.declared.number.NetId.{NetId}
 use Rattle.mv_graph.specs.declared.sorting.Sorting.{Sorting}
 use Rattle.mv_graph.specs.Nets.{all_differ, has_id, row, AllBelow}
-use Rattle.mv_graph.specs.Ranks.{IsRanked, IsSortedBy}
+use Rattle.mv_graph.specs.Above.{IsAcyclic, reads_by}
+use Rattle.mv_graph.specs.Orders.{IsSortedBy}
+use Rattle.mv_graph.proofs.Ranks.{IsRanked, ranked_acyclic}
+use Rattle.mv_graph.proofs.Clear.{not_unranked}
 use Rattle.mv_graph.specs.Sorting.{net_at, rank_in, IsSorting, Waits, ArePlaced}
 use Rattle.mv_graph.proofs.Nets.{has_id-at}
 use Rattle.mv_graph.proofs.Columns.{id_at, column_below}
 
 -- nets each of which has another of them as a column have no rank
-no_rank_below : (columns : List (List NetId)) (Stuck : ℕ → Type 0) → ((n : ℕ) → Stuck n → (m : ℕ) × (has_id (row columns n) m ≡ true) × Stuck m) → (r : IsRanked columns) → (bound n : ℕ) → r.rank n < bound → Stuck n → ⊥
+no_rank_below : (columns : List (List NetId)) (Stuck : ℕ → Type 0) → ((n : ℕ) → Stuck n → (m : ℕ) × (has_id (row columns n) m ≡ true) × Stuck m) → (r : IsRanked (reads_by columns)) → (bound n : ℕ) → r.rank n < bound → Stuck n → ⊥
 no_rank_below columns Stuck next r zero n below h = omega arith
 no_rank_below columns Stuck next r (suc b) n below h =
     let m = next n h in
     no_rank_below columns Stuck next r b m.0 (omega (arith, r.falls n m.0 m.1)) m.2
 
-no_rank : (columns : List (List NetId)) (Stuck : ℕ → Type 0) → ((n : ℕ) → Stuck n → (m : ℕ) × (has_id (row columns n) m ≡ true) × Stuck m) → IsRanked columns → (n : ℕ) → Stuck n → ⊥
+no_rank : (columns : List (List NetId)) (Stuck : ℕ → Type 0) → ((n : ℕ) → Stuck n → (m : ℕ) × (has_id (row columns n) m ≡ true) × Stuck m) → IsRanked (reads_by columns) → (n : ℕ) → Stuck n → ⊥
 no_rank columns Stuck next r n h = no_rank_below columns Stuck next r (r.rank n + 1) n (omega arith) h
 
 all_at : (xs : List ℕ) → list_all (λ r. nat_lt 0 r) xs ≡ true → (k : ℕ) → k < length xs → 0 < get_or xs k 0
@@ -86,7 +89,7 @@ sorted_at_end columns s i p all =
       behind = λ place n m at column. behind_at_end columns s place n m h at column;
     }
 
-pub ranked_at_end : (columns : List (List NetId)) (s : Sorting) → IsSorting columns s → list_all (λ r. nat_lt 0 r) s.ranks.items ≡ true → IsRanked columns
+ranked_at_end : (columns : List (List NetId)) (s : Sorting) → IsSorting columns s → list_all (λ r. nat_lt 0 r) s.ranks.items ≡ true → IsRanked (reads_by columns)
 ranked_at_end columns s h all = record {
   rank = rank_in s;
   falls = λ n m e.
@@ -96,7 +99,7 @@ ranked_at_end columns s h all = record {
       (cases_lt n (length columns));
 }
 
-pub unranked_at_end : (columns : List (List NetId)) (s : Sorting) → AllBelow columns → ArePlaced columns s (length s.order.items) (length columns) → list_all (λ r. nat_lt 0 r) s.ranks.items ≡ false → IsRanked columns → ⊥
+unranked_at_end : (columns : List (List NetId)) (s : Sorting) → AllBelow columns → ArePlaced columns s (length s.order.items) (length columns) → list_all (λ r. nat_lt 0 r) s.ranks.items ≡ false → IsRanked (reads_by columns) → ⊥
 unranked_at_end columns s below p all r =
     let Stuck : ℕ → Type 0 = λ n. (n < length columns) × (rank_in s n ≡ 0) in
     let first = not_all_at s.ranks.items all in
@@ -110,4 +113,11 @@ unranked_at_end columns s below p all r =
     (q.above, q.column, (inside, zero_rank)))
     r first.0 (omega (arith, first.1, p.sorting.ranks), first.2)
 
-pub ruleset at_end = (ranked_at_end, unranked_at_end)
+-- where each net has a rank, none is above itself, and else some net is
+pub acyclic_at_end : (columns : List (List NetId)) (s : Sorting) → IsSorting columns s → list_all (λ r. nat_lt 0 r) s.ranks.items ≡ true → IsAcyclic (reads_by columns)
+acyclic_at_end columns s h all = ranked_acyclic (reads_by columns) (ranked_at_end columns s h all)
+
+pub cyclic_at_end : (columns : List (List NetId)) (s : Sorting) → AllBelow columns → ArePlaced columns s (length s.order.items) (length columns) → list_all (λ r. nat_lt 0 r) s.ranks.items ≡ false → IsAcyclic (reads_by columns) → ⊥
+cyclic_at_end columns s below p all a = not_unranked columns below a (unranked_at_end columns s below p all)
+
+pub ruleset at_end = (acyclic_at_end, cyclic_at_end)

@@ -1,9 +1,11 @@
 pub mod Nets
 pub mod Columns
+pub mod Paths
+pub mod Ranks
 pub mod Transposes
 pub mod Waiting
-pub mod Finished
 pub mod Walks
 pub mod Clear
+pub mod Finished
 pub mod Turned
 pub mod Spared

@@ -3,17 +3,17 @@ use Rattle.std.proofs.Common.{◌≡◌, ℕ, Bool, List, [], ◌∷◌, sym, �
 use Rattle.mv_base.specs.declared.number.NetId.{NetId}
 use Rattle.mv_graph.specs.Nets.{has_id, row}
 use Rattle.mv_graph.specs.Transpose.{IsTranspose}
-use Rattle.mv_graph.specs.Cycles.{GoesOn, IsAbove}
+use Rattle.mv_graph.specs.Above.{GoesOn, IsAbove, reads_by}
 use Rattle.mv_graph.specs.Suspects.{MarksTurning}
-use Rattle.mv_graph.proofs.Walks.{above_more}
+use Rattle.mv_graph.proofs.Paths.{above_more}
 
 -- each of the two lists has what the other has
 record AreConverse (columns readers : List (List NetId)) : Type 0 where
   each : (n m : ℕ) → has_id (row readers m) n ≡ has_id (row columns n) m
 
-above_turned : (columns readers : List (List NetId)) → AreConverse columns readers → (last n : ℕ) (path : List ℕ) → GoesOn columns last n path → IsAbove readers last n
+above_turned : (columns readers : List (List NetId)) → AreConverse columns readers → (last n : ℕ) (path : List ℕ) → GoesOn (reads_by columns) last n path → IsAbove (reads_by readers) n last
 above_turned columns readers r last n [] g = record { path = []; goes = r.each n last ∙ g }
-above_turned columns readers r last n (k ∷ path) g = above_more readers last k n (above_turned columns readers r last k path g.1) (r.each n k ∙ g.0)
+above_turned columns readers r last n (k ∷ path) g = above_more (reads_by readers) last k n (above_turned columns readers r last k path g.1) (r.each n k ∙ g.0)
 
 -- a net that is above itself by the readers is so by the columns
 MarksTurning-turned : (columns readers : List (List NetId)) (marks : List Bool) → AreConverse readers columns → MarksTurning columns marks → MarksTurning readers marks

@@ -1,5 +1,5 @@
 -- The nets above a net, as a walk marks them.
-use Rattle.std.proofs.Common.{◌≡◌, ◌⊎◌, ℕ, ◌+◌, ◌<◌, ◌≤◌, true, false, List, [], ◌∷◌, ◌++◌, length, get_or, Some, refl, sym, ◌∙◌, ap, subst, arith, ⊎_elim, inl, inr, All}
+use Rattle.std.proofs.Common.{◌≡◌, ◌⊎◌, ℕ, ◌+◌, ◌<◌, ◌≤◌, true, false, List, ◌++◌, length, get_or, Some, refl, sym, ◌∙◌, ap, subst, arith, ⊎_elim, inl, inr, All}
 use Rattle.std.specs.Prelude.{nat_eq}
 use Rattle.std.specs.List.{slice_get}
 use Rattle.std.proofs.lemmas.Bool.{or_cases, or_left, or_right, cases_lt, cases_Bool, eq-eqb, eqb-true}
@@ -8,24 +8,13 @@ use Rattle.std.proofs.lemmas.Map.Keys.{any_passes_from_place}
 use Rattle.mv_base.specs.declared.number.NetId.{NetId}
 use Rattle.mv_graph.specs.Nets.{has_id, row, AllBelow}
 use Rattle.mv_graph.specs.Marks.{is_marked}
-use Rattle.mv_graph.specs.Cycles.{GoesOn, IsAbove}
+use Rattle.mv_graph.specs.Above.{IsAbove, reads_by}
 use Rattle.mv_graph.specs.Walking.{AreAbove, HasMarked, IsWalk}
 use Rattle.mv_graph.proofs.Nets.{has_id-append}
 use Rattle.mv_graph.proofs.Columns.{row_below, column_below}
+use Rattle.mv_graph.proofs.Paths.{above_more}
 use Rattle.mv_graph.specs.declared.walk.Walk.{Walk}
 use Rattle.mv_base.proofs.Lists.{found, get_front}
-
--- ---- columns
-
-goes_more : (columns : List (List NetId)) (n above m : ℕ) (path : List ℕ) → GoesOn columns above n path → has_id (row columns above) m ≡ true → GoesOn columns m n (path ++ above ∷ [])
-goes_more columns n above m [] g h = (g, h)
-goes_more columns n above m (k ∷ path) g h = (g.0, goes_more columns k above m path g.1 h)
-
--- the columns of a net above n are above n
-pub above_more : (columns : List (List NetId)) (n above m : ℕ) → IsAbove columns n above → has_id (row columns above) m ≡ true → IsAbove columns n m
-above_more columns n above m a h = record { path = a.path ++ above ∷ []; goes = goes_more columns n above m a.path a.goes h }
-
--- ---- the first step
 
 -- ---- one step more
 
@@ -60,14 +49,14 @@ listed_was columns old new nets h k e =
 
 pub walk_next : (columns : List (List NetId)) (n done : ℕ) (old new : Walk) (c : NetId) → AllBelow columns → IsWalk columns n old done → slice_get old.listed.items done ≡ Some c → HasMarked old new (row columns c.0) → IsWalk columns n new (done + 1)
 walk_next columns n done old new c below w at h =
-    let here : IsAbove columns n c.0 = w.above c.0 (any_passes_from_place (λ (x : NetId). nat_eq x.0 c.0) old.listed.items done c at (eq-eqb c.0 c.0 refl)) in
+    let here : IsAbove (reads_by columns) c.0 n = w.above c.0 (any_passes_from_place (λ (x : NetId). nat_eq x.0 c.0) old.listed.items done c at (eq-eqb c.0 c.0 refl)) in
     record {
       long = h.long ∙ w.long;
       below = λ k e. ⊎_elim (λ y. w.below k y) (λ y. column_below columns c.0 k below y) (listed_was columns old new (row columns c.0) h k e);
       first = λ m e. h.marks m ∙ or_left _ _ (w.first m e);
       behind = behind_more columns n done old new c w at h;
       listed = listed_more columns n done old new (row columns c.0) w h;
-      above = λ k e. ⊎_elim (λ y. w.above k y) (λ y. above_more columns n c.0 k here y) (listed_was columns old new (row columns c.0) h k e);
+      above = λ k e. ⊎_elim (λ y. w.above k y) (λ y. above_more (reads_by columns) n c.0 k here y) (listed_was columns old new (row columns c.0) h k e);
     }
 
 -- ---- the end

@@ -1,5 +1,6 @@
 pub mod Nets
-pub mod Ranks
+pub mod Above
+pub mod Orders
 pub mod Transpose
 pub mod Cycles
 -- what private functions alone cite

@@ -4,14 +4,14 @@ use Rattle.mv_base.specs.declared.number.NetId.{NetId}
 use Rattle.mv_graph.specs.declared.walk.Walk.{Walk}
 use Rattle.mv_graph.specs.Nets.{has_id, row}
 use Rattle.mv_graph.specs.Marks.{is_marked}
-use Rattle.mv_graph.specs.Cycles.{IsAbove}
+use Rattle.mv_graph.specs.Above.{IsAbove, reads_by}
 
 -- the marks are those of the nets above n
 pub record AreAbove (columns : List (List NetId)) (n : ℕ) (marks : List Bool) : Type 0 where
   pub long : length marks ≡ length columns
   pub first : (m : ℕ) → has_id (row columns n) m ≡ true → is_marked marks m ≡ true
   pub closed : (k m : ℕ) → is_marked marks k ≡ true → has_id (row columns k) m ≡ true → is_marked marks m ≡ true
-  pub above : (k : ℕ) → is_marked marks k ≡ true → IsAbove columns n k
+  pub above : (k : ℕ) → is_marked marks k ≡ true → IsAbove (reads_by columns) k n
 
 -- these nets are marked besides, and those that are new are listed behind the others
 pub record HasMarked (old new : Walk) (nets : List NetId) : Type 0 where
@@ -35,4 +35,4 @@ pub record IsWalk (columns : List (List NetId)) (n : ℕ) (walk : Walk) (done : 
   pub first : (m : ℕ) → has_id (row columns n) m ≡ true → is_marked walk.marks.items m ≡ true
   pub behind : (place m : ℕ) (c : NetId) → place < done → slice_get walk.listed.items place ≡ Some c → has_id (row columns c.0) m ≡ true → is_marked walk.marks.items m ≡ true
   pub listed : (k : ℕ) → is_marked walk.marks.items k ≡ true → has_id walk.listed.items k ≡ true
-  pub above : (k : ℕ) → has_id walk.listed.items k ≡ true → IsAbove columns n k
+  pub above : (k : ℕ) → has_id walk.listed.items k ≡ true → IsAbove (reads_by columns) k n

@@ -3,7 +3,8 @@ ghost use Rattle.std.specs.Prelude.{◌<◌, ◌≤◌, length, IfOk, IfSome, If
 ghost use Rattle.mv_base.specs.declared.limits.TheConstants.{MAX_NETS};
 ghost use Rattle.mv_base.specs.declared.number.NetId.{NetId};
 ghost use Rattle.mv_graph.specs.Nets.{AllBelow};
-ghost use Rattle.mv_graph.specs.Cycles.{IsAbove, IsTurning, NoneTurns};
+ghost use Rattle.mv_graph.specs.Above.{IsAbove, reads_by};
+ghost use Rattle.mv_graph.specs.Cycles.{IsTurning, NoneTurns};
 ghost use Rattle.mv_graph.specs.Suspects.{MarksTurning};
 
 use crate::suspects::{is_left, suspects};
@@ -44,7 +45,7 @@ fn is_turning(
     requires net { net.0 < length columns.now }
     requires suspects { MarksTurning columns.now suspects.now }
     ensures { IfOk result
-        (λ turns. MatchBool turns (IsAbove columns.now net.0 net.0) (IsAbove columns.now net.0 net.0 → ⊥)) }
+        (λ turns. MatchBool turns (IsAbove (reads_by columns.now) net.0 net.0) (IsAbove (reads_by columns.now) net.0 net.0 → ⊥)) }
 {
     if !is_left(suspects, net) {
         return Ok(false);

@@ -3,7 +3,8 @@ ghost use Rattle.std.specs.List.{list_all};
 ghost use Rattle.mv_base.specs.declared.number.NetId.{NetId};
 ghost use Rattle.mv_base.specs.declared.limits.TheConstants.{MAX_NETS};
 ghost use Rattle.mv_graph.specs.Nets.{AllBelow};
-ghost use Rattle.mv_graph.specs.Ranks.{IsRanked, IsSortedBy};
+ghost use Rattle.mv_graph.specs.Above.{IsAcyclic, reads_by};
+ghost use Rattle.mv_graph.specs.Orders.{IsSortedBy};
 ghost use Rattle.mv_graph.specs.Sorting.{IsSorting, ArePlaced, HasWaited, HasFinished, HasReleased, HasLooked, net_at, waiters};
 
 use crate::rows::{empty_rows, push_to};
@@ -18,8 +19,8 @@ pub fn sorted(alloc: Global, columns: &[Items<NetId>]) -> Result<Option<Items<Ne
     requires below { AllBelow columns.now }
     requires few { length columns.now ≤ MAX_NETS }
     ensures order { IfOk result (λ order. IfSome order (λ nets. IsSortedBy columns.now nets)) }
-    ensures ranked { IfOk result
-        (λ order. MatchOption order (IsRanked columns.now → ⊥) (λ _. IsRanked columns.now)) }
+    ensures acyclic { IfOk result
+        (λ order. MatchOption order (IsAcyclic (reads_by columns.now) → ⊥) (λ _. IsAcyclic (reads_by columns.now))) }
 {
     let mut sorting = Sorting::new(alloc, columns)?;
     sorting.look_at_each(columns)?;

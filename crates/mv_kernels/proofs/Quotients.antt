@@ -12,8 +12,8 @@ use Rattle.mv_cover.specs.Cubes.{nets_ascend, IsCube}
 use Rattle.mv_cover.specs.Equal.{lit_eq}
 use Rattle.mv_cover.specs.Keys.{lit_eq-Decides}
 use Rattle.mv_cover.proofs.Meeting.{above, above_tail}
-use Rattle.mv_cover.proofs.Walking.{ascend_tail}
-use Rattle.mv_kernels.specs.Symbols.{has_symbol, has_each, without, quotient, SameCubes}
+use Rattle.mv_cover.proofs.Walking.{nets_ascend-tail}
+use Rattle.mv_kernels.specs.Symbols.{has_symbol, has_each, cube_quotient, quotient, SameCubes}
 use Rattle.mv_kernels.specs.Order.{lit_cmp}
 use Rattle.mv_kernels.proofs.Lists.{Contains-map, Contains-from_map, Contains-filter, Contains-from_filter, All-Contains, filter_twice}
 use Rattle.mv_kernels.proofs.Orders.{lit_total, same_sorted, sorted_cube}
@@ -37,16 +37,16 @@ pub has_symbol-append : (a b : List Lit) (l : Lit) → has_symbol (a ++ b) l ≡
 has_symbol-append a b l = list_any-append (λ m. lit_eq m l) a b
 
 -- a cube without symbols has the others
-pub has_symbol-without : (c q : List Lit) (l : Lit) → has_symbol (without c q) l ≡ (not (has_symbol c l) && has_symbol q l)
-has_symbol-without c q l =
+pub has_symbol-cube_quotient : (c q : List Lit) (l : Lit) → has_symbol (cube_quotient c q) l ≡ (not (has_symbol c l) && has_symbol q l)
+has_symbol-cube_quotient c q l =
     any-filter_same (λ (m : Lit). lit_eq m l) (λ (m : Lit). not (has_symbol c m)) (not (has_symbol c l)) (λ m h. ap (λ (x : Lit). not (has_symbol c x)) ((lit_eq-Decides m l).0 h)) q
 
-pub symbol_left : (c q : List Lit) (l : Lit) → has_symbol c l ≡ false → has_symbol q l ≡ true → has_symbol (without c q) l ≡ true
-symbol_left c q l out h = has_symbol-without c q l ∙ (λ i. not (out i) && h i)
+pub symbol_left : (c q : List Lit) (l : Lit) → has_symbol c l ≡ false → has_symbol q l ≡ true → has_symbol (cube_quotient c q) l ≡ true
+symbol_left c q l out h = has_symbol-cube_quotient c q l ∙ (λ i. not (out i) && h i)
 
-pub symbol_of_left : (c q : List Lit) (l : Lit) → has_symbol (without c q) l ≡ true → (has_symbol c l ≡ false) × (has_symbol q l ≡ true)
+pub symbol_of_left : (c q : List Lit) (l : Lit) → has_symbol (cube_quotient c q) l ≡ true → (has_symbol c l ≡ false) × (has_symbol q l ≡ true)
 symbol_of_left c q l h =
-    let p = and_parts (not (has_symbol c l)) (has_symbol q l) (sym (has_symbol-without c q l) ∙ h) in
+    let p = and_parts (not (has_symbol c l)) (has_symbol q l) (sym (has_symbol-cube_quotient c q l) ∙ h) in
     (not-true (has_symbol c l) p.0, p.1)
 
 -- ---- cubes that have each of some symbols
@@ -70,11 +70,11 @@ pub has_each-append : (a b q : List Lit) → has_each (a ++ b) q ≡ (has_each a
 has_each-append a b q = list_all-append (has_symbol q) a b
 
 -- a cube that has symbols has them too where others were in it
-pub each_of_left : (c d q : List Lit) → has_each d (without c q) ≡ true → has_each d q ≡ true
-each_of_left c d q h = each_from d q (λ l s. (symbol_of_left c q l (each_at d (without c q) l h s)).1)
+pub each_of_left : (c d q : List Lit) → has_each d (cube_quotient c q) ≡ true → has_each d q ≡ true
+each_of_left c d q h = each_from d q (λ l s. (symbol_of_left c q l (each_at d (cube_quotient c q) l h s)).1)
 
-pub each_left : (c d q : List Lit) → ((l : Lit) → has_symbol d l ≡ true → has_symbol c l ≡ false) → has_each d q ≡ true → has_each d (without c q) ≡ true
-each_left c d q apart h = each_from d (without c q) (λ l s. symbol_left c q l (apart l s) (each_at d q l h s))
+pub each_left : (c d q : List Lit) → ((l : Lit) → has_symbol d l ≡ true → has_symbol c l ≡ false) → has_each d q ≡ true → has_each d (cube_quotient c q) ≡ true
+each_left c d q apart h = each_from d (cube_quotient c q) (λ l s. symbol_left c q l (apart l s) (each_at d q l h s))
 
 -- ---- cubes without symbols
 
@@ -82,14 +82,14 @@ not_or : (a b : Bool) → not (a || b) ≡ (not a && not b)
 not_or true b = refl
 not_or false b = refl
 
-pub without-append : (a b q : List Lit) → without (a ++ b) q ≡ without b (without a q)
-without-append a b q =
+pub cube_quotient-append : (a b q : List Lit) → cube_quotient (a ++ b) q ≡ cube_quotient b (cube_quotient a q)
+cube_quotient-append a b q =
     filter_twice (λ (l : Lit). not (has_symbol a l)) (λ (l : Lit). not (has_symbol b l)) (λ (l : Lit). not (has_symbol (a ++ b) l))
     (λ l. ap not (has_symbol-append a b l) ∙ not_or (has_symbol a l) (has_symbol b l)) q
 
 -- symbols that are the same leave the same of a cube
-pub without-same : (c d : List Lit) → ((l : Lit) → has_symbol c l ≡ has_symbol d l) → (q : List Lit) → without c q ≡ without d q
-without-same c d e q = filter_agree (λ (l : Lit). not (has_symbol c l)) (λ (l : Lit). not (has_symbol d l)) (λ l. ap not (e l)) q
+pub cube_quotient-same : (c d : List Lit) → ((l : Lit) → has_symbol c l ≡ has_symbol d l) → (q : List Lit) → cube_quotient c q ≡ cube_quotient d q
+cube_quotient-same c d e q = filter_agree (λ (l : Lit). not (has_symbol c l)) (λ (l : Lit). not (has_symbol d l)) (λ l. ap not (e l)) q
 
 -- cubes of the same symbols are equal
 pub same_cube : (p q : List Lit) → IsCube p → IsCube q → ((l : Lit) → has_symbol p l ≡ has_symbol q l) → p ≡ q
@@ -99,13 +99,13 @@ same_cube p q a b e =
     (All-Contains q p (λ l h. symbol_in p l (e l ∙ in_symbol q l h)))
 
 -- cubes that have each of some symbols, and are the same without them, are equal
-pub same_row : (c p q : List Lit) → IsCube p → IsCube q → has_each c p ≡ true → has_each c q ≡ true → without c p ≡ without c q → p ≡ q
+pub same_row : (c p q : List Lit) → IsCube p → IsCube q → has_each c p ≡ true → has_each c q ≡ true → cube_quotient c p ≡ cube_quotient c q → p ≡ q
 same_row c p q a b hp hq e =
     same_cube p q a b (λ l.
     elim (cases_Bool (has_symbol c l)) [
       | inl t ↦ each_at c p l hp t ∙ sym (each_at c q l hq t)
       | inr f ↦
-          let left : (r : List Lit) → has_symbol (without c r) l ≡ has_symbol r l = λ r. has_symbol-without c r l ∙ (λ i. not (f i) && has_symbol r l) in
+          let left : (r : List Lit) → has_symbol (cube_quotient c r) l ≡ has_symbol r l = λ r. has_symbol-cube_quotient c r l ∙ (λ i. not (f i) && has_symbol r l) in
           sym (left p) ∙ (ap (λ (r : List Lit). has_symbol r l) e ∙ left q)
     ])
 
@@ -128,12 +128,12 @@ ascend-filter : (p : Lit → Bool) (ls : List Lit) → nets_ascend ls ≡ true �
 unfolding above
 ascend-filter p [] h = refl
 ascend-filter p (l ∷ ls) h =
-    let rest = ascend-filter p ls (ascend_tail l ls h) in
+    let rest = ascend-filter p ls (nets_ascend-tail l ls h) in
     cond_both (p l) (l ∷ filter p ls) (filter p ls) (λ (ms : List Lit). nets_ascend ms ≡ true)
     (λ _. ascend-cons l (filter p ls) (list_all-filter p (λ (m : Lit). nat_lt l.net.0 m.net.0) ls (above_tail l.net.0 l ls h (omega arith))) rest) (λ _. rest)
 
-pub cube_without : (c q : List Lit) → IsCube q → IsCube (without c q)
-cube_without c q h = record {
+pub IsCube-cube_quotient : (c q : List Lit) → IsCube q → IsCube (cube_quotient c q)
+IsCube-cube_quotient c q h = record {
   ascending = ascend-filter (λ (l : Lit). not (has_symbol c l)) q h.ascending;
   possible = list_all-filter (λ (l : Lit). not (has_symbol c l)) (λ (l : Lit). not (nat_eq l.set empty)) q h.possible;
 }
@@ -145,16 +145,16 @@ pub record Row (cover : List (List Lit)) (c q : List Lit) : Type 0 where
   pub cube : List Lit
   pub held : Contains cover cube
   pub has : has_each c cube ≡ true
-  pub is : q ≡ without c cube
+  pub is : q ≡ cube_quotient c cube
 
-pub row_of : (cover : List (List Lit)) (c q : List Lit) → Contains (quotient cover c) q → Row cover c q
-row_of cover c q h =
-    let r = Contains-from_map (without c) (filter (has_each c) cover) q h in
+pub quotient_row : (cover : List (List Lit)) (c q : List Lit) → Contains (quotient cover c) q → Row cover c q
+quotient_row cover c q h =
+    let r = Contains-from_map (cube_quotient c) (filter (has_each c) cover) q h in
     let f = Contains-from_filter (has_each c) cover r.0 r.1 in
     record { cube = r.0; held = f.0; has = f.1; is = r.2 }
 
-pub row_in : (cover : List (List Lit)) (c p : List Lit) → Contains cover p → has_each c p ≡ true → Contains (quotient cover c) (without c p)
-row_in cover c p held has = Contains-map (without c) (filter (has_each c) cover) p (Contains-filter (has_each c) cover p has held)
+pub row_in : (cover : List (List Lit)) (c p : List Lit) → Contains cover p → has_each c p ≡ true → Contains (quotient cover c) (cube_quotient c p)
+row_in cover c p held has = Contains-map (cube_quotient c) (filter (has_each c) cover) p (Contains-filter (has_each c) cover p has held)
 
 -- ---- lists of the same cubes
 
@@ -176,7 +176,7 @@ SameCubes-sym a b s = record { there = s.back; back = s.there }
 
 quotient-into : (a b : List (List Lit)) (c q : List Lit) → ((p : List Lit) → Contains a p → Contains b p) → Contains (quotient a c) q → Contains (quotient b c) q
 quotient-into a b c q f h =
-    let r = row_of a c q h in
+    let r = quotient_row a c q h in
     subst (λ (x : List Lit). Contains (quotient b c) x) (sym r.is) (row_in b c r.cube (f r.cube r.held) r.has)
 
 -- covers of the same cubes have the same quotients
@@ -186,20 +186,20 @@ same_quotients a b c s =
 
 -- a quotient of a quotient is that by all symbols, where cubes that have the second symbols have them without the first too
 pub quotient_twice : (cover : List (List Lit)) (c d : List Lit)
-    → ((p : List Lit) → Contains cover p → has_each c p ≡ true → has_each d p ≡ true → has_each d (without c p) ≡ true)
+    → ((p : List Lit) → Contains cover p → has_each c p ≡ true → has_each d p ≡ true → has_each d (cube_quotient c p) ≡ true)
     → SameCubes (quotient (quotient cover c) d) (quotient cover (c ++ d))
 quotient_twice cover c d stays =
     same_cubes (quotient (quotient cover c) d) (quotient cover (c ++ d))
     (λ x h.
-    let r = row_of (quotient cover c) d x h in
-    let s = row_of cover c r.cube r.held in
-    let inner : has_each d (without c s.cube) ≡ true = subst (λ (q : List Lit). has_each d q ≡ true) s.is r.has in
+    let r = quotient_row (quotient cover c) d x h in
+    let s = quotient_row cover c r.cube r.held in
+    let inner : has_each d (cube_quotient c s.cube) ≡ true = subst (λ (q : List Lit). has_each d q ≡ true) s.is r.has in
     let both : has_each (c ++ d) s.cube ≡ true = has_each-append c d s.cube ∙ and_from (has_each c s.cube) (has_each d s.cube) s.has (each_of_left c d s.cube inner) in
-    let is : x ≡ without (c ++ d) s.cube = r.is ∙ (ap (without d) s.is ∙ sym (without-append c d s.cube)) in
+    let is : x ≡ cube_quotient (c ++ d) s.cube = r.is ∙ (ap (cube_quotient d) s.is ∙ sym (cube_quotient-append c d s.cube)) in
     subst (λ (q : List Lit). Contains (quotient cover (c ++ d)) q) (sym is) (row_in cover (c ++ d) s.cube s.held both))
     (λ x h.
-    let r = row_of cover (c ++ d) x h in
+    let r = quotient_row cover (c ++ d) x h in
     let both = and_parts (has_each c r.cube) (has_each d r.cube) (sym (has_each-append c d r.cube) ∙ r.has) in
-    let is : x ≡ without d (without c r.cube) = r.is ∙ without-append c d r.cube in
+    let is : x ≡ cube_quotient d (cube_quotient c r.cube) = r.is ∙ cube_quotient-append c d r.cube in
     subst (λ (q : List Lit). Contains (quotient (quotient cover c) d) q) (sym is)
-    (row_in (quotient cover c) d (without c r.cube) (row_in cover c r.cube r.held both.0) (stays r.cube r.held both.0 both.1)))
+    (row_in (quotient cover c) d (cube_quotient c r.cube) (row_in cover c r.cube r.held both.0) (stays r.cube r.held both.0 both.1)))

@@ -6,13 +6,13 @@ use Rattle.std.proofs.lemmas.List.Elements.{All-contains, All-weaker, All-contai
 use Rattle.std.proofs.lemmas.Map.Keys.{Less-from_sorted}
 use Rattle.mv_cover.specs.declared.cube.Lit.{Lit}
 use Rattle.mv_cover.specs.Cubes.{IsCube}
-use Rattle.mv_kernels.specs.Symbols.{has_symbol, has_each, without, quotient, all_have, SameCubes}
+use Rattle.mv_kernels.specs.Symbols.{has_symbol, has_each, cube_quotient, quotient, all_have, SameCubes}
 use Rattle.mv_kernels.specs.Order.{cube_cmp, Ascend}
 use Rattle.mv_kernels.specs.Kernels.{IsKernelBy}
 use Rattle.mv_kernels.specs.Below.{common_of, HasOneCube, IsBelow}
 use Rattle.mv_kernels.proofs.Lists.{Contains-none, Contains-first, Contains-behind, Contains-cons_cases, Contains-filter, Contains-from_filter}
 use Rattle.mv_kernels.proofs.Orders.{cube_total, Less-differs}
-use Rattle.mv_kernels.proofs.Quotients.{symbol_in, in_symbol, symbol_of_left, each_at, each_from, each_left, each_of_left, has_each-append, same_row, cube_without, row_of, row_in, to_back, to_there, SameCubes-trans, same_quotients, quotient_twice}
+use Rattle.mv_kernels.proofs.Quotients.{symbol_in, in_symbol, symbol_of_left, each_at, each_from, each_left, each_of_left, has_each-append, same_row, IsCube-cube_quotient, quotient_row, row_in, to_back, to_there, SameCubes-trans, same_quotients, quotient_twice}
 
 -- ---- what all cubes have
 
@@ -88,8 +88,8 @@ two_of cubes up two =
 -- each cube of a quotient is a cube
 formed_quotient : (cover : List (List Lit)) (c q : List Lit) → All IsCube cover → Contains (quotient cover c) q → IsCube q
 formed_quotient cover c q formed h =
-    let r = row_of cover c q h in
-    subst (λ (x : List Lit). IsCube x) (sym r.is) (cube_without c r.cube (All-contains IsCube cover r.cube formed r.held))
+    let r = quotient_row cover c q h in
+    subst (λ (x : List Lit). IsCube x) (sym r.is) (IsCube-cube_quotient c r.cube (All-contains IsCube cover r.cube formed r.held))
 
 -- no two cubes of a quotient differ where what it becomes without the common symbols has one
 pub one_behind : (cubes kernel : List (List Lit)) (cover : List (List Lit)) (c : List Lit) → All IsCube cover → cubes ≡ quotient cover c → SameCubes kernel (quotient cubes (common_of cubes)) → length kernel < 2 → HasOneCube cubes
@@ -99,9 +99,9 @@ one_behind cubes kernel cover c formed is same low =
           let is_cube : (q : List Lit) → Contains cubes q → IsCube q = λ q h. formed_quotient cover c q formed (subst (λ (x : List (List Lit)). Contains x q) is h) in
           let ea = common_each cubes a ha in
           let eb = common_each cubes b hb in
-          let ka = to_there kernel (quotient cubes (common_of cubes)) (without (common_of cubes) a) same (row_in cubes (common_of cubes) a ha ea) in
-          let kb = to_there kernel (quotient cubes (common_of cubes)) (without (common_of cubes) b) same (row_in cubes (common_of cubes) b hb eb) in
-          same_row (common_of cubes) a b (is_cube a ha) (is_cube b hb) ea eb ((one_cube kernel low).one (without (common_of cubes) a) (without (common_of cubes) b) ka kb);
+          let ka = to_there kernel (quotient cubes (common_of cubes)) (cube_quotient (common_of cubes) a) same (row_in cubes (common_of cubes) a ha ea) in
+          let kb = to_there kernel (quotient cubes (common_of cubes)) (cube_quotient (common_of cubes) b) same (row_in cubes (common_of cubes) b hb eb) in
+          same_row (common_of cubes) a b (is_cube a ha) (is_cube b hb) ea eb ((one_cube kernel low).one (cube_quotient (common_of cubes) a) (cube_quotient (common_of cubes) b) ka kb);
     }
 
 -- what is left without the common symbols has none in common
@@ -109,9 +109,9 @@ free_of : (cubes kernel : List (List Lit)) → SameCubes kernel (quotient cubes 
 free_of cubes kernel same two l =
     false_from_ne_true (all_have kernel l) (λ h.
     let c = common_of cubes in
-    let x = row_of cubes c (get_or kernel 0 []) (to_back kernel (quotient cubes c) (get_or kernel 0 []) same (Contains-get_or kernel 0 [] (omega arith))) in
-    let left : (q : List Lit) → Contains cubes q → has_symbol (without c q) l ≡ true = λ q i.
-    all_have_at kernel l (without c q) h (to_there kernel (quotient cubes c) (without c q) same (row_in cubes c q i (common_each cubes q i))) in
+    let x = quotient_row cubes c (get_or kernel 0 []) (to_back kernel (quotient cubes c) (get_or kernel 0 []) same (Contains-get_or kernel 0 [] (omega arith))) in
+    let left : (q : List Lit) → Contains cubes q → has_symbol (cube_quotient c q) l ≡ true = λ q i.
+    all_have_at kernel l (cube_quotient c q) h (to_there kernel (quotient cubes c) (cube_quotient c q) same (row_in cubes c q i (common_each cubes q i))) in
     let common : has_symbol c l ≡ true = common_all cubes l x.cube x.held (all_have_from cubes l (λ q i. (symbol_of_left c q l (left q i)).1)) in
     let out : has_symbol c l ≡ false = (symbol_of_left c x.cube l (left x.cube x.held)).0 in
     absurd (false≢true (sym out ∙ common)))
@@ -120,8 +120,8 @@ free_of cubes kernel same two l =
 pub below_from : (cover : List (List Lit)) (c : List Lit) (cubes kernel : List (List Lit)) → cubes ≡ quotient cover c → SameCubes kernel (quotient cubes (common_of cubes)) → Ascend kernel → 2 ≤ length kernel → IsBelow cover c kernel
 below_from cover c cubes kernel is same up two =
     let d = common_of cubes in
-    let stays : (p : List Lit) → Contains cover p → has_each c p ≡ true → has_each d (without c p) ≡ true = λ p i h.
-    common_each cubes (without c p) (subst (λ (x : List (List Lit)). Contains x (without c p)) (sym is) (row_in cover c p i h)) in
+    let stays : (p : List Lit) → Contains cover p → has_each c p ≡ true → has_each d (cube_quotient c p) ≡ true = λ p i h.
+    common_each cubes (cube_quotient c p) (subst (λ (x : List (List Lit)). Contains x (cube_quotient c p)) (sym is) (row_in cover c p i h)) in
     let twice = quotient_twice cover c d (λ p i h _. stays p i h) in
     record {
       common = d;
@@ -142,14 +142,14 @@ below_from cover c cubes kernel is same up two =
 pub apart_below : (cover : List (List Lit)) (c : List Lit) (kernel : List (List Lit)) (d : List Lit) (below : List (List Lit)) → IsKernelBy cover c kernel → IsKernelBy kernel d below → (l : Lit) → has_symbol d l ≡ true → has_symbol c l ≡ false
 apart_below cover c kernel d below k b l s =
     let x = get_or below 0 [] in
-    let r = row_of kernel d x (to_back below (quotient kernel d) x b.quotient (Contains-get_or below 0 [] (omega (arith, b.two)))) in
-    let o = row_of cover c r.cube (to_back kernel (quotient cover c) r.cube k.quotient r.held) in
+    let r = quotient_row kernel d x (to_back below (quotient kernel d) x b.quotient (Contains-get_or below 0 [] (omega (arith, b.two)))) in
+    let o = quotient_row cover c r.cube (to_back kernel (quotient cover c) r.cube k.quotient r.held) in
     (symbol_of_left c o.cube l (subst (λ (q : List Lit). has_symbol q l ≡ true) o.is (each_at d r.cube l r.has s))).0
 
 -- a kernel of a kernel of the cover is a kernel of the cover
 pub kernel_below : (cover : List (List Lit)) (c : List Lit) (kernel : List (List Lit)) (d : List Lit) (below : List (List Lit)) → IsKernelBy cover c kernel → IsKernelBy kernel d below → IsKernelBy cover (c ++ d) below
 kernel_below cover c kernel d below k b =
-    let stays : (p : List Lit) → has_each d p ≡ true → has_each d (without c p) ≡ true = λ p h. each_left c d p (apart_below cover c kernel d below k b) h in
+    let stays : (p : List Lit) → has_each d p ≡ true → has_each d (cube_quotient c p) ≡ true = λ p h. each_left c d p (apart_below cover c kernel d below k b) h in
     record {
       ascending = b.ascending;
       quotient =

@@ -14,7 +14,7 @@ use Rattle.mv_cover.specs.Cubes.{IsCube}
 use Rattle.mv_cover.specs.Equal.{lit_eq}
 use Rattle.mv_cover.specs.Keys.{lit_eq-Decides}
 use Rattle.mv_kernels.specs.declared.kernel.Kernel.{Kernel}
-use Rattle.mv_kernels.specs.Symbols.{has_symbol, has_each, without, quotient, SameCubes}
+use Rattle.mv_kernels.specs.Symbols.{has_symbol, has_each, cube_quotient, quotient, SameCubes}
 use Rattle.mv_kernels.specs.Order.{cube_cmp}
 use Rattle.mv_kernels.specs.Kernels.{IsKernelBy, IsKernelOf, AreKernels, HasFew}
 use Rattle.mv_kernels.specs.Below.{HasOneCube, IsBelow, HasBelow, AreBelowBy, AreBelow, Walked}
@@ -22,7 +22,7 @@ use Rattle.mv_kernels.specs.Equal.{kernel_eq}
 use Rattle.mv_kernels.specs.Keys.{same_kernel, kernel_eq-Decides, kernel_eq-equiv}
 use Rattle.mv_kernels.proofs.Lists.{insert_all-grows, insert_all-keeps, insert_all-has, insert_all-each}
 use Rattle.mv_kernels.proofs.Orders.{cube_total, same_sorted}
-use Rattle.mv_kernels.proofs.Quotients.{symbol_in, symbol_left, each_at, each_of_left, has_each-append, without-append, without-same, same_row, row_of, row_in, to_back, to_there, same_cubes, SameCubes-trans, SameCubes-sym}
+use Rattle.mv_kernels.proofs.Quotients.{symbol_in, symbol_left, each_at, each_of_left, has_each-append, cube_quotient-append, cube_quotient-same, same_row, quotient_row, row_in, to_back, to_there, same_cubes, SameCubes-trans, SameCubes-sym}
 use Rattle.mv_kernels.proofs.Steps.{all_have_from, two_of, kernel_below}
 
 -- ---- what is found when the walk has ended
@@ -58,7 +58,7 @@ formed_at cover p formed i = All-contains IsCube cover p formed i
 found_first : (cover : List (List Lit)) (found : List Kernel) → IsClosed cover found → TwoRows cover [] → FoundBy cover [] found
 found_first cover found closed two =
     let formed = closed.formed in
-    let b = closed.first.each (without [] two.first) (without [] two.second) (row_in cover [] two.first two.first_in refl) (row_in cover [] two.second two.second_in refl)
+    let b = closed.first.each (cube_quotient [] two.first) (cube_quotient [] two.second) (row_in cover [] two.first two.first_in refl) (row_in cover [] two.second two.second_in refl)
     (λ e. two.differ (same_row [] two.first two.second (formed_at cover two.first formed two.first_in) (formed_at cover two.second formed two.second_in) refl refl e)) in
     record {
       kernel = b.0;
@@ -85,14 +85,14 @@ found_same cover l c found f there =
 
 -- of a row the cube in the kernel that was found
 record InKernel (kernel : List (List Lit)) (by : List Lit) (l : Lit) (p : List Lit) : Type 0 where
-  held : Contains kernel (without by p)
-  has : has_symbol (without by p) l ≡ true
+  held : Contains kernel (cube_quotient by p)
+  has : has_symbol (cube_quotient by p) l ≡ true
 
 in_kernel : (cover : List (List Lit)) (l : Lit) (c : List Lit) (found : List Kernel) (f : FoundBy cover c found) → has_symbol f.by l ≡ false → (p : List Lit) → Contains cover p → has_each (l ∷ c) p ≡ true → InKernel f.kernel.cubes f.by l p
 in_kernel cover l c found f out p i h =
     let both = and_parts (has_symbol p l) (has_each c p) h in
     record {
-      held = to_there f.kernel.cubes (quotient cover f.by) (without f.by p) f.is.quotient (row_in cover f.by p i (sym (f.rows p i) ∙ both.1));
+      held = to_there f.kernel.cubes (quotient cover f.by) (cube_quotient f.by p) f.is.quotient (row_in cover f.by p i (sym (f.rows p i) ∙ both.1));
       has = symbol_left f.by p l out both.0;
     }
 
@@ -104,7 +104,7 @@ rows_below cover l c found f out below b p i =
       | inl t ↦
           let both = and_parts (has_symbol p l) (has_each c p) t in
           let k = in_kernel cover l c found f out p i t in
-          let inner : has_each (l ∷ b.common) (without f.by p) ≡ true = All-contains (λ (q : List Lit). has_each (l ∷ []) q ≡ true → has_each (l ∷ b.common) q ≡ true) f.kernel.cubes (without f.by p) b.rows k.held (and_from (has_symbol (without f.by p) l) true k.has refl) in
+          let inner : has_each (l ∷ b.common) (cube_quotient f.by p) ≡ true = All-contains (λ (q : List Lit). has_each (l ∷ []) q ≡ true → has_each (l ∷ b.common) q ≡ true) f.kernel.cubes (cube_quotient f.by p) b.rows k.held (and_from (has_symbol (cube_quotient f.by p) l) true k.has refl) in
           t ∙ sym (apart ∙ and_from (has_each f.by p) (has_each (l ∷ b.common) p) (sym (f.rows p i) ∙ both.1) (each_of_left f.by (l ∷ b.common) p inner))
       | inr n ↦
           n ∙ sym (false_from_ne_true (has_each (f.by ++ (l ∷ b.common)) p) (λ h.
@@ -125,13 +125,13 @@ found_below cover l c found closed two f out =
     has_each-append f.by (l ∷ []) p ∙ and_from (has_each f.by p) (has_symbol p l && true) (sym (f.rows p i) ∙ both.1) (and_from (has_symbol p l) true both.0 refl) in
     let down : HasBelow kernel (l ∷ []) found = All-contains (λ (k : Kernel). (m : Lit) → HasBelow k.cubes (m ∷ []) found) found f.kernel closed.down f.held l in
     let b = down.each
-    (without (l ∷ []) (without f.by two.first)) (without (l ∷ []) (without f.by two.second))
-    (row_in kernel (l ∷ []) (without f.by two.first) here.held (and_from (has_symbol (without f.by two.first) l) true here.has refl))
-    (row_in kernel (l ∷ []) (without f.by two.second) there.held (and_from (has_symbol (without f.by two.second) l) true there.has refl))
+    (cube_quotient (l ∷ []) (cube_quotient f.by two.first)) (cube_quotient (l ∷ []) (cube_quotient f.by two.second))
+    (row_in kernel (l ∷ []) (cube_quotient f.by two.first) here.held (and_from (has_symbol (cube_quotient f.by two.first) l) true here.has refl))
+    (row_in kernel (l ∷ []) (cube_quotient f.by two.second) there.held (and_from (has_symbol (cube_quotient f.by two.second) l) true there.has refl))
     (λ e.
     two.differ (same_row (f.by ++ (l ∷ [])) two.first two.second (formed_at cover two.first formed two.first_in) (formed_at cover two.second formed two.second_in)
     (has two.first two.first_in two.first_has) (has two.second two.second_in two.second_has)
-    (without-append f.by (l ∷ []) two.first ∙ (e ∙ sym (without-append f.by (l ∷ []) two.second))))) in
+    (cube_quotient-append f.by (l ∷ []) two.first ∙ (e ∙ sym (cube_quotient-append f.by (l ∷ []) two.second))))) in
     record {
       kernel = b.0;
       held = b.1;
@@ -167,7 +167,7 @@ no_others cover c kernel d k rows l s =
       | inl t ↦ t
       | inr out ↦
           absurd (false≢true (sym (k.free l) ∙ all_have_from kernel l (λ q i.
-          let r = row_of cover c q (to_back kernel (quotient cover c) q k.quotient i) in
+          let r = quotient_row cover c q (to_back kernel (quotient cover c) q k.quotient i) in
           subst (λ (x : List Lit). has_symbol x l ≡ true) (sym r.is) (symbol_left c r.cube l out (each_at d r.cube l (rows r.cube r.held ∙ r.has) s)))))
     ]
 
@@ -181,8 +181,8 @@ same_symbols c d f g l =
 -- quotients by the same symbols
 same_by : (cover : List (List Lit)) (c d : List Lit) → ((l : Lit) → has_symbol c l ≡ has_symbol d l) → ((p : List Lit) → Contains cover p → has_each c p ≡ has_each d p) → (q : List Lit) → Contains (quotient cover c) q → Contains (quotient cover d) q
 same_by cover c d e rows q h =
-    let r = row_of cover c q h in
-    subst (λ (x : List Lit). Contains (quotient cover d) x) (sym (r.is ∙ without-same c d e r.cube)) (row_in cover d r.cube r.held (sym (rows r.cube r.held) ∙ r.has))
+    let r = quotient_row cover c q h in
+    subst (λ (x : List Lit). Contains (quotient cover d) x) (sym (r.is ∙ cube_quotient-same c d e r.cube)) (row_in cover d r.cube r.held (sym (rows r.cube r.held) ∙ r.has))
 
 -- kernels by symbols that the same cubes have are equal
 same_kernels : (cover : List (List Lit)) (c d : List Lit) (a b : List (List Lit)) → IsKernelBy cover c a → IsKernelBy cover d b → ((p : List Lit) → Contains cover p → has_each c p ≡ has_each d p) → a ≡ b
@@ -196,8 +196,8 @@ none_missed : (cover : List (List Lit)) (found : List Kernel) → IsClosed cover
 none_missed cover found closed k is =
     let two = two_of k.cubes is.is.ascending is.is.two in
     let c = is.by in
-    let r = row_of cover c two.first (to_back k.cubes (quotient cover c) two.first is.is.quotient two.first_in) in
-    let s = row_of cover c two.second (to_back k.cubes (quotient cover c) two.second is.is.quotient two.second_in) in
+    let r = quotient_row cover c two.first (to_back k.cubes (quotient cover c) two.first is.is.quotient two.first_in) in
+    let s = quotient_row cover c two.second (to_back k.cubes (quotient cover c) two.second is.is.quotient two.second_in) in
     let f = found_by cover found closed c (record {
       first = r.cube;
       second = s.cube;
@@ -205,7 +205,7 @@ none_missed cover found closed k is =
       second_in = s.held;
       first_has = r.has;
       second_has = s.has;
-      differ = λ e. two.differ (r.is ∙ (ap (without c) e ∙ sym s.is));
+      differ = λ e. two.differ (r.is ∙ (ap (cube_quotient c) e ∙ sym s.is));
     }) in
     subst (λ (x : Kernel). Contains found x) (same_kernel f.kernel k (same_kernels cover f.by c f.kernel.cubes k.cubes f.is is.is (λ p i. sym (f.rows p i)))) f.held
 
@@ -266,7 +266,7 @@ below_all cover symbols below all by = record {
         | inr f ↦
             record {
               each = λ a b ha hb differ.
-                  let r = row_of cover (l ∷ []) a ha in
+                  let r = quotient_row cover (l ∷ []) a ha in
                   absurd (false≢true (sym f ∙ decides.1 (symbol_found cover symbols r.cube l all r.held (and_parts (has_symbol r.cube l) true r.has).0)));
             }
       ];

@@ -22,7 +22,8 @@ pub record IsBelow (cover : List (List Lit)) (c : List Lit) (kernel : List (List
 
 -- where two cubes of the quotient differ, the kernel below is among these
 pub record HasBelow (cover : List (List Lit)) (c : List Lit) (kernels : List Kernel) : Type 0 where
-  pub each : (a b : List Lit) → Contains (quotient cover c) a → Contains (quotient cover c) b → a ≢ b → (k : Kernel) × Contains kernels k × IsBelow cover c k.cubes
+  pub each : (a b : List Lit) → Contains (quotient cover c) a → Contains (quotient cover c) b → a ≢ b
+      → (k : Kernel) × Contains kernels k × IsBelow cover c k.cubes
 
 -- the kernels below the cover by each of these symbols
 pub record AreBelowBy (cover : List (List Lit)) (symbols : List Lit) (kernels : List Kernel) : Type 0 where

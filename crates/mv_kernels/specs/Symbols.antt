@@ -14,12 +14,12 @@ abbrev pub has_each : List Lit → List Lit → Bool
 has_each c cube = list_all (has_symbol cube) c
 
 -- the cube without these symbols
-abbrev pub without : List Lit → List Lit → List Lit
-without c cube = filter (λ l. not (has_symbol c l)) cube
+abbrev pub cube_quotient : List Lit → List Lit → List Lit
+cube_quotient c cube = filter (λ l. not (has_symbol c l)) cube
 
 -- the quotient of a cover by these symbols: the cubes that have them all, without them
 abbrev pub quotient : List (List Lit) → List Lit → List (List Lit)
-quotient cover c = map (without c) (filter (has_each c) cover)
+quotient cover c = map (cube_quotient c) (filter (has_each c) cover)
 
 -- each cube has the symbol
 abbrev pub all_have : List (List Lit) → Lit → Bool

@@ -5,7 +5,7 @@ ghost use Rattle.mv_kernels.specs.Below.{IsBelow, HasOneCube};
 
 use crate::Kernel;
 use crate::order::in_order;
-use crate::symbols::{common, has_each, without};
+use crate::symbols::{common, cube_quotient, has_each};
 use mv_base::{Items, Memory};
 use mv_cover::{Cube, Lit};
 use std::alloc::Global;
@@ -39,7 +39,7 @@ fn quotient(alloc: Global, cubes: &[Cube], symbols: &[Lit]) -> Result<Vec<Cube>,
     let mut part = Vec::new(alloc);
     for cube in cubes {
         if has_each(symbols, cube.lits()) {
-            part.push(without(alloc, symbols, cube)?)?;
+            part.push(cube_quotient(alloc, symbols, cube)?)?;
         }
     }
     Ok(part)

@@ -25,8 +25,8 @@ pub fn has_each(symbols: &[Lit], lits: &[Lit]) -> bool
 }
 
 /// The cube without these symbols.
-pub fn without(alloc: Global, symbols: &[Lit], cube: &Cube) -> Result<Cube, Memory>
-    ensures { IfOk result (λ left. left ≡ spec.without symbols.now cube.now) }
+pub fn cube_quotient(alloc: Global, symbols: &[Lit], cube: &Cube) -> Result<Cube, Memory>
+    ensures { IfOk result (λ left. left ≡ spec.cube_quotient symbols.now cube.now) }
 {
     let left = others(alloc, symbols, cube.lits())?;
     Cube::new(alloc, left.as_slice())
@@ -34,7 +34,7 @@ pub fn without(alloc: Global, symbols: &[Lit], cube: &Cube) -> Result<Cube, Memo
 
 /// The literals that are none of these symbols.
 fn others(alloc: Global, symbols: &[Lit], lits: &[Lit]) -> Result<SmallVec<Lit, 8>, Memory>
-    ensures { IfOk result (λ others. others.items ≡ spec.without symbols.now lits.now) }
+    ensures { IfOk result (λ others. others.items ≡ spec.cube_quotient symbols.now lits.now) }
 {
     let mut others = SmallVec::new(alloc);
     for l in lits {

@@ -4,7 +4,7 @@ use Rattle.std.proofs.lemmas.Bool.{cases_Bool, cond-true, cond-false, or_cases, 
 use Rattle.std.proofs.lemmas.List.{append-nil}
 use Rattle.mv_lex.specs.declared.parts.Kind.{Kind}
 use Rattle.mv_lex.specs.declared.parts.Kind.TheVariants.{Start, Plain, Bracketed}
-use Rattle.mv_lex.specs.Words.{is_blank, is_solid, is_bang, opens, closer, front, behind, Cut, no_words, with_word, bracketed_behind, plain_behind, first_word, cut_words, cut_of, nonempty}
+use Rattle.mv_lex.specs.Words.{is_blank, is_solid, is_bang, opens, closer, front, behind, Cut, no_words, with_word, bracketed_behind, plain_behind, cut_first, cut_words, cut_of, nonempty}
 use Rattle.mv_lex.specs.Steps.{ended_word, with_byte, with_bytes}
 
 abbrev pub cut_at : List (List ℕ) → List ℕ → Kind → Cut
@@ -227,7 +227,7 @@ module _ (n : ℕ) (rest : (words : List (List ℕ)) (text : List ℕ) → lengt
   plain_more words word (b ∷ text) some short = word_more words word text some (omega arith)
 
   -- what stands behind the `!` of the first word
-  first_more : (words : List (List ℕ)) (bangs text : List ℕ) → length text ≤ suc n → ((b : ℕ) (rest : List ℕ) → text ≡ b ∷ rest → is_bang b ≡ false) → ((b : ℕ) (rest : List ℕ) → text ≡ b ∷ rest → bangs ≡ [] → is_blank b ≡ false) → with_bytes (cut_at words bangs Start) text ≡ with_words words (first_word (cut_words n) bangs text)
+  first_more : (words : List (List ℕ)) (bangs text : List ℕ) → length text ≤ suc n → ((b : ℕ) (rest : List ℕ) → text ≡ b ∷ rest → is_bang b ≡ false) → ((b : ℕ) (rest : List ℕ) → text ≡ b ∷ rest → bangs ≡ [] → is_blank b ≡ false) → with_bytes (cut_at words bangs Start) text ≡ with_words words (cut_first (cut_words n) bangs text)
   first_more words bangs [] short bang blank = ap (λ ws. cut_at ws bangs Start) (sym (append-nil words))
   first_more words bangs (b ∷ text) short bang blank =
       ⊎_elim

@@ -7,7 +7,8 @@ use Rattle.std.specs.Bool.{IsTrue}
 use Rattle.std.proofs.lemmas.Bool.{cases_Bool, cond-true, cond-false, leb-true, leb-false, le-leb, lt-leb, not-true, not-false, and_parts, and_from, or_left, or_right, or_from, false≢true, eqb-true, not_from_false, not_from_true}
 use Rattle.std.proofs.Math.Bool.{or-false, and-true}
 use Rattle.std.proofs.lemmas.List.{append-nil}
-use Rattle.std.proofs.lemmas.List.Folds.{list_all-append, list_any-append}
+use Rattle.std.proofs.lemmas.List.Folds.{list_any-append}
+use Rattle.mv_base.proofs.Lists.{list_all-push}
 use Rattle.mv_lex.specs.declared.fault.LexFault.TheVariants.{BadByte, LongWord, OpenBracket}
 use Rattle.mv_lex.specs.declared.parts.Place.{Place}
 use Rattle.mv_lex.specs.Words.{Cut, cut_of, is_long, has_long, waits}
@@ -91,14 +92,11 @@ byte_good limit bytes b within good =
     (λ (e : in_comment bytes ≡ false). cond-false (in_comment bytes) _ _ e ∙ (cond-false (not (is_acceptable b)) _ _ (not_from_true (is_acceptable b) (good e).acceptable) ∙ (good e).words))
     (cases_Bool (in_comment bytes))
 
-all_push : {A : Type 0} (p : A → Bool) (xs : List A) (x : A) → list_all p (xs ++ x ∷ []) ≡ (list_all p xs && p x)
-all_push p xs x = list_all-append p xs (x ∷ []) ∙ ap (λ t. list_all p xs && t) (and-true (p x))
-
 all_more : {A : Type 0} (p : A → Bool) (xs : List A) (x : A) → list_all p xs ≡ true → p x ≡ true → list_all p (xs ++ x ∷ []) ≡ true
-all_more p xs x all one = all_push p xs x ∙ and_from (list_all p xs) (p x) all one
+all_more p xs x all one = list_all-push p xs x ∙ and_from (list_all p xs) (p x) all one
 
 all_parts : {A : Type 0} (p : A → Bool) (xs : List A) (x : A) → list_all p (xs ++ x ∷ []) ≡ true → (list_all p xs ≡ true) × (p x ≡ true)
-all_parts p xs x e = and_parts (list_all p xs) (p x) (sym (all_push p xs x) ∙ e)
+all_parts p xs x e = and_parts (list_all p xs) (p x) (sym (list_all-push p xs x) ∙ e)
 
 -- ---- a line feed
 
@@ -189,7 +187,7 @@ readable_more : (line : List ℕ) (b : ℕ) → has_hash line ≡ false → is_r
 readable_more line b e =
     ⊎_elim
     (λ (hash : is_hash b ≡ true). ap (list_all is_acceptable) (before_hash-begins line b e hash) ∙ (sym (and-true (list_all is_acceptable line)) ∙ ap (λ t. list_all is_acceptable line && t) (sym (acceptable_hash b hash))))
-    (λ (clear : is_hash b ≡ false). ap (list_all is_acceptable) (before_hash-clear (line ++ b ∷ []) (has_hash-push line b ∙ or_from (has_hash line) (is_hash b) e clear)) ∙ all_push is_acceptable line b)
+    (λ (clear : is_hash b ≡ false). ap (list_all is_acceptable) (before_hash-clear (line ++ b ∷ []) (has_hash-push line b ∙ or_from (has_hash line) (is_hash b) e clear)) ∙ list_all-push is_acceptable line b)
     (cases_Bool (is_hash b)) where
       acceptable_hash : (b : ℕ) → is_hash b ≡ true → is_acceptable b ≡ true
       acceptable_hash b hash = let P : ℕ → Type 0 = λ n. is_acceptable n ≡ true in subst P (sym (eqb-true b 35 hash)) refl
@@ -343,12 +341,12 @@ all_groups bytes =
     let lines = ended_lines bytes in
     let groups = joined lines ++ (unended lines ++ line ∷ []) ∷ [] in
     let cut : all_joined (slice_split is_line_feed bytes) ≡ all_joined (lines ++ line ∷ []) = ap all_joined (split_all is_line_feed bytes) in
-    let whole : list_all group_ends_well groups ≡ (list_all group_ends_well (joined lines) && ends_well (open_text bytes)) = all_push group_ends_well (joined lines) (unended lines ++ line ∷ []) ∙ ap (λ t. list_all group_ends_well (joined lines) && t) (group_is bytes) in
+    let whole : list_all group_ends_well groups ≡ (list_all group_ends_well (joined lines) && ends_well (open_text bytes)) = list_all-push group_ends_well (joined lines) (unended lines ++ line ∷ []) ∙ ap (λ t. list_all group_ends_well (joined lines) && t) (group_is bytes) in
     ap (list_all group_ends_well) cut ∙ ⊎_elim
     (λ (goes : joins line ≡ true). ap (list_all group_ends_well) (ap (λ gs. gs ++ unended (lines ++ line ∷ []) ∷ []) (joined-more lines line goes) ∙ ap (λ g. joined lines ++ g ∷ []) (unended-more lines line goes)) ∙ whole)
     (λ (stops : joins line ≡ false). (
     ap (list_all group_ends_well) (ap (λ gs. gs ++ unended (lines ++ line ∷ []) ∷ []) (joined-end lines line stops) ∙ ap (λ g. groups ++ g ∷ []) (unended-end lines line stops))
-    ∙ (all_push group_ends_well groups [] ∙ (and-true (list_all group_ends_well groups) ∙ whole))
+    ∙ (list_all-push group_ends_well groups [] ∙ (and-true (list_all group_ends_well groups) ∙ whole))
     ))
     (cases_Bool (joins line))
 

@@ -17,34 +17,37 @@ use Rattle.mv_lex.specs.Steps.{HasRead, is_letter, TakesLetters, with_letters, w
 use Rattle.mv_lex.proofs.Cutting.{cut_at, plain-solid}
 use Rattle.mv_lex.proofs.After.{HasRead-start, HasRead-byte, HasRead-append, first_fault-met}
 
--- what a letter isn't
-record IsLetter (b : ℕ) : Type 0 where
-  acceptable : is_acceptable b ≡ true
-  blank : is_blank b ≡ false
-  feed : is_line_feed b ≡ false
-  hash : is_hash b ≡ false
-  backslash : (b == 92) ≡ false
-  returns : (b == 13) ≡ false
+-- what a byte that can be seen and begins no comment isn't
+pub record IsWordByte (b : ℕ) : Type 0 where
+  pub acceptable : is_acceptable b ≡ true
+  pub blank : is_blank b ≡ false
+  pub feed : is_line_feed b ≡ false
+  pub hash : is_hash b ≡ false
+  pub returns : (b == 13) ≡ false
 
-letter : (b : ℕ) → is_letter b ≡ true → IsLetter b
-letter b h =
-    let p = and_parts (is_visible b && not (is_hash b)) (not (b == 92)) h in
-    let q = and_parts (is_visible b) (not (is_hash b)) p.0 in
-    let low = leb-true 33 b (and_parts (nat_le 33 b) (nat_le b 126) q.0).0 in
+pub word_byte : (b : ℕ) → (is_visible b && not (is_hash b)) ≡ true → IsWordByte b
+word_byte b h =
+    let p = and_parts (is_visible b) (not (is_hash b)) h in
+    let low = leb-true 33 b (and_parts (nat_le 33 b) (nat_le b 126) p.0).0 in
     let r = ne_eqb b 13 (λ e. omega arith) in
     record {
-      acceptable = or_right (is_line_feed b || is_blank b) (is_visible b) q.0;
+      acceptable = or_right (is_line_feed b || is_blank b) (is_visible b) p.0;
       blank = or_from ((b == 32) || (b == 9)) (b == 13) (or_from (b == 32) (b == 9) (ne_eqb b 32 (λ e. omega arith)) (ne_eqb b 9 (λ e. omega arith))) r;
       feed = ne_eqb b 10 (λ e. omega arith);
-      hash = not-true (is_hash b) q.1;
-      backslash = not-true (b == 92) p.1;
+      hash = not-true (is_hash b) p.1;
       returns = r;
     }
 
 -- a letter has no fault, and goes to its word
 module _ (r : Reading) (b : ℕ) (more : List ℕ) (h : TakesLetters r (b ∷ more)) where
-  is : IsLetter b
-  is = letter b (and_parts (is_letter b) (list_all is_letter more) h.all).0
+  is_one : is_letter b ≡ true
+  is_one = (and_parts (is_letter b) (list_all is_letter more) h.all).0
+
+  is : IsWordByte b
+  is = word_byte b (and_parts (is_visible b && not (is_hash b)) (not (b == 92)) is_one).0
+
+  backslash : (b == 92) ≡ false
+  backslash = not-true (b == 92) (and_parts (is_visible b && not (is_hash b)) (not (b == 92)) is_one).1
 
   below : nat_le r.limit r.size ≡ false
   below = let w = h.within in lt-leb r.limit r.size (omega arith)
@@ -73,7 +76,7 @@ module _ (r : Reading) (b : ℕ) (more : List ℕ) (h : TakesLetters r (b ∷ mo
       ∙ (cond-false ((b == 13) && is_backslash r.place) _ _ no_backslash
       ∙ (ap (λ p. if long_with_bytes r.cut (held p) then Some (LongWord r.here) else (if is_hash b then end_fault_of r.here (settled r) else long_fault r.here (long_with (settled r) (if b == 92 then 32 else b)))) h.place
       ∙ (cond-false (is_hash b) _ _ is.hash
-      ∙ (ap (λ x. long_fault r.here (long_with (settled r) x)) (cond-false (b == 92) 32 b is.backslash)
+      ∙ (ap (λ x. long_fault r.here (long_with (settled r) x)) (cond-false (b == 92) 32 b backslash)
       ∙ (ap (λ c. long_fault r.here (long_with c b)) settled-same ∙ ap (long_fault r.here) long_letter))))))))
 
   letter_step : stepped r b ≡ with_letters r (b ∷ [])
@@ -84,7 +87,7 @@ module _ (r : Reading) (b : ℕ) (more : List ℕ) (h : TakesLetters r (b ∷ mo
       ∙ (cond-false (is_line_feed b) _ _ is.feed
       ∙ (cond-false ((b == 13) && is_backslash r.place) _ _ no_backslash
       ∙ (cond-false (is_hash b) _ _ is.hash
-      ∙ (cond-false (b == 92) _ _ is.backslash
+      ∙ (cond-false (b == 92) _ _ backslash
       ∙ (ap (λ p. record r { size = r.size + 1; place = p; cut = with_byte (settled r) b }) (sym h.place) ∙ ap (λ c. record r { size = r.size + 1; cut = c }) cut)))))
 
   letter_ended : ended r b ≡ []

@@ -3,7 +3,7 @@ use Rattle.std.proofs.Common.{◌≡◌, ℕ, true, false, not, ◌&&◌, ◌||�
 use Rattle.std.proofs.lemmas.Bool.{cases_Bool, cond-true, cond-false, and_parts, and_right, and_left, or_parts, or_left, or_right, eqb-true, not_from_true, not_from_false}
 use Rattle.mv_lex.specs.declared.parts.Place.{Place}
 use Rattle.mv_lex.specs.declared.parts.Place.TheVariants.{Text, Backslash, Return, Comment}
-use Rattle.mv_lex.specs.Lines.{is_hash, has_hash, before_hash, is_end, tail_of, before_tail, certain}
+use Rattle.mv_lex.specs.Lines.{is_hash, has_hash, before_hash, is_line_end, tail_of, before_tail, certain}
 use Rattle.mv_lex.specs.Reading.{place_of_tail, place_of}
 use Rattle.mv_lex.specs.Steps.{held, is_backslash}
 
@@ -13,7 +13,7 @@ use Rattle.mv_lex.specs.Steps.{held, is_backslash}
 pub before_tail-tail : (line : List ℕ) → before_tail line ++ tail_of line ≡ line
 before_tail-tail [] = refl
 before_tail-tail (b ∷ line) =
-    elim ((b == 92) && is_end line) as (λ t. (if t then [] else b ∷ before_tail line) ++ (if t then b ∷ line else tail_of line) ≡ b ∷ line) [
+    elim ((b == 92) && is_line_end line) as (λ t. (if t then [] else b ∷ before_tail line) ++ (if t then b ∷ line else tail_of line) ≡ b ∷ line) [
       | true ↦ refl
       | false ↦ ap (λ bs. b ∷ bs) (before_tail-tail line)
     ]
@@ -42,27 +42,27 @@ held-tail (b ∷ c ∷ d ∷ line) =
     rw t (held-tail (c ∷ d ∷ line))
 
 -- a line of two bytes and more isn't the end of one, nor is one with a byte more
-is_end-push : (c : ℕ) (line : List ℕ) (b : ℕ) → is_end (c ∷ (line ++ b ∷ [])) ≡ false
-is_end-push c [] b = refl
-is_end-push c (d ∷ line) b = refl
+is_line_end-push : (c : ℕ) (line : List ℕ) (b : ℕ) → is_line_end (c ∷ (line ++ b ∷ [])) ≡ false
+is_line_end-push c [] b = refl
+is_line_end-push c (d ∷ line) b = refl
 
 -- the first byte is in no tail
-pub tail_of-skip : (b : ℕ) (line : List ℕ) → is_end line ≡ false → tail_of (b ∷ line) ≡ tail_of line
-tail_of-skip b line e = cond-false ((b == 92) && is_end line) _ _ (and_right (b == 92) (is_end line) e)
+pub tail_of-skip : (b : ℕ) (line : List ℕ) → is_line_end line ≡ false → tail_of (b ∷ line) ≡ tail_of line
+tail_of-skip b line e = cond-false ((b == 92) && is_line_end line) _ _ (and_right (b == 92) (is_line_end line) e)
 
-before_tail-skip : (b : ℕ) (line : List ℕ) → is_end line ≡ false → before_tail (b ∷ line) ≡ b ∷ before_tail line
-before_tail-skip b line e = cond-false ((b == 92) && is_end line) _ _ (and_right (b == 92) (is_end line) e)
+before_tail-skip : (b : ℕ) (line : List ℕ) → is_line_end line ≡ false → before_tail (b ∷ line) ≡ b ∷ before_tail line
+before_tail-skip b line e = cond-false ((b == 92) && is_line_end line) _ _ (and_right (b == 92) (is_line_end line) e)
 
 -- a `\` comes: all before it is certain
 tail_of-backslash : (line : List ℕ) → tail_of (line ++ 92 ∷ []) ≡ 92 ∷ []
 tail_of-backslash [] = refl
 tail_of-backslash (b ∷ []) = tail_of-skip b (92 ∷ []) refl
-tail_of-backslash (b ∷ c ∷ line) = tail_of-skip b (c ∷ (line ++ 92 ∷ [])) (is_end-push c line 92) ∙ tail_of-backslash (c ∷ line)
+tail_of-backslash (b ∷ c ∷ line) = tail_of-skip b (c ∷ (line ++ 92 ∷ [])) (is_line_end-push c line 92) ∙ tail_of-backslash (c ∷ line)
 
 before_tail-backslash : (line : List ℕ) → before_tail (line ++ 92 ∷ []) ≡ line
 before_tail-backslash [] = refl
 before_tail-backslash (b ∷ []) = before_tail-skip b (92 ∷ []) refl
-before_tail-backslash (b ∷ c ∷ line) = before_tail-skip b (c ∷ (line ++ 92 ∷ [])) (is_end-push c line 92) ∙ ap (λ bs. b ∷ bs) (before_tail-backslash (c ∷ line))
+before_tail-backslash (b ∷ c ∷ line) = before_tail-skip b (c ∷ (line ++ 92 ∷ [])) (is_line_end-push c line 92) ∙ ap (λ bs. b ∷ bs) (before_tail-backslash (c ∷ line))
 
 -- a carriage return comes behind a `\`: nothing more is certain
 pub record HasTail (line tail front : List ℕ) : Type 0 where
@@ -78,17 +78,17 @@ tail-return (b ∷ []) e =
     (cases_Bool (b == 92))
 tail-return (b ∷ c ∷ line) e =
     ⊎_elim
-    (λ (h : ((b == 92) && is_end (c ∷ line)) ≡ true). let whole : tail_of (b ∷ c ∷ line) ≡ b ∷ c ∷ line = cond-true ((b == 92) && is_end (c ∷ line)) _ _ h in cc)
-    (λ (h : ((b == 92) && is_end (c ∷ line)) ≡ false). (
-    let t : tail_of (b ∷ c ∷ line) ≡ tail_of (c ∷ line) = cond-false ((b == 92) && is_end (c ∷ line)) _ _ h in
-    let f : before_tail (b ∷ c ∷ line) ≡ b ∷ before_tail (c ∷ line) = cond-false ((b == 92) && is_end (c ∷ line)) _ _ h in
+    (λ (h : ((b == 92) && is_line_end (c ∷ line)) ≡ true). let whole : tail_of (b ∷ c ∷ line) ≡ b ∷ c ∷ line = cond-true ((b == 92) && is_line_end (c ∷ line)) _ _ h in cc)
+    (λ (h : ((b == 92) && is_line_end (c ∷ line)) ≡ false). (
+    let t : tail_of (b ∷ c ∷ line) ≡ tail_of (c ∷ line) = cond-false ((b == 92) && is_line_end (c ∷ line)) _ _ h in
+    let f : before_tail (b ∷ c ∷ line) ≡ b ∷ before_tail (c ∷ line) = cond-false ((b == 92) && is_line_end (c ∷ line)) _ _ h in
     let rest = tail-return (c ∷ line) (sym t ∙ e) in
     record {
-      tail_is = tail_of-skip b (c ∷ (line ++ 13 ∷ [])) (is_end-push c line 13) ∙ rest.tail_is;
-      front_is = before_tail-skip b (c ∷ (line ++ 13 ∷ [])) (is_end-push c line 13) ∙ (ap (λ bs. b ∷ bs) rest.front_is ∙ sym f);
+      tail_is = tail_of-skip b (c ∷ (line ++ 13 ∷ [])) (is_line_end-push c line 13) ∙ rest.tail_is;
+      front_is = before_tail-skip b (c ∷ (line ++ 13 ∷ [])) (is_line_end-push c line 13) ∙ (ap (λ bs. b ∷ bs) rest.front_is ∙ sym f);
     }
     ))
-    (cases_Bool ((b == 92) && is_end (c ∷ line)))
+    (cases_Bool ((b == 92) && is_line_end (c ∷ line)))
 
 -- any other byte comes: all is certain
 tail_of-more : (b : ℕ) (line : List ℕ) → tail_of line ≡ 92 ∷ [] → tail_of (b ∷ line) ≡ 92 ∷ []
@@ -126,8 +126,8 @@ tail-other (c ∷ []) b n other =
 tail-other (c ∷ d ∷ line) b n other =
     let rest = tail-other (d ∷ line) b n (λ r e. other r (tail_of-more c (d ∷ line) e)) in
     record {
-      tail_is = tail_of-skip c (d ∷ (line ++ b ∷ [])) (is_end-push d line b) ∙ rest.tail_is;
-      front_is = before_tail-skip c (d ∷ (line ++ b ∷ [])) (is_end-push d line b) ∙ ap (λ bs. c ∷ bs) rest.front_is;
+      tail_is = tail_of-skip c (d ∷ (line ++ b ∷ [])) (is_line_end-push d line b) ∙ rest.tail_is;
+      front_is = before_tail-skip c (d ∷ (line ++ b ∷ [])) (is_line_end-push d line b) ∙ ap (λ bs. c ∷ bs) rest.front_is;
     }
 
 -- ---- comments

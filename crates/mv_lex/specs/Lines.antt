@@ -1,12 +1,13 @@
 -- The lines of a file and the first fault of its bytes, said of the whole list of bytes: the lines of BLIF-MV after its
 -- description by Kukimoto, with this program's profile.
-use Rattle.std.specs.Prelude.{ℕ, Bool, true, false, not, ◌&&◌, ◌||◌, ◌==◌, nat_le, ◌+◌, List, [], ◌∷◌, ◌++◌, length, Option, Some, None, if◌then◌else◌}
+use Rattle.std.specs.Prelude.{◌≡◌, ◌⊎◌, ℕ, ◌+◌, Bool, true, false, not, ◌&&◌, ◌||◌, ◌==◌, nat_le}
+use Rattle.std.specs.Prelude.{List, [], ◌∷◌, ◌++◌, length, Option, Some, None, if◌then◌else◌}
 use Rattle.std.specs.List.{list_all, list_any, flat_map, slice_split}
 use Rattle.std.specs.Option.{option_or}
 use Rattle.mv_base.specs.Names.{is_visible}
 use Rattle.mv_lex.specs.declared.lines.LexLine.{LexLine}
 use Rattle.mv_lex.specs.declared.fault.LexFault.{LexFault}
-use Rattle.mv_lex.specs.declared.fault.LexFault.TheVariants.{BadByte, LongWord, OpenBracket, TooLarge}
+use Rattle.mv_lex.specs.declared.fault.LexFault.TheVariants.{BadByte, LongWord, OpenBracket, TooLarge, Memory}
 use Rattle.mv_lex.specs.Cuts.{closed, open_piece}
 use Rattle.mv_lex.specs.Words.{is_blank, front, Cut, cut_of, finished, is_long, has_long, waits}
 
@@ -39,21 +40,21 @@ abbrev pub before_hash : List ℕ → List ℕ
 before_hash line = front (λ b. not (is_hash b)) line
 
 -- nothing is left of the line but a carriage return, which is dropped at its end
-abbrev pub is_end : List ℕ → Bool
-is_end [] = true
-is_end (b ∷ []) = b == 13
-is_end (_ ∷ _ ∷ _) = false
+abbrev pub is_line_end : List ℕ → Bool
+is_line_end [] = true
+is_line_end (b ∷ []) = b == 13
+is_line_end (_ ∷ _ ∷ _) = false
 
 -- the `\` at the end of the line, with the carriage return behind it if there is one; nothing where there is no such `\`.
 -- (Any other carriage return at the end of a line would be dropped. Taken as a blank it gives the same words.)
 abbrev pub tail_of : List ℕ → List ℕ
 tail_of [] = []
-tail_of (b ∷ line) = if (b == 92) && is_end line then b ∷ line else tail_of line
+tail_of (b ∷ line) = if (b == 92) && is_line_end line then b ∷ line else tail_of line
 
 -- the bytes before that `\`: all of them where there is none
 abbrev pub before_tail : List ℕ → List ℕ
 before_tail [] = []
-before_tail (b ∷ line) = if (b == 92) && is_end line then [] else b ∷ before_tail line
+before_tail (b ∷ line) = if (b == 92) && is_line_end line then [] else b ∷ before_tail line
 
 -- a list without bytes
 abbrev pub is_empty : List ℕ → Bool
@@ -208,3 +209,7 @@ end_fault bytes =
 -- the first fault of a file
 abbrev pub lex_fault : ℕ → List ℕ → Option LexFault
 lex_fault limit bytes = option_or (first_fault limit [] bytes) (end_fault bytes)
+
+-- why a call fails: for want of memory, or for this fault
+abbrev pub IsTold : Option LexFault → LexFault → Type 0
+IsTold fault f = (f ≡ Memory) ⊎ (fault ≡ Some f)

@@ -1,5 +1,6 @@
 -- How one more byte changes what the lexer keeps. For private functions.
-use Rattle.std.specs.Prelude.{◌≡◌, ℕ, ◌+◌, ◌≤◌, Bool, true, false, not, ◌&&◌, ◌||◌, ◌==◌, nat_le, nat_lt, List, [], ◌∷◌, ◌++◌, length, Option, Some, None, if◌then◌else◌}
+use Rattle.std.specs.Prelude.{◌≡◌, ℕ, ◌+◌, ◌≤◌, Bool, true, false, not, ◌&&◌, ◌||◌, ◌==◌, nat_le, nat_lt}
+use Rattle.std.specs.Prelude.{List, [], ◌∷◌, ◌++◌, length, Option, Some, None, if◌then◌else◌}
 use Rattle.std.specs.List.{list_all}
 use Rattle.mv_base.specs.Names.{is_visible}
 use Rattle.mv_base.specs.declared.limits.TheConstants.{MAX_WORD_BYTES, MAX_BRACKETED_BYTES}
@@ -91,10 +92,8 @@ held Comment = []
 
 -- the next byte stands right behind a `\`
 abbrev pub is_backslash : Place → Bool
-is_backslash Text = false
 is_backslash Backslash = true
-is_backslash Return = false
-is_backslash Comment = false
+is_backslash _ = false
 
 -- the text with the bytes that were held back, and with one more
 unfoldable pub settled : Reading → Cut
@@ -191,10 +190,8 @@ blank_at Comment = []
 
 -- the next byte stands in a comment
 abbrev pub is_comment : Place → Bool
-is_comment Text = false
-is_comment Backslash = false
-is_comment Return = false
 is_comment Comment = true
+is_comment _ = false
 
 -- the words of the text where the bytes end
 unfoldable pub end_cut : Reading → Cut

@@ -71,14 +71,14 @@ abbrev pub plain : (List ℕ → Cut) → List ℕ → List ℕ → Cut
 plain rest head text = plain_behind rest (head ++ front is_solid text) (behind is_solid text)
 
 -- a text whose first word begins with these `!`: with a bracket behind them it is a bracketed word
-abbrev pub first_word : (List ℕ → Cut) → List ℕ → List ℕ → Cut
-first_word rest bangs [] = record { words = []; word = bangs; kind = Start }
-first_word rest bangs (b ∷ text) = if opens b then bracketed rest (closer b) (bangs ++ b ∷ []) text else plain rest bangs (b ∷ text)
+abbrev pub cut_first : (List ℕ → Cut) → List ℕ → List ℕ → Cut
+cut_first rest bangs [] = record { words = []; word = bangs; kind = Start }
+cut_first rest bangs (b ∷ text) = if opens b then bracketed rest (closer b) (bangs ++ b ∷ []) text else plain rest bangs (b ∷ text)
 
 -- a text of at most this many bytes: its blanks are passed over, then comes its first word, then the rest
 abbrev pub cut_words : ℕ → List ℕ → Cut
 cut_words zero text = no_words
-cut_words (suc n) text = first_word (cut_words n) (front is_bang (behind is_blank text)) (behind is_bang (behind is_blank text))
+cut_words (suc n) text = cut_first (cut_words n) (front is_bang (behind is_blank text)) (behind is_bang (behind is_blank text))
 
 -- a text cut into words
 unfoldable pub cut_of : List ℕ → Cut

@@ -1,4 +1,5 @@
-ghost use Rattle.std.specs.Prelude.{◌≡◌, ◌⊎◌, ◌∷◌, ◌++◌, [], nat_le, length, true, false, IfOk, IfErr, OnOk, OnErr, MatchResult, ◌≤◌, ◌<◌, ◌+◌, take, None, Some};
+ghost use Rattle.std.specs.Prelude.{◌≡◌, ◌⊎◌, ◌∷◌, ◌++◌, [], nat_le, length, true, false, IfOk, IfErr};
+ghost use Rattle.std.specs.Prelude.{OnOk, OnErr, MatchResult, ◌≤◌, ◌<◌, ◌+◌, take, None, Some};
 ghost use Rattle.mv_lex.specs.declared.fault.LexFault.{LexFault};
 ghost use Rattle.std.specs.List.{list_all};
 ghost use Rattle.mv_lex.specs.Steps.{is_letter as letter};
@@ -9,14 +10,13 @@ use crate::parts::Kind;
 use mv_base::{Items, MAX_BRACKETED_BYTES, MAX_WORD_BYTES, Name};
 use std::alloc::Global;
 use std::marker::Model;
-use std::mem;
 
 /// Cuts a text, which comes byte by byte, into words.
 #[derive(Drop)]
 pub struct Cutter {
     alloc: Global,
-    /// The words that have ended.
-    words: Items<Name>,
+    /// The words that have ended, with room that stays from line to line.
+    words: Vec<Name>,
     /// The bytes of the last word, which may go on.
     word: Vec<u8>,
     /// What that word is.
@@ -28,7 +28,7 @@ impl Model for Cutter {
 
     ghost Value = { Cut };
 
-    ghost view = { λ s. record { words = s.words; word = s.word.items; kind = s.kind } };
+    ghost view = { λ s. record { words = s.words.items; word = s.word.items; kind = s.kind } };
 }
 
 impl Cutter {
@@ -40,7 +40,7 @@ impl Cutter {
     {
         Cutter {
             alloc,
-            words: Items::new(alloc),
+            words: Vec::new(alloc),
             word: Vec::new(alloc),
             kind: Kind::Start,
         }
@@ -99,7 +99,8 @@ impl Cutter {
         requires { self.old.kind ≡ Kind.Bracketed end }
         ensures ok { OnOk result (self.new ≡ bracketed_byte self.old.words self.old.word end b) }
         ensures short { OnOk result (kind_long (length self.old.word) (Kind.Bracketed end) b ≡ false) }
-        ensures err { IfErr result (λ f. (f ≡ LexFault.Memory) ⊎ ((f ≡ LexFault.LongWord line) × (kind_long (length self.old.word) (Kind.Bracketed end) b ≡ true))) }
+        ensures err { IfErr result (λ f. (f ≡ LexFault.Memory)
+            ⊎ ((f ≡ LexFault.LongWord line) × (kind_long (length self.old.word) (Kind.Bracketed end) b ≡ true))) }
     {
         if is_blank(b) {
             return Ok(());
@@ -203,18 +204,16 @@ impl Cutter {
         }
     }
 
-    /// Gives all words of the text, and begins anew, with room for as many words: most lines of a file have as many as the
-    /// line before. The words that are given keep no room to spare.
+    /// Gives all words of the text, in memory of just their size, and begins anew.
     pub fn give(&mut self) -> Result<Items<Name>, LexFault>
         ensures ok { IfOk result (λ words. words ≡ finished self.old) }
         ensures anew { OnOk result (self.new ≡ no_words) }
         ensures err { IfErr result (λ f. f ≡ LexFault.Memory) }
     {
         self.end_word()?;
-        let next = Items::with_room(self.alloc, self.words.len())?;
-        let mut words = mem::replace(&mut self.words, next);
-        words.shrink_to_fit();
-        Ok(words)
+        let mut words = Vec::with_capacity(self.alloc, self.words.len())?;
+        words.append(&mut self.words)?;
+        Ok(Items::of(words))
     }
 }
 

@@ -42,9 +42,10 @@ impl Lexer {
     ghost use Rattle.mv_lex.specs.declared.lines.LexLine.{LexLine};
     ghost use Rattle.mv_lex.specs.declared.fault.LexFault.{LexFault};
     ghost use Rattle.mv_lex.specs.Words.{finished, no_words};
-    ghost use Rattle.mv_lex.specs.Lines.{complete, lines_of, first_fault, end_fault};
+    ghost use Rattle.mv_lex.specs.Lines.{complete, lines_of, first_fault, end_fault, IsTold};
     ghost use Rattle.mv_lex.specs.Reading.{Reading, IsAfter, GainsLines};
-    ghost use Rattle.mv_lex.specs.Steps.{HasRead, TakesLetters, with_letters, long_with, end_fault_of, held, long_with_bytes, settled, text_fault, text_step, new_line, next_line, fault_now, stepped, ended, end_now, end_cut};
+    ghost use Rattle.mv_lex.specs.Steps.{HasRead, TakesLetters, with_letters, long_with, end_fault_of, held, long_with_bytes, settled};
+    ghost use Rattle.mv_lex.specs.Steps.{text_fault, text_step, new_line, next_line, fault_now, stepped, ended, end_now, end_cut};
 
     /// A lexer that has read nothing yet, and will read so many bytes at most. It takes no memory.
     #[tactic(auto, unfolding(crate::specs::Words::cut_of))]
@@ -72,7 +73,7 @@ impl Lexer {
     pub fn feed(&mut self, piece: &[u8], lines: &mut Lines) -> Result<(), LexFault>
         ensures ok { (bytes : List ℕ) → IsAfter self.old bytes → OnOk result (IsAfter self.new (bytes ++ piece.now)) }
         ensures lines { OnOk result (GainsLines self.old lines.old lines.new (λ bytes. complete (bytes ++ piece.now))) }
-        ensures fault { (bytes : List ℕ) → IsAfter self.old bytes → IfErr result (λ f. (f ≡ LexFault.Memory) ⊎ (first_fault self.old.limit [] (bytes ++ piece.now) ≡ Some f)) }
+        ensures fault { (bytes : List ℕ) → IsAfter self.old bytes → IfErr result (IsTold (first_fault self.old.limit [] (bytes ++ piece.now))) }
         ensures limit { OnOk result (self.new.limit ≡ self.old.limit) }
         ensures again { IfErr result (λ f. self.new.failed ≡ Some f) }
         ensures same { (f : LexFault) → self.old.failed ≡ Some f → result ≡ Err f }
@@ -99,7 +100,7 @@ impl Lexer {
     #[tactic(auto, using(crate::proofs::After::finishing))]
     pub fn finish(mut self, lines: &mut Lines) -> Result<(), LexFault>
         ensures lines { OnOk result (GainsLines self lines.old lines.new lines_of) }
-        ensures fault { (bytes : List ℕ) → IsAfter self bytes → MatchResult result (λ _. end_fault bytes ≡ None) (λ f. (f ≡ LexFault.Memory) ⊎ (end_fault bytes ≡ Some f)) }
+        ensures fault { (bytes : List ℕ) → IsAfter self bytes → MatchResult result (λ _. end_fault bytes ≡ None) (IsTold (end_fault bytes)) }
         ensures same { (f : LexFault) → self.failed ≡ Some f → result ≡ Err f }
         ensures err { OnErr result (lines.new ≡ lines.old) }
     {
@@ -115,7 +116,7 @@ impl Lexer {
     /// Reads the bytes up to the first fault.
     fn read_all(&mut self, piece: &[u8], lines: &mut Lines) -> Result<(), LexFault>
         ensures ok { OnOk result (HasRead self.old self.new lines.old lines.new piece.now) }
-        ensures fault { (bytes : List ℕ) → IsAfter self.old bytes → IfErr result (λ f. (f ≡ LexFault.Memory) ⊎ (first_fault self.old.limit [] (bytes ++ piece.now) ≡ Some f)) }
+        ensures fault { (bytes : List ℕ) → IsAfter self.old bytes → IfErr result (IsTold (first_fault self.old.limit [] (bytes ++ piece.now))) }
         ensures front { OnErr result (take (length lines.old) lines.new ≡ lines.old) }
     {
         let mut at = 0;
@@ -131,7 +132,7 @@ impl Lexer {
         requires { 0 < length rest.now }
         ensures some { IfOk result (λ count. (0 < count) × (count ≤ length rest.now)) }
         ensures ok { IfOk result (λ count. HasRead self.old self.new lines.old lines.new (take count rest.now)) }
-        ensures fault { (bytes : List ℕ) → IsAfter self.old bytes → IfErr result (λ f. (f ≡ LexFault.Memory) ⊎ (first_fault self.old.limit [] (bytes ++ rest.now) ≡ Some f)) }
+        ensures fault { (bytes : List ℕ) → IsAfter self.old bytes → IfErr result (IsTold (first_fault self.old.limit [] (bytes ++ rest.now))) }
         ensures unchanged { OnErr result (lines.new ≡ lines.old) }
     {
         let count = self.letters_in(rest);
@@ -180,7 +181,7 @@ impl Lexer {
         ensures ok { OnOk result (self.new ≡ stepped self.old b) }
         ensures clean { OnOk result (fault_now self.old b ≡ None) }
         ensures lines { OnOk result (lines.new ≡ lines.old ++ ended self.old b) }
-        ensures err { IfErr result (λ f. (f ≡ LexFault.Memory) ⊎ (fault_now self.old b ≡ Some f)) }
+        ensures err { IfErr result (IsTold (fault_now self.old b)) }
         ensures unchanged { OnErr result (lines.new ≡ lines.old) }
     {
         if self.size >= self.limit {
@@ -211,7 +212,7 @@ impl Lexer {
         ensures ok { OnOk result (self.new ≡ new_line self.old) }
         ensures clean { OnOk result (end_fault_of self.old.here self.old.cut ≡ None) }
         ensures lines { OnOk result (lines.new ≡ lines.old ++ line_at self.old.start (finished self.old.cut)) }
-        ensures err { IfErr result (λ f. (f ≡ LexFault.Memory) ⊎ (end_fault_of self.old.here self.old.cut ≡ Some f)) }
+        ensures err { IfErr result (IsTold (end_fault_of self.old.here self.old.cut)) }
         ensures unchanged { OnErr result (lines.new ≡ lines.old) }
     {
         self.text.check_end(self.here)?;
@@ -251,7 +252,7 @@ impl Lexer {
     #[tactic(auto, unfolding(crate::specs::Steps::end_now, crate::specs::Steps::end_cut))]
     fn end_text(&mut self) -> Result<(), LexFault>
         ensures ok { OnOk result (self.new ≡ record self.old { cut = end_cut self.old }) }
-        ensures fault { MatchResult result (λ _. end_now self.old ≡ None) (λ f. (f ≡ LexFault.Memory) ⊎ (end_now self.old ≡ Some f)) }
+        ensures fault { MatchResult result (λ _. end_now self.old ≡ None) (IsTold (end_now self.old)) }
     {
         match self.place {
             Place::Comment => return Ok(()),
@@ -278,7 +279,7 @@ impl Lexer {
         requires { self.old.size < self.old.limit }
         ensures ok { OnOk result (self.new ≡ text_step self.old b) }
         ensures clean { OnOk result (text_fault self.old b ≡ None) }
-        ensures err { IfErr result (λ f. (f ≡ LexFault.Memory) ⊎ (text_fault self.old b ≡ Some f)) }
+        ensures err { IfErr result (IsTold (text_fault self.old b)) }
     {
         if !is_acceptable(b) {
             return Err(LexFault::BadByte {
@@ -315,7 +316,8 @@ impl Lexer {
     fn settle(&mut self) -> Result<(), LexFault>
         ensures ok { OnOk result (self.new ≡ record self.old { cut = settled self.old }) }
         ensures clean { OnOk result (long_with_bytes self.old.cut (held self.old.place) ≡ false) }
-        ensures err { IfErr result (λ f. (f ≡ LexFault.Memory) ⊎ ((f ≡ LexFault.LongWord self.old.here) × (long_with_bytes self.old.cut (held self.old.place) ≡ true))) }
+        ensures err { IfErr result (λ f. (f ≡ LexFault.Memory)
+            ⊎ ((f ≡ LexFault.LongWord self.old.here) × (long_with_bytes self.old.cut (held self.old.place) ≡ true))) }
     {
         match self.place {
             Place::Text | Place::Comment => Ok(()),

@@ -11,7 +11,7 @@ use Rattle.mv_base.proofs.NameLemmas.{same_word_is, same_word_refl, IsDistinct-f
 use Rattle.mv_design.specs.declared.design.Decl.{Decl}
 use Rattle.mv_design.specs.declared.table.FileTable.{FileTable}
 use Rattle.mv_design.specs.declared.design.FileModel.{FileModel}
-use Rattle.mv_model.specs.Nets.{outputs_of, nets_of, drivers}
+use Rattle.mv_model.specs.Nets.{nets_driven, nets_of, drivers}
 use Rattle.mv_model.specs.Proper.{IsFileTable, IsProperModel}
 use Rattle.mv_model.specs.Sound.{IsDrivenOnce}
 use Rattle.mv_model.specs.Numbers.{may_mark, mark_name, table_places, places}
@@ -104,28 +104,28 @@ table_nets w os true h =
     count_of_append w (map mark_name os) os ∙ (let z = no_marks_counted w os h in omega arith)
 table_nets w os false h = refl
 
-tables_marks : (ds : List Decl) (u : List ℕ) (ts : List FileTable) → All (IsFileTable ds) ts → times (mark_name u) (flat_map table_places ts) ≤ times u (flat_map outputs_of ts)
+tables_marks : (ds : List Decl) (u : List ℕ) (ts : List FileTable) → All (IsFileTable ds) ts → times (mark_name u) (flat_map table_places ts) ≤ times u (flat_map nets_driven ts)
 tables_marks ds u [] h = omega arith
 tables_marks ds u (t ∷ ts) h =
     let a = count_of_append (mark_name u) (table_places t) (flat_map table_places ts) in
-    let b = count_of_append u t.outputs (flat_map outputs_of ts) in
+    let b = count_of_append u t.outputs (flat_map nets_driven ts) in
     let e = table_marks u t.outputs (may_mark t) (All-head (IsFileTable ds) t ts h).outputs in
     let r = tables_marks ds u ts (All-tail (IsFileTable ds) t ts h) in
     omega arith
 
-tables_nets : (w : List ℕ) (ts : List FileTable) → is_dotted w ≡ false → times w (flat_map table_places ts) ≡ times w (flat_map outputs_of ts)
+tables_nets : (w : List ℕ) (ts : List FileTable) → is_dotted w ≡ false → times w (flat_map table_places ts) ≡ times w (flat_map nets_driven ts)
 tables_nets w [] h = refl
 tables_nets w (t ∷ ts) h =
     count_of_append w (table_places t) (flat_map table_places ts)
     ∙ (ap (λ n. n + times w (flat_map table_places ts)) (table_nets w t.outputs (may_mark t) h)
-    ∙ (ap (λ n. times w t.outputs + n) (tables_nets w ts h) ∙ sym (count_of_append w t.outputs (flat_map outputs_of ts))))
+    ∙ (ap (λ n. times w t.outputs + n) (tables_nets w ts h) ∙ sym (count_of_append w t.outputs (flat_map nets_driven ts))))
 
 -- a mark's name stands among the places as often as the net's among the drivers, at most
 places_marks : (m : FileModel) (u : List ℕ) → IsProperModel m → times (mark_name u) (places m) ≤ times u (drivers m)
 unfolding places drivers
 places_marks m u p =
     let a = count_of_append (mark_name u) m.inputs (flat_map table_places m.tables) in
-    let b = count_of_append u m.inputs (flat_map outputs_of m.tables) in
+    let b = count_of_append u m.inputs (flat_map nets_driven m.tables) in
     let z = lawful_counted u m.inputs p.inputs in
     let r = tables_marks m.decls u m.tables p.tables in
     omega arith
@@ -134,7 +134,7 @@ places_nets : (m : FileModel) (w : List ℕ) → is_dotted w ≡ false → times
 unfolding places drivers
 places_nets m w h =
     count_of_append w m.inputs (flat_map table_places m.tables)
-    ∙ (ap (λ n. times w m.inputs + n) (tables_nets w m.tables h) ∙ sym (count_of_append w m.inputs (flat_map outputs_of m.tables)))
+    ∙ (ap (λ n. times w m.inputs + n) (tables_nets w m.tables h) ∙ sym (count_of_append w m.inputs (flat_map nets_driven m.tables)))
 
 dotted : (b : ℕ) (bs : List ℕ) → nat_eq b 46 ≡ true → b ∷ bs ≡ mark_name bs
 dotted b bs h = ap (λ c. c ∷ bs) (eqb-true b 46 h)
@@ -161,19 +161,19 @@ outputs_places : (w : List ℕ) (os : List (List ℕ)) (b : Bool) → among w os
 outputs_places w os true h = in_right w (map mark_name os) os h
 outputs_places w os false h = h
 
-pub output_is_place : (w : List ℕ) (ts : List FileTable) → among w (flat_map outputs_of ts) ≡ true → among w (flat_map table_places ts) ≡ true
+pub output_is_place : (w : List ℕ) (ts : List FileTable) → among w (flat_map nets_driven ts) ≡ true → among w (flat_map table_places ts) ≡ true
 output_is_place w [] h = h
 output_is_place w (t ∷ ts) h =
     ⊎_elim (λ (y : among w t.outputs ≡ true). in_left w (table_places t) _ (outputs_places w t.outputs (may_mark t) y))
-    (λ (y : among w (flat_map outputs_of ts) ≡ true). in_right w (table_places t) _ (output_is_place w ts y))
-    (in_either w t.outputs (flat_map outputs_of ts) h)
+    (λ (y : among w (flat_map nets_driven ts) ≡ true). in_right w (table_places t) _ (output_is_place w ts y))
+    (in_either w t.outputs (flat_map nets_driven ts) h)
 
 pub driver_is_place : (m : FileModel) (w : List ℕ) → among w (drivers m) ≡ true → among w (places m) ≡ true
 unfolding drivers places
 driver_is_place m w h =
     ⊎_elim (λ (y : among w m.inputs ≡ true). in_left w m.inputs _ y)
-    (λ (y : among w (flat_map outputs_of m.tables) ≡ true). in_right w m.inputs _ (output_is_place w m.tables y))
-    (in_either w m.inputs (flat_map outputs_of m.tables) h)
+    (λ (y : among w (flat_map nets_driven m.tables) ≡ true). in_right w m.inputs _ (output_is_place w m.tables y))
+    (in_either w m.inputs (flat_map nets_driven m.tables) h)
 
 -- each net is driven
 pub net_is_driven : (m : FileModel) (w : List ℕ) → IsDrivenOnce m → among w (nets_of m) ≡ true → among w (drivers m) ≡ true
@@ -189,11 +189,11 @@ table_length : (os : List (List ℕ)) (b : Bool) → length (if b then map mark_
 table_length os true = let a = length-append (map mark_name os) os in let e = length-map os mark_name in omega arith
 table_length os false = omega arith
 
-tables_length : (ts : List FileTable) → length (flat_map table_places ts) ≤ 2 * length (flat_map outputs_of ts)
+tables_length : (ts : List FileTable) → length (flat_map table_places ts) ≤ 2 * length (flat_map nets_driven ts)
 tables_length [] = omega arith
 tables_length (t ∷ ts) =
     let a = length-append (table_places t) (flat_map table_places ts) in
-    let b = length-append t.outputs (flat_map outputs_of ts) in
+    let b = length-append t.outputs (flat_map nets_driven ts) in
     let e = table_length t.outputs (may_mark t) in
     let r = tables_length ts in
     omega arith
@@ -202,28 +202,28 @@ places_length : (m : FileModel) → length (places m) ≤ 2 * length (drivers m)
 unfolding places drivers
 places_length m =
     let a = length-append m.inputs (flat_map table_places m.tables) in
-    let b = length-append m.inputs (flat_map outputs_of m.tables) in
+    let b = length-append m.inputs (flat_map nets_driven m.tables) in
     let r = tables_length m.tables in
     omega arith
 
 -- a list without the first place of a word
-abbrev without : List ℕ → List (List ℕ) → List (List ℕ)
-without u [] = []
-without u (w ∷ ws) = if same_word u w then ws else w ∷ without u ws
+abbrev names_without : List ℕ → List (List ℕ) → List (List ℕ)
+names_without u [] = []
+names_without u (w ∷ ws) = if same_word u w then ws else w ∷ names_without u ws
 
-without_length : (u : List ℕ) (ws : List (List ℕ)) → among u ws ≡ true → length ws ≡ 1 + length (without u ws)
-without_length u [] h = absurd (false≢true h)
-without_length u (w ∷ ws) h = split (same_word u w) h (without_length u ws)
+names_without-length : (u : List ℕ) (ws : List (List ℕ)) → among u ws ≡ true → length ws ≡ 1 + length (names_without u ws)
+names_without-length u [] h = absurd (false≢true h)
+names_without-length u (w ∷ ws) h = split (same_word u w) h (names_without-length u ws)
   where
-    split : (b : Bool) → (b || among u ws) ≡ true → (among u ws ≡ true → length ws ≡ 1 + length (without u ws)) → length (w ∷ ws) ≡ 1 + length (if b then ws else w ∷ without u ws)
+    split : (b : Bool) → (b || among u ws) ≡ true → (among u ws ≡ true → length ws ≡ 1 + length (names_without u ws)) → length (w ∷ ws) ≡ 1 + length (if b then ws else w ∷ names_without u ws)
     split true e r = omega arith
     split false e r = let l = r e in omega arith
 
-still_there : (u v : List ℕ) (ws : List (List ℕ)) → same_word v u ≡ false → among v ws ≡ true → among v (without u ws) ≡ true
+still_there : (u v : List ℕ) (ws : List (List ℕ)) → same_word v u ≡ false → among v ws ≡ true → among v (names_without u ws) ≡ true
 still_there u v [] n h = h
 still_there u v (w ∷ ws) n h = split (same_word u w) refl (still_there u v ws n)
   where
-    split : (b : Bool) → same_word u w ≡ b → (among v ws ≡ true → among v (without u ws) ≡ true) → among v (if b then ws else w ∷ without u ws) ≡ true
+    split : (b : Bool) → same_word u w ≡ b → (among v ws ≡ true → among v (names_without u ws) ≡ true) → among v (if b then ws else w ∷ names_without u ws) ≡ true
     split true e r =
         ⊎_elim (λ (y : same_word v w ≡ true). absurd (false≢true (sym n ∙ (ap (same_word v) (same_word_is u w e) ∙ y)))) (λ (y : among v ws ≡ true). y)
         (or_cases (same_word v w) (among v ws) h)
@@ -235,8 +235,8 @@ still_there u v (w ∷ ws) n h = split (same_word u w) refl (still_there u v ws 
 pub apart_length : (us ws : List (List ℕ)) → AreApart us → ((v : List ℕ) → among v us ≡ true → among v ws ≡ true) → length us ≤ length ws
 apart_length [] ws a h = omega arith
 apart_length (u ∷ us) ws a h =
-    let e = without_length u ws (h u (or_left _ _ (same_word_refl u))) in
-    let r = apart_length us (without u ws) a.1 (λ v y. still_there u v ws (other v y (same_word v u) refl) (h v (or_right (same_word v u) _ y))) in
+    let e = names_without-length u ws (h u (or_left _ _ (same_word_refl u))) in
+    let r = apart_length us (names_without u ws) a.1 (λ v y. still_there u v ws (other v y (same_word v u) refl) (h v (or_right (same_word v u) _ y))) in
     omega arith
   where
     other : (v : List ℕ) → among v us ≡ true → (b : Bool) → same_word v u ≡ b → same_word v u ≡ false

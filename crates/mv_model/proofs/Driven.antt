@@ -8,7 +8,7 @@ use Rattle.mv_base.specs.Names.{same_word, among}
 use Rattle.mv_base.proofs.NameLemmas.{same_word_is}
 use Rattle.mv_model.specs.declared.drivers.Drivers.{Drivers}
 use Rattle.mv_design.specs.declared.table.FileTable.{FileTable}
-use Rattle.mv_model.specs.Nets.{outputs_of, with_name}
+use Rattle.mv_model.specs.Nets.{nets_driven, with_name}
 use Rattle.mv_model.specs.Driving.{with_driver, with_drivers, with_tables, AreDriven}
 use Rattle.mv_model.proofs.Names.{among-with_name, count_of_append, count_of_cons}
 
@@ -74,13 +74,13 @@ driven_all us d (w ∷ ws) h =
 driven_none : (d : Drivers) → d.driven ≡ [] → d.twice ≡ [] → AreDriven [] d
 driven_none d e f = record { some = λ w. ap (among w) e; more = λ w. ap (among w) f }
 
-with_tables_are : (d : Drivers) (ts : List FileTable) → with_tables d ts ≡ with_drivers d (flat_map outputs_of ts)
+with_tables_are : (d : Drivers) (ts : List FileTable) → with_tables d ts ≡ with_drivers d (flat_map nets_driven ts)
 with_tables_are d [] = refl
-with_tables_are d (t ∷ ts) = with_tables_are (with_drivers d t.outputs) ts ∙ sym (with_drivers_append d t.outputs (flat_map outputs_of ts))
+with_tables_are d (t ∷ ts) = with_tables_are (with_drivers d t.outputs) ts ∙ sym (with_drivers_append d t.outputs (flat_map nets_driven ts))
 
 -- all drivers of a model: its inputs, then those of its tables
-pub driven_of : (is : List (List ℕ)) (ts : List FileTable) (d : Drivers) → d.driven ≡ [] → d.twice ≡ [] → AreDriven (is ++ flat_map outputs_of ts) (with_tables (with_drivers d is) ts)
+pub driven_of : (is : List (List ℕ)) (ts : List FileTable) (d : Drivers) → d.driven ≡ [] → d.twice ≡ [] → AreDriven (is ++ flat_map nets_driven ts) (with_tables (with_drivers d is) ts)
 driven_of is ts d e f =
-    let P : Drivers → Type 0 = AreDriven (is ++ flat_map outputs_of ts) in
+    let P : Drivers → Type 0 = AreDriven (is ++ flat_map nets_driven ts) in
     subst P (sym (with_tables_are (with_drivers d is) ts))
-    (driven_all is (with_drivers d is) (flat_map outputs_of ts) (driven_all [] d is (driven_none d e f)))
+    (driven_all is (with_drivers d is) (flat_map nets_driven ts) (driven_all [] d is (driven_none d e f)))

@@ -12,8 +12,8 @@ use Rattle.mv_design.specs.declared.design.Decl.{Decl}
 use Rattle.mv_design.specs.declared.design.FileModel.{FileModel}
 use Rattle.mv_design.specs.declared.table.FileTable.{FileTable}
 use Rattle.mv_model.specs.Proper.{IsFileTable}
-use Rattle.mv_model.specs.Numbers.{may_mark, mark_name, table_places, places}
-use Rattle.mv_model.specs.Columns.{no_columns, numbers_in, table_columns, columns_by_net}
+use Rattle.mv_model.specs.Numbers.{may_mark, mark_name, table_places, places, numbers_in}
+use Rattle.mv_model.specs.Columns.{no_columns, table_columns, columns_by_net}
 use Rattle.mv_model.specs.Sound.{reads_through, reads}
 
 -- a net, and the nets that its table has as columns

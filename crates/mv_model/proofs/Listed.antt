@@ -1,15 +1,13 @@
 -- Elements of lists by place, and the numbers of names.
-use Rattle.std.proofs.Common.{◌≡◌, ℕ, suc, zero, ◌<◌, Bool, true, List, [], ◌∷◌, ◌++◌, length, get_or, Some, refl, sym, ap, subst, arith, ⊎_elim, All, map}
+use Rattle.std.proofs.Common.{◌≡◌, ℕ, ◌<◌, true, List, [], ◌∷◌, length, get_or, Some, sym, ap, subst, ⊎_elim}
 use Rattle.std.specs.Prelude.{unwrap_or, nat_eq}
-use Rattle.std.specs.List.{list_any, slice_get}
+use Rattle.std.specs.List.{slice_get}
 use Rattle.std.proofs.lemmas.Bool.{false≢true, or_cases, or_left, or_right, eq-eqb, eqb-true}
-use Rattle.std.proofs.lemmas.List.Elements.{All-nil, All-cons}
-use Rattle.std.proofs.lemmas.Option.{none-some, same_Some, get_or_from_slice_get}
+use Rattle.std.proofs.lemmas.Option.{get_or_from_slice_get}
 use Rattle.mv_base.specs.Names.{same_word, among, place_of, IsDistinct}
 use Rattle.mv_base.proofs.NameLemmas.{IsPlace-from_among, place_of-at, same_word_is, same_word_refl}
 use Rattle.mv_graph.specs.Nets.{has_id}
-use Rattle.mv_model.specs.Numbers.{number_in}
-use Rattle.mv_model.specs.Columns.{numbers_in}
+use Rattle.mv_model.specs.Numbers.{number_in, numbers_in}
 
 -- the number of a name among others is its place
 pub record IsNumber (names : List (List ℕ)) (w : List ℕ) : Type 0 where

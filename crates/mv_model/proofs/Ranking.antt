@@ -11,10 +11,11 @@ use Rattle.mv_base.specs.Names.{same_word, among, IsDistinct}
 use Rattle.mv_base.specs.declared.number.NetId.{NetId}
 use Rattle.mv_base.proofs.NameLemmas.{same_word_is, same_word_refl}
 use Rattle.mv_graph.specs.Nets.{has_id, row, AllBelow}
-use Rattle.mv_graph.specs.Ranks.{IsRanked}
+use Rattle.mv_graph.specs.Above.{reads_by}
+use Rattle.mv_graph.proofs.Ranks.{IsRanked}
 use Rattle.mv_design.specs.declared.design.FileModel.{FileModel}
 use Rattle.mv_model.specs.Numbers.{number_in}
-use Rattle.mv_model.specs.Sound.{HasRank}
+use Rattle.mv_model.specs.Sound.{reads}
 use Rattle.mv_model.proofs.Entries.{Entry, name_of, columns_in, entry_reads, entries, reads_are}
 use Rattle.mv_base.proofs.Lists.{found, all_from}
 use Rattle.mv_model.proofs.Listed.{IsNumber-among, number_at, has_number, numbered_by}
@@ -89,7 +90,7 @@ reads_name es names n m a h =
     (cases_lt n (length es))
 
 -- ranks by number are ranks by name
-pub ranked_by_name : (m : FileModel) (names : List (List ℕ)) → AreNets (entries m) names → IsRanked (columns_of (entries m) names) → HasRank m
+pub ranked_by_name : (m : FileModel) (names : List (List ℕ)) → AreNets (entries m) names → IsRanked (reads_by (columns_of (entries m) names)) → IsRanked (reads m)
 ranked_by_name m names a r = record {
   rank = λ net. r.rank (number_in names net);
   falls = λ net above h. r.falls (number_in names net) (number_in names above) (reads_number (entries m) names net above a (reads_are m net above ∙ h));

@@ -14,9 +14,9 @@ use Rattle.mv_design.specs.declared.table.FileTable.{FileTable}
 use Rattle.mv_design.specs.declared.design.FileModel.{FileModel}
 use Rattle.mv_model.specs.declared.fault.FlatFault.{FlatFault}
 use Rattle.mv_model.specs.declared.fault.FlatFault.TheVariants.{DrivenTwice, Undriven, Cycle, Limit, Memory}
-use Rattle.mv_model.specs.Nets.{columns_of, outputs_of, nets_named, nets_of, drivers, drivers_of}
+use Rattle.mv_model.specs.Nets.{columns_of, nets_driven, nets_named, nets_of, drivers, drivers_of}
 use Rattle.mv_fault.specs.Tells.{when, first}
-use Rattle.mv_model.specs.Sound.{reads_through, reads, twice_at, undriven_at, many_faults, net_faults, IsDrivenOnce, HasRank, IsSoundModel, ReadsOn, IsOnCycle, IsFault}
+use Rattle.mv_model.specs.Sound.{reads_through, reads, twice_at, undriven_at, many_faults, net_faults, IsDrivenOnce, IsSoundModel, IsFault}
 use Rattle.mv_model.proofs.Named.{among-nets_of}
 
 -- ---- names in parts of lists
@@ -39,20 +39,20 @@ pub column_named : (m : FileModel) (w : List ℕ) → among w (flat_map columns_
 unfolding nets_named
 column_named m w e = named_is m w (in_right w m.inputs _ (in_right w m.outputs _ e))
 
-outputs_are_columns : (w : List ℕ) (ts : List FileTable) → among w (flat_map outputs_of ts) ≡ true → among w (flat_map columns_of ts) ≡ true
+outputs_are_columns : (w : List ℕ) (ts : List FileTable) → among w (flat_map nets_driven ts) ≡ true → among w (flat_map columns_of ts) ≡ true
 outputs_are_columns w [] e = e
 outputs_are_columns w (t ∷ ts) e =
     ⊎_elim (λ (h : among w t.outputs ≡ true). in_left w (columns_of t) _ (in_right w t.inputs t.outputs h))
-    (λ (h : among w (flat_map outputs_of ts) ≡ true). in_right w (columns_of t) _ (outputs_are_columns w ts h))
-    (in_either w t.outputs (flat_map outputs_of ts) e)
+    (λ (h : among w (flat_map nets_driven ts) ≡ true). in_right w (columns_of t) _ (outputs_are_columns w ts h))
+    (in_either w t.outputs (flat_map nets_driven ts) e)
 
 -- what is driven is a net
 pub driver_is_net : (m : FileModel) (w : List ℕ) → among w (drivers m) ≡ true → among w (nets_of m) ≡ true
 unfolding drivers nets_named
 driver_is_net m w e =
     ⊎_elim (λ (h : among w m.inputs ≡ true). named_is m w (in_left w m.inputs _ h))
-    (λ (h : among w (flat_map outputs_of m.tables) ≡ true). column_named m w (outputs_are_columns w m.tables h))
-    (in_either w m.inputs (flat_map outputs_of m.tables) e)
+    (λ (h : among w (flat_map nets_driven m.tables) ≡ true). column_named m w (outputs_are_columns w m.tables h))
+    (in_either w m.inputs (flat_map nets_driven m.tables) e)
 
 read_columns : (net above : List ℕ) (ts : List FileTable) → list_any (reads_through net above) ts ≡ true → among above (flat_map columns_of ts) ≡ true
 read_columns net above [] e = absurd (false≢true e)
@@ -193,20 +193,10 @@ told_is_fault m f h = ⊎_elim (λ e. memory_is_fault m f e) (λ e. first_is_fau
 
 -- ---- a model with a fault isn't sound
 
-falls_along : (m : FileModel) (r : HasRank m) (last net : List ℕ) (path : List (List ℕ)) → ReadsOn m last net path → r.rank last < r.rank net
-falls_along m r last net [] h = r.falls net last h
-falls_along m r last net (above ∷ path) h =
-    let a = r.falls net above h.0 in
-    let b = falls_along m r last above path h.1 in
-    omega arith
-
-cycle_excludes : (m : FileModel) (net : List ℕ) → IsOnCycle m net → HasRank m → ⊥
-cycle_excludes m net c r = let l = falls_along m r net net c.path c.closed in absurd (omega arith)
-
 -- a model with a fault that isn't want of memory isn't sound, or has too many nets
 pub fault-excludes : (m : FileModel) (f : FlatFault) → IsFault m f → (f ≡ Memory → ⊥) → IsSoundModel m → length (nets_of m) ≤ MAX_FLAT_NETS → ⊥
 fault-excludes m (DrivenTwice net) h n s few = no_first (net_faults m) (DrivenTwice net) (no_faults m s.driven few) h
 fault-excludes m (Undriven net) h n s few = no_first (net_faults m) (Undriven net) (no_faults m s.driven few) h
 fault-excludes m (Limit which number) h n s few = no_first (net_faults m) (Limit which number) (no_faults m s.driven few) h
-fault-excludes m (Cycle net) h n s few = cycle_excludes m net h.first.cycle s.acyclic
+fault-excludes m (Cycle net) h n s few = s.acyclic.none net h.first.cycle
 fault-excludes m Memory h n s few = n refl

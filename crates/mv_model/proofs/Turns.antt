@@ -9,15 +9,17 @@ use Rattle.mv_base.specs.Names.{among}
 use Rattle.mv_base.specs.declared.number.NetId.{NetId}
 use Rattle.mv_base.proofs.NameLemmas.{among-at, IsDistinct-from_differ}
 use Rattle.mv_graph.specs.Nets.{has_id, row, AllBelow}
-use Rattle.mv_graph.specs.Ranks.{IsRanked}
-use Rattle.mv_graph.specs.Cycles.{GoesOn, IsAbove, IsTurning}
+use Rattle.mv_graph.specs.Above.{IsAbove, IsAcyclic, reads_by}
+use Rattle.mv_graph.specs.Cycles.{IsTurning}
+use Rattle.mv_graph.proofs.Paths.{above_mapped, acyclic_mapped}
+use Rattle.mv_graph.proofs.Ranks.{IsRanked}
 use Rattle.mv_design.specs.declared.design.FileModel.{FileModel}
 use Rattle.mv_model.specs.Nets.{nets_of}
 use Rattle.mv_model.specs.Proper.{IsProperModel}
-use Rattle.mv_model.specs.Sound.{reads, ReadsOn, IsOnCycle, IsFirstOnCycle, IsDrivenOnce, HasRank}
-use Rattle.mv_model.specs.Numbers.{number_in, net_in, places}
-use Rattle.mv_model.specs.Columns.{numbers_in, columns_by_net}
-use Rattle.mv_graph.proofs.Clear.{ListsEachReader}
+use Rattle.mv_model.specs.Sound.{reads, IsFirstOnCycle, IsDrivenOnce}
+use Rattle.mv_model.specs.Numbers.{number_in, net_in, numbers_in, places}
+use Rattle.mv_model.specs.Columns.{columns_by_net}
+use Rattle.mv_graph.proofs.Clear.{ListsEachReader, not_unranked}
 use Rattle.mv_base.proofs.Lists.{all_from, mapped}
 use Rattle.mv_model.proofs.Listed.{IsNumber-among, name_at, has_number}
 use Rattle.mv_model.proofs.Entries.{entries, columns_in, columns_are, names_are, reads_are}
@@ -45,9 +47,9 @@ model_below m columns p d e =
 pub model_length : (m : FileModel) (columns : List (List NetId)) → IsProperModel m → IsDrivenOnce m → columns ≡ columns_by_net (places m) m → length columns ≡ length (places m)
 model_length m columns p d e = ap length (sym (columns_same m columns p e)) ∙ length_columns (entries m) (places m) (are_nets m p d)
 
-pub model_ranked : (m : FileModel) (columns : List (List NetId)) → IsProperModel m → IsDrivenOnce m → columns ≡ columns_by_net (places m) m → IsRanked columns → HasRank m
+model_ranked : (m : FileModel) (columns : List (List NetId)) → IsProperModel m → IsDrivenOnce m → columns ≡ columns_by_net (places m) m → IsRanked (reads_by columns) → IsRanked (reads m)
 model_ranked m columns p d e r =
-    let P : List (List NetId) → Type 0 = IsRanked in
+    let P : List (List NetId) → Type 0 = λ cs. IsRanked (reads_by cs) in
     ranked_by_name m (places m) (are_nets m p d) (subst P (sym (columns_same m columns p e)) r)
 
 -- ---- the nets in their order
@@ -86,21 +88,20 @@ step_by_name m columns n k p d e h =
     (sym (name_at (places m) b.above b.above_known) ∙ ap (name m) b.above_number)
     (sym (reads_are m b.net b.above) ∙ b.reads)
 
-goes_by_name : (m : FileModel) (columns : List (List NetId)) (last n : ℕ) (path : List ℕ) → IsProperModel m → IsDrivenOnce m → columns ≡ columns_by_net (places m) m → GoesOn columns last n path → ReadsOn m (name m last) (name m n) (map (name m) path)
-goes_by_name m columns last n [] p d e g = step_by_name m columns n last p d e g
-goes_by_name m columns last n (k ∷ path) p d e g = (step_by_name m columns n k p d e g.0, goes_by_name m columns last k path p d e g.1)
+-- a net that is above itself by number is so by name
+above_by_name : (m : FileModel) (columns : List (List NetId)) (n : ℕ) → IsProperModel m → IsDrivenOnce m → columns ≡ columns_by_net (places m) m → IsAbove (reads_by columns) n n → IsAbove (reads m) (name m n) (name m n)
+above_by_name m columns n p d e a = above_mapped (reads_by columns) (reads m) (name m) (λ j k h. step_by_name m columns j k p d e h) n n a
 
 -- the net at a place of the order that is above itself by number
 on_cycle : (m : FileModel) (columns : List (List NetId)) (nets : List (List ℕ)) (order : List NetId) (place : ℕ) (w : List ℕ) → IsProperModel m → IsDrivenOnce m → columns ≡ columns_by_net (places m) m → nets ≡ nets_of m → order ≡ numbers_in (places m) nets
-    → IsTurning columns order place → place < length nets → w ≡ get_or nets place w → IsOnCycle m w
+    → IsTurning columns order place → place < length nets → w ≡ get_or nets place w → IsAbove (reads m) w w
 on_cycle m columns nets order place w p d e f o t lt is =
     let there = slice_get_read nets (length nets) place w refl lt is in
     let n : net_in (places m) w ≡ t.net = same_Some (net_in (places m) w) t.net (sym (ap (λ ns. slice_get ns place) o ∙ (slice_get-map (net_in (places m)) nets place ∙ ap (option_map (net_in (places m))) there)) ∙ t.at) in
     let known = net_is_place m w d (ap (among w) (sym f) ∙ among-at nets place w there) in
     let named : name m t.net.0 ≡ w = ap (λ (c : NetId). name m c.0) (sym n) ∙ name_at (places m) w known in
-    let g = goes_by_name m columns t.net.0 t.net.0 t.turns.path p d e t.turns.goes in
-    let P : List ℕ → Type 0 = IsOnCycle m in
-    subst P named (record { path = map (name m) t.turns.path; closed = g })
+    let P : List ℕ → Type 0 = λ v. IsAbove (reads m) v v in
+    subst P named (above_by_name m columns t.net.0 p d e t.turns)
 
 -- a cycle of names is one of numbers
 step_by_number : (m : FileModel) (columns : List (List NetId)) (net above : List ℕ) → IsProperModel m → IsDrivenOnce m → columns ≡ columns_by_net (places m) m → reads m net above ≡ true → has_id (row columns (number_in (places m) net)) (number_in (places m) above) ≡ true
@@ -108,12 +109,19 @@ step_by_number m columns net above p d e h =
     ap (λ cs. has_id (row cs (number_in (places m) net)) (number_in (places m) above)) (sym (columns_same m columns p e))
     ∙ reads_number (entries m) (places m) net above (are_nets m p d) (reads_are m net above ∙ h)
 
-goes_by_number : (m : FileModel) (columns : List (List NetId)) (last net : List ℕ) (path : List (List ℕ)) → IsProperModel m → IsDrivenOnce m → columns ≡ columns_by_net (places m) m → ReadsOn m last net path → GoesOn columns (number_in (places m) last) (number_in (places m) net) (map (number_in (places m)) path)
-goes_by_number m columns last net [] p d e g = step_by_number m columns net last p d e g
-goes_by_number m columns last net (above ∷ path) p d e g = (step_by_number m columns net above p d e g.0, goes_by_number m columns last above path p d e g.1)
+above_by_number : (m : FileModel) (columns : List (List NetId)) (w : List ℕ) → IsProperModel m → IsDrivenOnce m → columns ≡ columns_by_net (places m) m → IsAbove (reads m) w w → IsAbove (reads_by columns) (number_in (places m) w) (number_in (places m) w)
+above_by_number m columns w p d e a = above_mapped (reads m) (reads_by columns) (number_in (places m)) (λ u v h. step_by_number m columns u v p d e h) w w a
 
-above_by_number : (m : FileModel) (columns : List (List NetId)) (w : List ℕ) → IsProperModel m → IsDrivenOnce m → columns ≡ columns_by_net (places m) m → IsOnCycle m w → IsAbove columns (number_in (places m) w) (number_in (places m) w)
-above_by_number m columns w p d e c = record { path = map (number_in (places m)) c.path; goes = goes_by_number m columns w w c.path p d e c.closed }
+-- where no net is above itself by number, none is by name
+pub model_acyclic : (m : FileModel) (columns : List (List NetId)) → IsProperModel m → IsDrivenOnce m → columns ≡ columns_by_net (places m) m → IsAcyclic (reads_by columns) → IsAcyclic (reads m)
+model_acyclic m columns p d e a = acyclic_mapped (reads m) (reads_by columns) (number_in (places m)) (λ u v h. step_by_number m columns u v p d e h) a
+
+-- then it can't be that its nets have no ranks
+pub not_unranked_model : (m : FileModel) → IsProperModel m → IsDrivenOnce m → IsAcyclic (reads m) → (IsRanked (reads m) → ⊥) → ⊥
+not_unranked_model m p d a never =
+    let columns = columns_by_net (places m) m in
+    not_unranked columns (model_below m columns p d refl) (acyclic_mapped (reads_by columns) (reads m) (name m) (λ j k h. step_by_name m columns j k p d refl h) a)
+    (λ r. never (model_ranked m columns p d refl r))
 
 taken_number : (names nets : List (List ℕ)) (order : List NetId) (place : ℕ) (w : List ℕ) → order ≡ numbers_in names nets → among w (take place nets) ≡ true → has_id (take place order) (number_in names w) ≡ true
 taken_number names nets order place w o h =

@@ -1,11 +1,11 @@
--- The columns of each net's table by number.
+-- The columns of each net's table by number. For private functions.
 use Rattle.std.specs.Prelude.{ℕ, List, [], ◌∷◌, ◌++◌, map, if◌then◌else◌}
 use Rattle.std.specs.List.{flat_map}
 use Rattle.mv_base.specs.declared.number.NetId.{NetId}
 use Rattle.mv_design.specs.declared.table.FileTable.{FileTable}
 use Rattle.mv_design.specs.declared.design.FileModel.{FileModel}
 use Rattle.mv_model.specs.Nets.{with_names}
-use Rattle.mv_model.specs.Numbers.{may_mark, mark_name, net_in}
+use Rattle.mv_model.specs.Numbers.{may_mark, mark_name, numbers_in}
 
 -- names with those of the marks that a table may need
 abbrev pub with_marks : List (List ℕ) → FileTable → List (List ℕ)
@@ -19,10 +19,6 @@ with_places names (t ∷ ts) = with_places (with_names (with_marks names t) t.ou
 -- an input of the model has no columns
 abbrev pub no_columns : List ℕ → List NetId
 no_columns w = []
-
--- these nets, by their numbers
-abbrev pub numbers_in : List (List ℕ) → List (List ℕ) → List NetId
-numbers_in names nets = map (net_in names) nets
 
 -- the columns of a table's nets by number: none for the mark that it may need, and then the inputs, for its output
 abbrev pub table_columns : List (List ℕ) → FileTable → List (List NetId)

@@ -1,5 +1,5 @@
 -- How the nets of a model are gathered, table by table, and how their faults are told from the nets that are driven and from
--- those that are driven more than once.
+-- those that are driven more than once. For private functions.
 use Rattle.std.specs.Prelude.{◌≡◌, ℕ, not, nat_lt, count_by, List, [], ◌∷◌, if◌then◌else◌}
 use Rattle.std.specs.List.{flat_map}
 use Rattle.mv_base.specs.Names.{same_word, among}

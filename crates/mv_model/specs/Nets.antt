@@ -34,6 +34,20 @@ nets_named m = m.inputs ++ (m.outputs ++ flat_map columns_of m.tables)
 unfoldable pub nets_of : FileModel → List (List ℕ)
 nets_of m = firsts_by same_word (nets_named m)
 
+-- the nets that a table drives
+abbrev pub nets_driven : FileTable → List (List ℕ)
+nets_driven t = t.outputs
+
+-- the nets that are driven, as often as they are: by an input of the model, or by a table
+unfoldable pub drivers : FileModel → List (List ℕ)
+drivers m = m.inputs ++ flat_map nets_driven m.tables
+
+-- how many drivers a net has
+abbrev pub drivers_of : FileModel → List ℕ → ℕ
+drivers_of m net = count_by (same_word net) (drivers m)
+
+-- ---- what private functions alone cite
+
 -- names with one more behind them, if it isn't one of them
 abbrev pub with_name : List (List ℕ) → List ℕ → List (List ℕ)
 with_name names w = if among w names then names else names ++ w ∷ []
@@ -42,15 +56,3 @@ with_name names w = if among w names then names else names ++ w ∷ []
 abbrev pub with_names : List (List ℕ) → List (List ℕ) → List (List ℕ)
 with_names names [] = names
 with_names names (w ∷ ws) = with_names (with_name names w) ws
-
--- the nets that a table drives
-abbrev pub outputs_of : FileTable → List (List ℕ)
-outputs_of t = t.outputs
-
--- the nets that are driven, as often as they are: by an input of the model, or by a table
-unfoldable pub drivers : FileModel → List (List ℕ)
-drivers m = m.inputs ++ flat_map outputs_of m.tables
-
--- how many drivers a net has
-abbrev pub drivers_of : FileModel → List ℕ → ℕ
-drivers_of m net = count_by (same_word net) (drivers m)

@@ -6,6 +6,7 @@ use Rattle.mv_base.specs.Names.{among}
 use Rattle.mv_base.specs.declared.limits.TheConstants.{MAX_FLAT_NETS}
 use Rattle.mv_fault.specs.Tells.{when, first}
 use Rattle.mv_fault.specs.declared.fault.Which.TheVariants.{Nets}
+use Rattle.mv_graph.specs.Above.{IsAbove, IsAcyclic}
 use Rattle.mv_design.specs.declared.design.FileModel.{FileModel}
 use Rattle.mv_design.specs.declared.design.Design.{Design}
 use Rattle.mv_design.specs.declared.table.FileTable.{FileTable}
@@ -21,28 +22,13 @@ reads_through net above t = among net t.outputs && among above t.inputs
 unfoldable pub reads : FileModel → List ℕ → List ℕ → Bool
 reads m net above = list_any (reads_through net above) m.tables
 
--- no net is above itself: some rank falls from each net to the columns of its table
-pub record HasRank (m : FileModel) : Type 0 where
-  pub rank : List ℕ → ℕ
-  pub falls : (net above : List ℕ) → reads m net above ≡ true → rank above < rank net
-
--- nets of which each reads the next, and the last of which reads the first
-abbrev pub ReadsOn : FileModel → List ℕ → List ℕ → List (List ℕ) → Type 0
-ReadsOn m last net [] = reads m net last ≡ true
-ReadsOn m last net (above ∷ path) = (reads m net above ≡ true) × ReadsOn m last above path
-
--- a net that is above itself
-pub record IsOnCycle (m : FileModel) (net : List ℕ) : Type 0 where
-  pub path : List (List ℕ)
-  pub closed : ReadsOn m net net path
-
 -- the first net that is above itself, in the order in which the model names its nets
 pub record IsFirstOnCycle (m : FileModel) (net : List ℕ) : Type 0 where
-  pub cycle : IsOnCycle m net
+  pub cycle : IsAbove (reads m) net net
   pub before : List (List ℕ)
   pub after : List (List ℕ)
   pub place : nets_of m ≡ before ++ net ∷ after
-  pub least : (w : List ℕ) → among w before ≡ true → IsOnCycle m w → ⊥
+  pub least : (w : List ℕ) → among w before ≡ true → IsAbove (reads m) w w → ⊥
 
 -- the fault of a net that is driven more than once
 abbrev pub twice_at : FileModel → List ℕ → List FlatFault
@@ -68,7 +54,7 @@ pub record IsDrivenOnce (m : FileModel) : Type 0 where
 -- a sound model: each net is driven once, and none is above itself
 pub record IsSoundModel (m : FileModel) : Type 0 where
   pub driven : IsDrivenOnce m
-  pub acyclic : HasRank m
+  pub acyclic : IsAcyclic (reads m)
 
 -- a sound design: in this version its root is its only model
 pub record IsSound (d : Design) : Type 0 where

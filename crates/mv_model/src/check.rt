@@ -1,10 +1,10 @@
 ghost use Rattle.std.specs.Prelude.{◌≡◌, ◌≤◌, true, length, IfOk, IfErr, OnOk};
 ghost use Rattle.mv_base.specs.Names.{names_differ};
 ghost use Rattle.mv_base.specs.declared.limits.TheConstants.{MAX_FLAT_NETS, MAX_NETS};
-ghost use Rattle.mv_graph.specs.Ranks.{IsRanked};
+ghost use Rattle.mv_graph.specs.Above.{IsAcyclic};
 ghost use Rattle.mv_model.specs.Nets.{nets_of};
 ghost use Rattle.mv_model.specs.Proper.{IsProperModel};
-ghost use Rattle.mv_model.specs.Sound.{IsDrivenOnce, IsFault, HasRank, IsSoundModel};
+ghost use Rattle.mv_model.specs.Sound.{reads, IsDrivenOnce, IsFault, IsSoundModel};
 ghost use Rattle.mv_model.specs.Numbers.{places};
 ghost use Rattle.mv_model.specs.Columns.{columns_by_net};
 ghost use Rattle.mv_model.specs.Cycles.{TellsCycle};
@@ -50,7 +50,7 @@ fn check_cycles(
     requires numbers { numbers.now ≡ places model.now }
     requires few_nets { length (nets_of model.now) ≤ MAX_FLAT_NETS }
     requires few { length numbers.now ≤ MAX_NETS }
-    ensures ranked { OnOk result (HasRank model.now) }
+    ensures acyclic { OnOk result (IsAcyclic (reads model.now)) }
     ensures fault { IfErr result (λ f. TellsCycle model.now f) }
 {
     let columns = columns(alloc, numbers, model)?;
@@ -75,8 +75,7 @@ fn check_turning(
     requires few_nets { length (nets_of model.now) ≤ MAX_FLAT_NETS }
     requires few { length numbers.now ≤ MAX_NETS }
     requires columns { columns.now ≡ columns_by_net (places model.now) model.now }
-    requires unranked { IsRanked columns.now → ⊥ }
-    ensures ranked { OnOk result (HasRank model.now) }
+    ensures acyclic { OnOk result (IsAcyclic (reads model.now)) }
     ensures fault { IfErr result (λ f. TellsCycle model.now f) }
 {
     let nets = nets.as_slice();

@@ -2,8 +2,8 @@ ghost use Rattle.std.specs.Prelude.{◌≡◌, ◌≤◌, ◌∷◌, ◌++◌, [
 ghost use Rattle.mv_base.specs.Names.{names_differ, place_of};
 ghost use Rattle.mv_base.specs.declared.limits.TheConstants.{MAX_NETS};
 ghost use Rattle.mv_model.specs.Nets.{with_names};
-ghost use Rattle.mv_model.specs.Numbers.{mark_name, net_in, places};
-ghost use Rattle.mv_model.specs.Columns.{numbers_in, with_marks, with_places};
+ghost use Rattle.mv_model.specs.Numbers.{mark_name, net_in, numbers_in, places};
+ghost use Rattle.mv_model.specs.Columns.{with_marks, with_places};
 
 use crate::mark::{mark_name, may_mark};
 use crate::nets::add_nets;

@@ -1,8 +1,8 @@
 -- What a change makes of the net at each number.
-use Rattle.std.proofs.Common.{◌≡◌, ◌∙◌, ℕ, zero, suc, ◌+◌, ◌<◌, ◌≤◌, Bool, true, false, nat_eq, List, [], ◌∷◌, ◌++◌, length, map, set, Option, Some, None, if◌then◌else◌, refl, sym, ap, subst, ⊎_elim, eqb-true, append-nil, length-append, arith}
+use Rattle.std.proofs.Common.{◌≡◌, ◌∙◌, ℕ, zero, suc, ◌+◌, ◌<◌, ◌≤◌, Bool, true, false, ◌||◌, nat_eq, List, [], ◌∷◌, ◌++◌, length, map, set, Option, Some, None, if◌then◌else◌, refl, sym, ap, subst, ⊎_elim, eqb-true, append-nil, length-append, arith}
 use Rattle.std.specs.Option.{option_map, option_or}
 use Rattle.std.proofs.lemmas.Bool.{cases_Bool, cases_lt, cond_both, eqb-false}
-use Rattle.std.proofs.lemmas.List.{ext_get_or, get_or-set_same, get_or-set_other, get_or_past, set_past, set-set, length-set, length-map}
+use Rattle.std.proofs.lemmas.List.{ext_get_or, get_or-set_same, get_or-set_other, get_or_past, get_or_append_left, get_or-append-add, set_past, set-set, length-set, length-map}
 use Rattle.mv_base.specs.declared.number.NetId.{NetId}
 use Rattle.mv_cover.specs.declared.cover.Cover.{Cover}
 use Rattle.mv_net.specs.declared.change.NewTable.{NewTable}
@@ -10,12 +10,13 @@ use Rattle.mv_net.specs.declared.change.NewCount.{NewCount}
 use Rattle.mv_net.specs.declared.change.Change.{Change}
 use Rattle.mv_net.specs.declared.parts.FlatNet.{FlatNet}
 use Rattle.mv_net.specs.declared.parts.NetParts.{NetParts}
-use Rattle.mv_net.specs.declared.kept.Kept.{Kept}
 use Rattle.mv_base.specs.declared.limits.TheConstants.{MAX_NETS}
 use Rattle.mv_net.specs.Nets.{slot}
-use Rattle.mv_net.specs.Formed.{WellFormed}
-use Rattle.mv_net.specs.Kept.{AreKept, IsNetwork}
 use Rattle.mv_graph.specs.Nets.{has_id}
+use Rattle.mv_net.specs.Names.{number_of, is_named, AreNames}
+use Rattle.mv_net.proofs.Named.{AreNames-kept, AreNames-without, or_behind}
+use Rattle.mv_net.proofs.Patches.{IsWritten-gone}
+use Rattle.mv_graph.proofs.Nets.{has_id-append}
 use Rattle.mv_net.specs.Changes.{table_for, count_for, with_table, with_count, changed_net, changed_from, made_net, changed, with_nets, without}
 
 -- ---- the nets of a changed network
@@ -44,16 +45,21 @@ unfolding changed
 length-changed net c =
     omega (arith, length-append (changed_from c 0 net.nets) (map made_net c.add), length-changed_from c 0 net.nets, length-map c.add made_net)
 
--- a changed network has few numbers, and is a network with what is made anew to be kept of it
-pub few_changed : (net now : NetParts) (c : Change) → now ≡ changed net c → length net.nets + length c.add ≤ MAX_NETS → length now.nets ≤ MAX_NETS
-few_changed net now c is few = omega (arith, ap (λ (p : NetParts). length p.nets) is, length-changed net c)
+-- the net at a number that was there, and at one that comes
+pub slot-changed_old : (net : NetParts) (c : Change) (n : ℕ) → n < length net.nets → slot (changed net c).nets n ≡ changed_net c n (slot net.nets n)
+unfolding changed
+slot-changed_old net c n low =
+    get_or_append_left (changed_from c 0 net.nets) (map made_net c.add) None n (omega (arith, length-changed_from c 0 net.nets)) ∙ slot-changed_nets c net.nets n
 
-pub kept_network : (net now : NetParts) (c : Change) (kept : Kept) → now ≡ changed net c → length net.nets + length c.add ≤ MAX_NETS → WellFormed (changed net c) → AreKept now kept → IsNetwork now kept
-kept_network net now c kept is few formed known = record {
-  formed = subst WellFormed (sym is) formed;
-  few = few_changed net now c is few;
-  known = known;
-}
+pub slot-changed_new : (net : NetParts) (c : Change) (i : ℕ) → slot (changed net c).nets (length net.nets + i) ≡ slot (map made_net c.add) i
+unfolding changed
+slot-changed_new net c i =
+    let e : length net.nets + i ≡ length (changed_from c 0 net.nets) + i = omega (arith, length-changed_from c 0 net.nets) in
+    ap (slot (changed_from c 0 net.nets ++ map made_net c.add)) e ∙ get_or-append-add (changed_from c 0 net.nets) (map made_net c.add) i None
+
+-- a changed network has few numbers
+pub few_changed : (net : NetParts) (c : Change) → length net.nets + length c.add ≤ MAX_NETS → length (changed net c).nets ≤ MAX_NETS
+few_changed net c few = omega (arith, length-changed net c)
 
 -- nets that are the changed ones at each number
 from_slots : (c : Change) (old new : List (Option FlatNet)) → length new ≡ length old → ((n : ℕ) → slot new n ≡ changed_net c n (slot old n)) → new ≡ changed_from c 0 old
@@ -104,11 +110,6 @@ pub record IsFirst {E V : Type 0} (num : E → ℕ) (val : E → V) (look : ℕ 
 pub record IsWrite {V : Type 0} (write : Option V → FlatNet → FlatNet) : Type 0 where
   pub none : (f : FlatNet) → write None f ≡ f
   pub over : (a b : Option V) (f : FlatNet) → write (option_or a b) f ≡ write a (write b f)
-
--- another value stands behind both
-or_behind : {V : Type 0} (b : Bool) (v : V) (all rest last : Option V) → all ≡ option_or rest last → (if b then Some v else all) ≡ option_or (if b then Some v else rest) last
-or_behind true v all rest last e = refl
-or_behind false v all rest last e = e
 
 -- the value of a list and one more element
 first-last : {E V : Type 0} (num : E → ℕ) (val : E → V) (look : ℕ → List E → Option V) → IsFirst num val look → (n : ℕ) (es : List E) (e : E) → look n (es ++ e ∷ []) ≡ option_or (look n es) (if nat_eq (num e) n then Some (val e) else None)
@@ -162,10 +163,51 @@ count_write = record { none = λ f. refl; over = count_over }
 -- ---- all nets
 
 -- the tables were set, then the numbers of values, and then nets went
-pub all_changed : (c : Change) (old tabled counted new : List (Option FlatNet)) → length tabled ≡ length old → ((n : ℕ) → slot tabled n ≡ option_map (with_table (table_for n c.set)) (slot old n)) → length counted ≡ length tabled → ((n : ℕ) → slot counted n ≡ option_map (with_count (count_for n c.values)) (slot tabled n)) → length new ≡ length counted → ((n : ℕ) → slot new n ≡ (if has_id c.gone n then None else slot counted n)) → new ≡ changed_from c 0 old
-all_changed c old tabled counted new l1 t l2 k l3 g =
-    from_slots c old new (l3 ∙ (l2 ∙ l1)) (λ n. g n ∙ (ap (λ f. if has_id c.gone n then None else f) (k n ∙ ap (option_map (with_count (count_for n c.values))) (t n)) ∙ at n (slot old n)))
+pub settled : (c : Change) (old tabled counted new : List (Option FlatNet)) → ((n : ℕ) → slot tabled n ≡ option_map (with_table (table_for n c.set)) (slot old n)) → ((n : ℕ) → slot counted n ≡ option_map (with_count (count_for n c.values)) (slot tabled n)) → ((n : ℕ) → slot new n ≡ (if has_id c.gone n then None else slot counted n)) → (n : ℕ) → slot new n ≡ changed_net c n (slot old n)
+settled c old tabled counted new t k g n =
+    g n ∙ (ap (λ f. if has_id c.gone n then None else f) (k n ∙ ap (option_map (with_count (count_for n c.values))) (t n)) ∙ at (slot old n))
   where
-    at : (n : ℕ) (f : Option FlatNet) → (if has_id c.gone n then None else option_map (with_count (count_for n c.values)) (option_map (with_table (table_for n c.set)) f)) ≡ changed_net c n f
-    at n None = cond_both (has_id c.gone n) None None (λ x. x ≡ None) (λ y. refl) (λ y. refl)
-    at n (Some f) = refl
+    at : (f : Option FlatNet) → (if has_id c.gone n then None else option_map (with_count (count_for n c.values)) (option_map (with_table (table_for n c.set)) f)) ≡ changed_net c n f
+    at None = cond_both (has_id c.gone n) None None (λ x. x ≡ None) (λ y. refl) (λ y. refl)
+    at (Some f) = refl
+
+-- ---- names
+
+-- a net with another table or number of values has its name
+tabled_name : (t : Option Cover) (f : Option FlatNet) → option_map (λ (g : FlatNet). g.name) (option_map (with_table t) f) ≡ option_map (λ (g : FlatNet). g.name) f
+tabled_name None None = refl
+tabled_name (Some c) None = refl
+tabled_name None (Some f) = refl
+tabled_name (Some c) (Some f) = refl
+
+counted_name : (k : Option ℕ) (f : Option FlatNet) → option_map (λ (g : FlatNet). g.name) (option_map (with_count k) f) ≡ option_map (λ (g : FlatNet). g.name) f
+counted_name None None = refl
+counted_name (Some k) None = refl
+counted_name None (Some f) = refl
+counted_name (Some k) (Some f) = refl
+
+pub names_set : (set : List NewTable) (old new : List (Option FlatNet)) (names : List (List ℕ × ℕ)) → ((n : ℕ) → slot new n ≡ option_map (with_table (table_for n set)) (slot old n)) → AreNames old names → AreNames new names
+names_set set old new names each are = AreNames-kept old new names (λ n. ap (option_map (λ (g : FlatNet). g.name)) (each n) ∙ tabled_name (table_for n set) (slot old n)) are
+
+pub names_counted : (values : List NewCount) (old new : List (Option FlatNet)) (names : List (List ℕ × ℕ)) → ((n : ℕ) → slot new n ≡ option_map (with_count (count_for n values)) (slot old n)) → AreNames old names → AreNames new names
+names_counted values old new names each are = AreNames-kept old new names (λ n. ap (option_map (λ (g : FlatNet). g.name)) (each n) ∙ counted_name (count_for n values) (slot old n)) are
+
+-- ---- nets that go, one after the other
+
+-- what goes first, and then others, goes in all
+gone_twice : (r e : Bool) (s : Option FlatNet) → (if r then None else (if e then None else s)) ≡ (if r || (e || false) then None else s)
+gone_twice true e s = refl
+gone_twice false true s = refl
+gone_twice false false s = refl
+
+pub dropped : (old new : List (Option FlatNet)) (rest gone : List NetId) (n : NetId) → gone ≡ rest ++ n ∷ [] → new ≡ set old n.0 None → (m : ℕ) → (if has_id rest m then None else slot new m) ≡ (if has_id gone m then None else slot old m)
+dropped old new rest gone n all out m =
+    ap (λ (l : List (Option FlatNet)). if has_id rest m then None else slot l m) out
+    ∙ (ap (λ f. if has_id rest m then None else f) (slot-put old n.0 m (λ f. None) refl)
+    ∙ (gone_twice (has_id rest m) (nat_eq n.0 m) (slot old m)
+    ∙ ap (λ b. if b then None else slot old m) (sym (ap (λ l. has_id l m) all ∙ has_id-append rest (n ∷ []) m))))
+
+pub names_dropped : (old new : List (Option FlatNet)) (n : ℕ) (net : Option FlatNet) (names left : List (List ℕ × ℕ)) → net ≡ slot old n → new ≡ set old n None → ((w : List ℕ) → number_of left w ≡ (if is_named net w then None else number_of names w)) → AreNames old names → AreNames new left
+names_dropped old new n net names left is out at are =
+    subst (λ l. AreNames l left) (sym out)
+    (AreNames-without old (set old n None) n names left (IsWritten-gone old n) (λ w. at w ∙ ap (λ f. if is_named f w then None else number_of names w) is) are)

@@ -1,7 +1,7 @@
 -- What is known of a well-formed network.
-use Rattle.std.proofs.Common.{◌≤◌, ◌≡◌, ◌∙◌, ℕ, ◌<◌, true, nat_eq, List, [], ◌∷◌, length, Option, Some, None, IsTrue, get_or, is_some, refl, sym, ap, subst, ⊎_elim, eqb-true, arith, zero, suc, map}
+use Rattle.std.proofs.Common.{◌≤◌, ◌≡◌, ◌∙◌, ℕ, ◌<◌, true, nat_eq, List, [], ◌∷◌, length, Option, Some, None, IsTrue, get_or, is_some, refl, sym, subst, ⊎_elim, eqb-true, arith, zero, suc, map}
 use Rattle.std.proofs.lemmas.Bool.{or_cases, false≢true}
-use Rattle.std.proofs.lemmas.List.{get_or_read, get_or_default}
+use Rattle.std.proofs.lemmas.List.{get_or_default}
 use Rattle.mv_base.specs.declared.limits.TheConstants.{MAX_VALUES}
 use Rattle.mv_base.specs.declared.number.NetId.{NetId}
 use Rattle.mv_cover.specs.declared.cover.Cover.{Cover}
@@ -60,14 +60,6 @@ held_some (Some f) h = (f, refl)
 -- a held number is one of the numbers
 pub is_held_below : (nets : List (Option FlatNet)) (n : ℕ) → IsTrue (is_held nets n) → n < length nets
 is_held_below nets n h = let f = held_some (slot nets n) h in held_below nets n f.0 f.1
-
--- what was read of lists that are kept for each number
-pub row_kept : (net now : NetParts) (rows slice : List (List NetId)) (n : ℕ) (x y : List NetId) → net ≡ now → IsTrue (is_held now.nets n) → length rows ≡ length net.nets → slice ≡ rows → x ≡ get_or slice n x → y ≡ x → row rows n ≡ y
-row_kept net now rows slice n x y view held long same is last =
-    let low = is_held_below now.nets n held in
-    let as_long : length net.nets ≡ length now.nets = ap (λ (p : NetParts). length p.nets) view in
-    let lengths : length slice ≡ length rows = ap length same in
-    sym (last ∙ (get_or_read slice n x (omega arith) is [] ∙ ap (λ l. row l n) same))
 
 -- ---- what the kept lists need
 

@@ -66,7 +66,6 @@ reset_mark nets n =
 pub AreSeen-from_marks : (net : NetParts) (resets outputs all : List Bool) → resets ≡ map (λ (f : Option FlatNet). is_reset (kind_in f)) net.nets → AlsoMarked resets (has_id net.outputs) outputs → AlsoMarked outputs (is_latch_input net.latches) all → AreSeen net all
 unfolding is_seen
 AreSeen-from_marks net resets outputs all r o a = record {
-  long = a.long ∙ (o.long ∙ (ap length r ∙ length-map net.nets (λ (f : Option FlatNet). is_reset (kind_in f))));
   each = λ n.
       a.each n ∙ (ap (λ b. is_latch_input net.latches n || b) (o.each n ∙ ap (λ b. has_id net.outputs n || b) (ap (λ ms. is_marked ms n) r ∙ reset_mark net.nets n)) ∙ turned (has_id net.outputs n) (is_latch_input net.latches n) (is_reset (kind_in (slot net.nets n))));
 }

@@ -13,10 +13,11 @@ use Rattle.mv_net.specs.declared.parts.Kind.TheVariants.{Input, Latch, Reset}
 use Rattle.mv_net.specs.declared.parts.FlatNet.{FlatNet}
 use Rattle.mv_net.specs.declared.parts.FlatLatch.{FlatLatch}
 use Rattle.mv_net.specs.declared.parts.NetParts.{NetParts}
-use Rattle.mv_net.specs.Nets.{slot, values_in, net_reads, table_reads}
+use Rattle.mv_net.specs.Nets.{slot, values_in, net_reads, reads_in, table_reads}
 use Rattle.mv_net.specs.Formed.{IsKind, IsReadable, IsLiteral, AllLiterals, AllLines, IsCover, IsNet, IsResetNet, IsLatch, AllLatches, latch_outputs, latch_resets, with_reset, AreKind, WellFormed}
 use Rattle.mv_net.specs.Changes.{with_nets}
 use Rattle.mv_graph.specs.Nets.{has_id}
+use Rattle.mv_graph.proofs.Paths.{above_mapped, acyclic_mapped}
 use Rattle.mv_net.specs.Index.{is_latch_input}
 use Rattle.mv_net.proofs.Patches.{IsWritten, other_than}
 use Rattle.mv_net.proofs.Ports.{is_latch_output, is_reset_net, is_port, IsHidden-from, outputs_listed}
@@ -163,11 +164,10 @@ gone_formed net n nets formed loose gone = let hidden = IsHidden-from net n loos
   latches = latches_stay net.nets n nets gone net.latches hidden.next hidden.state hidden.reset formed.latches;
   states = kinds_stay net.nets n nets gone Latch (latch_outputs net.latches) (outputs_listed net.latches n ∙ hidden.state) formed.states;
   resets = kinds_stay net.nets n nets gone Reset (latch_resets net.latches) hidden.reset formed.resets;
-  acyclic = record { rank = formed.acyclic.rank; falls = λ m k r. formed.acyclic.falls m k (read_before net.nets n nets gone m k r) };
+  acyclic = acyclic_mapped (reads_in nets) (reads_in net.nets) (λ m. m) (read_before net.nets n nets gone) formed.acyclic;
   alone = record {
-    below = formed.alone.below;
-    latches = λ m k. formed.alone.latches m (kind_before net.nets n nets gone m Latch k);
-    readers = λ m k r. formed.alone.readers m k (read_before net.nets n nets gone m k r);
-    resets = λ m k. formed.alone.resets m (kind_before net.nets n nets gone m Reset k);
+    none = λ m k latch reset above.
+        formed.alone.none m k (kind_before net.nets n nets gone m Latch latch) (kind_before net.nets n nets gone k Reset reset)
+        (above_mapped (reads_in nets) (reads_in net.nets) (λ j. j) (read_before net.nets n nets gone) m k above);
   };
 }

@@ -1,5 +1,6 @@
 -- What a change makes of a network.
-use Rattle.std.specs.Prelude.{ℕ, ◌+◌, nat_eq, Option, Some, None, List, [], ◌∷◌, ◌++◌, map, slice_set, if◌then◌else◌}
+use Rattle.std.specs.Prelude.{◌≡◌, ℕ, ◌+◌, true, false, nat_eq, IsTrue, Option, Some, None, List, [], ◌∷◌, ◌++◌, map, slice_set, if◌then◌else◌}
+use Rattle.mv_base.specs.declared.number.NetId.{NetId}
 use Rattle.mv_cover.specs.declared.cover.Cover.{Cover}
 use Rattle.mv_net.specs.declared.change.NewNet.{NewNet}
 use Rattle.mv_net.specs.declared.change.NewTable.{NewTable}
@@ -8,7 +9,8 @@ use Rattle.mv_net.specs.declared.change.Change.{Change}
 use Rattle.mv_net.specs.declared.parts.Kind.TheVariants.{Table}
 use Rattle.mv_net.specs.declared.parts.FlatNet.{FlatNet}
 use Rattle.mv_net.specs.declared.parts.NetParts.{NetParts}
-use Rattle.mv_graph.specs.Nets.{has_id}
+use Rattle.mv_net.specs.Index.{is_held, HasName}
+use Rattle.mv_graph.specs.Nets.{has_id, all_differ}
 
 -- the table that is given to the net at a number, if one is
 abbrev pub table_for : ℕ → List NewTable → Option Cover
@@ -47,6 +49,27 @@ made_net m = Some (record { name = m.name; values = m.values; value_names = []; 
 -- the network behind the change: new nets get the next numbers
 unfoldable pub changed : NetParts → Change → NetParts
 changed net c = record net { nets = changed_from c 0 net.nets ++ map made_net c.add }
+
+-- the nets that get other tables, and those that get other numbers of values
+abbrev pub nets_set : Change → List NetId
+nets_set c = map (λ (t : NewTable). t.net) c.set
+
+abbrev pub nets_counted : Change → List NetId
+nets_counted c = map (λ (v : NewCount). v.net) c.values
+
+-- each of these nets is held, and stands in the list once
+pub record AreHeldOnce (nets : List (Option FlatNet)) (list : List NetId) : Type 0 where
+  pub held : (n : ℕ) → has_id list n ≡ true → IsTrue (is_held nets n)
+  pub once : all_differ list ≡ true
+
+-- the change can be made where it stands: the nets that it names are held, each at most once in a list, none that goes gets
+-- anything, and no net has the name of one that comes
+pub record Fits (net : NetParts) (c : Change) : Type 0 where
+  pub set : AreHeldOnce net.nets (nets_set c)
+  pub values : AreHeldOnce net.nets (nets_counted c)
+  pub gone : AreHeldOnce net.nets c.gone
+  pub apart : (n : ℕ) → has_id c.gone n ≡ true → (has_id (nets_set c) n ≡ false) × (has_id (nets_counted c) n ≡ false)
+  pub names : (k n : ℕ) (w : List ℕ) → HasName (map made_net c.add) k w → HasName net.nets n w → ⊥
 
 -- the network with other nets
 unfoldable pub with_nets : NetParts → List (Option FlatNet) → NetParts

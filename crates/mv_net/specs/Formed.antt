@@ -1,5 +1,5 @@
 -- When the parts of a network are well formed.
-use Rattle.std.specs.Prelude.{◌≡◌, ℕ, ◌<◌, ◌≤◌, Bool, true, false, IsTrue, Option, Some, None, List, [], ◌∷◌, length, decimal, map, is_some}
+use Rattle.std.specs.Prelude.{◌≡◌, ℕ, ◌<◌, ◌≤◌, Bool, true, false, Option, Some, None, List, [], ◌∷◌, length, decimal, map, is_some}
 use Rattle.std.specs.List.{list_all, range_with_len}
 use Rattle.mv_base.specs.Names.{is_net_name, is_model_name, is_value_name, names_differ}
 use Rattle.mv_base.specs.Set.{full}
@@ -16,8 +16,9 @@ use Rattle.mv_net.specs.declared.parts.Kind.TheVariants.{Input, Latch, Table, Re
 use Rattle.mv_net.specs.declared.parts.FlatNet.{FlatNet}
 use Rattle.mv_net.specs.declared.parts.FlatLatch.{FlatLatch}
 use Rattle.mv_net.specs.declared.parts.NetParts.{NetParts}
-use Rattle.mv_net.specs.Nets.{slot, net_reads, values_in}
+use Rattle.mv_net.specs.Nets.{slot, reads_in, values_in}
 use Rattle.mv_graph.specs.Nets.{has_id, all_differ}
+use Rattle.mv_graph.specs.Above.{IsAbove, IsAcyclic}
 
 -- the net at the number is held and of this kind
 pub record IsKind (nets : List (Option FlatNet)) (n : ℕ) (kind : Kind) : Type 0 where
@@ -118,18 +119,9 @@ abbrev pub latch_resets : List FlatLatch → List NetId
 latch_resets [] = []
 latch_resets (l ∷ ls) = with_reset l.reset (latch_resets ls)
 
--- no net is above itself: some rank falls from each net to its fanins
-pub record Acyclic (nets : List (Option FlatNet)) : Type 0 where
-  pub rank : ℕ → ℕ
-  pub falls : (n m : ℕ) → IsTrue (net_reads (slot nets n) m) → rank m < rank n
-
--- no latch output is above a reset net: some set of nets has the latch outputs and each reader of its nets,
--- and no reset net
+-- no latch output is above a reset net
 pub record ResetsStandAlone (nets : List (Option FlatNet)) : Type 0 where
-  pub below : ℕ → Bool
-  pub latches : (n : ℕ) → IsKind nets n Latch → below n ≡ true
-  pub readers : (n m : ℕ) → IsTrue (net_reads (slot nets n) m) → below m ≡ true → below n ≡ true
-  pub resets : (n : ℕ) → IsKind nets n Reset → below n ≡ false
+  pub none : (n m : ℕ) → IsKind nets n Latch → IsKind nets m Reset → IsAbove (reads_in nets) n m → ⊥
 
 -- each net of a kind stands in the list, and each net of the list is of the kind
 pub record AreKind (nets : List (Option FlatNet)) (kind : Kind) (list : List NetId) : Type 0 where
@@ -148,5 +140,5 @@ pub record WellFormed (net : NetParts) : Type 0 where
   pub latches : AllLatches net.nets net.latches
   pub states : AreKind net.nets Latch (latch_outputs net.latches)
   pub resets : AreKind net.nets Reset (latch_resets net.latches)
-  pub acyclic : Acyclic net.nets
+  pub acyclic : IsAcyclic (reads_in net.nets)
   pub alone : ResetsStandAlone net.nets

@@ -31,11 +31,6 @@ pub record AreFanins (nets : List (Option FlatNet)) (rows : List (List NetId)) :
   pub long : length rows ≡ length nets
   pub each : (n : ℕ) → IsAscending (λ m. net_reads (slot nets n) m) (row rows n)
 
--- one list for each number: the nets that read its net
-pub record AreReaders (nets : List (Option FlatNet)) (rows : List (List NetId)) : Type 0 where
-  pub long : length rows ≡ length nets
-  pub each : (n : ℕ) → IsAscending (λ m. net_reads (slot nets m) n) (row rows n)
-
 -- the net is a reset net
 abbrev pub is_reset : Option Kind → Bool
 is_reset None = false

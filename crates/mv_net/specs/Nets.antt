@@ -37,6 +37,10 @@ table_reads (Some c) n = cover_reads c n
 abbrev pub net_reads : Option FlatNet → ℕ → Bool
 net_reads f n = table_reads (table_in f) n
 
+-- of these nets, the one at n reads the one at m
+abbrev pub reads_in : List (Option FlatNet) → ℕ → ℕ → Bool
+reads_in nets n m = net_reads (slot nets n) m
+
 -- the literals of all lines of a table
 abbrev pub table_literals : Option Cover → ℕ
 table_literals None = 0

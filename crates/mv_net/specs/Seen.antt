@@ -5,9 +5,8 @@ use Rattle.mv_graph.specs.Nets.{has_id}
 use Rattle.mv_graph.specs.Marks.{is_marked}
 use Rattle.mv_net.specs.Index.{is_latch_input, is_seen}
 
--- each number is marked where its net is seen
+-- each number is marked where its net is seen; past the last mark none is
 pub record AreSeen (net : NetParts) (marks : List Bool) : Type 0 where
-  pub long : length marks ≡ length net.nets
   pub each : (n : ℕ) → is_marked marks n ≡ is_seen net n
 
 -- ---- what private functions alone cite

@@ -33,7 +33,7 @@ fn nets_of(alloc: Global, cover: &Cover) -> Result<Vec<NetId>, Memory>
 }
 
 /// These nets by ascending number, each once.
-fn ascending(mut nets: Vec<NetId>) -> Items<NetId>
+pub fn ascending(mut nets: Vec<NetId>) -> Items<NetId>
     ensures { IsAscending (has_id nets.items) result }
 {
     nets.sort_unstable();
@@ -42,7 +42,7 @@ fn ascending(mut nets: Vec<NetId>) -> Items<NetId>
 }
 
 /// The nets that the cover has literals on.
-fn fanins_of_cover(alloc: Global, cover: &Cover) -> Result<Items<NetId>, Memory>
+pub fn fanins_of_cover(alloc: Global, cover: &Cover) -> Result<Items<NetId>, Memory>
     ensures { IfOk result (λ nets. IsAscending (cover_reads cover.now) nets) }
 {
     let nets = nets_of(alloc, cover)?;

@@ -6,20 +6,18 @@ use crate::NetParts;
 use crate::fanins::fanins_of;
 use crate::names::{NameIndex, names_of};
 use crate::seen::seen_of;
-use crate::tallies::{counts_of, literals_in};
-use mv_base::{Items, MAX_NETS, Memory, NetId};
-use mv_graph::transposed;
+use crate::tallies::{Tallies, tallies_of};
+use mv_base::{Items, MAX_NETS, Memory};
+use mv_dag::Dag;
 use std::alloc::Global;
 
-/// What is looked up in a network, by number or by name.
+/// What is looked up in a network, by number or by name, and the graph of who reads whom.
 #[derive(Drop)]
 pub struct Kept {
-    pub counts: Items<u16>,
-    pub fanins: Items<Items<NetId>>,
-    pub readers: Items<Items<NetId>>,
+    pub tallies: Tallies,
+    pub graph: Dag,
     pub names: NameIndex,
     pub seen: Items<bool>,
-    pub literals: u128,
 }
 
 /// What is kept for these parts.
@@ -31,15 +29,14 @@ pub fn kept_of(alloc: Global, parts: &NetParts) -> Result<Kept, Memory>
 {
     let nets = parts.nets.as_slice();
     let fanins = fanins_of(alloc, nets)?;
-    let readers = transposed(alloc, fanins.as_slice())?;
+    let graph = Dag::of(alloc, fanins)?;
     let names = names_of(alloc, nets)?;
     let seen = seen_of(alloc, parts)?;
+    let tallies = tallies_of(alloc, nets)?;
     Ok(Kept {
-        counts: counts_of(alloc, nets)?,
-        fanins,
-        readers,
+        tallies,
+        graph,
         names,
         seen,
-        literals: literals_in(nets),
     })
 }

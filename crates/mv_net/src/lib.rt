@@ -2,18 +2,27 @@
 //! well formed with what is looked up in it.
 #![tactic(auto)]
 
+mod below;
 mod change;
 mod fanins;
+mod fresh;
+mod in_place;
 mod kept;
 mod laws;
 mod names;
 mod network;
+mod new_rows;
 mod parts;
+mod questions;
+mod search;
 mod seen;
+mod settle;
 mod tallies;
 mod total;
+mod window;
 
 pub use change::{Change, NewCount, NewNet, NewTable};
 pub use laws::refinement_laws;
 pub use network::Network;
 pub use parts::{FlatLatch, FlatNet, Kind, NetParts};
+pub use window::Window;

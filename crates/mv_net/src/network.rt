@@ -1,19 +1,18 @@
-ghost use Rattle.std.specs.Prelude.{◌≡◌, ℕ, ◌+◌, ◌<◌, ◌≤◌, Some, IsTrue, map, length, option_copied, IfOk, IfSome, IsNone, OnOk, OnErr};
-ghost use Rattle.std.specs.List.{filter};
+ghost use Rattle.std.specs.Prelude.{◌≡◌, ℕ, ◌+◌, ◌<◌, ◌≤◌, Some, IsTrue, map, length, option_copied, IfOk, IfSome, IsNone, OnOk, OnErr, MatchBool};
 ghost use Rattle.mv_base.specs.declared.number.NetId.{NetId};
-ghost use Rattle.mv_net.specs.Nets.{slot, values_in, name_in, table_in, net_reads, literals_in};
+ghost use Rattle.mv_net.specs.Nets.{slot, values_in, name_in, table_in, net_reads, reads_in, literals_in};
 ghost use Rattle.mv_net.specs.Formed.{WellFormed};
 ghost use Rattle.mv_graph.specs.Nets.{IsAscending};
 ghost use Rattle.mv_net.specs.Index.{is_held, kind_in, value_names_in, is_seen, HasName};
-ghost use Rattle.mv_net.specs.Changes.{changed};
+ghost use Rattle.mv_net.specs.Changes.{changed, Fits};
+ghost use Rattle.mv_graph.specs.Above.{IsAbove};
 ghost use Rattle.mv_net.specs.Order.{IsOrder};
 
-use crate::change::put_change;
+use crate::in_place::put_change;
 use crate::kept::{Kept, kept_of};
 use crate::{Change, FlatLatch, FlatNet, Kind, NetParts};
-use mv_base::{MAX_NETS, Memory, Name, NetId};
+use mv_base::{Items, MAX_NETS, Memory, Name, NetId};
 use mv_cover::Cover;
-use mv_graph::sorted;
 use std::alloc::Global;
 use std::marker::Model;
 
@@ -49,10 +48,11 @@ impl Network {
 
     /// Changes the network: nets come, get other tables or numbers of values, or go. New nets get the numbers from
     /// `next_number` on; a number that goes isn't used again. All memory is taken first: on an error the network is as
-    /// before. What is looked up is made anew, so the time grows with the whole network and the change, also if the
-    /// change is small.
+    /// before. It costs what it changes: the tables that are given, and where a net comes to read one that stood behind it
+    /// in the kept order, those that stand between the two.
     pub fn change(&mut self, change: Change) -> Result<(), Memory>
         requires few { length self.old.nets + length change.add ≤ MAX_NETS }
+        requires fits { Fits self.old change }
         requires formed { WellFormed (changed self.old change) }
         ensures ok { OnOk result (self.new ≡ changed self.old change) }
         ensures err { OnErr result (self.new ≡ self.old) }
@@ -72,6 +72,13 @@ impl Network {
         ensures { length self.now.nets ≤ MAX_NETS }
     {
         let _ = &self.parts;
+    }
+
+    /// The parts of the network. No memory.
+    pub fn parts(&self) -> &NetParts
+        ensures { result.now ≡ self.now }
+    {
+        &self.parts
     }
 
     /// The name of the root. No memory.
@@ -106,14 +113,14 @@ impl Network {
     pub fn counts(&self) -> &[u16]
         ensures { result.now ≡ map values_in self.now.nets }
     {
-        self.kept.counts.as_slice()
+        self.kept.tallies.counts.as_slice()
     }
 
     /// The literals of all tables, each of which counts one. No memory.
     pub fn literals(&self) -> u128
         ensures { result ≡ literals_in self.now.nets }
     {
-        self.kept.literals
+        self.kept.tallies.literals
     }
 
     /// The number that the next new net gets. No memory.
@@ -197,7 +204,7 @@ impl Network {
         requires { IsTrue (is_held self.now.nets n.0) }
         ensures { IsAscending (λ m. net_reads (slot self.now.nets n.0) m) result.now }
     {
-        self.kept.fanins.as_slice()[n.0 as usize].as_slice()
+        self.kept.graph.fanins(n)
     }
 
     /// The nets whose tables have literals on a held net, ascending. No memory.
@@ -205,7 +212,7 @@ impl Network {
         requires { IsTrue (is_held self.now.nets n.0) }
         ensures { IsAscending (λ m. net_reads (slot self.now.nets m) n.0) result.now }
     {
-        self.kept.readers.as_slice()[n.0 as usize].as_slice()
+        self.kept.graph.readers(n)
     }
 
     /// Whether a held net is an output of the root, the input of a latch, or a reset net. No memory.
@@ -213,30 +220,40 @@ impl Network {
         requires { IsTrue (is_held self.now.nets n.0) }
         ensures { result ≡ is_seen self.now n.0 }
     {
-        self.kept.seen.as_slice()[n.0 as usize]
+        match self.kept.seen.as_slice().get(n.0 as usize) {
+            Some(mark) => *mark,
+            None => false,
+        }
     }
 
-    /// The held nets, each behind its fanins: a topological order (Kahn 1962). The time grows with the numbers and
-    /// the fanins.
+    /// Whether the one net is above the other: a path of at least one step, each to a net that the one before reads, leads to
+    /// it from the other. No net is above or below a number that isn't held. It looks only at nets that stand between the two
+    /// in the kept order.
+    pub fn is_above(&self, above: NetId, n: NetId) -> Result<bool, Memory>
+        ensures { IfOk result
+            (λ yes. MatchBool yes (IsAbove (reads_in self.now.nets) above.0 n.0) (IsAbove (reads_in self.now.nets) above.0 n.0 → ⊥)) }
+    {
+        self.kept.graph.is_above(above, n)
+    }
+
+    /// The held nets, each behind its fanins: a topological order. They are sorted by their places in the kept order.
     pub fn order(&self) -> Result<Vec<NetId>, Memory>
         ensures { IfOk result (λ order. IsOrder self.now.nets order.items) }
     {
-        let alloc = self.parts.nets.allocator();
-        let nets = sorted(alloc, self.kept.fanins.as_slice())?.unwrap();
-        self.held_among(nets.as_slice())
+        let nets = self.held_nets()?;
+        self.kept.graph.order_among(nets.as_slice())
     }
 
-    /// Those of these nets that are held.
-    fn held_among(&self, nets: &[NetId]) -> Result<Vec<NetId>, Memory>
-        ensures { IfOk result
-            (λ held. held.items ≡ filter (λ (n : NetId). is_held self.now.nets n.0) nets.now) }
+    /// The numbers of the held nets, ascending.
+    fn held_nets(&self) -> Result<Items<NetId>, Memory>
+        ensures { IfOk result (λ nets. IsAscending (is_held self.now.nets) nets) }
     {
-        let mut held = Vec::new(self.parts.nets.allocator());
-        for net in nets {
-            if self.holds(*net) {
-                held.push(*net)?;
+        let mut nets = Items::new(self.parts.nets.allocator());
+        for number in 0..self.next_number() {
+            if self.holds(NetId(number)) {
+                nets.push(NetId(number))?;
             }
         }
-        Ok(held)
+        Ok(nets)
     }
 }

@@ -17,7 +17,8 @@ first_word l = first_of l.words
 
 -- the commands that this version doesn't read: latches, resets, instances, and the root's name
 abbrev pub is_unbuilt : List ℕ → Bool
-is_unbuilt w = same_word w (codes ".latch") || same_word w (codes ".reset") || same_word w (codes ".r") || same_word w (codes ".subckt") || same_word w (codes ".root")
+is_unbuilt w =
+    same_word w (codes ".latch") || same_word w (codes ".reset") || same_word w (codes ".r") || same_word w (codes ".subckt") || same_word w (codes ".root")
 
 -- the words that say that a line begins a table
 abbrev pub is_table_word : List ℕ → Bool
@@ -62,13 +63,15 @@ abbrev pub is_table : Command → Bool
 is_table Table = true
 is_table _ = false
 
+-- the line ends its model
+abbrev pub is_end : Command → Bool
+is_end End = true
+is_end _ = false
+
+-- ---- what private functions alone cite
+
 -- the first line of a model, and the last
 abbrev pub is_bound : Command → Bool
 is_bound Model = true
 is_bound End = true
 is_bound _ = false
-
--- the line ends its model
-abbrev pub is_end : Command → Bool
-is_end End = true
-is_end _ = false

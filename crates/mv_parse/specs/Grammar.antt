@@ -1,6 +1,7 @@
 -- The grammar of a network file, after the description of BLIF-MV by Kukimoto: the faults of its lines, in the order in
 -- which they are told. A line's faults depend on the lines before it; a file that has none is a design.
-use Rattle.std.specs.Prelude.{◌≡◌, ℕ, ◌+◌, Bool, true, false, not, ◌==◌, nat_lt, nat_le, List, [], ◌∷◌, ◌++◌, length, drop, filter, Option, Some, None, if◌then◌else◌}
+use Rattle.std.specs.Prelude.{◌≡◌, ℕ, ◌+◌, Bool, true, false, not, ◌==◌, nat_lt, nat_le, List, []}
+use Rattle.std.specs.Prelude.{◌∷◌, ◌++◌, length, drop, filter, Option, Some, None, if◌then◌else◌}
 use Rattle.mv_base.specs.Names.{among, is_net_name, is_model_name}
 use Rattle.mv_base.specs.declared.limits.TheConstants.{MAX_TABLE_LINES}
 use Rattle.mv_lex.specs.declared.lines.LexLine.{LexLine}
@@ -8,7 +9,8 @@ use Rattle.mv_design.specs.declared.design.Decl.{Decl}
 use Rattle.mv_design.specs.declared.design.Design.{Design}
 use Rattle.mv_fault.specs.declared.fault.Which.TheVariants.{TableLines}
 use Rattle.mv_fault.specs.declared.fault.ParseFault.{ParseFault}
-use Rattle.mv_fault.specs.declared.fault.ParseFault.TheVariants.{UnknownCommand, OutsideModel, NoEnd, Missing, Extra, Columns, DefaultTwice, Repeated, NoModel, Limit, BadName, NoTable, NotBuilt}
+use Rattle.mv_fault.specs.declared.fault.ParseFault.TheVariants.{UnknownCommand, OutsideModel, NoEnd, Missing, Extra, Columns, DefaultTwice}
+use Rattle.mv_fault.specs.declared.fault.ParseFault.TheVariants.{Repeated, NoModel, Limit, BadName, NoTable, NotBuilt}
 use Rattle.mv_fault.specs.Tells.{when, first}
 use Rattle.mv_decl.specs.Line.{decl_faults}
 use Rattle.mv_table.specs.Columns.{has_several_outputs, columns_faults}

@@ -10,7 +10,7 @@ use Rattle.mv_pool.specs.Places.{item_at}
 use Rattle.mv_pool.specs.Reached.{IsClosed, LinksAreHeld, IsReached, IsReclaimed}
 use Rattle.mv_pool.proofs.Positions.{passes_within}
 use Rattle.mv_pool.proofs.Finding.{Loses}
-use Rattle.mv_pool.specs.Walks.{mark, IsWalk, HasReached, IsWalking, AreRooted, AreFreed}
+use Rattle.mv_pool.specs.Walks.{mark, IsQueued, HasReached, IsWalking, AreRooted, AreFreed}
 
 -- a marked place has a mark
 pub marked_within : (m : List Bool) (n : ℕ) → mark m n ≡ true → n < length m
@@ -47,7 +47,7 @@ same_read [] i d e h = absurd (omega arith)
 same_read (y ∷ xs) zero d e h = refl
 same_read (y ∷ xs) (suc i) d e h = same_read xs i d e (omega arith)
 
-module _ (m : List Bool) (q : List ℕ) (at : ℕ) (walk : IsWalk m q) (within : at < length m) (unmarked : mark m at ≡ false) where
+module _ (m : List Bool) (q : List ℕ) (at : ℕ) (walk : IsQueued m q) (within : at < length m) (unmarked : mark m at ≡ false) where
   -- the marks of a place more
   marks_new : (n : ℕ) → ((n ≡ at) × (mark (set m at true) n ≡ true)) ⊎ ((n ≢ at) × (mark (set m at true) n ≡ mark m n))
   marks_new n = elim (cases_order n at) [
@@ -65,7 +65,7 @@ module _ (m : List Bool) (q : List ℕ) (at : ℕ) (walk : IsWalk m q) (within :
   longer_new = omega (arith, length-append q (at ∷ []))
 
   -- the walk with a place more
-  walk_new : IsWalk (set m at true) (q ++ at ∷ [])
+  walk_new : IsQueued (set m at true) (q ++ at ∷ [])
   walk_new = record {
     count = omega (arith, longer_new, count-set m at within unmarked, walk.count);
     marked = λ k h. elim (cases_lt k (length q)) [ inl less ↦ low k less | inr more ↦ high k more (omega (arith, longer_new)) ];
@@ -101,7 +101,7 @@ module _ (m : List Bool) (q : List ℕ) (at : ℕ) (walk : IsWalk m q) (within :
       same other e = ap (λ (i : Id). i.0) (same_Some other id (sym e ∙ is)) ∙ here
 
 -- a place that wasn't marked
-pub reached_new : (m : List Bool) (q : List ℕ) (link : Option Id) (id : Id) → IsWalk m q → id.0 < length m → mark m id.0 ≡ false → link ≡ Some id → HasReached m q link (set m id.0 true) (q ++ id.0 ∷ [])
+pub reached_new : (m : List Bool) (q : List ℕ) (link : Option Id) (id : Id) → IsQueued m q → id.0 < length m → mark m id.0 ≡ false → link ≡ Some id → HasReached m q link (set m id.0 true) (q ++ id.0 ∷ [])
 reached_new m q link id walk within unmarked is = reached_at m q id.0 walk within unmarked link id is refl
 
 -- a root more is marked

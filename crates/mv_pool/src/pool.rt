@@ -49,7 +49,8 @@ impl<T: Copy + Eq + Hash> Model for Pool<T> {
 
     ghost view = { λ p. record { places = p.places.items; cap = p.cap } };
 
-    ghost invariant = { λ p. HasRoom (IsKept T.eq p.numbers p.places.items (vec_capacity p.places) p.taken p.cap) p.cap (vec_capacity p.marks) (vec_capacity p.queue) };
+    ghost invariant = { λ p. HasRoom (IsKept T.eq p.numbers p.places.items (vec_capacity p.places) p.taken p.cap) p.cap (vec_capacity p.marks)
+        (vec_capacity p.queue) };
 }
 
 impl<T: Copy + Eq + Hash> Pool<T> {

@@ -2,14 +2,14 @@ ghost use Rattle.std.specs.Prelude.{◌≡◌, ℕ, ◌<◌, ◌≤◌, ◌+◌,
 ghost use Rattle.mv_pool.specs.declared.pool.Id.{Id};
 ghost use Rattle.mv_pool.specs.Places.{item_at};
 ghost use Rattle.mv_pool.specs.Reached.{LinksAreHeld};
-ghost use Rattle.mv_pool.specs.Walks.{IsWalking, HasReached, IsWalk, AreRooted, AreFreed, mark};
+ghost use Rattle.mv_pool.specs.Walks.{IsWalking, HasReached, IsQueued, AreRooted, AreFreed, mark};
 
 use crate::{Id, Linked};
 
 /// No place is marked.
 pub fn begin(marks: &mut Vec<bool>, queue: &mut Vec<u32>, len: usize)
     requires { len ≤ vec_capacity marks.old }
-    ensures walk { IsWalk marks.new.items queue.new.items }
+    ensures walk { IsQueued marks.new.items queue.new.items }
     ensures none { (n : ℕ) → mark marks.new.items n ≡ false }
     ensures size { length marks.new.items ≡ len }
     ensures marks { vec_capacity marks.old ≤ vec_capacity marks.new }
@@ -22,7 +22,7 @@ pub fn begin(marks: &mut Vec<bool>, queue: &mut Vec<u32>, len: usize)
 
 /// Marks the place of a link, and puts it at the end of the queue, unless it is marked.
 fn reach(marks: &mut Vec<bool>, queue: &mut Vec<u32>, link: Option<Id>)
-    requires walk { IsWalk marks.old.items queue.old.items }
+    requires walk { IsQueued marks.old.items queue.old.items }
     requires within { (id : Id) → link ≡ Some id → id.0 < length marks.old.items }
     requires room { length marks.old.items ≤ vec_capacity queue.old }
     ensures reached { HasReached marks.old.items queue.old.items link marks.new.items queue.new.items }

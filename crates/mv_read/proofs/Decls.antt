@@ -1,8 +1,8 @@
 -- A line of declarations without a fault declares lawful nets, with lawful values.
-use Rattle.std.proofs.Common.{◌≡◌, ◌≢◌, ℕ, ◌<◌, ◌≤◌, Bool, true, false, ◌==◌, List, [], ◌∷◌, ◌++◌, length, refl, arith, ⊎_elim}
+use Rattle.std.proofs.Common.{◌≡◌, ◌≢◌, ℕ, ◌<◌, ◌≤◌, true, ◌==◌, List, [], ◌∷◌, ◌++◌, length, refl, arith}
 use Rattle.std.specs.Prelude.{All, nat_lt}
 use Rattle.std.specs.List.{list_all, flat_map}
-use Rattle.std.proofs.lemmas.Bool.{cases_Bool, cond_both, and_from, and_parts, not-false, eqb-true, eqb-false, ltb-false}
+use Rattle.std.proofs.lemmas.Bool.{cond_both, and_from, and_parts, not-false, eqb-true, eqb-false, ltb-false}
 use Rattle.std.proofs.lemmas.List.Elements.{All-nil, All-cons, All-head, All-tail, All-push}
 use Rattle.mv_base.specs.Names.{among, is_net_name, is_value_name}
 use Rattle.mv_base.specs.declared.limits.TheConstants.{MAX_VALUES}
@@ -12,7 +12,7 @@ use Rattle.mv_fault.specs.declared.fault.ParseFault.TheVariants.{BadCount, Limit
 use Rattle.mv_fault.specs.Tells.{when}
 use Rattle.mv_fault.proofs.Nothing.{left-nothing, right-nothing, when-nothing}
 use Rattle.mv_decl.specs.Nets.{declared_of, with_decl, with_decls}
-use Rattle.mv_decl.specs.Line.{Front, net_name_faults, lacking_faults, front_faults, front_said, number_of, value_names, named_values, told_number, count_faults, name_faults, length_faults, redeclared_faults, values_from, nets_said, values_said, decls_for, decls_said, count_line_faults, decl_faults}
+use Rattle.mv_decl.specs.Line.{Front, net_name_faults, lacking_faults, front_faults, front_said, number_said, value_names, named_values, told_number, count_faults, name_faults, length_faults, redeclared_faults, values_from, nets_said, values_said, decls_for, decls_said, count_line_faults, decl_faults}
 use Rattle.mv_decl.proofs.Numbers.{numbers_size}
 use Rattle.mv_model.specs.Proper.{IsFileDecl}
 use Rattle.mv_model.proofs.Decimals.{numbers-differ, numbers-lawful}
@@ -53,26 +53,26 @@ values-fit n count (w ∷ ws) some few named sized =
     let size : length (w ∷ ws) ≡ count = eqb-true (length (w ∷ ws)) count (not-false _ (when-nothing _ _ sized)) in
     record { some = omega arith; few = omega arith; names = values-named n [] (w ∷ ws) named (no-names is_value_name) }
 
-count-some : (n : ℕ) (w : List ℕ) → count_faults n w ≡ [] → 0 < number_of w
+count-some : (n : ℕ) (w : List ℕ) → count_faults n w ≡ [] → 0 < number_said w
 unfolding count_faults
 count-some n w none =
-    let other : number_of w ≢ 0 = eqb-false (number_of w) 0 (when-nothing _ _ (left-nothing _ _ none)) in
+    let other : number_said w ≢ 0 = eqb-false (number_said w) 0 (when-nothing _ _ (left-nothing _ _ none)) in
     omega arith
 
-count-few : (n : ℕ) (w : List ℕ) → count_faults n w ≡ [] → number_of w ≤ MAX_VALUES
+count-few : (n : ℕ) (w : List ℕ) → count_faults n w ≡ [] → number_said w ≤ MAX_VALUES
 unfolding count_faults
 count-few n w none =
-    ltb-false MAX_VALUES (number_of w) (when-nothing (nat_lt MAX_VALUES (number_of w)) (Limit n Values (told_number (number_of w))) (right-nothing (when (number_of w == 0) (BadCount n w)) (when (nat_lt MAX_VALUES (number_of w)) (Limit n Values (told_number (number_of w)))) none))
+    ltb-false MAX_VALUES (number_said w) (when-nothing (nat_lt MAX_VALUES (number_said w)) (Limit n Values (told_number (number_said w))) (right-nothing (when (number_said w == 0) (BadCount n w)) (when (nat_lt MAX_VALUES (number_said w)) (Limit n Values (told_number (number_said w)))) none))
 
 line-values : (n : ℕ) (ds : List Decl) (nets ws : List (List ℕ)) → (ws ≡ [] → ⊥) → count_line_faults n ds nets ws ≡ [] → IsValues (values_from ws)
 line-values n ds nets [] some none = absurd (some refl)
 line-values n ds nets (w ∷ ws) some none =
-    let front : (count_faults n w ++ name_faults n [] (value_names ws)) ++ length_faults n (number_of w) (value_names ws) ≡ [] = left-nothing _ (redeclared_faults n ds (named_values (number_of w) (value_names ws)) nets) none in
-    let counted : count_faults n w ++ name_faults n [] (value_names ws) ≡ [] = left-nothing _ (length_faults n (number_of w) (value_names ws)) front in
+    let front : (count_faults n w ++ name_faults n [] (value_names ws)) ++ length_faults n (number_said w) (value_names ws) ≡ [] = left-nothing _ (redeclared_faults n ds (named_values (number_said w) (value_names ws)) nets) none in
+    let counted : count_faults n w ++ name_faults n [] (value_names ws) ≡ [] = left-nothing _ (length_faults n (number_said w) (value_names ws)) front in
     let count : count_faults n w ≡ [] = left-nothing _ (name_faults n [] (value_names ws)) counted in
-    values-fit n (number_of w) (value_names ws) (count-some n w count) (count-few n w count)
+    values-fit n (number_said w) (value_names ws) (count-some n w count) (count-few n w count)
     (right-nothing (count_faults n w) (name_faults n [] (value_names ws)) counted)
-    (right-nothing (count_faults n w ++ name_faults n [] (value_names ws)) (length_faults n (number_of w) (value_names ws)) front)
+    (right-nothing (count_faults n w ++ name_faults n [] (value_names ws)) (length_faults n (number_said w) (value_names ws)) front)
 
 -- ---- the declarations
 

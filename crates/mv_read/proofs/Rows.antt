@@ -13,7 +13,7 @@ use Rattle.mv_design.specs.declared.table.FileTable.{FileTable}
 use Rattle.mv_design.specs.declared.design.Decl.{Decl}
 use Rattle.mv_table.specs.Columns.{ins_of, outs_of}
 use Rattle.mv_table.specs.Entries.{outs_said}
-use Rattle.mv_table.specs.Tables.{behind_first, says_default, row_of, rows_at, rows_of, default_at, default_of, table_of}
+use Rattle.mv_table.specs.Tables.{behind_first, says_default, row_of_words, rows_at, rows_of, default_at, default_of, table_of}
 use Rattle.mv_model.specs.Proper.{FitOutputs, IsFileRow, IsFileTable}
 use Rattle.mv_read.proofs.Entries.{ins-fit, outs-fit}
 
@@ -37,7 +37,7 @@ pub record IsTableAt (head : LexLine) (rows : List LexLine) : Type 0 where
   pub entries : All (EntryLine (behind_first head)) rows
 
 module _ (ds : List Decl) (t : FileTable) where
-  row-fits : (words : List (List ℕ)) → length words ≡ length t.inputs + length t.outputs → IsFileRow ds t (row_of ds t.inputs t.outputs words)
+  row-fits : (words : List (List ℕ)) → length words ≡ length t.inputs + length t.outputs → IsFileRow ds t (row_of_words ds t.inputs t.outputs words)
   row-fits words size =
       let behind : length (drop (length t.inputs) words) ≡ length t.outputs = simp length-drop (omega arith) in
       record {
@@ -47,9 +47,9 @@ module _ (ds : List Decl) (t : FileTable) where
 
   row-here : (l : LexLine) → IsEntryLine (length t.inputs) (length t.outputs) l → All (IsFileRow ds t) (rows_at ds t.inputs t.outputs l)
   row-here l h =
-      cond_both (says_default l) [] (row_of ds t.inputs t.outputs l.words ∷ []) (All (IsFileRow ds t))
+      cond_both (says_default l) [] (row_of_words ds t.inputs t.outputs l.words ∷ []) (All (IsFileRow ds t))
       (λ y. All-nil (IsFileRow ds t))
-      (λ n. All-cons (IsFileRow ds t) (row_of ds t.inputs t.outputs l.words) [] (row-fits l.words (h.row n)) (All-nil (IsFileRow ds t)))
+      (λ n. All-cons (IsFileRow ds t) (row_of_words ds t.inputs t.outputs l.words) [] (row-fits l.words (h.row n)) (All-nil (IsFileRow ds t)))
 
   rows-fit : (lines : List LexLine) → All (IsEntryLine (length t.inputs) (length t.outputs)) lines → All (IsFileRow ds t) (rows_of ds t.inputs t.outputs lines)
   rows-fit [] h = All-nil (IsFileRow ds t)

@@ -44,7 +44,7 @@ IsFaultOf lines (Parse f) = FirstFault lines f
 IsFaultOf lines (Flat f) = IsUnsound lines f
 IsFaultOf lines Memory = Unit {0}
 
--- ---- what contracts of private functions alone cite
+-- ---- what private functions alone cite
 
 -- how a fault of the lines is told: want of memory is told alike wherever it comes
 abbrev pub parse_refused : ParseFault → NetFault

@@ -53,7 +53,10 @@ MarkHas (Some _) mark of n = of mark.0 ≡ n
 
 -- the cover of the output, with the mark at the value that the mark's cover gives, allows what the table allows
 pub record IsFlatTable (columns : List Column) (t : FileTable) (mark : NetId) (flat : FlatTable) : Type 0 where
-  pub allows : (at : ℕ → ℕ) → in_range at columns ≡ true → MarkHas flat.mark mark at (mark_value t.rows (column_values at columns)) → (v : ℕ) → allowed flat.cover at v ≡ table_allows t.rows t.default (column_values at columns) (v ∷ [])
-  pub marks : (m : Cover) → flat.mark ≡ Some m → (at : ℕ → ℕ) → in_range at columns ≡ true → (v : ℕ) → allowed m at v ≡ nat_eq v (mark_value t.rows (column_values at columns))
-  pub formed : (count : ℕ → ℕ) → CountBy count columns → MarkHas flat.mark mark count 2 → (values : ℕ) → FitOutputs columns values t → IsTableCover count values flat.cover
+  pub allows : (at : ℕ → ℕ) → in_range at columns ≡ true → MarkHas flat.mark mark at (mark_value t.rows (column_values at columns)) → (v : ℕ)
+      → allowed flat.cover at v ≡ table_allows t.rows t.default (column_values at columns) (v ∷ [])
+  pub marks : (m : Cover) → flat.mark ≡ Some m → (at : ℕ → ℕ) → in_range at columns ≡ true → (v : ℕ)
+      → allowed m at v ≡ nat_eq v (mark_value t.rows (column_values at columns))
+  pub formed : (count : ℕ → ℕ) → CountBy count columns → MarkHas flat.mark mark count 2 → (values : ℕ) → FitOutputs columns values t
+      → IsTableCover count values flat.cover
   pub mark_formed : (m : Cover) → flat.mark ≡ Some m → (count : ℕ → ℕ) → CountBy count columns → IsTableCover count 2 m

@@ -34,11 +34,6 @@ pub record AreColumns (columns : List Column) : Type 0 where
   pub count : ℕ → ℕ
   pub counts : CountBy count columns
 
--- columns of a table, with an order that is theirs
-pub record IsFrame (f : Frame) : Type 0 where
-  pub columns : AreColumns f.columns
-  pub ordered : IsColumnOrder f.columns f.order
-
 -- a set for each column, of values that its net has
 abbrev pub FitRow : List Column → List ℕ → Type 0
 FitRow [] [] = Unit {0}
@@ -72,3 +67,10 @@ pub record IsRowCube (columns : List Column) (sets : List ℕ) (cube : List Lit)
   pub point : HasPoint columns sets
   pub formed : IsCube cube
   pub parts : (count : ℕ → ℕ) → CountBy count columns → AreParts count cube
+
+-- ---- what private functions alone cite
+
+-- columns of a table, with an order that is theirs
+pub record IsFrame (f : Frame) : Type 0 where
+  pub columns : AreColumns f.columns
+  pub ordered : IsColumnOrder f.columns f.order

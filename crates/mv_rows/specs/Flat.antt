@@ -51,10 +51,6 @@ has_output l = not (nat_eq l.out empty)
 abbrev pub kept : List Line → List Line
 kept lines = firsts (filter has_output lines)
 
--- the lines with one more, if it has an output and is new
-abbrev pub insert_kept : List Line → Line → List Line
-insert_kept lines l = if nat_eq l.out empty then lines else insert_key line_eq lines l
-
 -- an entry that no value lies in
 abbrev pub says_nothing : Entry → Bool
 says_nothing (Set s) = nat_eq s empty
@@ -112,3 +108,9 @@ pub record IsMade (columns : List Column) (t : FileTable) (mark : NetId) (flat :
   pub lines : List Line
   pub are : RowsLines columns t.rows lines
   pub covers : FlatOf columns mark lines (default_left t.default lines) flat
+
+-- ---- what private functions alone cite
+
+-- the lines with one more, if it has an output and is new
+abbrev pub insert_kept : List Line → Line → List Line
+insert_kept lines l = if nat_eq l.out empty then lines else insert_key line_eq lines l

@@ -1,7 +1,8 @@
 pub mod Tables
-pub mod Columns
 pub mod Cubes
-pub mod Meeting
 pub mod Lines
 pub mod Flat
 pub mod Covers
+-- what private functions alone cite
+pub mod Columns
+pub mod Meeting

@@ -7,12 +7,6 @@ use Rattle.mv_design.specs.declared.table.Entry.TheVariants.{Set, Same}
 use Rattle.mv_rows.specs.declared.column.Column.{Column}
 use Rattle.mv_rows.specs.Cubes.{HasNoPoint, IsRowCube}
 
--- the list with some lines behind it
-pub record AddsLines (Here : List Line → Type 0) (old new : List Line) : Type 0 where
-  pub here : List Line
-  pub are : Here here
-  pub joined : new ≡ old ++ here
-
 -- lines of one kind, and lines of another kind behind them
 pub record AreJoined (Before Here : List Line → Type 0) (lines : List Line) : Type 0 where
   pub before : List Line
@@ -54,3 +48,11 @@ EntryLines columns sets (Same k) lines = EachValue columns sets k (count_at colu
 abbrev pub FitEntry : List Column → Entry → Type 0
 FitEntry columns (Set s) = Unit {0}
 FitEntry columns (Same k) = k < length columns
+
+-- ---- what private functions alone cite
+
+-- the list with some lines behind it
+pub record AddsLines (Here : List Line → Type 0) (old new : List Line) : Type 0 where
+  pub here : List Line
+  pub are : Here here
+  pub joined : new ≡ old ++ here

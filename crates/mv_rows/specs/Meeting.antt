@@ -1,4 +1,4 @@
--- The literals of a row: what the columns of each net leave it, one net after the other.
+-- The literals of a row: what the columns of each net leave it, one net after the other. For private functions.
 use Rattle.std.specs.Prelude.{◌≡◌, ℕ, ◌==◌, Bool, true, not, nat_eq, List, [], ◌∷◌, ◌++◌, if◌then◌else◌}
 use Rattle.std.specs.List.{list_all}
 use Rattle.mv_base.specs.Set.{empty, full, meet}

@@ -56,7 +56,7 @@ fn ordered(alloc: Global, columns: &[Column]) -> Result<Vec<Placed>, Memory>
 fn with_places(alloc: Global, columns: &[Column]) -> Result<Vec<Placed>, Memory>
     ensures { IfOk result (λ order. order.items ≡ placed 0 columns.now) }
 {
-    let mut order = Vec::new(alloc);
+    let mut order = Vec::with_capacity(alloc, columns.len())?;
     for (place, column) in columns.iter().enumerate() {
         order.push(Placed {
             column: *column,

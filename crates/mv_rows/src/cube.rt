@@ -1,4 +1,4 @@
-ghost use Rattle.std.specs.Prelude.{◌≡◌, ◌<◌, ◌≤◌, ◌++◌, true, false, length, IfOk, MatchOption, OnOk, All};
+ghost use Rattle.std.specs.Prelude.{◌≡◌, ◌<◌, ◌≤◌, ◌++◌, [], true, false, length, IfOk, MatchOption, OnOk, All};
 ghost use Rattle.mv_base.specs.declared.limits.TheConstants.{MAX_VALUES};
 ghost use Rattle.mv_rows.specs.Columns.{rises_after};
 ghost use Rattle.mv_rows.specs.Cubes.{IsFrame, FitRow, IsRowCube, HasNoPoint};
@@ -30,9 +30,11 @@ fn cube(alloc: Global, order: &[Placed], sets: &[ValueSet]) -> Result<Option<Cub
     requires places { All (λ p. p.place < length sets.now) order.now }
     requires counts { All (λ p. p.column.count ≤ MAX_VALUES) order.now }
     requires rises { rises_after 0 order.now ≡ true }
-    ensures { IfOk result (λ found. MatchOption found (all_possible (literals_of sets.now order.now) ≡ false) (λ cube. ArePossible (literals_of sets.now order.now) cube)) }
+    ensures { IfOk result (λ found. MatchOption found (all_possible (literals_of sets.now order.now) ≡ false)
+        (λ cube. ArePossible (literals_of sets.now order.now) cube)) }
 {
-    let lits = literals(alloc, order, sets)?;
+    let mut lits = SmallVec::new(alloc);
+    put_literals(&mut lits, order, sets)?;
     if !possible(lits.as_slice()) {
         return Ok(None);
     }
@@ -53,23 +55,22 @@ struct Group {
     set: ValueSet,
 }
 
-/// A literal for each net whose columns leave a value out, by ascending net.
-fn literals(alloc: Global, order: &[Placed], sets: &[ValueSet]) -> Result<Lits, Memory>
+/// Adds a literal for each net whose columns leave a value out, by ascending net, where there is none so far.
+fn put_literals(lits: &mut Lits, order: &[Placed], sets: &[ValueSet]) -> Result<(), Memory>
+    requires none { lits.old.items ≡ [] }
     requires places { All (λ p. p.place < length sets.now) order.now }
     requires counts { All (λ p. p.column.count ≤ MAX_VALUES) order.now }
-    ensures { IfOk result (λ lits. lits.items ≡ literals_of sets.now order.now) }
+    ensures { OnOk result (lits.new.items ≡ literals_of sets.now order.now) }
 {
-    let mut lits = SmallVec::new(alloc);
     let Some(first) = order.first() else {
-        return Ok(lits);
+        return Ok(());
     };
     let mut group = opened(&first.column);
     for placed in order {
-        put_ended(&mut lits, &group, &placed.column)?;
+        put_ended(lits, &group, &placed.column)?;
         group = continued(&group, &placed.column, sets[placed.place]);
     }
-    put_closed(&mut lits, &group)?;
-    Ok(lits)
+    put_closed(lits, &group)
 }
 
 /// The column's net with all of its values.

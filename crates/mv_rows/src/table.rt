@@ -2,10 +2,12 @@ ghost use Rattle.std.specs.Prelude.{◌≡◌, List, ◌++◌, ◌∷◌, [], le
 ghost use Rattle.std.specs.List.{list_any};
 ghost use Rattle.mv_base.specs.Set.{empty};
 ghost use Rattle.mv_cover.specs.Absorb.{some_bare};
+ghost use Rattle.mv_cover.specs.Equal.{line_eq};
 ghost use Rattle.mv_design.specs.declared.table.Entry.{Entry};
 ghost use Rattle.mv_rows.specs.Cubes.{AreColumns, IsFrame, FitRow};
 ghost use Rattle.mv_rows.specs.Lines.{AddsLines, EntryLines, FitEntry};
-ghost use Rattle.mv_rows.specs.Flat.{only_entry, IsRow, IsTable, IsDefault, RowsLines, kept, insert_kept, says_nothing, default_left, plain_default, mark_cover, with_mark, marked_sets, unmarked, IsMarked, IsMade};
+ghost use Rattle.mv_rows.specs.Flat.{only_entry, IsRow, IsTable, IsDefault, RowsLines, kept, insert_kept, says_nothing, default_left};
+ghost use Rattle.mv_rows.specs.Flat.{plain_default, mark_cover, with_mark, marked_sets, unmarked, IsMarked, IsMade};
 ghost use Rattle.mv_rows.specs.Covers.{IsFlatTable};
 
 use crate::column::{Column, Frame};
@@ -234,9 +236,54 @@ fn default_sets(alloc: Global, columns: &[Column]) -> Result<Vec<ValueSet>, Memo
     Ok(sets)
 }
 
+/// Of so many lines or fewer equal ones are found by holding each two against each other, with no index.
+const FEW_LINES: usize = 8;
+
 /// The lines that have an output, without those that are equal to an earlier one.
-#[tactic(auto, using(mv_cover::proofs::Absorbing::inserted_firsts))]
 fn kept(alloc: Global, lines: Vec<Line>) -> Result<Items<Line>, Memory>
+    ensures { IfOk result (λ list. list ≡ kept lines.items) }
+{
+    if lines.len() <= FEW_LINES {
+        kept_of_few(alloc, lines)
+    } else {
+        kept_of_many(alloc, lines)
+    }
+}
+
+/// The same for few lines.
+#[tactic(auto, using(mv_cover::proofs::Absorbing::inserted_firsts))]
+fn kept_of_few(alloc: Global, lines: Vec<Line>) -> Result<Items<Line>, Memory>
+    ensures { IfOk result (λ list. list ≡ kept lines.items) }
+{
+    let mut distinct = Items::with_room(alloc, lines.len())?;
+    for line in lines {
+        add_kept(&mut distinct, line)?;
+    }
+    distinct.shrink_to_fit();
+    Ok(distinct)
+}
+
+/// Adds the line, if it has an output and is equal to none of these.
+fn add_kept(distinct: &mut Items<Line>, line: Line) -> Result<(), Memory>
+    ensures { OnOk result (distinct.new ≡ insert_kept distinct.old line) }
+{
+    if line.out == ValueSet::empty() || stands_among(&line, distinct.as_slice()) {
+        return Ok(());
+    }
+    distinct.push(line)?;
+    Ok(())
+}
+
+/// Whether the line is equal to one of these.
+fn stands_among(line: &Line, lines: &[Line]) -> bool
+    ensures { result ≡ list_any (line_eq line.now) lines.now }
+{
+    lines.iter().any(|other| line == other)
+}
+
+/// The same for many lines, which are found by their hashes.
+#[tactic(auto, using(mv_cover::proofs::Absorbing::inserted_firsts))]
+fn kept_of_many(alloc: Global, lines: Vec<Line>) -> Result<Items<Line>, Memory>
     ensures { IfOk result (λ list. list ≡ kept lines.items) }
 {
     let mut distinct = IndexSet::with_capacity(alloc, lines.len())?;

@@ -18,7 +18,7 @@ use Rattle.std.proofs.lemmas.List.Folds.{length-prefix_len, list_all-append, lis
 use Rattle.std.proofs.lemmas.List.Sums.{prefix_len-le-length}
 use Rattle.mv_base.specs.declared.limits.TheConstants.{MAX_SCRIPT_BYTES, MAX_SCRIPT_COMMANDS}
 use Rattle.mv_script.specs.declared.script.Command.{Command}
-use Rattle.mv_script.specs.Scripts.{nonempty, script_words, command_of, are_commands, commands_in, is_script, Adds}
+use Rattle.mv_script.specs.Scripts.{nonempty, script_words, script_command, are_commands, commands_in, is_script, Adds}
 
 -- how many bytes stand before the comment
 pub ruleset before_comment = (length-prefix_len, prefix_len-le-length)
@@ -30,7 +30,7 @@ pub Adds-append : (a b c : List Command) (xs ys : List (List ℕ)) → Adds a b 
 Adds-append a b c xs ys h k =
     record {
       all = list_all-append _ xs ys ∙ ap (λ t. t && are_commands ys) h.all ∙ k.all;
-      gained = k.gained ∙ ap (λ t. t ++ filter_map command_of ys) h.gained ∙ append_assoc a (filter_map command_of xs) (filter_map command_of ys) ∙ ap (λ t. a ++ t) (sym (filter_map-append command_of xs ys));
+      gained = k.gained ∙ ap (λ t. t ++ filter_map script_command ys) h.gained ∙ append_assoc a (filter_map script_command xs) (filter_map script_command ys) ∙ ap (λ t. a ++ t) (sym (filter_map-append script_command xs ys));
     }
 
 -- ---- pieces that are read one after another, each as some words

@@ -1,5 +1,6 @@
 -- Scripts of commands.
-use Rattle.std.specs.Prelude.{◌≡◌, ℕ, Bool, true, not, ◌&&◌, ◌||◌, ◌==◌, if◌then◌else◌, nat_le, Option, Some, None, List, ◌++◌, length, codes, take_while, filter, flat_map, filter_map}
+use Rattle.std.specs.Prelude.{◌≡◌, ℕ, Bool, true, not, ◌&&◌, ◌||◌, ◌==◌, if◌then◌else◌, nat_le, Option, Some}
+use Rattle.std.specs.Prelude.{None, List, ◌++◌, length, codes, take_while, filter, flat_map, filter_map}
 use Rattle.std.specs.List.{list_all, slice_split}
 use Rattle.std.specs.Option.{is_some}
 use Rattle.mv_base.specs.Names.{same_word}
@@ -32,16 +33,16 @@ abbrev pub script_words : List ℕ → List (List ℕ)
 script_words text = flat_map line_words (script_lines text)
 
 -- the command that a word is
-abbrev pub command_of : List ℕ → Option Command
-command_of w = if same_word w (codes "drop") then Some Drop else None
+abbrev pub script_command : List ℕ → Option Command
+script_command w = if same_word w (codes "drop") then Some Drop else None
 
 -- each of the words is a command
 abbrev pub are_commands : List (List ℕ) → Bool
-are_commands words = list_all (λ w. is_some (command_of w)) words
+are_commands words = list_all (λ w. is_some (script_command w)) words
 
 -- the commands of a script whose words are commands: one for each word
 unfoldable pub commands_in : List ℕ → List Command
-commands_in text = filter_map command_of (script_words text)
+commands_in text = filter_map script_command (script_words text)
 
 -- a script that is accepted in this version: within the limits, and each of its words is a command
 unfoldable pub is_script : List ℕ → Bool
@@ -52,4 +53,4 @@ is_script text = nat_le (length text) MAX_SCRIPT_BYTES && are_commands (script_w
 -- each of the words is a command, and these commands were added at the end
 pub record Adds (before after : List Command) (words : List (List ℕ)) : Type 0 where
   pub all : are_commands words ≡ true
-  pub gained : after ≡ before ++ filter_map command_of words
+  pub gained : after ≡ before ++ filter_map script_command words

@@ -1,6 +1,6 @@
 ghost use Rattle.std.specs.Prelude.{◌≡◌, [], ◌∷◌, false, true, Err, IfOk, OnOk, OnErr};
 ghost use Rattle.mv_script.specs.declared.script.ScriptStop.TheVariants.{Memory as out_of_memory};
-ghost use Rattle.mv_script.specs.Scripts.{is_separator, said, nonempty, line_words, script_words, command_of, are_commands, commands_in, is_script, Adds};
+ghost use Rattle.mv_script.specs.Scripts.{is_separator, said, nonempty, line_words, script_words, script_command, are_commands, commands_in, is_script, Adds};
 
 use mv_base::{Items, MAX_SCRIPT_BYTES, MAX_SCRIPT_COMMANDS};
 use std::alloc::{AllocFailed, Global};
@@ -46,8 +46,8 @@ fn said(line: &[u8]) -> &[u8]
 }
 
 /// The command that the word is.
-fn command_of(word: &[u8]) -> Option<Command>
-    ensures { result ≡ command_of word.now }
+fn script_command(word: &[u8]) -> Option<Command>
+    ensures { result ≡ script_command word.now }
 {
     if word == b"drop".as_slice() {
         Some(Command::Drop)
@@ -64,7 +64,7 @@ fn read_word(piece: &[u8], commands: &mut Items<Command>) -> Result<(), ScriptSt
     if piece.is_empty() {
         return Ok(());
     }
-    let Some(command) = command_of(piece) else {
+    let Some(command) = script_command(piece) else {
         return Err(ScriptStop::NotBuilt);
     };
     commands.push(command)?;

@@ -1,20 +1,21 @@
 -- The search for the least net that can go.
-use Rattle.std.proofs.Common.{◌≡◌, ◌∙◌, ℕ, ◌+◌, ◌<◌, ◌≤◌, Bool, true, false, List, [], ◌∷◌, Option, Some, None, MatchBool, Result, Ok, Err, IfOk, set, refl, sym, ap, subst, arith, ⊎_elim, ◌⊎◌, inl, inr, length, nat_eq, eqb-true, eq-eqb}
-use Rattle.std.specs.Prelude.{sum_by, slice_get, min}
+use Rattle.std.proofs.Common.{◌≡◌, ◌∙◌, ℕ, ◌+◌, ◌<◌, ◌≤◌, Bool, true, false, List, [], ◌∷◌, Option, Some, None, MatchBool, Result, Ok, Err, IfOk, set, refl, sym, ap, subst, arith, ⊎_elim, length, drop, get_or, nat_eq, eqb-true, eq-eqb}
+use Rattle.std.specs.Prelude.{sum_by}
 use Rattle.std.proofs.lemmas.Bool.{false≢true, cases_lt, or_cases, or_left}
+use Rattle.std.proofs.lemmas.List.{drop_more}
 use Rattle.std.proofs.lemmas.List.Sums.{sum_by-set}
 use Rattle.mv_base.specs.declared.number.NetId.{NetId}
 use Rattle.mv_net.specs.declared.parts.FlatNet.{FlatNet}
 use Rattle.mv_net.specs.declared.parts.NetParts.{NetParts}
 use Rattle.mv_net.specs.Nets.{slot, net_reads}
-use Rattle.mv_graph.specs.Nets.{IsAscending, has_id}
+use Rattle.mv_graph.specs.Nets.{IsAscending, ids_ascend, has_id}
 use Rattle.mv_net.specs.Index.{is_seen}
 use Rattle.mv_net.specs.Changes.{without, with_nets}
 use Rattle.mv_net.specs.Total.{IsTotalNet, IsRemovable}
 use Rattle.mv_net.proofs.Named.{held_below}
 use Rattle.mv_graph.proofs.Nets.{above_first}
 use Rattle.mv_sweep.specs.Drops.{NoneLeft, NoneBelow, IsLeastRemovable}
-use Rattle.mv_sweep.specs.Search.{NoneFrom, IsFirstFrom}
+use Rattle.mv_sweep.specs.Search.{NoneFrom, IsFirstFrom, OnlyTheseBelow, IsNextPlace}
 use Rattle.mv_net.proofs.Removal.{removable-later}
 
 -- ---- one net
@@ -84,49 +85,41 @@ none_left net from below above = record {
   none = λ n r. ⊎_elim (λ (l : n < from). below.none n l r) (λ (g : from ≤ n). above.none n g r) (cases_lt n from);
 }
 
-some_net : (f g : NetId) → Some f ≡ Some g → f.0 ≡ g.0
-some_net f g e = let same : f ≡ g = cc in ap (λ (h : NetId). h.0) same
-
--- the fanins of a net come no lower than the first of them
-pub below_first : (test : ℕ → Bool) (f : NetId) (fs : List NetId) (m : ℕ) → IsAscending test (f ∷ fs) → m < f.0 → test m ≡ false
-below_first test f fs m a low =
-    sym (a.members m) ∙ none (has_id (f ∷ fs) m) refl
+-- once the least net that can go has gone, of the nets below it only its fanins can go
+pub fanins_listed : (net new : NetParts) (n : ℕ) (fs : List NetId) → IsLeastRemovable net n → new ≡ without net n → IsAscending (λ m. net_reads (slot net.nets n) m) fs → OnlyTheseBelow new fs n
+fanins_listed net new n fs first e a =
+    record { ascending = a.ascending; listed = λ m low r. a.members m ∙ read m low r (net_reads (slot net.nets n) m) refl }
   where
-    none : (b : Bool) → has_id (f ∷ fs) m ≡ b → b ≡ false
-    none false e = refl
-    none true e =
-        ⊎_elim
-        (λ (y : nat_eq f.0 m ≡ true). let same : f.0 ≡ m = eqb-true f.0 m y in absurd (omega arith))
-        (λ (o : has_id fs m ≡ true). let above : f.0 < m = above_first f fs m a.ascending o in absurd (omega arith))
-        (or_cases (nat_eq f.0 m) (has_id fs m) e)
+    read : (m : ℕ) → m < n → IsRemovable new m → (b : Bool) → net_reads (slot net.nets n) m ≡ b → b ≡ true
+    read m low r true h = refl
+    read m low r false h =
+        absurd (first.least.none m low (removable-later net n m (let P : NetParts → Type 0 = λ p. IsRemovable p m in subst P e r) h))
 
--- the least of a net and the first of its fanins
-pub below_fanins : (net : NetParts) (n back : ℕ) (fs : List NetId) (f : NetId) → IsAscending (λ m. net_reads (slot net.nets n) m) fs → Some f ≡ slice_get fs 0 → back ≡ min f.0 n → (m : ℕ) → m < back → net_reads (slot net.nets n) m ≡ false
-below_fanins net n back [] f a e is m low = absurd (let bad : Some f ≡ None = e in cc)
-below_fanins net n back (g ∷ gs) f a e is m low =
-    let one : Some f ≡ Some g = e in
-    let same : f.0 ≡ g.0 = some_net f g one in
-    below_first (λ k. net_reads (slot net.nets n) k) g gs m a (omega arith)
-
--- which is one of them
-pub one_of_fanins : (net : NetParts) (n back : ℕ) (fs : List NetId) (f : NetId) → IsAscending (λ m. net_reads (slot net.nets n) m) fs → Some f ≡ slice_get fs 0 → back ≡ min f.0 n → (back ≡ n) ⊎ (net_reads (slot net.nets n) back ≡ true)
-one_of_fanins net n back [] f a e is = absurd (let bad : Some f ≡ None = e in cc)
-one_of_fanins net n back (g ∷ gs) f a e is =
-    let one : Some f ≡ Some g = e in
-    let same : f.0 ≡ g.0 = some_net f g one in
+from_first : (f : NetId) (fs : List NetId) (m : ℕ) → ids_ascend (f ∷ fs) ≡ true → has_id (f ∷ fs) m ≡ true → f.0 ≤ m
+from_first f fs m up h =
     ⊎_elim
-    (λ (low : g.0 < n).
-    let here : back ≡ g.0 = omega arith in
-    let first : has_id (g ∷ gs) g.0 ≡ true = or_left (nat_eq g.0 g.0) (has_id gs g.0) (eq-eqb g.0 g.0 refl) in
-    inr (rw here (sym (a.members g.0) ∙ first)))
-    (λ (high : n ≤ g.0). inl (omega arith))
-    (cases_lt g.0 n)
+    (λ (y : nat_eq f.0 m ≡ true). let same : f.0 ≡ m = eqb-true f.0 m y in omega arith)
+    (λ (o : has_id fs m ≡ true). let above : f.0 < m = above_first f fs m up o in omega arith)
+    (or_cases (nat_eq f.0 m) (has_id fs m) h)
 
--- behind a net that went no net below it that it doesn't read can go
-pub none_below_again : (net new : NetParts) (n back : ℕ) → IsLeastRemovable net n → new ≡ without net n → back ≤ n → ((m : ℕ) → m < back → net_reads (slot net.nets n) m ≡ false) → NoneBelow new back
-none_below_again net new n back first e low unread = record {
-  none = λ m below r.
-      first.least.none m (omega arith) (removable-later net n m (let P : NetParts → Type 0 = λ p. IsRemovable p m in subst P e r) (unread m below));
+-- the rest of the list from a place on, as its first and those behind it
+pub at_first : (net : NetParts) (n : ℕ) (fs : List NetId) (i : ℕ) (d : NetId) → i < length fs → OnlyTheseBelow net (drop i fs) n → OnlyTheseBelow net (get_or fs i d ∷ drop (i + 1) fs) n
+at_first net n fs i d low h = subst (λ (l : List NetId). OnlyTheseBelow net l n) (drop_more fs i d low) h
+
+-- the first of them isn't below n
+pub next_past : (net : NetParts) (n : ℕ) (f : NetId) (fs : List NetId) → OnlyTheseBelow net (f ∷ fs) n → n ≤ f.0 → IsNextPlace net n n
+next_past net n f fs h past = record {
+  low = omega arith;
+  none_below = record { none = λ m low r. let above : f.0 ≤ m = from_first f fs m h.ascending (h.listed m low r) in omega arith };
+  removable = λ low. absurd (omega arith);
+}
+
+-- the first of them can go
+pub next_first : (net : NetParts) (n : ℕ) (f : NetId) (fs : List NetId) → OnlyTheseBelow net (f ∷ fs) n → f.0 < n → IsRemovable net f.0 → IsNextPlace net n f.0
+next_first net n f fs h low r = record {
+  low = omega arith;
+  none_below = record { none = λ m less can. let above : f.0 ≤ m = from_first f fs m h.ascending (h.listed m (omega arith) can) in omega arith };
+  removable = λ _. r;
 }
 
 -- ---- each net that goes is one less

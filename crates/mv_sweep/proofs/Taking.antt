@@ -1,17 +1,19 @@
 -- The change that takes one net away, and what it leaves.
-use Rattle.std.proofs.Common.{◌≡◌, ◌∙◌, ℕ, List, [], ◌∷◌, ◌++◌, Result, Ok, Err, OnOk, OnErr, sym, ap, subst}
+use Rattle.std.proofs.Common.{◌≡◌, ◌∙◌, ℕ, List, [], ◌∷◌, ◌++◌, Result, Ok, Err, OnOk, OnErr, is_some, sym, ap, subst}
 use Rattle.mv_base.specs.Meaning.{SameMeaning}
 use Rattle.mv_base.specs.declared.memory.Memory.{Memory}
 use Rattle.mv_base.specs.declared.number.NetId.{NetId}
 use Rattle.mv_net.specs.declared.change.NewNet.{NewNet}
 use Rattle.mv_net.specs.declared.change.NewTable.{NewTable}
 use Rattle.mv_net.specs.declared.change.NewCount.{NewCount}
+use Rattle.mv_net.specs.declared.change.Change.{Change}
 use Rattle.mv_net.specs.declared.parts.NetParts.{NetParts}
 use Rattle.mv_net.specs.Allowed.{of_net}
 use Rattle.mv_net.specs.Formed.{WellFormed}
-use Rattle.mv_net.specs.Changes.{changed, without}
+use Rattle.mv_net.specs.Changes.{changed, without, Fits}
 use Rattle.mv_net.specs.Total.{IsRemovable}
 use Rattle.mv_net.proofs.Changed.{changed-gone}
+use Rattle.mv_net.proofs.Fitting.{fits_gone}
 use Rattle.mv_net.proofs.Removal.{removal_formed, removal_means}
 use Rattle.mv_base.proofs.Meanings.{SameMeaning-refl}
 
@@ -32,6 +34,14 @@ changed-alone net n add set values gone h =
 pub formed-alone : (net : NetParts) (n : NetId) (add : List NewNet) (set : List NewTable) (values : List NewCount) (gone : List NetId) → GoesAlone n add set values gone → WellFormed net → IsRemovable net n.0 → WellFormed (changed net (record { add = add; set = set; values = values; gone = gone }))
 formed-alone net n add set values gone h formed r =
     subst WellFormed (sym (changed-alone net n add set values gone h)) (removal_formed net n.0 formed r)
+
+pub fits-alone : (net : NetParts) (n : NetId) (add : List NewNet) (set : List NewTable) (values : List NewCount) (gone : List NetId) → GoesAlone n add set values gone → IsRemovable net n.0 → Fits net (record { add = add; set = set; values = values; gone = gone })
+fits-alone net n add set values gone h r =
+    let here : Change = record { add = add; set = set; values = values; gone = gone } in
+    let alone_here : Change = record { add = []; set = []; values = []; gone = n ∷ [] } in
+    let same : here ≡ alone_here = λ i. record { add = h.no_add i; set = h.no_set i; values = h.no_values i; gone = h.gone_is i } in
+    let P : Change → Type 0 = Fits net in
+    subst P (sym same) (fits_gone net n (ap is_some r.total.held))
 
 pub taken : (result : Result (Unit {0}) Memory) (new a b : NetParts) → a ≡ b → OnOk result (new ≡ a) → OnOk result (new ≡ b)
 taken (Ok u) new a b e h = h ∙ e

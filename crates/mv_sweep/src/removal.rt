@@ -1,11 +1,12 @@
-ghost use Rattle.std.specs.Prelude.{◌≡◌, ◌⊎◌, ℕ, ◌<◌, ◌≤◌, IsTrue, true, false, IfOk, OnOk, OnErr, MatchBool, MatchOption};
+ghost use Rattle.std.specs.Prelude.{◌≡◌, IsTrue, IfOk, OnOk, OnErr, MatchBool, MatchOption};
 ghost use Rattle.mv_base.specs.Meaning.{SameMeaning};
+ghost use Rattle.mv_graph.specs.Nets.{IsAscending};
 ghost use Rattle.mv_net.specs.Allowed.{of_net};
 ghost use Rattle.mv_net.specs.Changes.{without};
 ghost use Rattle.mv_net.specs.Index.{is_held};
 ghost use Rattle.mv_net.specs.Nets.{slot, net_reads};
 ghost use Rattle.mv_net.specs.Total.{IsRemovable};
-ghost use Rattle.mv_sweep.specs.Search.{IsFirstFrom, NoneFrom};
+ghost use Rattle.mv_sweep.specs.Search.{IsFirstFrom, IsNextPlace, NoneFrom, OnlyTheseBelow};
 
 use mv_base::{Items, Memory, NetId};
 use mv_net::{Change, Network};
@@ -39,17 +40,29 @@ pub fn next_removable(alloc: Global, net: &Network, from: u32) -> Result<Option<
     Ok(None)
 }
 
-/// The least of a held net and its fanins.
-pub fn least_fanin(net: &Network, n: NetId) -> u32
+/// The nets that a held net reads, ascending, in a list of its own.
+pub fn copy_fanins(alloc: Global, net: &Network, n: NetId) -> Result<Items<NetId>, Memory>
     requires { IsTrue (is_held net.now.nets n.0) }
-    ensures first { result ≤ n.0 }
-    ensures unread { (m : ℕ) → m < result → net_reads (slot net.now.nets n.0) m ≡ false }
-    ensures one { (result ≡ n.0) ⊎ (net_reads (slot net.now.nets n.0) result ≡ true) }
+    ensures { IfOk result (λ fanins. IsAscending (λ m. net_reads (slot net.now.nets n.0) m) fanins) }
 {
-    match net.fanins(n).first() {
-        Some(fanin) => fanin.0.min(n.0),
-        None => n.0,
+    Ok(Items::of(Vec::from_slice(alloc, net.fanins(n))?))
+}
+
+/// Where the search goes on behind a net, where of those below it only its fanins may be able to go: at the least of them
+/// that can, else at the net's own number.
+pub fn next_place(alloc: Global, net: &Network, fanins: &[NetId], n: NetId) -> Result<u32, Memory>
+    requires { OnlyTheseBelow net.now fanins.now n.0 }
+    ensures { IfOk result (λ place. IsNextPlace net.now n.0 place) }
+{
+    for fanin in fanins {
+        if fanin.0 >= n.0 {
+            return Ok(n.0);
+        }
+        if is_removable(alloc, net, *fanin)? {
+            return Ok(fanin.0);
+        }
     }
+    Ok(n.0)
 }
 
 /// Takes a net away that can go. What the network means stays.

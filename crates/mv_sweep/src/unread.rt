@@ -8,7 +8,7 @@ ghost use Rattle.mv_sweep.specs.Search.{HasRemoved, IsRemoving};
 
 use crate::Stop;
 use crate::notes::{put_begin, put_end, put_remove};
-use crate::removal::{least_fanin, next_removable, take_away};
+use crate::removal::{copy_fanins, next_place, next_removable, take_away};
 use mv_base::{Name, NetId, Sink};
 use mv_net::Network;
 use std::alloc::Global;
@@ -39,8 +39,8 @@ fn step<E: Sink>(alloc: Global, net: &mut Network, n: NetId, notes: &mut E) -> R
     }
 }
 
-/// Takes away the least net that can go, until there is none. Behind a net that went the search goes on at the least
-/// of it and its fanins, since only they can have become nets that can go.
+/// Takes away the least net that can go, until there is none. Of the nets below one that went only its fanins can have
+/// become nets that can go: the search goes on at the least of those that can, else behind the net.
 #[tactic(auto, using(crate::proofs::Removing::none_yet))]
 fn remove_each<E: Sink>(alloc: Global, net: &mut Network, notes: &mut E) -> Result<(), Stop>
     ensures ok { OnOk result (HasRemoved net.old net.new (E.state notes.old) (E.state notes.new)) }
@@ -58,11 +58,18 @@ fn remove_each<E: Sink>(alloc: Global, net: &mut Network, notes: &mut E) -> Resu
             Ok(None) => return Ok(()),
             Err(_memory) => return Err(Stop::Memory),
         };
-        from = least_fanin(net, n);
+        let fanins = match copy_fanins(alloc, net, n) {
+            Ok(fanins) => fanins,
+            Err(_memory) => return Err(Stop::Memory),
+        };
         match step(alloc, net, n, notes) {
             Ok(()) => {}
             Err(stop) => return Err(stop),
         }
+        from = match next_place(alloc, net, fanins.as_slice(), n) {
+            Ok(place) => place,
+            Err(_memory) => return Err(Stop::Memory),
+        };
     }
 }
 

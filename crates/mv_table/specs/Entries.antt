@@ -13,15 +13,6 @@ use Rattle.mv_fault.specs.declared.fault.ParseFault.{ParseFault}
 use Rattle.mv_table.specs.declared.entries.Columns.{Columns}
 use Rattle.mv_fault.specs.declared.fault.ParseFault.TheVariants.{UnknownValue, BadEqual}
 
--- where the nets of columns are declared
-abbrev pub places_of : List Decl → List (List ℕ) → List (Option ℕ)
-places_of ds nets = map (λ net. place_of net (declared_of ds)) nets
-
--- the columns have the places of their nets
-pub record AreLookedUp (ds : List Decl) (columns : Columns) : Type 0 where
-  pub inputs : columns.in_places.items ≡ places_of ds columns.ins.now
-  pub outputs : columns.out_places.items ≡ places_of ds columns.outs.now
-
 -- an input entry is a set of the values of its column's net
 unfoldable pub in_said : List Decl → List ℕ → List ℕ → Result ℕ EntryFault
 in_said ds net word = word_set (values_of ds net) word
@@ -81,3 +72,14 @@ abbrev pub outs_said : List Decl → List (List ℕ) → List (List ℕ) → Lis
 outs_said ds ins [] words = []
 outs_said ds ins (net ∷ nets) [] = []
 outs_said ds ins (net ∷ nets) (w ∷ words) = said_or (Set empty) (out_said ds ins net w) ∷ outs_said ds ins nets words
+
+-- ---- what private functions alone cite
+
+-- where the nets of columns are declared
+abbrev pub places_of : List Decl → List (List ℕ) → List (Option ℕ)
+places_of ds nets = map (λ net. place_of net (declared_of ds)) nets
+
+-- the columns have the places of their nets
+pub record AreLookedUp (ds : List Decl) (columns : Columns) : Type 0 where
+  pub inputs : columns.in_places.items ≡ places_of ds columns.ins.now
+  pub outputs : columns.out_places.items ≡ places_of ds columns.outs.now

@@ -30,8 +30,8 @@ unfoldable pub says_default : LexLine → Bool
 says_default l = begins_default l.words
 
 -- a row: one entry a column, inputs first
-abbrev pub row_of : List Decl → List (List ℕ) → List (List ℕ) → List (List ℕ) → Row
-row_of ds ins outs words = record { ins = ins_said ds ins words; outs = outs_said ds ins outs (drop (length ins) words) }
+abbrev pub row_of_words : List Decl → List (List ℕ) → List (List ℕ) → List (List ℕ) → Row
+row_of_words ds ins outs words = record { ins = ins_said ds ins words; outs = outs_said ds ins outs (drop (length ins) words) }
 
 -- the faults of the entries of a row
 abbrev pub entries_faults : ℕ → List Decl → List (List ℕ) → List (List ℕ) → List (List ℕ) → List ParseFault
@@ -39,7 +39,7 @@ entries_faults n ds ins outs words = ins_faults n ds ins words ++ outs_faults n 
 
 -- the row of a line that is a row or a default
 abbrev pub rows_at : List Decl → List (List ℕ) → List (List ℕ) → LexLine → List Row
-rows_at ds ins outs l = if says_default l then [] else row_of ds ins outs l.words ∷ []
+rows_at ds ins outs l = if says_default l then [] else row_of_words ds ins outs l.words ∷ []
 
 -- the rows of these lines, all of which are rows or defaults
 abbrev pub rows_of : List Decl → List (List ℕ) → List (List ℕ) → List LexLine → List Row

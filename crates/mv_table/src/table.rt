@@ -3,7 +3,8 @@ ghost use Rattle.std.specs.Option.{option_or};
 ghost use Rattle.mv_fault.specs.Tells.{Tells};
 ghost use Rattle.mv_table.specs.Columns.{ins_of};
 ghost use Rattle.mv_table.specs.Entries.{AreLookedUp};
-ghost use Rattle.mv_table.specs.Tables.{behind_first, is_default_word, begins_default, says_default, row_of, entries_faults, rows_at, default_at, line_values_faults, table_of, table_faults};
+ghost use Rattle.mv_table.specs.Tables.{behind_first, is_default_word, begins_default, says_default, row_of_words, entries_faults};
+ghost use Rattle.mv_table.specs.Tables.{rows_at, default_at, line_values_faults, table_of, table_faults};
 
 use crate::columns::{ins, outs};
 use crate::entries::{Columns, in_entries, out_entries};
@@ -62,7 +63,7 @@ fn row(
     requires few { length columns.now.ins.now < 2 ^ 32 }
     requires placed { AreLookedUp decls.now columns.now }
     ensures fault { Tells result (entries_faults number decls.now columns.now.ins.now columns.now.outs.now words.now) }
-    ensures ok { IfOk result (λ row. row ≡ row_of decls.now columns.now.ins.now columns.now.outs.now words.now) }
+    ensures ok { IfOk result (λ row. row ≡ row_of_words decls.now columns.now.ins.now columns.now.outs.now words.now) }
 {
     let sets = in_entries(alloc, number, decls, columns, words)?;
     let (_inputs, behind) = words.split_at(columns.ins.len().min(words.len()));

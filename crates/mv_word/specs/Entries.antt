@@ -1,7 +1,8 @@
 -- What an entry of a table says of a column, as a set of values: after the description of BLIF-MV by Kukimoto.
 --
 -- `values` are the names of the values of the column's net in declared order, and value v is the one at place v.
-use Rattle.std.specs.Prelude.{ℕ, ◌+◌, ◌-◌, Bool, not, ◌&&◌, ◌==◌, nat_le, List, [], ◌∷◌, ◌++◌, length, take, codes, Option, Some, None, is_some, Result, Ok, Err, suc, zero, if◌then◌else◌}
+use Rattle.std.specs.Prelude.{ℕ, ◌+◌, ◌-◌, Bool, not, ◌&&◌, ◌==◌, nat_le, List, [], ◌∷◌, ◌++◌, length, take}
+use Rattle.std.specs.Prelude.{codes, Option, Some, None, is_some, Result, Ok, Err, suc, zero, if◌then◌else◌}
 use Rattle.std.specs.List.{slice_split}
 use Rattle.mv_base.specs.Names.{same_word, place_of}
 use Rattle.mv_base.specs.Set.{empty, one, full, join, minus}
@@ -89,7 +90,7 @@ opposites count (suc n) said = opposite count (opposites count n said)
 unfoldable pub word_set : List (List ℕ) → List ℕ → Result ℕ EntryFault
 word_set values word = opposites (length values) (length (front is_bang word)) (base_of values word (behind is_bang word))
 
--- ---- what contracts of private functions alone cite
+-- ---- what private functions alone cite
 
 -- a byte that isn't the comma between two items
 abbrev pub is_inside : ℕ → Bool

@@ -30,7 +30,7 @@ abbrev pub item_has : List (List ℕ) → ℕ → List ℕ → Bool
 item_has values v item = some_has (item_of values item) v
 
 -- the item is a value's name, and has this value alone
-pub record IsNamed (values : List (List ℕ)) (item : List ℕ) : Type 0 where
+pub record IsOneValue (values : List (List ℕ)) (item : List ℕ) : Type 0 where
   pub value : ℕ
   pub named : place_of item values ≡ Some value
   pub members : (v : ℕ) → item_has values v item ≡ (v == value)
@@ -49,4 +49,4 @@ pub record IsRange (values : List (List ℕ)) (item : List ℕ) : Type 0 where
 
 -- an item in brackets is a value's name or a range
 abbrev pub IsItem : List (List ℕ) → List ℕ → Type 0
-IsItem values item = IsNamed values item ⊎ IsRange values item
+IsItem values item = IsOneValue values item ⊎ IsRange values item

@@ -6,6 +6,7 @@ ghost use Rattle.mv_word.specs.declared.fault.EntryFault.{EntryFault};
 
 use crate::EntryFault;
 use crate::list::{list, place};
+use crate::names::is_text;
 use mv_base::{Name, Value, ValueSet};
 use std::alloc::Global;
 
@@ -84,7 +85,7 @@ fn plain(alloc: Global, values: &[Name], word: &[u8], rest: &[u8]) -> Result<Val
     ensures ok { IfOk result (λ set. plain_of values.now word.now rest.now ≡ Ok set) }
     ensures fault { IfErr result (λ f. (f ≡ EntryFault.Memory) ⊎ (plain_of values.now word.now rest.now ≡ Err f)) }
 {
-    if rest == b"-".as_slice() {
+    if is_text(rest, b"-") {
         return Ok(ValueSet::full(values.len() as u16));
     }
     match place(values, rest) {

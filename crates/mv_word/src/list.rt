@@ -6,7 +6,7 @@ ghost use Rattle.mv_lex.specs.Words.{front};
 ghost use Rattle.mv_word.specs.declared.fault.EntryFault.{EntryFault};
 
 use crate::EntryFault;
-use mv_base::{Name, Value, ValueSet};
+use mv_base::{Name, Value, ValueSet, same_bytes};
 use std::alloc::Global;
 
 /// The place of a value's name among those of its net.
@@ -14,7 +14,9 @@ pub fn place(values: &[Name], word: &[u8]) -> Option<usize>
     ensures place { result ≡ place_of word.now values.now }
     ensures within { IfSome result (λ n. n < length values.now) }
 {
-    values.iter().position(|value| word == value.bytes())
+    values
+        .iter()
+        .position(|value| same_bytes(word, value.bytes()))
 }
 
 /// The values from one place to another, or none where they run backwards.

@@ -2,11 +2,13 @@ ghost use Rattle.std.specs.Prelude.{◌≡◌, ◌<◌, ◌&&◌, ◌==◌, ◌|
 ghost use Rattle.std.specs.List.{list_all, list_any};
 ghost use Rattle.mv_base.specs.Names.{is_word, is_net_name, is_model_name, is_value_name, is_bracketed, is_visible, same_word, ends_with, begins_with};
 
+use mv_base::same_bytes;
+
 /// Whether the word is this text.
 pub fn is_text(word: &[u8], text: &[u8]) -> bool
     ensures { result ≡ same_word word.now text.now }
 {
-    word == text
+    same_bytes(word, text)
 }
 
 /// Whether the word begins with a bracket behind any number of `!`.

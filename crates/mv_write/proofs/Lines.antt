@@ -11,7 +11,7 @@ use Rattle.mv_cover.specs.Cubes.{IsCube}
 use Rattle.mv_net.specs.declared.parts.FlatNet.{FlatNet}
 use Rattle.mv_net.specs.Nets.{slot, name_in, values_in, spelled_in}
 use Rattle.mv_write.specs.Text.{entry_word, fanin_word, line_words, names_of}
-use Rattle.mv_write.specs.Walk.{first_set, behind, walked, entries_text, numbers, AreFaninsOf}
+use Rattle.mv_write.specs.Walk.{first_set, literals_behind, walked, entries_text, numbers, AreFaninsOf}
 use Rattle.mv_write.proofs.Walks.{walked-is}
 
 -- ---- lines
@@ -80,7 +80,7 @@ declaration-text name count names =
 
 -- ---- rows
 
-pub entries-more : (nets : List (Option FlatNet)) (left rest : List Lit) (fanins : List NetId) (i count set : ℕ) → i < length fanins → count ≡ values_in (slot nets (get_or fanins i (record { 0 = 0 })).0) → set ≡ first_set count left (get_or fanins i (record { 0 = 0 })).0 → rest ≡ behind left (get_or fanins i (record { 0 = 0 })).0
+pub entries-more : (nets : List (Option FlatNet)) (left rest : List Lit) (fanins : List NetId) (i count set : ℕ) → i < length fanins → count ≡ values_in (slot nets (get_or fanins i (record { 0 = 0 })).0) → set ≡ first_set count left (get_or fanins i (record { 0 = 0 })).0 → rest ≡ literals_behind left (get_or fanins i (record { 0 = 0 })).0
     → entries_text (walked nets left (drop i fanins)) ≡ (entry_word (spelled_in (slot nets (get_or fanins i (record { 0 = 0 })).0)) set ++ 32 ∷ []) ++ entries_text (walked nets rest (drop (i + 1) fanins))
 entries-more nets left rest fanins i count set low counted first others =
     let m = (get_or fanins i (record { 0 = 0 })).0 in

@@ -13,7 +13,7 @@ use Rattle.mv_net.specs.Nets.{slot, values_in, table_in}
 use Rattle.mv_net.specs.Formed.{AllLiterals, AllLines, IsCover, WellFormed}
 use Rattle.mv_net.specs.Index.{is_held}
 use Rattle.mv_net.proofs.Known.{values_some}
-use Rattle.mv_write.specs.Walk.{first_set, behind, IsLineOver}
+use Rattle.mv_write.specs.Walk.{first_set, literals_behind, IsLineOver}
 
 pub full_output : (count : ℕ) → 0 < count → IsOutput count (full count)
 full_output count low = record {
@@ -34,9 +34,9 @@ first-output net ls m set count formed held all counted is =
         (λ y. let P : ℕ → Type 0 = λ k. IsOutput (values_in (slot net.nets k)) l.set in subst P (eqb-true l.net.0 m y) all.0.set)
         (λ f. full_output _ (values_some net m formed held))
 
-pub behind-literals : (nets : List (Option FlatNet)) (ls : List Lit) (m : ℕ) → AllLiterals nets ls → AllLiterals nets (behind ls m)
-behind-literals nets [] m all = all
-behind-literals nets (l ∷ ls) m all =
+pub literals_behind-literals : (nets : List (Option FlatNet)) (ls : List Lit) (m : ℕ) → AllLiterals nets ls → AllLiterals nets (literals_behind ls m)
+literals_behind-literals nets [] m all = all
+literals_behind-literals nets (l ∷ ls) m all =
     cond_both (nat_eq l.net.0 m) ls (l ∷ ls) (λ r. AllLiterals nets r) (λ y. all.1) (λ f. all)
 
 pub line-over : (nets : List (Option FlatNet)) (values : ℕ) (lines : List Line) (i : ℕ) (x : Line) → i < length lines → x ≡ get_or lines i x → AllLines nets values lines → IsLineOver nets values x

@@ -6,7 +6,7 @@ use Rattle.mv_base.specs.declared.number.NetId.{NetId}
 use Rattle.mv_cover.specs.declared.cube.Lit.{Lit}
 use Rattle.mv_cover.specs.Cubes.{nets_ascend}
 use Rattle.mv_cover.specs.Covers.{cube_reads}
-use Rattle.mv_cover.proofs.Walking.{ascend_tail as lits_tail}
+use Rattle.mv_cover.proofs.Walking.{nets_ascend-tail}
 use Rattle.mv_net.specs.declared.parts.FlatNet.{FlatNet}
 use Rattle.mv_net.specs.Nets.{slot, values_in, spelled_in}
 use Rattle.mv_graph.proofs.Nets.{above_first, ascend_tail}
@@ -69,7 +69,7 @@ walked-is nets (l ∷ ls) (n ∷ ns) up vp among =
     let far : l.net.0 < m = lits_above l ls m up h in
     later n.0 m (has_id ns m) (among m (or_right (nat_eq l.net.0 m) (cube_reads ls m) h)) (omega arith) in
     let past : (m : ℕ) → has_id ns m ≡ true → l.net.0 < m = λ m h. let far : n.0 < m = above_first n ns m vp h in omega arith in
-    rw y (ap (λ words. entry_word (spelled_in (slot nets n.0)) l.set ∷ words) (walked-is nets ls ns (lits_tail l ls up) (ascend_tail n ns vp) inside ∙ words_past nets l ls ns past)))
+    rw y (ap (λ words. entry_word (spelled_in (slot nets n.0)) l.set ∷ words) (walked-is nets ls ns (nets_ascend-tail l ls up) (ascend_tail n ns vp) inside ∙ words_past nets l ls ns past)))
     (λ (f : nat_eq l.net.0 n.0 ≡ false).
     let here : cube_reads (l ∷ ls) l.net.0 ≡ true = or_left (nat_eq l.net.0 l.net.0) (cube_reads ls l.net.0) (eq-eqb l.net.0 l.net.0 refl) in
     let low : n.0 < l.net.0 =

@@ -1,5 +1,6 @@
 -- The text of a network: its lines as lists of words, each written with one space between its words.
-use Rattle.std.specs.Prelude.{ℕ, ◌==◌, Bool, ◌&&◌, nat_eq, Option, Some, None, List, [], ◌∷◌, ◌++◌, length, map, filter, codes, decimal, slice_index_or, if◌then◌else◌}
+use Rattle.std.specs.Prelude.{ℕ, ◌==◌, Bool, ◌&&◌, nat_eq, Option, Some, None, List, [], ◌∷◌, ◌++◌}
+use Rattle.std.specs.Prelude.{length, map, filter, codes, decimal, slice_index_or, if◌then◌else◌}
 use Rattle.std.specs.List.{flat_map, range_with_len}
 use Rattle.mv_base.specs.Set.{has, full}
 use Rattle.mv_base.specs.declared.number.NetId.{NetId}
@@ -107,7 +108,8 @@ inner_lines nets = flat_map decl_words nets ++ flat_map (net_words nets) nets
 -- the lines of a network without latches
 unfoldable pub net_lines : NetParts → List (List (List ℕ))
 net_lines net =
-    (codes ".model" ∷ net.root ∷ []) ∷ (codes ".inputs" ∷ names_of net.nets net.inputs) ∷ (codes ".outputs" ∷ names_of net.nets net.outputs) ∷ (inner_lines net.nets ++ (codes ".end" ∷ []) ∷ [])
+    (codes ".model" ∷ net.root ∷ []) ∷ (codes ".inputs" ∷ names_of net.nets net.inputs) ∷ (codes ".outputs" ∷ names_of net.nets net.outputs)
+    ∷ (inner_lines net.nets ++ (codes ".end" ∷ []) ∷ [])
 
 -- the text of a network
 unfoldable pub text_of : NetParts → List ℕ

@@ -32,15 +32,15 @@ first_set count [] m = full count
 first_set count (l ∷ ls) m = if nat_eq l.net.0 m then l.set else full count
 
 -- the literals behind such a net
-abbrev pub behind : List Lit → ℕ → List Lit
-behind [] m = []
-behind (l ∷ ls) m = if nat_eq l.net.0 m then ls else l ∷ ls
+abbrev pub literals_behind : List Lit → ℕ → List Lit
+literals_behind [] m = []
+literals_behind (l ∷ ls) m = if nat_eq l.net.0 m then ls else l ∷ ls
 
 -- the entries of these nets, one after the other
 abbrev pub walked : List (Option FlatNet) → List Lit → List NetId → List (List ℕ)
 walked nets ls [] = []
 walked nets ls (n ∷ ns) =
-    entry_word (spelled_in (slot nets n.0)) (first_set (values_in (slot nets n.0)) ls n.0) ∷ walked nets (behind ls n.0) ns
+    entry_word (spelled_in (slot nets n.0)) (first_set (values_in (slot nets n.0)) ls n.0) ∷ walked nets (literals_behind ls n.0) ns
 
 -- these entries, each with a space behind it
 abbrev pub entries_text : List (List ℕ) → List ℕ

@@ -28,7 +28,8 @@ fn put_declaration<K: Sink>(
     page: &mut Page,
     out: &mut K,
 ) -> Result<(), Failed>
-    ensures { AddsPiece (paged (K.state out.old) page.old) (paged (K.state out.new) page.new) (line_text (codes ".mv" ∷ name.now ∷ decimal count ∷ names.now)) result }
+    ensures { AddsPiece (paged (K.state out.old) page.old) (paged (K.state out.new) page.new)
+        (line_text (codes ".mv" ∷ name.now ∷ decimal count ∷ names.now)) result }
 {
     page.put_both(b".mv ", name, out)?;
     let mut buffer = Buffer::new();

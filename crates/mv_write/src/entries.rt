@@ -40,7 +40,8 @@ fn put_values<K: Sink>(
 ) -> Result<(), Failed>
     requires values { AreValues count names.now }
     requires within { Within set (full count) }
-    ensures { AddsPiece (paged (K.state out.old) page.old) (paged (K.state out.new) page.new) (flat_map with_comma (names_in_set (spelled_values count names.now) set)) result }
+    ensures { AddsPiece (paged (K.state out.old) page.old) (paged (K.state out.new) page.new)
+        (flat_map with_comma (names_in_set (spelled_values count names.now) set)) result }
 {
     let mut left = set;
     'values: while let Some(value) = left.least() {
@@ -88,7 +89,8 @@ pub fn put_entry<K: Sink>(
 ) -> Result<(), Failed>
     requires held { IsTrue (is_held net.now.nets n.0) }
     requires set { IsOutput (values_in (slot net.now.nets n.0)) set }
-    ensures { AddsPiece (paged (K.state out.old) page.old) (paged (K.state out.new) page.new) (entry_word (spelled_in (slot net.now.nets n.0)) set ++ behind.now) result }
+    ensures { AddsPiece (paged (K.state out.old) page.old) (paged (K.state out.new) page.new)
+        (entry_word (spelled_in (slot net.now.nets n.0)) set ++ behind.now) result }
 {
     net.well_formed();
     put_set(net.values(n), net.value_names(n), set, page, out)?;

@@ -49,7 +49,8 @@ pub fn put_head<K: Sink>(
     out: &mut K,
 ) -> Result<(), Failed>
     requires { AreHeld net.now.nets fanins.now }
-    ensures { AddsPiece (paged (K.state out.old) page.old) (paged (K.state out.new) page.new) (line_text (codes ".table" ∷ names_of net.now.nets fanins.now ++ codes "->" ∷ name.now ∷ [])) result }
+    ensures { AddsPiece (paged (K.state out.old) page.old) (paged (K.state out.new) page.new)
+        (line_text (codes ".table" ∷ names_of net.now.nets fanins.now ++ codes "->" ∷ name.now ∷ [])) result }
 {
     page.put(b".table", out)?;
     put_names(net, fanins, page, out)?;

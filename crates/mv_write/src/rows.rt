@@ -8,7 +8,7 @@ ghost use Rattle.mv_net.specs.Formed.{AllLiterals, AllLines};
 ghost use Rattle.mv_graph.specs.Nets.{IsAscending};
 ghost use Rattle.mv_net.specs.Index.{is_held};
 ghost use Rattle.mv_write.specs.Text.{line_words};
-ghost use Rattle.mv_write.specs.Walk.{first_set, behind, walked, entries_text, numbers, AreFaninsOf, AreHeld, IsLineOver};
+ghost use Rattle.mv_write.specs.Walk.{first_set, literals_behind, walked, entries_text, numbers, AreFaninsOf, AreHeld, IsLineOver};
 
 use crate::entries::put_entry;
 use crate::page::Page;
@@ -20,7 +20,7 @@ use mv_net::Network;
 fn first_of<'a>(count: u16, lits: &'a [Lit], net: NetId) -> (ValueSet, &'a [Lit])
     requires { count ≤ MAX_VALUES }
     ensures set { result.0 ≡ first_set count lits.now net.0 }
-    ensures rest { result.1.now ≡ behind lits.now net.0 }
+    ensures rest { result.1.now ≡ literals_behind lits.now net.0 }
 {
     match lits.split_first() {
         Some((lit, rest)) if lit.net == net => (lit.set, rest),
@@ -63,7 +63,8 @@ fn put_row<K: Sink>(
     requires all_held { AreHeld net.now.nets fanins.now }
     requires fanins { AreFaninsOf line.now.cube fanins.now }
     requires line { IsLineOver net.now.nets (values_in (slot net.now.nets n.0)) line.now }
-    ensures { AddsPiece (paged (K.state out.old) page.old) (paged (K.state out.new) page.new) (line_text (line_words net.now.nets (spelled_in (slot net.now.nets n.0)) (numbers fanins.now) line.now)) result }
+    ensures { AddsPiece (paged (K.state out.old) page.old) (paged (K.state out.new) page.new)
+        (line_text (line_words net.now.nets (spelled_in (slot net.now.nets n.0)) (numbers fanins.now) line.now)) result }
 {
     put_entries(net, line.cube.lits(), fanins, page, out)?;
     put_entry(net, n, line.out, b"\n", page, out)
@@ -82,7 +83,8 @@ pub fn put_rows<K: Sink>(
     requires all_held { AreHeld net.now.nets fanins.now }
     requires fanins { IsAscending (lines_read lines.now) fanins.now }
     requires lines { AllLines net.now.nets (values_in (slot net.now.nets n.0)) lines.now }
-    ensures { AddsPiece (paged (K.state out.old) page.old) (paged (K.state out.new) page.new) (flat_map (λ l. line_text (line_words net.now.nets (spelled_in (slot net.now.nets n.0)) (numbers fanins.now) l)) lines.now) result }
+    ensures { AddsPiece (paged (K.state out.old) page.old) (paged (K.state out.new) page.new)
+        (flat_map (λ l. line_text (line_words net.now.nets (spelled_in (slot net.now.nets n.0)) (numbers fanins.now) l)) lines.now) result }
 {
     for line in lines {
         put_row(net, n, line, fanins, page, out)?;

@@ -25,7 +25,8 @@ fn put_default<K: Sink>(
 ) -> Result<(), Failed>
     requires held { IsTrue (is_held net.now.nets n.0) }
     requires default { IsDefaultSet (values_in (slot net.now.nets n.0)) default }
-    ensures { AddsPiece (paged (K.state out.old) page.old) (paged (K.state out.new) page.new) (flat_map line_text (default_words (spelled_in (slot net.now.nets n.0)) default)) result }
+    ensures { AddsPiece (paged (K.state out.old) page.old) (paged (K.state out.new) page.new)
+        (flat_map line_text (default_words (spelled_in (slot net.now.nets n.0)) default)) result }
 {
     match default {
         Some(set) => {
@@ -46,7 +47,8 @@ fn put_table<K: Sink>(
 ) -> Result<(), Failed>
     requires held { IsTrue (is_held net.now.nets n.0) }
     requires table { table_in (slot net.now.nets n.0) ≡ Some cover.now }
-    ensures { AddsPiece (paged (K.state out.old) page.old) (paged (K.state out.new) page.new) (flat_map line_text (table_words net.now.nets (Some cover.now) (spelled_in (slot net.now.nets n.0)) (name_in (slot net.now.nets n.0)))) result }
+    ensures { AddsPiece (paged (K.state out.old) page.old) (paged (K.state out.new) page.new)
+        (flat_map line_text (table_words net.now.nets (Some cover.now) (spelled_in (slot net.now.nets n.0)) (name_in (slot net.now.nets n.0)))) result }
 {
     net.well_formed();
     let fanins = net.fanins(n);
@@ -57,7 +59,8 @@ fn put_table<K: Sink>(
 
 /// Appends the lines of the table of this number, if there is one.
 fn put_net<K: Sink>(net: &Network, n: NetId, page: &mut Page, out: &mut K) -> Result<(), Failed>
-    ensures { AddsPiece (paged (K.state out.old) page.old) (paged (K.state out.new) page.new) (flat_map line_text (net_words net.now.nets (slot net.now.nets n.0))) result }
+    ensures { AddsPiece (paged (K.state out.old) page.old) (paged (K.state out.new) page.new)
+        (flat_map line_text (net_words net.now.nets (slot net.now.nets n.0))) result }
 {
     if !net.holds(n) {
         return Ok(());
@@ -70,7 +73,8 @@ fn put_net<K: Sink>(net: &Network, n: NetId, page: &mut Page, out: &mut K) -> Re
 
 /// Appends the lines of all tables, by ascending number.
 pub fn put_tables<K: Sink>(net: &Network, page: &mut Page, out: &mut K) -> Result<(), Failed>
-    ensures { AddsPiece (paged (K.state out.old) page.old) (paged (K.state out.new) page.new) (flat_map line_text (flat_map (net_words net.now.nets) net.now.nets)) result }
+    ensures { AddsPiece (paged (K.state out.old) page.old) (paged (K.state out.new) page.new)
+        (flat_map line_text (flat_map (net_words net.now.nets) net.now.nets)) result }
 {
     for n in 0..net.next_number() {
         put_net(net, NetId(n), page, out)?;

@@ -33,7 +33,7 @@ IsCause words old new Script = IfSome old.held (RefusesScript words)
 IsCause words old new Read = Rose old.faults new.faults × IfSome old.held (LacksFile words)
 IsCause words old new Memory = Unit {0}
 
--- ---- cited by private functions alone
+-- ---- what private functions alone cite
 
 -- what each cause says that the reading of the network comes upon
 abbrev pub IsNetworkCause : List (List ℕ) → Stored → Stored → Stop → Type 0

@@ -55,17 +55,29 @@ pub fn are_written(rt: &impl Abort, alloc: Global, script: &[u8], cases: &str) -
 /// Networks, and what `drop` leaves and notes of each.
 const DROPPED: &str = "\
 -- A net that nobody reads goes.
-.model d;.inputs a;.outputs z;.table a -> z;0 1;1 0;.table a -> d;0 0;1 -;.end; | .model d;.inputs a;.outputs z;.table a -> z;0 1;1 0;.end; | # begin drop;remove d;# end 2;# done 4 2;
+.model d;.inputs a;.outputs z;.table a -> z;0 1;1 0;.table a -> d;0 0;1 -;.end; | \
+.model d;.inputs a;.outputs z;.table a -> z;0 1;1 0;.end; | \
+# begin drop;remove d;# end 2;# done 4 2;
 -- A partial table stays: where it allows nothing the network allows nothing.
-.model d;.inputs a;.outputs z;.table a -> z;0 1;1 0;.table a -> d;0 0;.end; | .model d;.inputs a;.outputs z;.table a -> z;0 1;1 0;.table a -> d;0 0;.end; | # begin drop;# end 3;# done 3 3;
+.model d;.inputs a;.outputs z;.table a -> z;0 1;1 0;.table a -> d;0 0;.end; | \
+.model d;.inputs a;.outputs z;.table a -> z;0 1;1 0;.table a -> d;0 0;.end; | \
+# begin drop;# end 3;# done 3 3;
 -- A net that a partial table reads stays with it.
-.model d;.inputs a;.outputs;.table a -> c;0 1;1 0;.table c -> d;0 0;.end; | .model d;.inputs a;.outputs;.table a -> c;0 1;1 0;.table c -> d;0 0;.end; | # begin drop;# end 3;# done 3 3;
+.model d;.inputs a;.outputs;.table a -> c;0 1;1 0;.table c -> d;0 0;.end; | \
+.model d;.inputs a;.outputs;.table a -> c;0 1;1 0;.table c -> d;0 0;.end; | \
+# begin drop;# end 3;# done 3 3;
 -- The least goes first, and behind it what it alone read, also where that stands before it.
-.model d;.inputs a;.outputs z;.table a -> z;0 1;1 0;.table a -> c;0 1;1 0;.table c -> d;0 1;1 0;.table -> e;-;.end; | .model d;.inputs a;.outputs z;.table a -> z;0 1;1 0;.end; | # begin drop;remove d;remove c;remove e;# end 2;# done 6 2;
+.model d;.inputs a;.outputs z;.table a -> z;0 1;1 0;.table a -> c;0 1;1 0;.table c -> d;0 1;1 0;.table -> e;-;.end; | \
+.model d;.inputs a;.outputs z;.table a -> z;0 1;1 0;.end; | \
+# begin drop;remove d;remove c;remove e;# end 2;# done 6 2;
 -- What it read may stand behind it too.
-.model d;.inputs a;.outputs z;.table a -> z;0 1;1 0;.table c -> d;0 1;1 0;.table -> e;-;.table a -> c;0 1;1 0;.end; | .model d;.inputs a;.outputs z;.table a -> z;0 1;1 0;.end; | # begin drop;remove d;remove e;remove c;# end 2;# done 6 2;
+.model d;.inputs a;.outputs z;.table a -> z;0 1;1 0;.table c -> d;0 1;1 0;.table -> e;-;.table a -> c;0 1;1 0;.end; | \
+.model d;.inputs a;.outputs z;.table a -> z;0 1;1 0;.end; | \
+# begin drop;remove d;remove e;remove c;# end 2;# done 6 2;
 -- A column that holds only `-` isn't read.
-.model d;.inputs a;.outputs z;.table c a -> z;- 0 1;- 1 0;.table -> c;1;.end; | .model d;.inputs a;.outputs z;.table a -> z;0 1;1 0;.end; | # begin drop;remove c;# end 2;# done 2 2;
+.model d;.inputs a;.outputs z;.table c a -> z;- 0 1;- 1 0;.table -> c;1;.end; | \
+.model d;.inputs a;.outputs z;.table a -> z;0 1;1 0;.end; | \
+# begin drop;remove c;# end 2;# done 2 2;
 -- Outputs are seen, and inputs have no table.
 .model d;.inputs a b;.outputs z b;.table a -> z;0 1;1 0;.end; | .model d;.inputs a b;.outputs z b;.table a -> z;0 1;1 0;.end; | # begin drop;# end 2;# done 2 2;
 -- A table without rows allows nothing.
@@ -90,35 +102,59 @@ fn each_command_notes_its_part(rt: HostRuntime) -> Result<(), Fail> {
 /// Network files, what is written of them, and what the notes say.
 const WRITTEN: &str = "\
 -- Blanks go, and columns stand in the order of the nets.
- .model\tm \r;;.inputs b a;.outputs z;.table y ->  z;1 0;0 1;.table a b -> y;1 - 1;0 0 0;.table -> c;1;.end | .model m;.inputs b a;.outputs z;.table y -> z;1 0;0 1;.table b a -> y;- 1 1;0 0 0;.table -> c;1;.end; | # done 5 5;
+ .model\tm \r;;.inputs b a;.outputs z;.table y ->  z;1 0;0 1;.table a b -> y;1 - 1;0 0 0;.table -> c;1;.end | \
+.model m;.inputs b a;.outputs z;.table y -> z;1 0;0 1;.table b a -> y;- 1 1;0 0 0;.table -> c;1;.end; | \
+# done 5 5;
 -- Names may have brackets and backslashes inside.
-.model m{1};.inputs a(b a\\b x{1} );.outputs \\z;.table a(b a\\b x{1} ) -> \\z;1 0 1 1 0;.end; | .model m{1};.inputs a(b a\\b x{1} );.outputs \\z;.table a(b a\\b x{1} ) -> \\z;1 0 1 1 0;.end; | # done 4 4;
+.model m{1};.inputs a(b a\\b x{1} );.outputs \\z;.table a(b a\\b x{1} ) -> \\z;1 0 1 1 0;.end; | \
+.model m{1};.inputs a(b a\\b x{1} );.outputs \\z;.table a(b a\\b x{1} ) -> \\z;1 0 1 1 0;.end; | \
+# done 4 4;
 -- Names of nets may be digits, entries are turned round, and a table may have a default.
-.model t;.inputs a 7;.outputs z;.mv a, 7 3;.table a 7 -> z;2 !2 1;.default 0;.end; | .model t;.inputs a 7;.outputs z;.mv a 3;.mv 7 3;.table a 7 -> z;.default 0;2 (0,1) 1;.end; | # done 2 2;
+.model t;.inputs a 7;.outputs z;.mv a, 7 3;.table a 7 -> z;2 !2 1;.default 0;.end; | \
+.model t;.inputs a 7;.outputs z;.mv a 3;.mv 7 3;.table a 7 -> z;.default 0;2 (0,1) 1;.end; | \
+# done 2 2;
 -- A partial table below a default.
-.model x;.inputs a;.outputs z;.table a -> x;0 1;.table x -> z;.default 1;0 0;.end; | .model x;.inputs a;.outputs z;.table a -> x;0 1;.table x -> z;.default 1;0 0;.end; | # done 2 2;
+.model x;.inputs a;.outputs z;.table a -> x;0 1;.table x -> z;.default 1;0 0;.end; | \
+.model x;.inputs a;.outputs z;.table a -> x;0 1;.table x -> z;.default 1;0 0;.end; | \
+# done 2 2;
 -- Two columns of one net: a row that asks both values of it vanishes.
 .model m;.inputs a;.outputs z;.table a a -> z;0 1 1;- 1 1;0 0 0;.end; | .model m;.inputs a;.outputs z;.table a -> z;1 1;0 0;.end; | # done 2 2;
 -- Ranges and names with hyphens.
-.model v;.inputs s;.outputs z;.mv s 4 a b a-b c;.table s -> z;{a-b} 1;{a-c} 0;!{ a-b , c } (0,1);.end; | .model v;.inputs s;.outputs z;.mv s 4 a b a-b c;.table s -> z;a-b 1;- 0;(a,b) -;.end; | # done 2 2;
+.model v;.inputs s;.outputs z;.mv s 4 a b a-b c;.table s -> z;{a-b} 1;{a-c} 0;!{ a-b , c } (0,1);.end; | \
+.model v;.inputs s;.outputs z;.mv s 4 a b a-b c;.table s -> z;a-b 1;- 0;(a,b) -;.end; | \
+# done 2 2;
 -- A default that names a column needs a mark.
-.model d;.inputs a b;.outputs z;.table a b -> z;1 - 1;.default =b;.end; | .model d;.inputs a b;.outputs z;.table a -> _m1;.default 1;1 0;.table a b _m1 -> z;1 - - 1;- 0 1 0;- 1 1 1;.end; | # done 6 6;
+.model d;.inputs a b;.outputs z;.table a b -> z;1 - 1;.default =b;.end; | \
+.model d;.inputs a b;.outputs z;.table a -> _m1;.default 1;1 0;.table a b _m1 -> z;1 - - 1;- 0 1 0;- 1 1 1;.end; | \
+# done 6 6;
 -- The mark has the first number whose name is free.
-.model d;.inputs _m1 b;.outputs z;.table _m1 b -> z;1 - 1;.default =b;.end; | .model d;.inputs _m1 b;.outputs z;.table _m1 -> _m2;.default 1;1 0;.table _m1 b _m2 -> z;1 - - 1;- 0 1 0;- 1 1 1;.end; | # done 6 6;
+.model d;.inputs _m1 b;.outputs z;.table _m1 b -> z;1 - 1;.default =b;.end; | \
+.model d;.inputs _m1 b;.outputs z;.table _m1 -> _m2;.default 1;1 0;.table _m1 b _m2 -> z;1 - - 1;- 0 1 0;- 1 1 1;.end; | \
+# done 6 6;
 -- A row that says no value takes the default away where it matches.
-.model d;.inputs a;.outputs z;.table a -> z;.default 1;0 !-;.end; | .model d;.inputs a;.outputs z;.table a -> _m1;.default 1;0 0;.table _m1 -> z;1 1;.end; | # done 2 2;
+.model d;.inputs a;.outputs z;.table a -> z;.default 1;0 !-;.end; | \
+.model d;.inputs a;.outputs z;.table a -> _m1;.default 1;0 0;.table _m1 -> z;1 1;.end; | \
+# done 2 2;
 -- So it needs no mark where it always matches: nothing is allowed then.
 .model d;.inputs a;.outputs z;.table a -> z;.default 1;- !-;.end; | .model d;.inputs a;.outputs z;.table -> z;.end; | # done 0 0;
 -- A default beside a row without literals goes.
 .model d;.inputs a;.outputs z;.table a -> z;.default 1;- 0;.end; | .model d;.inputs a;.outputs z;.table -> z;0;.end; | # done 0 0;
 -- Two tables give the value of one input.
-.model e;.inputs a;.outputs p q;.mv a, p, q 3;.table a -> p;- =a;.table a -> q;(1,2) =a;.end; | .model e;.inputs a;.outputs p q;.mv a 3;.mv p 3;.mv q 3;.table a -> p;0 0;1 1;2 2;.table a -> q;1 1;2 2;.end; | # done 5 5;
+.model e;.inputs a;.outputs p q;.mv a, p, q 3;.table a -> p;- =a;.table a -> q;(1,2) =a;.end; | \
+.model e;.inputs a;.outputs p q;.mv a 3;.mv p 3;.mv q 3;.table a -> p;0 0;1 1;2 2;.table a -> q;1 1;2 2;.end; | \
+# done 5 5;
 -- Values are matched by position, whatever their names.
-.model e;.inputs a;.outputs z;.mv a 2 x y;.mv z 2 y x;.table a -> z;- =a;.end; | .model e;.inputs a;.outputs z;.mv a 2 x y;.mv z 2 y x;.table a -> z;x y;y x;.end; | # done 2 2;
+.model e;.inputs a;.outputs z;.mv a 2 x y;.mv z 2 y x;.table a -> z;- =a;.end; | \
+.model e;.inputs a;.outputs z;.mv a 2 x y;.mv z 2 y x;.table a -> z;x y;y x;.end; | \
+# done 2 2;
 -- A net of one value: its full set is written `-`.
-.model o;.inputs a;.outputs z;.mv a 1;.mv z 1 only;.table a -> z;0 only;.end; | .model o;.inputs a;.outputs z;.mv a 1;.mv z 1 only;.table -> z;-;.end; | # done 0 0;
+.model o;.inputs a;.outputs z;.mv a 1;.mv z 1 only;.table a -> z;0 only;.end; | \
+.model o;.inputs a;.outputs z;.mv a 1;.mv z 1 only;.table -> z;-;.end; | \
+# done 0 0;
 -- Names as strange as they may be.
-.model m-1;.inputs - = !a 7 a=b;.outputs 0 -;.mv = 3 x-y * <1>;.table - = -> 0;0 x-y 1;1 (*,<1>) 0;.end; | .model m-1;.inputs - = !a 7 a=b;.outputs 0 -;.mv = 3 x-y * <1>;.table - = -> 0;0 x-y 1;1 (*,<1>) 0;.end; | # done 4 4;
+.model m-1;.inputs - = !a 7 a=b;.outputs 0 -;.mv = 3 x-y * <1>;.table - = -> 0;0 x-y 1;1 (*,<1>) 0;.end; | \
+.model m-1;.inputs - = !a 7 a=b;.outputs 0 -;.mv = 3 x-y * <1>;.table - = -> 0;0 x-y 1;1 (*,<1>) 0;.end; | \
+# done 4 4;
 -- Values that are spelled out and are the numbers from 0 aren't written.
 .model n;.inputs a b;.outputs;.mv a 3 0 1 2;.mv b 2 0 1;.end; | .model n;.inputs a b;.outputs;.mv a 3;.end; | # done 0 0;
 -- Lines may be left out, and a table's output may stand last without an arrow.
@@ -126,31 +162,54 @@ const WRITTEN: &str = "\
 -- A table without rows, and no ports.
 .model m;.table -> z;.end; | .model m;.inputs;.outputs;.table -> z;.end; | # done 0 0;
 -- Each mark has the first number whose name is free, behind the marks before it.
-.model m;.inputs _m1 _m3;.outputs z y;.table _m1 -> y;1 1;.default =_m1;.table _m1 -> z;0 0;.default =_m1;.end; | .model m;.inputs _m1 _m3;.outputs z y;.table _m1 -> _m2;.default 1;1 0;.table _m1 _m2 -> y;1 - 1;0 1 0;1 1 1;.table _m1 -> _m4;.default 1;0 0;.table _m1 _m4 -> z;0 - 0;0 1 0;1 1 1;.end; | # done 12 12;
+.model m;.inputs _m1 _m3;.outputs z y;.table _m1 -> y;1 1;.default =_m1;.table _m1 -> z;0 0;.default =_m1;.end; | \
+.model m;.inputs _m1 _m3;.outputs z y;.table _m1 -> _m2;.default 1;1 0;.table _m1 _m2 -> y;1 - 1;0 1 0;1 1 1;.table _m1 -> _m4;.default 1;0 0;\
+.table _m1 _m4 -> z;0 - 0;0 1 0;1 1 1;.end; | \
+# done 12 12;
 -- A mark's table has each cube once, also where the rows differ in their output.
-.model m;.inputs a b;.outputs z;.table a b -> z;1 - 0;1 - 1;.default =b;.end; | .model m;.inputs a b;.outputs z;.table a -> _m1;.default 1;1 0;.table a b _m1 -> z;1 - - 0;1 - - 1;- 0 1 0;- 1 1 1;.end; | # done 7 7;
+.model m;.inputs a b;.outputs z;.table a b -> z;1 - 0;1 - 1;.default =b;.end; | \
+.model m;.inputs a b;.outputs z;.table a -> _m1;.default 1;1 0;.table a b _m1 -> z;1 - - 0;1 - - 1;- 0 1 0;- 1 1 1;.end; | \
+# done 7 7;
 -- A row that says no value takes a default that names a column away where it matches.
-.model m;.inputs a;.outputs z;.table a -> z;0 !-;.default =a;.end; | .model m;.inputs a;.outputs z;.table a -> _m1;.default 1;0 0;.table a _m1 -> z;0 1 0;1 1 1;.end; | # done 5 5;
+.model m;.inputs a;.outputs z;.table a -> z;0 !-;.default =a;.end; | \
+.model m;.inputs a;.outputs z;.table a -> _m1;.default 1;0 0;.table a _m1 -> z;0 1 0;1 1 1;.end; | \
+# done 5 5;
 -- A default beside a row without literals goes, and with it the need of a mark.
 .model m;.inputs a;.outputs z;.table a -> z;- 1;0 0;.default =a;.end; | .model m;.inputs a;.outputs z;.table a -> z;- 1;0 0;.end; | # done 1 1;
 -- A default that says no value is none, and then a row that says none goes.
 .model m;.inputs a;.outputs z;.table a -> z;0 !-;1 1;.default !-;.end; | .model m;.inputs a;.outputs z;.table a -> z;1 1;.end; | # done 1 1;
 -- Rows that are equal once columns of one net are met are written once, the first kept.
-.model m;.inputs a;.outputs z;.mv a 3;.table a a -> z;(0,1) (1,2) 1;2 - 0;- 1 1;.default -;.end; | .model m;.inputs a;.outputs z;.mv a 3;.table a -> z;.default -;1 1;2 0;.end; | # done 2 2;
+.model m;.inputs a;.outputs z;.mv a 3;.table a a -> z;(0,1) (1,2) 1;2 - 0;- 1 1;.default -;.end; | \
+.model m;.inputs a;.outputs z;.mv a 3;.table a -> z;.default -;1 1;2 0;.end; | \
+# done 2 2;
 -- A row that names a column has a row for each value that both of its columns may have.
-.model m;.inputs a b;.outputs z;.mv a b z 3;.table a b a -> z;(0,1) 2 (1,2) =a;!0 - !1 =b;.end; | .model m;.inputs a b;.outputs z;.mv a 3;.mv b 3;.mv z 3;.table a b -> z;1 2 1;2 0 0;2 1 1;2 2 2;.end; | # done 8 8;
+.model m;.inputs a b;.outputs z;.mv a b z 3;.table a b a -> z;(0,1) 2 (1,2) =a;!0 - !1 =b;.end; | \
+.model m;.inputs a b;.outputs z;.mv a 3;.mv b 3;.mv z 3;.table a b -> z;1 2 1;2 0 0;2 1 1;2 2 2;.end; | \
+# done 8 8;
 -- Names of values are written unless they are the numbers from 0.
-.model m;.inputs a b;.outputs z;.mv z 2 no yes;.mv a 3 0 1 2;.mv b 1 0;.table a b -> z;!1 0 yes;1 - no;.end; | .model m;.inputs a b;.outputs z;.mv a 3;.mv b 1;.mv z 2 no yes;.table a -> z;(0,2) yes;1 no;.end; | # done 2 2;
+.model m;.inputs a b;.outputs z;.mv z 2 no yes;.mv a 3 0 1 2;.mv b 1 0;.table a b -> z;!1 0 yes;1 - no;.end; | \
+.model m;.inputs a b;.outputs z;.mv a 3;.mv b 1;.mv z 2 no yes;.table a -> z;(0,2) yes;1 no;.end; | \
+# done 2 2;
 -- A default of several values stands in brackets.
-.model d;.inputs k;.outputs z;.mv k 1;.mv z 3;.table -> z;.default (0,2);.end; | .model d;.inputs k;.outputs z;.mv k 1;.mv z 3;.table -> z;.default (0,2);.end; | # done 0 0;
+.model d;.inputs k;.outputs z;.mv k 1;.mv z 3;.table -> z;.default (0,2);.end; | \
+.model d;.inputs k;.outputs z;.mv k 1;.mv z 3;.table -> z;.default (0,2);.end; | \
+# done 0 0;
 -- An input may be an output too, and a default may name the only column.
-.model m;.inputs a;.outputs a z;.table a a -> z;.default =a;.end; | .model m;.inputs a;.outputs a z;.table -> _m1;.default 1;.table a _m1 -> z;0 1 0;1 1 1;.end; | # done 4 4;
+.model m;.inputs a;.outputs a z;.table a a -> z;.default =a;.end; | \
+.model m;.inputs a;.outputs a z;.table -> _m1;.default 1;.table a _m1 -> z;0 1 0;1 1 1;.end; | \
+# done 4 4;
 -- Commas may stand between names, and a net may be declared again in the same way.
-.model m;.inputs a b;.outputs;.mv a , b 3 x , y,z ,;.mv a b 3 x,y,z;.mv a a 03 x y z;.end; | .model m;.inputs a b;.outputs;.mv a 3 x y z;.mv b 3 x y z;.end; | # done 0 0;
+.model m;.inputs a b;.outputs;.mv a , b 3 x , y,z ,;.mv a b 3 x,y,z;.mv a a 03 x y z;.end; | \
+.model m;.inputs a b;.outputs;.mv a 3 x y z;.mv b 3 x y z;.end; | \
+# done 0 0;
 -- A net may have 128 values.
 .model m;.inputs a;.outputs;.mv a 128;.end; | .model m;.inputs a;.outputs;.mv a 128;.end; | # done 0 0;
 -- Each form of an entry.
-.model w;.inputs x y;.outputs z;.mv x 5 a b a-b c d;.mv y 18;.table x y -> z;- 0 1;a 1 1;d 2 1;a-b 3 1;!a 4 1;!!a 5 1;!!- 6 1;(a) 7 1;{a,c} 8 1;( c , a,c ) 9 1;{b-c} 10 1;{a-b-c} 11 1;{a-a-b} 12 1;{a-b} 13 1;{b-b} 14 1;!{a-b,c} 15 1;!!(b,d) 16 1;!- 17 1;.end; | .model w;.inputs x y;.outputs z;.mv x 5 a b a-b c d;.mv y 18;.table x y -> z;- 0 1;a 1 1;d 2 1;a-b 3 1;(b,a-b,c,d) 4 1;a 5 1;- 6 1;a 7 1;(a,c) 8 1;(a,c) 9 1;(b,a-b,c) 10 1;(a-b,c) 11 1;(a,b,a-b) 12 1;a-b 13 1;b 14 1;(a,b,d) 15 1;(b,d) 16 1;.end; | # done 32 32;
+.model w;.inputs x y;.outputs z;.mv x 5 a b a-b c d;.mv y 18;.table x y -> z;- 0 1;a 1 1;d 2 1;a-b 3 1;!a 4 1;!!a 5 1;!!- 6 1;(a) 7 1;{a,c} 8 1;\
+( c , a,c ) 9 1;{b-c} 10 1;{a-b-c} 11 1;{a-a-b} 12 1;{a-b} 13 1;{b-b} 14 1;!{a-b,c} 15 1;!!(b,d) 16 1;!- 17 1;.end; | \
+.model w;.inputs x y;.outputs z;.mv x 5 a b a-b c d;.mv y 18;.table x y -> z;- 0 1;a 1 1;d 2 1;a-b 3 1;(b,a-b,c,d) 4 1;a 5 1;- 6 1;a 7 1;\
+(a,c) 8 1;(a,c) 9 1;(b,a-b,c) 10 1;(a-b,c) 11 1;(a,b,a-b) 12 1;a-b 13 1;b 14 1;(a,b,d) 15 1;(b,d) 16 1;.end; | \
+# done 32 32;
 ";
 
 #[test]

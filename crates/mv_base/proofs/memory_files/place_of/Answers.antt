@@ -3,7 +3,7 @@ use Rattle.std.proofs.lemmas.List.{length-map}
 use Rattle.std.specs.Prelude.{string_bytes}
 use Rattle.mv_base.specs.Names.{same_word}
 use Rattle.mv_base.specs.Entries.{entry_of}
-use Rattle.mv_base.proofs.FileLemmas.{entry_read, named_behind, IsNamed-here}
+use Rattle.mv_base.proofs.FileLemmas.{entry_read, named_behind, IsFirstNamed-here}
 use Rattle.mv_base.proofs.memory_files.place_of.Goals as goal
 
 pub returns-then-eq-clause-some : goal.returns-then-eq-clause-some
@@ -13,7 +13,7 @@ returns-then-eq-clause-some c =
     let within : place < length files = omega arith in
     let entry = entry_read files place _ within c.index-files-place.is in
     let same : same_word c.args.name.now (string_bytes c.index-files-place.result.0) ≡ true = search rules in
-    IsNamed-here _ _ place (rw (length-map files entry_of) within) (rw entry same) c.loop-place.invariant
+    IsFirstNamed-here _ _ place (rw (length-map files entry_of) within) (rw entry same) c.loop-place.invariant
 
 pub loop-place-preserved : goal.loop-place-preserved
 loop-place-preserved c =

@@ -4,8 +4,8 @@ use Rattle.std.specs.Prelude.{IfNone, IfSome}
 use Rattle.mv_base.specs.declared.number.NetId.{NetId}
 use Rattle.mv_model.specs.Numbers.{places}
 use Rattle.mv_graph.specs.Cycles.{IsTurning, NoneTurns}
-use Rattle.mv_graph.proofs.Clear.{ListsEachReader, none_above, not_unranked}
-use Rattle.mv_model.proofs.Turns.{model_below, model_length, order_is, order_below, order_covers, first_on_cycle, place_below}
+use Rattle.mv_graph.proofs.Clear.{ListsEachReader, none_turns_acyclic}
+use Rattle.mv_model.proofs.Turns.{model_acyclic, model_below, model_length, order_is, order_below, order_covers, first_on_cycle, place_below}
 use Rattle.mv_model.proofs.check.check_turning.Goals as goal
 
 pub first_turning-requires-clause-below : goal.first_turning-requires-clause-below
@@ -25,16 +25,15 @@ first_turning-requires-clause-few c =
     let e = ap length c.requires.numbers in
     omega (arith, l, e, c.requires.few)
 
-pub returns-in-None-clause-ranked : goal.returns-in-None-clause-ranked
-returns-in-None-clause-ranked c =
+pub returns-in-None-clause-acyclic : goal.returns-in-None-clause-acyclic
+returns-in-None-clause-acyclic c =
     let m = c.args.model.now in
     let P : List NetId → Type 0 = λ ns. ListsEachReader c.args.columns.now ns in
     let Q : Option ℕ → Type 0 = λ o. IfNone o (NoneTurns c.args.columns.now c.as_slice.result.now) in
     let covers = subst P (sym (order_is c.args.numbers.now (places m) c.as_slice-nets.result.now _ _ c.requires.numbers c.in_ok-order.ensures c.as_slice.ensures))
     (order_covers m c.args.columns.now c.as_slice-nets.result.now c.requires.proper c.requires.once c.requires.columns (c.as_slice-nets.ensures ∙ c.requires.nets)) in
-    absurd (not_unranked c.args.columns.now (model_below m c.args.columns.now c.requires.proper c.requires.once c.requires.columns)
-    (none_above c.args.columns.now c.as_slice.result.now covers (subst Q c.in-None.is c.in_ok-first_turning.ensures.none))
-    c.requires.unranked)
+    model_acyclic m c.args.columns.now c.requires.proper c.requires.once c.requires.columns
+    (none_turns_acyclic c.args.columns.now c.as_slice.result.now covers (subst Q c.in-None.is c.in_ok-first_turning.ensures.none))
 
 pub offset_bounds-nets-place : goal.offset_bounds-nets-place
 offset_bounds-nets-place c =

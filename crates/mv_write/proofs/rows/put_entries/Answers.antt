@@ -4,7 +4,7 @@ use Rattle.mv_write.proofs.Paging.{adds}
 use Rattle.mv_net.proofs.Known.{values_few}
 use Rattle.mv_write.specs.Walk.{walked, entries_text}
 use Rattle.mv_write.proofs.Held.{has-at}
-use Rattle.mv_write.proofs.Literals.{first-output, behind-literals}
+use Rattle.mv_write.proofs.Literals.{first-output, literals_behind-literals}
 use Rattle.mv_write.proofs.Lines.{entries-more, entries-none}
 use Rattle.mv_write.proofs.rows.put_entries.Goals as goal
 
@@ -38,7 +38,7 @@ loop-n-preserved g c =
     let nets = c.args.net.now.nets in
     record {
       going = next adds c.loop-n.invariant.going (entries-more nets c.loop-n.left.now c.first_of-set.result.1.now c.args.fanins.now c.loop-n.n-index c.values.result c.first_of-set.result.0 c.loop-n-test.true c.values.ensures c.first_of-set.ensures.set c.first_of-set.ensures.rest) c.in_ok-put_entry.ensures;
-      literals = rw c.first_of-set.ensures.rest (behind-literals nets c.loop-n.left.now _ c.loop-n.invariant.literals);
+      literals = rw c.first_of-set.ensures.rest (literals_behind-literals nets c.loop-n.left.now _ c.loop-n.invariant.literals);
     }
 
 pub returns : goal.returns

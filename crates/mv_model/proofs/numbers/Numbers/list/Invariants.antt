@@ -1,5 +1,5 @@
 use Rattle.std.proofs.Common.{◌≡◌, take}
-use Rattle.mv_model.specs.Columns.{numbers_in}
+use Rattle.mv_model.specs.Numbers.{numbers_in}
 use Rattle.mv_model.proofs.numbers.Numbers.list.Given as goal
 
 abbrev pub invariant-loop-net : goal.invariant-loop-net

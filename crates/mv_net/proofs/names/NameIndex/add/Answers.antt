@@ -3,8 +3,8 @@ use Rattle.mv_net.specs.Names.{number_of, pairs_of}
 use Rattle.mv_net.proofs.Named.{entries-insert}
 use Rattle.mv_net.proofs.names.NameIndex.add.Goals as goal
 
-pub returns : goal.returns
-returns c =
+pub returns-clause-ok : goal.returns-clause-ok
+returns-clause-ok c =
     let es = c.self.inside.numbers.entries in
     let key = c.in_ok-from_slice.field-0 in
     let is = c.self.view_is in

@@ -1,6 +1,0 @@
-use Rattle.std.proofs.Common.{◌≡◌, ◌++◌, map, take}
-use Rattle.mv_net.specs.Changes.{made_net}
-use Rattle.mv_net.proofs.change.add_nets.Given as goal
-
-abbrev pub invariant-loop-new : goal.invariant-loop-new
-invariant-loop-new l = l.nets ≡ l.fn.nets ++ map made_net (take l.new-index l.add)
