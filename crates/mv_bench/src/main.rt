@@ -2,7 +2,9 @@
 //!
 //! Its words come by threes, a task, a size and a seed, and each task prints one line: `mv_bench covers 500 1 absorb
 //! 4000 1`. The one word `lex` cuts standard input into lines of words, and prints how many there are; the one word `parse`
-//! reads it as a network file, and prints how many models, tables and rows its design has.
+//! reads it as a network file, and prints how many models, tables and rows its design has. The words `rules KIND COUNT`
+//! read it as a network, apply so many rules of a kind, and print how many were applied, the literals that are left, and the
+//! time that the rules took.
 #![tactic(auto)]
 
 mod draw;
@@ -10,6 +12,7 @@ mod lexing;
 mod meets;
 mod pairs;
 mod parsing;
+mod ruling;
 mod stop;
 mod symbols;
 mod task;
@@ -30,6 +33,13 @@ fn run(rt: &HostRuntime) -> Result<(), Stop> {
     if matches!(words.as_slice(), [word] if word.as_str() == "parse") {
         println!(rt; "parse {}", parsing::parsed(rt)?)?;
         return Ok(());
+    }
+    if let [word, kind, count] = words.as_slice() {
+        if word.as_str() == "rules" {
+            let applied = ruling::ruled(rt, kind.as_str(), count.as_str())?;
+            println!(rt; "rules {kind} {applied}")?;
+            return Ok(());
+        }
     }
     for three in words.as_slice().chunks(3) {
         let task = Task::parse(three)?;

@@ -1,7 +1,7 @@
 use mv_base::{Failed, Memory};
 use mv_fault::ParseFault;
 use mv_lex::LexFault;
-use std::alloc::AllocError;
+use std::alloc::{AllocError, AllocFailed};
 use std::{fmt, io};
 
 /// Why no more tasks are done.
@@ -16,6 +16,8 @@ pub enum Stop {
     Lex(LexFault),
     /// Standard input is no network file of a form that is read.
     Parse(ParseFault),
+    /// Standard input says no network.
+    Network,
     /// The words couldn't be read, or a line couldn't be printed.
     Host(io::Error),
 }
@@ -28,6 +30,12 @@ impl From<Memory> for Stop {
 
 impl From<AllocError> for Stop {
     fn from(_error: AllocError) -> Stop {
+        Stop::Memory
+    }
+}
+
+impl<T: Drop> From<AllocFailed<T>> for Stop {
+    fn from(_failed: AllocFailed<T>) -> Stop {
         Stop::Memory
     }
 }
@@ -61,12 +69,13 @@ impl fmt::Display for Stop {
         match self {
             Stop::Words => write!(
                 f,
-                "the words are lex, parse, or TASK SIZE SEED once or more; a TASK is covers, absorb, complement, kernels or meet"
+                "the words are lex, parse, rules KIND COUNT, or TASK SIZE SEED once or more; a TASK is covers, absorb, complement, kernels or meet"
             ),
             Stop::Memory => write!(f, "out of memory"),
             Stop::Read => write!(f, "standard input can't be read"),
             Stop::Lex(fault) => write!(f, "{fault}"),
             Stop::Parse(fault) => write!(f, "{fault:?}"),
+            Stop::Network => write!(f, "standard input says no network"),
             Stop::Host(error) => write!(f, "{error}"),
         }
     }

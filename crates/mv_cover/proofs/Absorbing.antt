@@ -18,7 +18,7 @@ use Rattle.mv_cover.specs.Meets.{literal_at}
 use Rattle.mv_cover.specs.Containing.{set_within, set_lies, lies_in}
 use Rattle.mv_cover.specs.Equal.{line_eq}
 use Rattle.mv_cover.specs.Keys.{same_lit, same_line, line_eq-Decides}
-use Rattle.mv_cover.specs.Absorb.{firsts, line_lies, swallowed_by, unswallowed, some_bare, default_beside, absorbed}
+use Rattle.mv_cover.specs.Absorb.{firsts, line_lies, swallowed_by, unswallowed, left_of, some_bare, default_beside, absorbed}
 use Rattle.mv_cover.proofs.Covering.{same_number}
 use Rattle.mv_cover.proofs.Meets.{Rises, Rises-cube, nothing_below, order}
 use Rattle.mv_cover.proofs.Containing.{lies_inside, same_from_Within}
@@ -95,7 +95,7 @@ lies_in-same h k (l ∷ a) (m ∷ b) r q x y =
 
 -- ---- lines within lines
 
-line_lies-trans : (a b c : Line) → line_lies a b ≡ true → line_lies b c ≡ true → line_lies a c ≡ true
+pub line_lies-trans : (a b c : Line) → line_lies a b ≡ true → line_lies b c ≡ true → line_lies a c ≡ true
 line_lies-trans a b c h k =
     let p = and_parts (set_within a.out b.out) (lies_in a.cube b.cube) h in
     let q = and_parts (set_within b.out c.out) (lies_in b.cube c.cube) k in
@@ -109,7 +109,7 @@ line_lies-same a b is it h k =
     (same_from_Within a.out b.out (Within-from_meet a.out b.out (same_number (meet a.out b.out) a.out p.0)) (Within-from_meet b.out a.out (same_number (meet b.out a.out) b.out q.0)))
 
 -- what swallows a line that swallows l swallows l
-swallowed-through : (l m x : Line) → IsCube l.cube → IsCube m.cube → swallowed_by l m ≡ true → swallowed_by m x ≡ true → swallowed_by l x ≡ true
+pub swallowed-through : (l m x : Line) → IsCube l.cube → IsCube m.cube → swallowed_by l m ≡ true → swallowed_by m x ≡ true → swallowed_by l x ≡ true
 swallowed-through l m x is it h k =
     let p = and_parts (line_lies l m) (not (line_eq l m)) h in
     let q = and_parts (line_lies m x) (not (line_eq m x)) k in
@@ -121,22 +121,22 @@ swallowed-through l m x is it h k =
     false≢true (sym (not-true (line_eq l m) p.1) ∙ (line_eq-Decides l m).1 (line_lies-same l m is it p.0 back)))))
 
 -- no line swallows itself
-swallowed-self : (m : Line) → swallowed_by m m ≡ false
+pub swallowed-self : (m : Line) → swallowed_by m m ≡ false
 swallowed-self m = false_from_ne_true (swallowed_by m m) (λ t. false≢true (sym (not-true (line_eq m m) (and_parts (line_lies m m) (not (line_eq m m)) t).1) ∙ (line_eq-Decides m m).1 refl))
 
 -- ---- tests over lists
 
 -- an element of the list passes
-any_at : {X : Type 0} (p : X → Bool) (xs : List X) (x : X) → Contains xs x → p x ≡ true → list_any p xs ≡ true
+pub any_at : {X : Type 0} (p : X → Bool) (xs : List X) (x : X) → Contains xs x → p x ≡ true → list_any p xs ≡ true
 any_at p xs x c h = list_any_at p xs c.0 x c.1 (ap p c.2 ∙ h)
 
 -- an element that passes
-record Passes {X : Type 0} (p : X → Bool) (xs : List X) : Type 0 where
-  x : X
-  there : Contains xs x
-  pass : p x ≡ true
+pub record Passes {X : Type 0} (p : X → Bool) (xs : List X) : Type 0 where
+  pub x : X
+  pub there : Contains xs x
+  pub pass : p x ≡ true
 
-find_any : {X : Type 0} (p : X → Bool) (xs : List X) → list_any p xs ≡ true → Passes p xs
+pub find_any : {X : Type 0} (p : X → Bool) (xs : List X) → list_any p xs ≡ true → Passes p xs
 find_any p [] h = absurd (false≢true h)
 find_any p (x ∷ xs) h =
     elim (cases_Bool (p x)) [
@@ -204,8 +204,8 @@ all-firsts P (l ∷ ls) all =
     (All-filter (λ (m : Line). not (line_eq m l)) P (firsts ls) (all-firsts P ls (All-tail P l ls all)))
 
 -- a test that a line's swallower passes too
-record Climbs (p : Line → Bool) : Type 0 where
-  up : (a b : Line) → line_lies a b ≡ true → p a ≡ true → p b ≡ true
+pub record Climbs (p : Line → Bool) : Type 0 where
+  pub up : (a b : Line) → line_lies a b ≡ true → p a ≡ true → p b ≡ true
 
 -- a line that passes is swallowed by one that stays, or stays: at each step up fewer lines swallow it
 climb : (k : ℕ) (p : Line → Bool) → Climbs p → (ls : List Line) → All (λ (l : Line). IsCube l.cube) ls → (l : Line) → Contains ls l → p l ≡ true → length (filter (swallowed_by l) ls) < k → list_any p (unswallowed ls) ≡ true
@@ -231,7 +231,7 @@ climb (suc k) p climbs ls formed l there pass few =
     ]
 
 -- what some line passes some line that stays passes
-any-unswallowed : (p : Line → Bool) → Climbs p → (ls : List Line) → All (λ (l : Line). IsCube l.cube) ls → list_any p (unswallowed ls) ≡ list_any p ls
+pub any-unswallowed : (p : Line → Bool) → Climbs p → (ls : List Line) → All (λ (l : Line). IsCube l.cube) ls → list_any p (unswallowed ls) ≡ list_any p ls
 any-unswallowed p climbs ls formed =
     elim (cases_Bool (list_any p ls)) [
       | inl t ↦
@@ -299,7 +299,7 @@ default-left at v ls d =
 
 -- the absorbed cover allows what the cover allows
 pub allowed-absorbed : (c : Cover) → All (λ (l : Line). IsCube l.cube) c.lines → (at : ℕ → ℕ) (v : ℕ) → allowed (absorbed c) at v ≡ allowed c at v
-unfolding allowed absorbed
+unfolding allowed absorbed left_of
 allowed-absorbed c formed at v =
     let left = unswallowed (firsts c.lines) in
     let gives : some_gives at v left ≡ some_gives at v c.lines = left-gives at v c.lines formed in
@@ -311,10 +311,3 @@ allowed-absorbed c formed at v =
 -- the keys of a set are the first of each of the lines put in it
 pub inserted_firsts : (ls : List Line) → insert_all line_eq [] ls ≡ firsts ls
 inserted_firsts ls = keys-firsts line_eq (λ l m. (line_eq-Decides l m).0) ls
-
--- the lines left and the default beside them are the absorbed cover
-pub absorbed_is : (c : Cover) (left seen : List Line) (default : Option ℕ) → left ≡ unswallowed (firsts c.lines) → seen ≡ left → default ≡ default_beside seen c.default → record { lines = left; default = default } ≡ absorbed c
-unfolding absorbed
-absorbed_is c left seen default e s d =
-    let told : default ≡ default_beside (unswallowed (firsts c.lines)) c.default = d ∙ ap (λ (ls : List Line). default_beside ls c.default) (s ∙ e) in
-    λ i. record { lines = e i; default = told i }

@@ -88,7 +88,7 @@ pub record Left (counts : List ℕ) (lines : List Line) (i : ℕ) (cubes : List 
   pub suited : All (IsCubeOver counts) cubes
 
 -- the cube without literals suits any counts
-everywhere : (counts : List ℕ) → IsCubeOver counts []
+pub everywhere : (counts : List ℕ) → IsCubeOver counts []
 everywhere counts = record {
   cube = record { ascending = refl; possible = refl };
   suits = record { fits = tt; few = λ n h. absurd (false≢true h) };

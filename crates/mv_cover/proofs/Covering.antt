@@ -8,6 +8,7 @@ use Rattle.mv_cover.specs.declared.cube.Lit.{Lit}
 use Rattle.mv_cover.specs.declared.line.Line.{Line}
 use Rattle.mv_cover.specs.Cubes.{matches}
 use Rattle.mv_cover.specs.Covers.{some_matches, cube_reads, lines_read}
+pub use Rattle.mv_cover.specs.Covering.{changed}
 use Rattle.mv_cover.specs.Covering.{IsPoint, AreWithin, CoversAll, MissesSome}
 use Rattle.mv_cover.specs.Cofactors.{MatchEach, cubes_match, cubes_read, AreCubesWithin, CubesCover, CubesMiss, cube_allows, cube_without, cofactor_of, cubes_of}
 
@@ -141,10 +142,6 @@ cofactor-shorter n value (c ∷ cs) h =
             | inr f ↦ rw f (omega arith)
           ]
     ]
-
--- an assignment with one value changed
-pub changed : ℕ → ℕ → (ℕ → ℕ) → ℕ → ℕ
-changed n value at m = cond (nat_eq m n) value (at m)
 
 pub changed-agrees : (n value : ℕ) (at : ℕ → ℕ) → AgreeBut n value (changed n value at) at
 unfolding changed

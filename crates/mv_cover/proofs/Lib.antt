@@ -14,5 +14,8 @@ pub mod Spelling
 pub mod Suiting
 pub mod Inclusion
 pub mod Absorbing
+pub mod Marking
+pub mod Putting
+pub mod Differing
 pub mod Building
 pub mod ValueClasses

@@ -10,7 +10,7 @@ use Rattle.mv_base.proofs.Sets.{has-meet, has-empty}
 use Rattle.mv_cover.specs.declared.cube.Lit.{Lit}
 use Rattle.mv_cover.specs.declared.meet.Step.{Step}
 use Rattle.mv_cover.specs.Cubes.{holds, matches, nets_ascend, IsCube}
-use Rattle.mv_cover.specs.Meets.{literal_at, both, IsMet, next_of, put_in, merged}
+use Rattle.mv_cover.specs.Meets.{literal_at, both, IsMet, next_of, put_in, merged, met}
 use Rattle.mv_cover.proofs.Covering.{regroup, swap, same_number}
 
 -- the nets ascend from k on
@@ -190,6 +190,15 @@ impossible at (l ∷ ls) h =
 pub apart : (a b c : List Lit) → c ≡ merged a b → list_all (λ l. not (nat_eq l.set empty)) c ≡ false → (at : ℕ → ℕ) → (matches at a && matches at b) ≡ false
 apart a b c e none at = sym (matches-merged at a b) ∙ (ap (matches at) (sym e) ∙ impossible at c none)
 
+-- the meet, where no set of the merged list is empty, and where one is
+pub met_some : (a b c : List Lit) → c ≡ merged a b → list_all (λ l. not (nat_eq l.set empty)) c ≡ true → met a b ≡ c ∷ []
+unfolding met
+met_some a b c e some = rw (← e) (rw some refl)
+
+pub met_none : (a b c : List Lit) → c ≡ merged a b → list_all (λ l. not (nat_eq l.set empty)) c ≡ false → met a b ≡ []
+unfolding met
+met_none a b c e none = rw (← e) (rw none refl)
+
 -- the list holds alike where two assignments are the same from its first net on
 pub matches-from : (k : ℕ) (c : List Lit) (x y : ℕ → ℕ) → Rises k c → ((n : ℕ) → k ≤ n → x n ≡ y n) → matches x c ≡ matches y c
 matches-from k [] x y r same = refl
@@ -206,7 +215,7 @@ first_set l ls = rw (eq-eqb l.net.0 l.net.0 refl) refl
 -- ---- the walk along both lists
 
 -- merging with nothing changes nothing, and two lists begin with the next literal of their first
-merged_none : (a : List Lit) → merged a [] ≡ a
+pub merged_none : (a : List Lit) → merged a [] ≡ a
 unfolding merged put_in
 merged_none [] = refl
 merged_none (l ∷ ls) = ap (λ c. l ∷ c) (merged_none ls)

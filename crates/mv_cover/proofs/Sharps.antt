@@ -74,7 +74,7 @@ fits-with_literal counts l (m ∷ ms) here h =
     ]
 
 -- the list reads the net of the literal, and what it read
-reads-with_literal : (l : Lit) (c : List Lit) (n : ℕ) → cube_reads (with_literal l c) n ≡ true → (nat_eq l.net.0 n ≡ true) ⊎ (cube_reads c n ≡ true)
+pub reads-with_literal : (l : Lit) (c : List Lit) (n : ℕ) → cube_reads (with_literal l c) n ≡ true → (nat_eq l.net.0 n ≡ true) ⊎ (cube_reads c n ≡ true)
 unfolding with_literal
 reads-with_literal l [] n h =
     elim (cases_Bool (nat_eq l.net.0 n)) [
@@ -373,7 +373,7 @@ value_below counts at l fits h =
     ltb-true (at n) (get_or counts n 0) (sym (has-full (get_or counts n 0) (at n)) ∙ fits.within (at n) h)
 
 -- a set with a member isn't empty
-not_empty : (s v : ℕ) → has s v ≡ true → nat_eq s empty ≡ false
+pub not_empty : (s v : ℕ) → has s v ≡ true → nat_eq s empty ≡ false
 not_empty s v h = ne_eqb s empty (λ e. false≢true (sym (has-empty v) ∙ (ap (λ t. has t v) (sym e) ∙ h)))
 
 -- the value that a cube has on a net is left there

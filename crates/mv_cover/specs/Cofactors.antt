@@ -1,5 +1,5 @@
 -- Cubes as lists of literals, by which a cover is decided: what they ask where a net has a value.
-use Rattle.std.specs.Prelude.{◌≡◌, ◌<◌, ℕ, ◌+◌, Bool, true, false, ◌||◌, not, nat_eq, List, [], ◌∷◌, slice_index, filter, if◌then◌else◌}
+use Rattle.std.specs.Prelude.{◌≡◌, ◌<◌, ℕ, Bool, true, false, ◌||◌, not, nat_eq, List, [], ◌∷◌, slice_index, filter, if◌then◌else◌}
 use Rattle.std.specs.List.{list_all}
 use Rattle.mv_base.specs.Set.{has}
 use Rattle.mv_cover.specs.declared.cube.Lit.{Lit}

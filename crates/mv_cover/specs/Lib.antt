@@ -11,4 +11,5 @@ pub mod Containing
 pub mod Sharp
 pub mod Complement
 pub mod Absorb
+pub mod Marks
 pub mod Lines

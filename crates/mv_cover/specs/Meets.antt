@@ -1,6 +1,7 @@
 -- What two cubes share, net by net.
-use Rattle.std.specs.Prelude.{◌≡◌, ℕ, nat_eq, nat_lt, Option, Some, None, List, [], ◌∷◌, if◌then◌else◌}
-use Rattle.mv_base.specs.Set.{meet}
+use Rattle.std.specs.Prelude.{◌≡◌, ℕ, not, nat_eq, nat_lt, Option, Some, None, List, [], ◌∷◌, if◌then◌else◌}
+use Rattle.std.specs.List.{list_all}
+use Rattle.mv_base.specs.Set.{meet, empty}
 use Rattle.mv_cover.specs.declared.cube.Lit.{Lit}
 use Rattle.mv_cover.specs.declared.meet.Step.{Step}
 use Rattle.mv_cover.specs.Cubes.{IsCube}
@@ -21,8 +22,6 @@ pub record IsMet (a b c : List Lit) : Type 0 where
   pub cube : IsCube c
   pub sets : (n : ℕ) → literal_at c n ≡ both (literal_at a n) (literal_at b n)
 
--- ---- what private functions alone cite
-
 -- the list with a literal put in, where `rest` merges what is behind it
 unfoldable pub put_in : Lit → (List Lit → List Lit) → List Lit → List Lit
 put_in l rest [] = l ∷ rest []
@@ -34,6 +33,12 @@ put_in l rest (m ∷ ms) =
 unfoldable pub merged : List Lit → List Lit → List Lit
 merged [] b = b
 merged (l ∷ ls) b = put_in l (λ c. merged ls c) b
+
+-- the cube in which two cubes meet, as a list: none where some net would be left no value
+unfoldable pub met : List Lit → List Lit → List (List Lit)
+met a b = if list_all (λ l. not (nat_eq l.set empty)) (merged a b) then merged a b ∷ [] else []
+
+-- ---- what private functions alone cite
 
 -- the literal of the lesser net, or the meet of two on one net, and how many literals it takes of each list
 abbrev pub next_of : Lit → Lit → Step

@@ -2,6 +2,7 @@
 #![tactic(auto)]
 
 mod absorb;
+mod absorber;
 mod alike;
 mod busiest;
 mod complement;
@@ -10,7 +11,10 @@ mod count;
 mod cover;
 mod covers;
 mod cube;
+mod left;
+mod lies;
 mod line;
+mod marks;
 mod meet;
 mod overlap;
 mod plain;
@@ -19,6 +23,7 @@ mod spell;
 mod stop;
 mod suit;
 
+pub use absorber::Absorber;
 pub use cover::Cover;
 pub use cube::{Cube, Lit};
 pub use line::Line;

@@ -1,8 +1,8 @@
-ghost use Rattle.std.specs.Prelude.{◌≡◌, ◌&&◌, ℕ, false, true, not, nat_eq, IfOk, IfSome, IsNone};
+ghost use Rattle.std.specs.Prelude.{◌≡◌, ◌&&◌, ℕ, false, true, not, nat_eq, IfOk, IfSome, IsNone, MatchOption, List, [], ◌∷◌};
 ghost use Rattle.std.specs.List.{list_all};
 ghost use Rattle.mv_base.specs.Set.{empty};
 ghost use Rattle.mv_cover.specs.Cubes.{matches};
-ghost use Rattle.mv_cover.specs.Meets.{IsMet, merged, next_of};
+ghost use Rattle.mv_cover.specs.Meets.{IsMet, met, merged, next_of};
 
 use crate::{Cube, Lit};
 use mv_base::{Memory, ValueSet};
@@ -11,6 +11,7 @@ use std::alloc::Global;
 impl Cube {
     /// The points of both cubes, or None where no point is in both.
     pub fn meet(&self, other: &Cube) -> Result<Option<Cube>, Memory>
+        ensures list { IfOk result (λ found. MatchOption found (met self.now other.now ≡ []) (λ cube. met self.now other.now ≡ cube ∷ [])) }
         ensures some { IfOk result (λ met. IfSome met (λ cube. IsMet self.now other.now cube)) }
         ensures points { IfOk result (λ met. IfSome met (λ cube. (at : ℕ → ℕ) → matches at cube ≡ (matches at self.now && matches at other.now))) }
         ensures point { IfOk result (λ met. IfSome met (λ cube. ((at : ℕ → ℕ) × (matches at cube ≡ true)))) }

@@ -2,11 +2,11 @@ use mv_base::Memory;
 use std::alloc::{AllocError, AllocFailed};
 use thiserror::Error;
 
-/// Why the cubes of a complement aren't answered.
+/// Why the cubes of a complement, or a cover that is made with them, aren't answered.
 #[derive(Clone, Copy, Debug, PartialEq, Eq, Error)]
 pub enum CoverStop {
-    /// The list passes `MAX_COMPLEMENT_CUBES` cubes after some line.
-    #[error("the complement has too many cubes")]
+    /// A complement passes `MAX_COMPLEMENT_CUBES` cubes after some line, or the cover has too many lines or fanins.
+    #[error("too wide")]
     Wide,
     /// Want of memory, which says nothing of the cover.
     #[error("out of memory")]

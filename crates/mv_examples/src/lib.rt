@@ -12,6 +12,8 @@ mod kernels;
 #[cfg(test)]
 mod networks;
 #[cfg(test)]
+mod rules;
+#[cfg(test)]
 mod text;
 #[cfg(test)]
 mod windows;

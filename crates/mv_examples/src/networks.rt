@@ -52,7 +52,7 @@ fn put_net(said: &mut String, alloc: Global, net: &Network, n: NetId) -> Result<
 }
 
 /// What a network answers of itself, and then of its nets by number.
-fn answers(alloc: Global, net: &Network) -> Result<String, Fail> {
+pub fn answers(alloc: Global, net: &Network) -> Result<String, Fail> {
     let mut said = String::new(alloc);
     put_network(&mut said, net)?;
     for number in 0..net.next_number() {

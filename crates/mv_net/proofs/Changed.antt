@@ -22,7 +22,7 @@ use Rattle.mv_net.specs.Changes.{table_for, count_for, with_table, with_count, c
 -- ---- the nets of a changed network
 
 -- as many nets as before
-length-changed_from : (c : Change) (k : ℕ) (nets : List (Option FlatNet)) → length (changed_from c k nets) ≡ length nets
+pub length-changed_from : (c : Change) (k : ℕ) (nets : List (Option FlatNet)) → length (changed_from c k nets) ≡ length nets
 length-changed_from c k [] = refl
 length-changed_from c k (f ∷ fs) = ap suc (length-changed_from c (k + 1) fs)
 
@@ -34,7 +34,7 @@ slot-changed_from c k (f ∷ fs) (suc m) =
     let e : (k + 1) + m ≡ k + suc m = omega arith in
     slot-changed_from c (k + 1) fs m ∙ ap (λ n. changed_net c n (slot fs m)) e
 
-slot-changed_nets : (c : Change) (nets : List (Option FlatNet)) (m : ℕ) → slot (changed_from c 0 nets) m ≡ changed_net c m (slot nets m)
+pub slot-changed_nets : (c : Change) (nets : List (Option FlatNet)) (m : ℕ) → slot (changed_from c 0 nets) m ≡ changed_net c m (slot nets m)
 slot-changed_nets c nets m =
     let e : 0 + m ≡ m = omega arith in
     slot-changed_from c 0 nets m ∙ ap (λ n. changed_net c n (slot nets m)) e
@@ -174,13 +174,13 @@ settled c old tabled counted new t k g n =
 -- ---- names
 
 -- a net with another table or number of values has its name
-tabled_name : (t : Option Cover) (f : Option FlatNet) → option_map (λ (g : FlatNet). g.name) (option_map (with_table t) f) ≡ option_map (λ (g : FlatNet). g.name) f
+pub tabled_name : (t : Option Cover) (f : Option FlatNet) → option_map (λ (g : FlatNet). g.name) (option_map (with_table t) f) ≡ option_map (λ (g : FlatNet). g.name) f
 tabled_name None None = refl
 tabled_name (Some c) None = refl
 tabled_name None (Some f) = refl
 tabled_name (Some c) (Some f) = refl
 
-counted_name : (k : Option ℕ) (f : Option FlatNet) → option_map (λ (g : FlatNet). g.name) (option_map (with_count k) f) ≡ option_map (λ (g : FlatNet). g.name) f
+pub counted_name : (k : Option ℕ) (f : Option FlatNet) → option_map (λ (g : FlatNet). g.name) (option_map (with_count k) f) ≡ option_map (λ (g : FlatNet). g.name) f
 counted_name None None = refl
 counted_name (Some k) None = refl
 counted_name None (Some f) = refl

@@ -2,7 +2,7 @@
 use Rattle.std.proofs.Common.{◌≡◌, ◌∙◌, ℕ, zero, suc, ◌+◌, ◌-◌, ◌<◌, ◌≤◌, ◌^◌, Bool, true, false, not, ◌||◌, cond, List, [], ◌∷◌, ◌++◌, length, drop, Option, Some, None, is_some, sum_by, count_by, refl, sym, ap, ⊎_elim, arith, zero-add}
 use Rattle.std.specs.Prelude.{MatchOption, IfSome, IsNone}
 use Rattle.std.specs.List.{list_any, range_with_len}
-use Rattle.std.proofs.lemmas.Bool.{false≢true, cases_Bool, cases_lt, or_cases, or_left, or_right, false_from_ne_true}
+use Rattle.std.proofs.lemmas.Bool.{false≢true, cases_Bool, or_cases, or_left, or_right, false_from_ne_true}
 use Rattle.std.proofs.lemmas.Fmt.{decimal_injective}
 use Rattle.std.proofs.lemmas.List.FromFn.{length-range_with_len}
 use Rattle.std.proofs.lemmas.List.Sums.{sum_by-append}
@@ -11,21 +11,20 @@ use Rattle.mv_base.specs.declared.limits.TheConstants.{MAX_NETS}
 use Rattle.mv_base.specs.declared.number.NetId.{NetId}
 use Rattle.mv_base.proofs.NameLemmas.{same_word_is, same_word_refl}
 use Rattle.mv_net.specs.declared.parts.FlatNet.{FlatNet}
-use Rattle.mv_net.specs.Nets.{slot}
 use Rattle.mv_net.specs.Index.{HasName}
-use Rattle.mv_net.specs.Fresh.{made_name, is_named, is_taken, IsFreeName, IsFreshName}
+use Rattle.mv_net.specs.Fresh.{made_name, is_named, is_taken, IsFreeName, IsFreshName, AreMade}
 
 -- ---- a name that some net has
 
 -- the net of the name
-record Named (nets : List (Option FlatNet)) (name : List ℕ) : Type 0 where
-  at : ℕ
-  has : HasName nets at name
+pub record Named (nets : List (Option FlatNet)) (name : List ℕ) : Type 0 where
+  pub at : ℕ
+  pub has : HasName nets at name
 
 named_later : (f : Option FlatNet) (nets : List (Option FlatNet)) (name : List ℕ) → Named nets name → Named (f ∷ nets) name
 named_later f nets name n = record { at = suc n.at; has = record { net = n.has.net; held = n.has.held; is = n.has.is } }
 
-named_found : (nets : List (Option FlatNet)) (name : List ℕ) → list_any (is_named name) nets ≡ true → Named nets name
+pub named_found : (nets : List (Option FlatNet)) (name : List ℕ) → list_any (is_named name) nets ≡ true → Named nets name
 named_found [] name h = absurd (false≢true h)
 named_found (None ∷ nets) name h = named_later None nets name (named_found nets name h)
 named_found (Some f ∷ nets) name h =
@@ -34,7 +33,7 @@ named_found (Some f ∷ nets) name h =
     (λ (rest : list_any (is_named name) nets ≡ true). named_later (Some f) nets name (named_found nets name rest))
     (or_cases (same_word f.name name) (list_any (is_named name) nets) h)
 
-named_any : (nets : List (Option FlatNet)) (n : ℕ) (name : List ℕ) → HasName nets n name → list_any (is_named name) nets ≡ true
+pub named_any : (nets : List (Option FlatNet)) (n : ℕ) (name : List ℕ) → HasName nets n name → list_any (is_named name) nets ≡ true
 named_any [] n name h = let bad : None ≡ Some h.net = h.held in cc
 named_any (f ∷ nets) zero name h =
     or_left (is_named name f) (list_any (is_named name) nets)
@@ -103,7 +102,7 @@ count_next p number positive =
 
 -- ---- each net has one made name at most
 
-made_injective : (m n : ℕ) → m < 2 ^ 64 → n < 2 ^ 64 → made_name m ≡ made_name n → m ≡ n
+pub made_injective : (m n : ℕ) → m < 2 ^ 64 → n < 2 ^ 64 → made_name m ≡ made_name n → m ≡ n
 made_injective m n l k e = decimal_injective m n l k (ap (drop 2) e)
 
 count_none : (p : ℕ → Bool) (a n : ℕ) → ((k : ℕ) → a ≤ k → k < a + n → p k ≡ false) → count_by p (range_with_len a n) ≡ 0
@@ -138,6 +137,14 @@ taken_few (f ∷ nets) a n small =
     omega arith
 
 -- ---- the numbers are looked up one by one
+
+-- up to a number to which nets have all made names, no number is free
+pub none_free : (nets : List (Option FlatNet)) (made skip : ℕ) → AreMade nets made → count_by (λ k. not (is_taken nets k)) (range_with_len 1 (made + 1 - 1)) + skip ≡ skip
+none_free nets made skip are =
+    let e : made + 1 - 1 ≡ made = omega arith in
+    let none = count_none (λ k. not (is_taken nets k)) 1 made (λ k low high. ap not (are.taken k (omega arith) (omega arith))) in
+    let same = ap (λ m. count_by (λ k. not (is_taken nets k)) (range_with_len 1 m)) e in
+    omega arith
 
 -- what holds where nothing is answered
 pub at_none : {T : Type 0} (o : Option T) (P : Type 0) (Q : T → Type 0) → MatchOption o P Q → ((x : T) → o ≡ Some x → ⊥) → P

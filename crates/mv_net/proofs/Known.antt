@@ -30,7 +30,7 @@ cube_readable nets (l ∷ ls) n all r =
     (λ (rest : cube_reads ls n ≡ true). cube_readable nets ls n all.1 rest)
     (or_cases (nat_eq l.net.0 n) (cube_reads ls n) r)
 
-lines_readable : (nets : List (Option FlatNet)) (values : ℕ) (ls : List Line) (n : ℕ) → AllLines nets values ls → lines_read ls n ≡ true → IsReadable nets n
+pub lines_readable : (nets : List (Option FlatNet)) (values : ℕ) (ls : List Line) (n : ℕ) → AllLines nets values ls → lines_read ls n ≡ true → IsReadable nets n
 lines_readable nets values [] n all r = absurd (false≢true r)
 lines_readable nets values (l ∷ ls) n all r =
     ⊎_elim

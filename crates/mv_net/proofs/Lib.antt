@@ -20,4 +20,7 @@ pub mod Reaching
 pub mod Paths
 pub mod Windows
 pub mod FreshNames
+pub mod Decimals
+pub mod MadeNames
+pub mod Literals
 pub mod Plainness

@@ -81,14 +81,14 @@ HasName-moved old new n w same h = record { net = h.net; held = same ∙ h.held;
 abbrev pub name_at : List (Option FlatNet) → ℕ → Option (List ℕ)
 name_at nets n = option_map (λ (f : FlatNet). f.name) (slot nets n)
 
-has_name : (nets : List (Option FlatNet)) (n : ℕ) (w : List ℕ) → name_at nets n ≡ Some w → HasName nets n w
+pub has_name : (nets : List (Option FlatNet)) (n : ℕ) (w : List ℕ) → name_at nets n ≡ Some w → HasName nets n w
 has_name nets n w e = by (slot nets n) refl e
   where
     by : (f : Option FlatNet) → slot nets n ≡ f → option_map (λ (g : FlatNet). g.name) f ≡ Some w → HasName nets n w
     by None held is = absurd (let bad : None ≡ Some w = is in cc)
     by (Some f) held is = record { net = f; held = held; is = (let one : Some f.name ≡ Some w = is in cc) }
 
-name_of : (nets : List (Option FlatNet)) (n : ℕ) (w : List ℕ) → HasName nets n w → name_at nets n ≡ Some w
+pub name_of : (nets : List (Option FlatNet)) (n : ℕ) (w : List ℕ) → HasName nets n w → name_at nets n ≡ Some w
 name_of nets n w h = ap (option_map (λ (g : FlatNet). g.name)) h.held ∙ ap Some h.is
 
 pub AreNames-kept : (old new : List (Option FlatNet)) (names : List (List ℕ × ℕ)) → ((n : ℕ) → name_at new n ≡ name_at old n) → AreNames old names → AreNames new names

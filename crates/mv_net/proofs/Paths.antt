@@ -1,6 +1,6 @@
 -- What steps down or up find is what is below or above by paths.
-use Rattle.std.proofs.Common.{◌≡◌, ◌⊎◌, ◌∙◌, ℕ, zero, suc, ◌+◌, ◌<◌, ◌≤◌, true, false, ◌||◌, List, [], ◌∷◌, ◌++◌, length, Option, IsTrue, is_some, refl, sym, ap, subst, ⊎_elim, inl, inr, eq-eqb, eqb-true, arith, Bool}
-use Rattle.std.specs.Prelude.{nat_eq, ◌↔◌}
+use Rattle.std.proofs.Common.{◌≡◌, ◌∙◌, ℕ, zero, suc, ◌+◌, ◌<◌, true, false, List, [], ◌∷◌, ◌++◌, length, Option, is_some, refl, sym, ap, subst, ⊎_elim, inl, inr, eq-eqb, eqb-true, arith, Bool}
+use Rattle.std.specs.Prelude.{nat_eq}
 use Rattle.std.proofs.lemmas.Bool.{false≢true, or_cases, or_left}
 use Rattle.std.proofs.lemmas.List.{length-append}
 use Rattle.mv_base.specs.declared.number.NetId.{NetId}
@@ -10,7 +10,7 @@ use Rattle.mv_graph.proofs.Paths.{goes_more, above_first}
 use Rattle.mv_net.specs.declared.parts.FlatNet.{FlatNet}
 use Rattle.mv_net.specs.declared.parts.NetParts.{NetParts}
 use Rattle.mv_net.specs.declared.search.Way.TheVariants.{Down, Up}
-use Rattle.mv_net.specs.Nets.{slot, reads_in}
+use Rattle.mv_net.specs.Nets.{reads_in}
 use Rattle.mv_net.specs.Formed.{WellFormed}
 use Rattle.mv_net.specs.Index.{is_held}
 use Rattle.mv_net.specs.Window.{Lists, IsNear, IsWithin, IsAround}

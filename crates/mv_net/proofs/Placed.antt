@@ -19,6 +19,7 @@ use Rattle.mv_net.specs.Nets.{slot}
 use Rattle.mv_net.specs.Formed.{IsKind, WellFormed}
 use Rattle.mv_net.specs.Index.{is_latch_input, is_reset, kind_in, is_seen}
 use Rattle.mv_net.specs.Changes.{table_for, count_for, with_table, with_count, changed_net, made_net, changed, Fits}
+use Rattle.mv_net.specs.Fresh.{AreMade}
 use Rattle.mv_net.specs.Names.{AreNames}
 use Rattle.mv_net.specs.NewRows.{tables_of, AreRows}
 use Rattle.mv_net.specs.Seen.{AreSeen}
@@ -100,10 +101,11 @@ unfolding changed
 parts_changed net c nets e = ap (with_new net) e
 
 pub network_changed : (net now : NetParts) (c : Change) (old new : Kept) (rows : List NewRow) → IsNetwork net old → length net.nets + length c.add ≤ MAX_NETS → Fits net c → WellFormed (changed net c) → AreRows (tables_of c (length net.nets)) rows
-    → now ≡ changed net c → AreTallies now.nets new.tallies → AreNames now.nets new.names → new.graph ≡ changed_rows rows (length c.add) old.graph → new.seen ≡ old.seen → IsNetwork now new
-network_changed net now c old new rows is few fits formed given same tallies names graph seen =
+    → now ≡ changed net c → AreTallies now.nets new.tallies → AreNames now.nets new.names → AreMade now.nets new.made → new.graph ≡ changed_rows rows (length c.add) old.graph → new.seen ≡ old.seen → IsNetwork now new
+network_changed net now c old new rows is few fits formed given same tallies names made graph seen =
     let P : NetParts → Type 0 = λ (p : NetParts). AreTallies p.nets new.tallies in
     let Q : NetParts → Type 0 = λ (p : NetParts). AreNames p.nets new.names in
+    let R : NetParts → Type 0 = λ (p : NetParts). AreMade p.nets new.made in
     subst (λ p. IsNetwork p new) (sym same) (record {
       formed = formed;
       few = few_changed net c few;
@@ -112,16 +114,18 @@ network_changed net now c old new rows is few fits formed given same tallies nam
         graph = rw graph (fanins_changed net c old.graph rows fits is.known.graph given);
         names = subst Q same names;
         seen = rw seen (seen_changed net c old.seen is.formed formed is.known.seen);
+        made = subst R same made;
       };
     })
 
 -- where nothing came of it
-pub network_left : (net now : NetParts) (old new : Kept) → IsNetwork net old → now ≡ net → AreTallies now.nets new.tallies → AreNames now.nets new.names → new.graph ≡ old.graph → new.seen ≡ old.seen → IsNetwork now new
-network_left net now old new is same tallies names graph seen =
+pub network_left : (net now : NetParts) (old new : Kept) → IsNetwork net old → now ≡ net → AreTallies now.nets new.tallies → AreNames now.nets new.names → AreMade now.nets new.made → new.graph ≡ old.graph → new.seen ≡ old.seen → IsNetwork now new
+network_left net now old new is same tallies names made graph seen =
     let P : NetParts → Type 0 = λ (p : NetParts). AreTallies p.nets new.tallies in
     let Q : NetParts → Type 0 = λ (p : NetParts). AreNames p.nets new.names in
+    let R : NetParts → Type 0 = λ (p : NetParts). AreMade p.nets new.made in
     subst (λ p. IsNetwork p new) (sym same) (record {
       formed = is.formed;
       few = is.few;
-      known = record { tallies = subst P same tallies; graph = rw graph is.known.graph; names = subst Q same names; seen = rw seen is.known.seen };
+      known = record { tallies = subst P same tallies; graph = rw graph is.known.graph; names = subst Q same names; seen = rw seen is.known.seen; made = subst R same made };
     })

@@ -19,7 +19,7 @@ use Rattle.mv_net.specs.declared.search.Way.TheVariants.{Down, Up}
 use Rattle.mv_net.specs.Nets.{slot, net_reads, reads_in}
 use Rattle.mv_net.specs.Formed.{WellFormed}
 use Rattle.mv_net.specs.Index.{is_held}
-use Rattle.mv_net.specs.Searching.{same_id, leads, Reached, AreHeld, HasExactly, HasAdded, IsLed, HasSpread, IsSearch, HasAll}
+use Rattle.mv_net.specs.Searching.{same_id, leads, Reached, AreHeld, HasAdded, IsLed, HasSpread, IsSearch, HasAll}
 use Rattle.mv_net.proofs.Known.{reads_readable}
 
 -- ---- a number in a list

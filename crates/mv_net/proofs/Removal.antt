@@ -64,7 +64,7 @@ removal_formed net n formed can =
 -- ---- a value for the net that went
 
 -- an assignment that agrees with the other nets is a point, if the net has any of its values
-point_put : (nets : List (Option FlatNet)) (n v : ℕ) (x : ℕ → ℕ) → AgreesBut nets n x → (0 < values_in (slot nets n) → v < values_in (slot nets n)) → IsPoint (map values_in nets) (put n v x)
+pub point_put : (nets : List (Option FlatNet)) (n v : ℕ) (x : ℕ → ℕ) → AgreesBut nets n x → (0 < values_in (slot nets n) → v < values_in (slot nets n)) → IsPoint (map values_in nets) (put n v x)
 point_put nets n v x others here = record {
   below = λ m some. subst (λ k. put n v x m < k) (sym (counts_at nets m)) (at m (subst (λ k. 0 < k) (counts_at nets m) some));
 }

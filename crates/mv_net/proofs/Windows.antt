@@ -4,20 +4,20 @@ use Rattle.std.specs.Prelude.{nat_eq, MatchBool}
 use Rattle.std.specs.List.{list_any}
 use Rattle.std.proofs.Math.Bool.{or-false}
 use Rattle.std.proofs.Math.Nat.{mul_assoc, one-mul, mul-one}
-use Rattle.std.proofs.lemmas.Bool.{false≢true, cases_Bool, cases_lt, or_cases, or_left, or_right, or_from, and_from, and_parts, not-true, eqb-false}
-use Rattle.std.proofs.lemmas.List.{take_more, take_all, append_assoc}
+use Rattle.std.proofs.lemmas.Bool.{false≢true, cases_Bool, cases_lt, or_cases, or_left, or_right, and_from, and_parts, not-true}
+use Rattle.std.proofs.lemmas.List.{take_more}
 use Rattle.std.proofs.lemmas.Map.Views.{any-filter_same}
 use Rattle.std.proofs.lemmas.Map.Keys.{any_passes_from_place}
 use Rattle.indexmap.specs.IndexSet.{insert_key}
 use Rattle.mv_base.specs.declared.number.NetId.{NetId}
 use Rattle.mv_base.proofs.Lists.{found}
 use Rattle.mv_graph.specs.Nets.{has_id, IsAscending}
-use Rattle.mv_graph.proofs.Nets.{has_id-append, has_id-more, has_id-at}
+use Rattle.mv_graph.proofs.Nets.{has_id-append, has_id-more}
 use Rattle.mv_net.specs.declared.parts.FlatNet.{FlatNet}
 use Rattle.mv_net.specs.declared.parts.NetParts.{NetParts}
 use Rattle.mv_net.specs.declared.window.Window.{Window}
 use Rattle.mv_net.specs.Nets.{slot, values_in, table_in, reads_in}
-use Rattle.mv_net.specs.Index.{is_held, is_seen}
+use Rattle.mv_net.specs.Index.{is_seen}
 use Rattle.mv_net.specs.Window.{Lists, IsAround, IsWindowTable, IsWindowInput, IsReadOutside, IsShown, IsWindowOutput, IsWindow, ways_in, ways_of, levels_of}
 use Rattle.mv_net.specs.Searching.{same_id, AreHeld, HasExactly, HasTables, IsReadBy, IsShownOf}
 use Rattle.mv_net.proofs.Reaching.{set-has_id}

@@ -1,5 +1,5 @@
 -- Names for new nets.
-use Rattle.std.specs.Prelude.{◌≡◌, ℕ, ◌-◌, ◌<◌, Bool, false, not, Option, Some, None, List, ◌++◌, codes, decimal, count_by}
+use Rattle.std.specs.Prelude.{◌≡◌, ℕ, ◌-◌, ◌<◌, ◌≤◌, Bool, true, false, not, ◌&&◌, ◌||◌, nat_eq, nat_lt, Option, Some, None, List, [], ◌∷◌, ◌++◌, length, codes, decimal, count_by}
 use Rattle.std.specs.List.{list_any, range_with_len}
 use Rattle.mv_base.specs.Names.{same_word}
 use Rattle.mv_net.specs.declared.parts.FlatNet.{FlatNet}
@@ -28,3 +28,14 @@ pub record IsFreshName (nets : List (Option FlatNet)) (skip : ℕ) (name : List 
   pub positive : 0 < number
   pub free : IsFreeName nets number name
   pub behind : count_by (λ k. not (is_taken nets k)) (range_with_len 1 (number - 1)) ≡ skip
+
+-- nets have all made names with positive numbers up to this
+pub record AreMade (nets : List (Option FlatNet)) (made : ℕ) : Type 0 where
+  pub taken : (k : ℕ) → 0 < k → k ≤ made → is_taken nets k ≡ true
+
+-- ---- what private functions alone cite
+
+-- the bytes begin above `0`, or are `0`
+abbrev pub is_plain : List ℕ → Bool
+is_plain [] = false
+is_plain (d ∷ ds) = nat_lt 48 d || (nat_eq d 48 && nat_eq (length (d ∷ ds)) 1)

@@ -4,6 +4,7 @@ use Rattle.mv_base.specs.declared.limits.TheConstants.{MAX_NETS}
 use Rattle.mv_net.specs.declared.kept.Kept.{Kept}
 use Rattle.mv_net.specs.declared.parts.NetParts.{NetParts}
 use Rattle.mv_net.specs.Formed.{WellFormed}
+use Rattle.mv_net.specs.Fresh.{AreMade}
 use Rattle.mv_net.specs.Index.{AreFanins}
 use Rattle.mv_net.specs.Names.{AreNames}
 use Rattle.mv_net.specs.Seen.{AreSeen}
@@ -15,6 +16,7 @@ pub record AreKept (net : NetParts) (kept : Kept) : Type 0 where
   pub graph : AreFanins net.nets kept.graph
   pub names : AreNames net.nets kept.names
   pub seen : AreSeen net kept.seen
+  pub made : AreMade net.nets kept.made
 
 -- a network: well-formed parts of few numbers, and what is kept of them
 pub record IsNetwork (net : NetParts) (kept : Kept) : Type 0 where

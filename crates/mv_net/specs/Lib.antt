@@ -14,4 +14,5 @@ pub mod Fresh
 pub mod Plain
 -- what private functions alone cite
 pub mod NewRows
+pub mod Behind
 pub mod Searching

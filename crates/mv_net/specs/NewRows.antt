@@ -12,6 +12,7 @@ use Rattle.mv_net.specs.declared.change.NewTable.{NewTable}
 use Rattle.mv_net.specs.declared.change.Change.{Change}
 use Rattle.mv_net.specs.declared.kept.Kept.{Kept}
 use Rattle.mv_net.specs.declared.parts.FlatNet.{FlatNet}
+use Rattle.mv_net.specs.Fresh.{AreMade}
 use Rattle.mv_net.specs.Names.{AreNames}
 use Rattle.mv_net.specs.Nets.{table_reads}
 use Rattle.mv_net.specs.Tallies.{AreTallies}
@@ -57,4 +58,5 @@ pub record CanTake (fanins : List (List NetId)) (added : ℕ) (rows : List NewRo
 pub record IsTaken (nets : List (Option FlatNet)) (fanins : List (List NetId)) (kept : Kept) : Type 0 where
   pub tallies : AreTallies nets kept.tallies
   pub names : AreNames nets kept.names
+  pub made : AreMade nets kept.made
   pub graph : kept.graph ≡ fanins

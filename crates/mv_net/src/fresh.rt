@@ -1,20 +1,21 @@
 ghost use Rattle.std.specs.Prelude.{◌≡◌, true, IfOk, MatchOption};
-ghost use Rattle.mv_net.specs.Fresh.{made_name, is_taken, IsFreeName, IsFreshName};
+ghost use Rattle.mv_net.specs.Fresh.{is_taken, IsFreeName, IsFreshName};
 
 use crate::Network;
+use crate::made::made_name;
 use mv_base::{Memory, Name};
 use std::alloc::Global;
 
 impl Network {
-    /// `_m` and a decimal number: of the positive numbers whose name no net has, the one behind `skip` smaller ones. The
-    /// numbers up to it are looked up one by one.
+    /// `_m` and a decimal number: of the positive numbers whose name no net has, the one behind `skip` smaller ones. Up to
+    /// which number nets have all such names is kept, and the numbers behind it are looked up one by one.
     pub fn fresh_name(&self, skip: u32) -> Result<Name, Memory>
         ensures { IfOk result (λ name. IsFreshName self.now.nets skip name) }
     {
         self.few();
         let alloc = self.parts().nets.allocator();
         let mut left = skip;
-        for number in 1..u64::MAX {
+        for number in u64::from(self.made()) + 1..u64::MAX {
             if let Some(name) = self.free_name(alloc, number)? {
                 if left == 0 {
                     return Ok(name);
@@ -36,12 +37,4 @@ impl Network {
         }
         Ok(Some(name))
     }
-}
-
-/// The made name with this number.
-fn made_name(alloc: Global, number: u64) -> Result<Name, Memory>
-    ensures { IfOk result (λ name. name ≡ made_name number) }
-{
-    let text = format!(in alloc; "_m{number}")?;
-    Name::new(alloc, text.as_bytes())
 }

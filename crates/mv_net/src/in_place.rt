@@ -1,7 +1,9 @@
 //! A change of a network where it stands: it costs what it changes.
-ghost use Rattle.std.specs.Prelude.{◌≡◌, ◌+◌, ◌-◌, ◌≤◌, ◌++◌, map, length, take, OnOk, OnErr};
+ghost use Rattle.std.specs.Prelude.{◌≡◌, ◌+◌, ◌-◌, ◌≤◌, ◌++◌, List, Option, map, length, take, IfOk, OnOk, OnErr};
 ghost use Rattle.mv_net.specs.Changes.{made_net, changed, Fits};
+ghost use Rattle.mv_net.specs.declared.parts.FlatNet.{FlatNet};
 ghost use Rattle.mv_net.specs.Formed.{WellFormed};
+ghost use Rattle.mv_net.specs.Fresh.{AreMade};
 ghost use Rattle.mv_net.specs.Kept.{IsNetwork};
 ghost use Rattle.mv_net.specs.Names.{AreNamed, AreNames};
 ghost use Rattle.mv_net.specs.NewRows.{CanTake, IsTaken};
@@ -9,6 +11,7 @@ ghost use Rattle.mv_net.specs.Tallies.{AreTallies};
 ghost use Rattle.mv_dag.specs.Rows.{changed_rows};
 
 use crate::kept::Kept;
+use crate::made::raised;
 use crate::names::{NameIndex, add_names, remove_names};
 use crate::new_rows::rows_of;
 use crate::settle::write_change;
@@ -47,7 +50,8 @@ fn push_nets(nets: &mut Items<Option<FlatNet>>, add: Items<NewNet>) -> Result<()
     Ok(())
 }
 
-/// Takes in the names of the nets from this number on and rows of the graph: all, or none on an error.
+/// Takes in the names of the nets from this number on and rows of the graph, and answers up to which number nets then have
+/// all made names: all, or none on an error.
 fn take_names(
     alloc: Global,
     names: &mut NameIndex,
@@ -55,23 +59,53 @@ fn take_names(
     nets: &[Option<FlatNet>],
     long: usize,
     rows: Items<NewRow>,
-) -> Result<(), Memory>
+    made: u32,
+) -> Result<u32, Memory>
     requires within { long ≤ length nets.now }
     requires few { length nets.now ≤ MAX_NETS }
     requires named { AreNamed nets.now }
     requires names { AreNames (take long nets.now) names.old }
+    requires made { AreMade nets.now made }
     requires graph { CanTake graph.old (length nets.now - long) rows }
     ensures names { OnOk result (AreNames nets.now names.new) }
+    ensures made { IfOk result (λ high. AreMade nets.now high) }
     ensures graph { OnOk result (graph.new ≡ changed_rows rows (length nets.now - long) graph.old) }
     ensures no_names { OnErr result (AreNames (take long nets.now) names.new) }
     ensures no_graph { OnErr result (graph.new ≡ graph.old) }
 {
     add_names(alloc, names, nets, long)?;
-    if let Err(failed) = graph.change(nets.len() - long, rows) {
-        remove_names(names, nets, long);
-        return Err(failed);
+    match take_rows(alloc, names, graph, nets.len() - long, rows, made) {
+        Ok(high) => Ok(high),
+        Err(failed) => {
+            remove_names(names, nets, long);
+            Err(failed)
+        }
     }
-    Ok(())
+}
+
+/// Takes in rows of the graph, for so many nets that come, and answers up to which number nets have all made names. Where
+/// none comes that is the number from before, and no name is looked up.
+fn take_rows(
+    alloc: Global,
+    names: &NameIndex,
+    graph: &mut Dag,
+    added: usize,
+    rows: Items<NewRow>,
+    made: u32,
+) -> Result<u32, Memory>
+    requires graph { CanTake graph.old added rows }
+    ensures made { (nets : List (Option FlatNet)) → AreNames nets names.now → AreMade nets made
+        → IfOk result (λ high. AreMade nets high) }
+    ensures graph { OnOk result (graph.new ≡ changed_rows rows added graph.old) }
+    ensures no_graph { OnErr result (graph.new ≡ graph.old) }
+{
+    if added == 0 {
+        graph.change(added, rows)?;
+        return Ok(made);
+    }
+    let high = raised(alloc, names, made)?;
+    graph.change(added, rows)?;
+    Ok(high)
 }
 
 /// Takes in the nets from this number on, which no table reads yet, and rows of the graph: all, or none on an error.
@@ -87,17 +121,31 @@ fn take_in(
     requires named { AreNamed nets.now }
     requires tallies { AreTallies (take long nets.now) kept.old.tallies }
     requires names { AreNames (take long nets.now) kept.old.names }
+    requires made { AreMade (take long nets.now) kept.old.made }
     requires graph { CanTake kept.old.graph (length nets.now - long) rows }
     ensures seen { kept.new.seen ≡ kept.old.seen }
     ensures ok { OnOk result (IsTaken nets.now (changed_rows rows (length nets.now - long) kept.old.graph) kept.new) }
     ensures err { OnErr result (IsTaken (take long nets.now) kept.old.graph kept.new) }
 {
     add_tallies(&mut kept.tallies, nets, long)?;
-    if let Err(failed) = take_names(alloc, &mut kept.names, &mut kept.graph, nets, long, rows) {
-        remove_tallies(&mut kept.tallies, nets, long);
-        return Err(failed);
+    match take_names(
+        alloc,
+        &mut kept.names,
+        &mut kept.graph,
+        nets,
+        long,
+        rows,
+        kept.made,
+    ) {
+        Ok(high) => {
+            kept.made = high;
+            Ok(())
+        }
+        Err(failed) => {
+            remove_tallies(&mut kept.tallies, nets, long);
+            Err(failed)
+        }
     }
-    Ok(())
 }
 
 /// Changes the parts of a network and what is kept of them, both or neither. What takes memory is done first: the nets that
@@ -129,6 +177,7 @@ pub fn put_change(parts: &mut NetParts, kept: &mut Kept, change: Change) -> Resu
         &mut parts.nets,
         &mut kept.tallies,
         &mut kept.names,
+        &mut kept.made,
         set,
         values,
         gone,

@@ -4,6 +4,7 @@ ghost use Rattle.mv_net.specs.Kept.{AreKept};
 
 use crate::NetParts;
 use crate::fanins::fanins_of;
+use crate::made::raised;
 use crate::names::{NameIndex, names_of};
 use crate::seen::seen_of;
 use crate::tallies::{Tallies, tallies_of};
@@ -11,13 +12,15 @@ use mv_base::{Items, MAX_NETS, Memory};
 use mv_dag::Dag;
 use std::alloc::Global;
 
-/// What is looked up in a network, by number or by name, and the graph of who reads whom.
+/// What is looked up in a network, by number or by name, and the graph of who reads whom. Nets have all made names with
+/// positive numbers up to `made`.
 #[derive(Drop)]
 pub struct Kept {
     pub tallies: Tallies,
     pub graph: Dag,
     pub names: NameIndex,
     pub seen: Items<bool>,
+    pub made: u32,
 }
 
 /// What is kept for these parts.
@@ -31,6 +34,7 @@ pub fn kept_of(alloc: Global, parts: &NetParts) -> Result<Kept, Memory>
     let fanins = fanins_of(alloc, nets)?;
     let graph = Dag::of(alloc, fanins)?;
     let names = names_of(alloc, nets)?;
+    let made = raised(alloc, &names, 0)?;
     let seen = seen_of(alloc, parts)?;
     let tallies = tallies_of(alloc, nets)?;
     Ok(Kept {
@@ -38,5 +42,6 @@ pub fn kept_of(alloc: Global, parts: &NetParts) -> Result<Kept, Memory>
         graph,
         names,
         seen,
+        made,
     })
 }

@@ -2,6 +2,7 @@
 //! well formed with what is looked up in it.
 #![tactic(auto)]
 
+mod behind;
 mod below;
 mod change;
 mod fanins;
@@ -9,6 +10,7 @@ mod fresh;
 mod in_place;
 mod kept;
 mod laws;
+mod made;
 mod names;
 mod network;
 mod new_rows;
@@ -22,6 +24,7 @@ mod total;
 mod window;
 
 pub use change::{Change, NewCount, NewNet, NewTable};
+pub use fanins::fanins_of_cover;
 pub use laws::refinement_laws;
 pub use network::Network;
 pub use parts::{FlatLatch, FlatNet, Kind, NetParts};

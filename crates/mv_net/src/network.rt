@@ -1,10 +1,11 @@
-ghost use Rattle.std.specs.Prelude.{◌≡◌, ℕ, ◌+◌, ◌<◌, ◌≤◌, Some, IsTrue, map, length, option_copied, IfOk, IfSome, IsNone, OnOk, OnErr, MatchBool};
+ghost use Rattle.std.specs.Prelude.{◌≡◌, ℕ, ◌+◌, ◌*◌, ◌^◌, ◌<◌, ◌≤◌, Some, IsTrue, map, length, option_copied, IfOk, IfSome, IsNone, OnOk, OnErr, MatchBool};
 ghost use Rattle.mv_base.specs.declared.number.NetId.{NetId};
 ghost use Rattle.mv_net.specs.Nets.{slot, values_in, name_in, table_in, net_reads, reads_in, literals_in};
 ghost use Rattle.mv_net.specs.Formed.{WellFormed};
 ghost use Rattle.mv_graph.specs.Nets.{IsAscending};
 ghost use Rattle.mv_net.specs.Index.{is_held, kind_in, value_names_in, is_seen, HasName};
 ghost use Rattle.mv_net.specs.Changes.{changed, Fits};
+ghost use Rattle.mv_net.specs.Fresh.{AreMade};
 ghost use Rattle.mv_graph.specs.Above.{IsAbove};
 ghost use Rattle.mv_net.specs.Order.{IsOrder};
 
@@ -47,7 +48,9 @@ impl Network {
     }
 
     /// Changes the network: nets come, get other tables or numbers of values, or go. New nets get the numbers from
-    /// `next_number` on; a number that goes isn't used again. All memory is taken first: on an error the network is as
+    /// `next_number` on; a number that goes isn't used again. The change has to fit: the nets that get tables, those that
+    /// get numbers of values and those that go are held, each once in its list, none that goes gets anything, and no net,
+    /// not even one that goes, has the name of one that comes. All memory is taken first: on an error the network is as
     /// before. It costs what it changes: the tables that are given, and where a net comes to read one that stood behind it
     /// in the kept order, those that stand between the two.
     pub fn change(&mut self, change: Change) -> Result<(), Memory>
@@ -149,6 +152,20 @@ impl Network {
             Some(number) => Some(NetId(number)),
             None => None,
         }
+    }
+
+    /// The literals of all tables are no more than memory holds.
+    pub(crate) fn few_literals(&self)
+        ensures { literals_in self.now.nets ≤ 2 ^ 96 * MAX_NETS }
+    {
+        let _ = &self.parts;
+    }
+
+    /// Nets have all made names with positive numbers up to this.
+    pub(crate) fn made(&self) -> u32
+        ensures { AreMade self.now.nets result }
+    {
+        self.kept.made
     }
 
     /// The held net of this number.

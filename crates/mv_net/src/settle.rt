@@ -4,9 +4,11 @@ ghost use Rattle.std.specs.Option.{option_map};
 ghost use Rattle.mv_net.specs.Nets.{slot};
 ghost use Rattle.mv_graph.specs.Nets.{has_id};
 ghost use Rattle.mv_net.specs.Changes.{table_for, count_for, with_table, with_count, changed_net};
+ghost use Rattle.mv_net.specs.Fresh.{AreMade};
 ghost use Rattle.mv_net.specs.Names.{AreNames};
 ghost use Rattle.mv_net.specs.Tallies.{AreTallies};
 
+use crate::made::lowered;
 use crate::names::{NameIndex, remove_net};
 use crate::tallies::{Tallies, replace_net};
 use crate::{FlatNet, NewCount, NewTable};
@@ -107,19 +109,23 @@ fn drop_nets(
     nets: &mut Items<Option<FlatNet>>,
     tallies: &mut Tallies,
     names: &mut NameIndex,
+    made: &mut u32,
     mut gone: Items<NetId>,
 )
     requires few { length nets.old ≤ MAX_NETS }
     requires tallies { AreTallies nets.old tallies.old }
     requires names { AreNames nets.old names.old }
+    requires made { AreMade nets.old made.old }
     ensures long { length nets.new ≡ length nets.old }
     ensures each { (n : ℕ) → slot nets.new n ≡ (if has_id gone n then None else slot nets.old n) }
     ensures tallies { AreTallies nets.new tallies.new }
     ensures names { AreNames nets.new names.new }
+    ensures made { AreMade nets.new made.new }
 {
     'all: while let Some(n) = gone.pop() {
         let net = take_net(nets, tallies, n);
         remove_net(names, &net);
+        *made = lowered(*made, &net);
     }
 }
 
@@ -129,6 +135,7 @@ pub fn write_change(
     nets: &mut Items<Option<FlatNet>>,
     tallies: &mut Tallies,
     names: &mut NameIndex,
+    made: &mut u32,
     set: Items<NewTable>,
     values: Items<NewCount>,
     gone: Items<NetId>,
@@ -136,12 +143,14 @@ pub fn write_change(
     requires few { length nets.old ≤ MAX_NETS }
     requires tallies { AreTallies nets.old tallies.old }
     requires names { AreNames nets.old names.old }
+    requires made { AreMade nets.old made.old }
     ensures long { length nets.new ≡ length nets.old }
     ensures each { (n : ℕ) → slot nets.new n ≡ changed_net (record { add = []; set = set; values = values; gone = gone }) n (slot nets.old n) }
     ensures tallies { AreTallies nets.new tallies.new }
     ensures names { AreNames nets.new names.new }
+    ensures made { AreMade nets.new made.new }
 {
     set_tables(nets, tallies, set);
     set_counts(nets, tallies, values);
-    drop_nets(nets, tallies, names, gone);
+    drop_nets(nets, tallies, names, made, gone);
 }

@@ -39,7 +39,7 @@ fn add_counts(counts: &mut Items<u16>, nets: &[Option<FlatNet>]) -> Result<(), M
 }
 
 /// The literals of the net's table.
-fn literals_of_net(net: &Option<FlatNet>) -> u128
+pub fn literals_of_net(net: &Option<FlatNet>) -> u128
     ensures value { result ≡ table_literals (table_in net.now) }
     ensures few { result ≤ 2 ^ 96 }
 {

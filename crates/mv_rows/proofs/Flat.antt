@@ -32,7 +32,8 @@ use Rattle.mv_rows.specs.Flat.{only_entry, IsRow, IsTable, RowsLines, has_output
 use Rattle.mv_rows.specs.Covers.{IsTableLine, IsTableCover, FitOutput, FitOutputs, mark_value, MarkHas, IsFlatTable}
 use Rattle.mv_rows.proofs.Meanings.{gives-entry, matches-entry, values_length}
 use Rattle.mv_rows.proofs.Rows.{fit_marked}
-use Rattle.mv_rows.proofs.Kept.{gives-kept, matches-kept, gives-marked, matches-marked, bare-kept, bare-marked, all-kept, differ-firsts}
+use Rattle.mv_cover.proofs.Differing.{differ-firsts}
+use Rattle.mv_rows.proofs.Kept.{gives-kept, matches-kept, gives-marked, matches-marked, bare-kept, bare-marked, all-kept}
 use Rattle.mv_rows.proofs.Over.{IsOver, RowSays, entry-over, rows-over, says_any, says_within}
 
 -- ---- a single output

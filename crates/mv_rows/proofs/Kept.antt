@@ -1,17 +1,14 @@
--- Lines without equal ones: what some line does is done by one that is kept, and the kept ones differ.
+-- Lines without equal ones: what some line does is done by one that is kept.
 use Rattle.std.proofs.Common.{◌≡◌, ℕ, Bool, true, false, not, ◌&&◌, ◌||◌, nat_eq, filter, List, [], ◌∷◌, length, map, refl, sym, ◌∙◌, ap, inl, inr, All}
 use Rattle.std.specs.List.{list_any}
 use Rattle.std.proofs.Math.Bool.{and-false, and-or_distrib_right}
-use Rattle.std.proofs.lemmas.Bool.{cases_Bool, false≢true, not-true, and_parts, and_from, or_parts, or_cases, or_right, or_left, not_from_false, false_from_ne_true}
+use Rattle.std.proofs.lemmas.Bool.{cases_Bool, or_parts, or_cases, or_right, or_left}
 use Rattle.std.proofs.lemmas.List.Elements.{All-nil, All-cons, All-head, All-tail}
 use Rattle.mv_base.specs.Set.{has, empty, one}
 use Rattle.mv_base.proofs.Sets.{has-empty}
 use Rattle.mv_cover.specs.Cubes.{matches}
 use Rattle.mv_cover.specs.Covers.{some_gives, some_matches}
 use Rattle.mv_cover.specs.Absorb.{firsts, some_bare}
-use Rattle.mv_cover.specs.Lines.{lines_differ}
-use Rattle.mv_cover.specs.Equal.{line_eq}
-use Rattle.mv_cover.specs.Keys.{line_eq-Decides}
 use Rattle.mv_cover.specs.declared.line.Line.{Line}
 use Rattle.mv_cover.proofs.Covering.{same_number}
 use Rattle.mv_cover.proofs.Absorbing.{gives-any, matches-any, any-firsts, all-firsts}
@@ -113,40 +110,3 @@ filtered P Q f (l ∷ ls) h =
 
 pub all-kept : (P Q : Line → Type 0) → ((l : Line) → nat_eq l.out empty ≡ false → P l → Q l) → (ls : List Line) → All P ls → All Q (kept ls)
 all-kept P Q f ls h = all-firsts Q (filter has_output ls) (filtered P Q f ls h)
-
--- ---- the first of each of the lines differ
-
-any-filtered : (q p : Line → Bool) (ls : List Line) → list_any q ls ≡ false → list_any q (filter p ls) ≡ false
-any-filtered q p [] none = refl
-any-filtered q p (l ∷ ls) none =
-    let n = or_parts (q l) (list_any q ls) none in
-    let rest = any-filtered q p ls n.1 in
-    elim (cases_Bool (p l)) [
-      | inl t ↦ rw (t, n.0) rest
-      | inr f ↦ rw f rest
-    ]
-
-differ-filtered : (p : Line → Bool) (ls : List Line) → lines_differ ls ≡ true → lines_differ (filter p ls) ≡ true
-differ-filtered p [] d = refl
-differ-filtered p (l ∷ ls) d =
-    let n = and_parts (not (list_any (line_eq l) ls)) (lines_differ ls) d in
-    let rest = differ-filtered p ls n.1 in
-    elim (cases_Bool (p l)) [
-      | inl t ↦ rw t (and_from _ _ (not_from_false _ (any-filtered (line_eq l) p ls (not-true _ n.0))) rest)
-      | inr f ↦ rw f rest
-    ]
-
-eq-sym : (l m : Line) → line_eq l m ≡ true → line_eq m l ≡ true
-eq-sym l m h = (line_eq-Decides m l).1 (sym ((line_eq-Decides l m).0 h))
-
-none-equal : (l : Line) (ls : List Line) → list_any (line_eq l) (filter (λ (m : Line). not (line_eq m l)) ls) ≡ false
-none-equal l [] = refl
-none-equal l (m ∷ ls) =
-    elim (cases_Bool (line_eq m l)) [
-      | inl t ↦ rw t (none-equal l ls)
-      | inr f ↦ rw (f, false_from_ne_true (line_eq l m) (λ y. false≢true (sym f ∙ eq-sym l m y))) (none-equal l ls)
-    ]
-
-pub differ-firsts : (ls : List Line) → lines_differ (firsts ls) ≡ true
-differ-firsts [] = refl
-differ-firsts (l ∷ ls) = and_from _ _ (not_from_false _ (none-equal l (firsts ls))) (differ-filtered (λ (m : Line). not (line_eq m l)) (firsts ls) (differ-firsts ls))

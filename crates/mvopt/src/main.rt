@@ -1,18 +1,11 @@
 //! mvopt reads a network in BLIF-MV and a script, and writes a network that may take its place.
 #![tactic(auto)]
 
-mod commands;
-mod numbers;
-mod run;
-mod stop;
-mod take;
 #[cfg(test)]
 mod tests;
-mod words;
-mod work;
 
 use mv_base::{HostErr, HostFiles, HostOut, Memory};
-pub use run::run;
+use mv_run::run;
 use std::process::ExitCode;
 use std::{env, io};
 

@@ -4,8 +4,8 @@ mod faults;
 mod refusals;
 mod texts;
 
-use crate::run;
 use mv_base::{MemoryFiles, MemorySink};
+use mv_run::run;
 use std::alloc::Global;
 use std::process::Abort;
 use std::test::Fail;

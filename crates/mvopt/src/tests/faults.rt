@@ -3,8 +3,8 @@ use super::{
     End, Fault, Given, INVERTER, KEPT, NOTED, ROOM, Text, UNREAD, ends, opt, refused, repeated,
     words_of, written,
 };
-use crate::run;
 use mv_base::{HostFiles, MemorySink};
+use mv_run::run;
 use std::alloc::Global;
 use std::process::Abort;
 use std::test::Fail;

@@ -4,6 +4,7 @@ use Rattle.std.proofs.lemmas.List.{take_at}
 use Rattle.mv_dag.specs.Rows.{changed_rows}
 use Rattle.mv_net.specs.declared.parts.FlatNet.{FlatNet}
 use Rattle.mv_net.specs.Changes.{made_net}
+use Rattle.mv_net.specs.Fresh.{AreMade}
 use Rattle.mv_net.specs.Kept.{IsNetwork}
 use Rattle.mv_net.specs.Names.{AreNamed, AreNames}
 use Rattle.mv_net.specs.NewRows.{tables_of, AreRows, CanTake}
@@ -38,8 +39,9 @@ returns-in-Err-clause-network c =
     let front = ap (take c.len-long.result) c.as_slice.ensures ∙ sym c.truncate.ensures in
     let P : List (Option FlatNet) → Type 0 = λ ns. AreTallies ns c.take_in.new.kept.tallies in
     let Q : List (Option FlatNet) → Type 0 = λ ns. AreNames ns c.take_in.new.kept.names in
+    let R : List (Option FlatNet) → Type 0 = λ ns. AreMade ns c.take_in.new.kept.made in
     network_left parts (with_new parts c.truncate.new.self) c.args.kept.now c.take_in.new.kept c.requires.network (ap (with_new parts) left)
-    (subst P front c.in-Err.ensures.err.tallies) (subst Q front c.in-Err.ensures.err.names) c.in-Err.ensures.err.graph c.take_in.ensures.seen
+    (subst P front c.in-Err.ensures.err.tallies) (subst Q front c.in-Err.ensures.err.names) (subst R front c.in-Err.ensures.err.made) c.in-Err.ensures.err.graph c.take_in.ensures.seen
 
 pub returns-clause-ok : goal.returns-clause-ok
 returns-clause-ok c =
@@ -54,4 +56,4 @@ returns-clause-network c =
     let Q : ℕ → Type 0 = λ k. AreRows (tables_of c.args.change k) c.in_ok-rows.rows in
     let same = parts_changed parts c.args.change c.write_change.new.nets (placed parts c.args.change c.push_nets.new.nets c.write_change.new.nets c.requires.fits c.in_ok-push_nets.ensures.ok c.write_change.ensures.long c.write_change.ensures.each) in
     network_changed parts (with_new parts c.write_change.new.nets) c.args.change c.args.kept.now _ c.in_ok-rows.rows c.requires.network c.requires.few c.requires.fits c.requires.formed (subst Q c.len-long.ensures c.in_ok-rows.ensures) same
-    c.write_change.ensures.tallies c.write_change.ensures.names (c.in_default.ensures.ok.graph ∙ ap (λ k. changed_rows c.in_ok-rows.rows k c.args.kept.now.graph) more) c.take_in.ensures.seen
+    c.write_change.ensures.tallies c.write_change.ensures.names c.write_change.ensures.made (c.in_default.ensures.ok.graph ∙ ap (λ k. changed_rows c.in_ok-rows.rows k c.args.kept.now.graph) more) c.take_in.ensures.seen

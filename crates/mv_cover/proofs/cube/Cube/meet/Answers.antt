@@ -5,9 +5,14 @@ use Rattle.std.proofs.lemmas.Bool.{false≢true}
 use Rattle.mv_base.specs.Set.{empty}
 use Rattle.mv_cover.specs.Cubes.{matches}
 use Rattle.mv_cover.specs.Meets.{merged, IsMet}
-use Rattle.mv_cover.proofs.Meets.{IsMet-merged, Rises-cube, apart, matches-merged}
+use Rattle.mv_cover.proofs.Meets.{IsMet-merged, Rises-cube, apart, matches-merged, met_some, met_none}
 use Rattle.mv_cover.proofs.Members.{point_of}
 use Rattle.mv_cover.proofs.cube.Cube.meet.Goals as goal
+
+pub returns-then-not-possible-clause-list : goal.returns-then-not-possible-clause-list
+returns-then-not-possible-clause-list c =
+    let same : c.as_slice.result.now ≡ merged c.args.self.now c.args.other.now = c.as_slice.ensures.value ∙ (c.in_ok-lits.ensures ∙ λ i. merged (c.lits.ensures.lits i) (c.lits-2.ensures.lits i)) in
+    met_none c.args.self.now c.args.other.now c.as_slice.result.now same (sym c.if-not-possible.ensures)
 
 pub returns-then-not-possible-clause-none : goal.returns-then-not-possible-clause-none
 returns-then-not-possible-clause-none c e at =
@@ -27,6 +32,7 @@ returns c =
     let met : IsMet c.args.self.now c.args.other.now c.in_ok-new.field-0 = IsMet-merged c.args.self.now c.args.other.now c.in_ok-new.field-0 same c.lits.ensures.formed c.lits-2.ensures.formed some in
     let point = point_of 0 c.in_ok-new.field-0 (Rises-cube c.in_ok-new.field-0 met.cube.ascending) some in
     record {
+      list = met_some c.args.self.now c.args.other.now c.in_ok-new.field-0 same some;
       some = met;
       points = λ at. ap (matches at) same ∙ matches-merged at c.args.self.now c.args.other.now;
       point = (point.at, point.there);

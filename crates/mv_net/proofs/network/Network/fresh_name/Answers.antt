@@ -2,10 +2,13 @@
 use Rattle.std.proofs.Common.{◌≡◌, ◌+◌, ◌-◌, ◌<◌, ℕ, false, not, count_by, sym, subst, arith}
 use Rattle.std.specs.List.{range_with_len}
 use Rattle.std.proofs.lemmas.Option.{MatchOption-at_some}
-use Rattle.mv_net.specs.Fresh.{is_taken, IsFreeName}
-use Rattle.mv_net.proofs.FreshNames.{passed_free, passed_taken, never_ends, at_none}
+use Rattle.mv_net.specs.Fresh.{is_taken, IsFreeName, AreMade}
+use Rattle.mv_net.proofs.FreshNames.{passed_free, passed_taken, none_free, never_ends, at_none}
 use Rattle.mv_net.proofs.network.Network.fresh_name.Goals.{in-Some+else-left-eq0+in-Heap-1, in-Some+else-left-eq0+in-Inline-1, in_default}
 use Rattle.mv_net.proofs.network.Network.fresh_name.Goals as goal
+
+pub loop-number-init : goal.loop-number-init
+loop-number-init c = none_free c.args.self.now.nets c.from-number.result c.args.skip (subst (AreMade c.args.self.now.nets) (sym c.from-number.ensures) c.made.ensures)
 
 pub loop-number-preserved : goal.loop-number-preserved
 loop-number-preserved c =

@@ -1,0 +1,9 @@
+pub mod Puts
+pub mod Cubes
+pub mod Outside
+pub mod Giving
+pub mod Meaning
+pub mod Formed
+pub mod Reading
+pub mod Widths
+pub mod Wires

@@ -1,0 +1,5 @@
+pub mod Inside
+pub mod Composite
+pub mod Wide
+pub mod Wired
+pub mod Puts

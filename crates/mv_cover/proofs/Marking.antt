@@ -1,0 +1,255 @@
+-- Marks of lines: a line that lies in another has each mark of that one.
+use Rattle.std.proofs.Common.{◌≡◌, ◌∙◌, ℕ, zero, suc, ◌+◌, ◌-◌, ◌<◌, ◌≤◌, length, drop, get_or, set, map, subst, arith, Bool, true, false, ◌&&◌, ◌||◌, List, [], ◌∷◌, nat_eq, inl, inr, refl, sym, ap, Option, Some, None, if◌then◌else◌}
+use Rattle.std.specs.Prelude.{◌==◌, bit_and, bit_or}
+use Rattle.std.proofs.lemmas.Bool.{cases_Bool, false≢true, and_parts, and_from, or_cases, or_left, or_right, eq-eqb, false_from_ne_true}
+use Rattle.std.specs.List.{swap, list_any}
+use Rattle.std.proofs.lemmas.List.{drop_more, drop_all, get_or-map, map-set, length-map}
+use Rattle.std.proofs.lemmas.Nat.{and_comm}
+use Rattle.std.proofs.Math.Bool.{and-false, or-false}
+use Rattle.mv_base.specs.Set.{has, empty, one, meet, join, Within}
+use Rattle.mv_base.proofs.Sets.{has-empty, has-join, same_set, join_empty, meet_of_Within, Within-from_meet}
+use Rattle.mv_cover.specs.declared.cube.Lit.{Lit}
+use Rattle.mv_cover.specs.declared.line.Line.{Line}
+use Rattle.mv_cover.specs.Meets.{literal_at}
+use Rattle.mv_cover.specs.Containing.{set_within, set_lies, lies_in}
+use Rattle.mv_cover.specs.Absorb.{line_lies}
+use Rattle.mv_cover.specs.Marks.{mark, set_marks, net_place, cube_marks, line_marks, are_close, AreFar}
+use Rattle.mv_cover.proofs.Covering.{same_number}
+use Rattle.mv_cover.proofs.Meets.{order}
+
+or_again : (x y z : Bool) → ((x || y) || z) ≡ (x || (y || z))
+or_again true y z = refl
+or_again false y z = refl
+
+-- ---- joined sets
+
+within_first : (a b : ℕ) → Within a (join a b)
+within_first a b v h = has-join a b v ∙ or_left (has a v) (has b v) h
+
+within_second : (a b : ℕ) → Within b (join a b)
+within_second a b v h = has-join a b v ∙ or_right (has a v) (has b v) h
+
+joined_within : (a b c : ℕ) → Within a c → Within b c → Within (join a b) c
+joined_within a b c p q v h =
+    elim (or_cases (has a v) (has b v) (sym (has-join a b v) ∙ h)) [
+      | inl t ↦ p v t
+      | inr t ↦ q v t
+    ]
+
+both_within : (a b c d : ℕ) → Within a c → Within b d → Within (join a b) (join c d)
+both_within a b c d p q =
+    joined_within a b (join c d) (λ v h. within_first c d v (p v h)) (λ v h. within_second c d v (q v h))
+
+-- ---- marks of sets
+
+empty_within : (s : ℕ) → Within empty s
+empty_within s v h = absurd (false≢true (sym (has-empty v) ∙ h))
+
+-- what a set leaves out, a set within it leaves out
+mark-within : (s t v p : ℕ) → Within s t → Within (mark t v p) (mark s v p)
+unfolding mark
+mark-within s t v p w =
+    elim (cases_Bool (has s v)) [
+      | inl y ↦ rw (w v y) (empty_within (if has s v then empty else one p))
+      | inr n ↦
+          elim (cases_Bool (has t v)) [
+            | inl y ↦ rw y (empty_within (if has s v then empty else one p))
+            | inr m ↦ rw n (rw m (λ u h. h))
+          ]
+    ]
+
+set_marks-within : (s t p : ℕ) → Within s t → Within (set_marks t p) (set_marks s p)
+unfolding set_marks
+set_marks-within s t p w =
+    both_within (mark t 0 p) (mark t 1 (p + 1)) (mark s 0 p) (mark s 1 (p + 1)) (mark-within s t 0 p w) (mark-within s t 1 (p + 1) w)
+
+-- ---- marks of cubes
+
+-- the marks of a literal are marks of its cube
+marks_at : (a : List Lit) (n s : ℕ) → literal_at a n ≡ Some s → Within (set_marks s (net_place n)) (cube_marks a)
+unfolding cube_marks
+marks_at [] n s e = let no : None ≡ Some s = e in absurd (cc)
+marks_at (l ∷ a) n s e =
+    elim (cases_Bool (nat_eq l.net.0 n)) [
+      | inl t ↦
+          let here : Some l.set ≡ Some s = rw t at e in
+          let same : l.set ≡ s = cc in
+          let net : l.net.0 ≡ n = same_number l.net.0 n t in
+          λ v h.
+          within_first (set_marks l.set (net_place l.net.0)) (cube_marks a) v ((λ i. has (set_marks (same i) (net_place (net i))) v) ∙ h)
+      | inr f ↦ λ v h. within_second (set_marks l.set (net_place l.net.0)) (cube_marks a) v (marks_at a n s (rw f at e) v h)
+    ]
+
+lies_marked : (a : List Lit) (n s : ℕ) (o : Option ℕ) → literal_at a n ≡ o → set_lies o s ≡ true → Within (set_marks s (net_place n)) (cube_marks a)
+lies_marked a n s None e h = absurd (false≢true h)
+lies_marked a n s (Some u) e h =
+    λ v m. marks_at a n u e v (set_marks-within u s (net_place n) (Within-from_meet u s (same_number (meet u s) u h)) v m)
+
+cube_marks-within : (a b : List Lit) → lies_in a b ≡ true → Within (cube_marks b) (cube_marks a)
+unfolding cube_marks
+cube_marks-within a [] h = empty_within (cube_marks a)
+cube_marks-within a (l ∷ b) h =
+    let p = and_parts (set_lies (literal_at a l.net.0) l.set) (lies_in a b) h in
+    joined_within (set_marks l.set (net_place l.net.0)) (cube_marks b) (cube_marks a) (lies_marked a l.net.0 l.set (literal_at a l.net.0) refl p.0) (cube_marks-within a b p.1)
+
+-- ---- marks of lines
+
+line_marks-within : (a b : Line) → line_lies a b ≡ true → Within (line_marks b) (line_marks a)
+unfolding line_marks
+line_marks-within a b h =
+    let p = and_parts (set_within a.out b.out) (lies_in a.cube b.cube) h in
+    both_within (cube_marks b.cube) (set_marks b.out 62) (cube_marks a.cube) (set_marks a.out 62) (cube_marks-within a.cube b.cube p.1)
+    (set_marks-within a.out b.out 62 (Within-from_meet a.out b.out (same_number (meet a.out b.out) a.out p.0)))
+
+-- a line has the marks of one in which it lies
+told : (a b : Line) → line_lies a b ≡ true → bit_and (line_marks b) (line_marks a) ≡ line_marks b
+unfolding meet
+told a b h = meet_of_Within (line_marks b) (line_marks a) (line_marks-within a b h)
+
+-- the test of the marks takes nothing from that of the lines
+pub marked : (a b : Line) (own marks : ℕ) → own ≡ line_marks a → marks ≡ line_marks b → (bit_and marks own == marks && line_lies a b) ≡ line_lies a b
+marked a b own marks o m =
+    elim (cases_Bool (line_lies a b)) [
+      | inl t ↦
+          let all : bit_and marks own ≡ marks = (λ i. bit_and (m i) (o i)) ∙ (told a b t ∙ sym m) in
+          and_from (bit_and marks own == marks) (line_lies a b) (eq-eqb (bit_and marks own) marks all) t ∙ sym t
+      | inr f ↦ rw f (and-false (bit_and marks own == marks))
+    ]
+
+-- ---- lines with marks that are far
+
+-- no line lies in one from which its marks are far
+far-inside : (x l : Line) → are_close (line_marks x) (line_marks l) ≡ false → line_lies x l ≡ false
+unfolding are_close
+far-inside x l far = false_from_ne_true (line_lies x l) (λ t.
+    let same : bit_and (line_marks x) (line_marks l) ≡ line_marks l = and_comm (line_marks x) (line_marks l) ∙ told x l t in
+    false≢true (sym far ∙ or_right (nat_eq (bit_and (line_marks x) (line_marks l)) (line_marks x)) (nat_eq (bit_and (line_marks x) (line_marks l)) (line_marks l)) (eq-eqb (bit_and (line_marks x) (line_marks l)) (line_marks l) same)))
+
+-- and none lies in it
+far-over : (x l : Line) → are_close (line_marks x) (line_marks l) ≡ false → line_lies l x ≡ false
+unfolding are_close
+far-over x l far = false_from_ne_true (line_lies l x) (λ t.
+    let same : bit_and (line_marks x) (line_marks l) ≡ line_marks x = told l x t in
+    false≢true (sym far ∙ or_left (nat_eq (bit_and (line_marks x) (line_marks l)) (line_marks x)) (nat_eq (bit_and (line_marks x) (line_marks l)) (line_marks l)) (eq-eqb (bit_and (line_marks x) (line_marks l)) (line_marks x) same)))
+
+pub far_none : (own : ℕ) (marks : List ℕ) (k : ℕ) → AreFar own marks k k
+far_none own marks k = record { each = λ i low high. absurd (omega arith) }
+
+pub far_more : (own : ℕ) (marks : List ℕ) (k place : ℕ) → AreFar own marks k place → are_close own (get_or marks place 0) ≡ false → AreFar own marks k (place + 1)
+far_more own marks k place before here = record {
+  each = λ i low high.
+      elim (order i place) [
+        | inl y ↦ before.each i low y.1
+        | inr n ↦
+            let above : place ≤ i = n.1 in
+            let same : place ≡ i = omega arith in
+            subst (λ j. are_close own (get_or marks j 0) ≡ false) same here
+      ];
+}
+
+-- a test that no line with far marks passes
+skipped : (d own : ℕ) (p : Line → Bool) (others : List Line) (marks : List ℕ) (k to : ℕ) → marks ≡ map line_marks others → ((l : Line) → are_close own (line_marks l) ≡ false → p l ≡ false) → to ≡ k + d → to ≤ length others → AreFar own marks k to → list_any p (drop to others) ≡ list_any p (drop k others)
+skipped zero own p others marks k to beside fails e end far = let same : to ≡ k = omega arith in ap (λ i. list_any p (drop i others)) same
+skipped (suc d) own p others marks k to beside fails e end far =
+    let none : Line = record { cube = []; out = 0 } in
+    let low : k < length others = omega arith in
+    let here : are_close own (line_marks (get_or others k none)) ≡ false =
+    ap (are_close own) (sym (ap (λ ms. get_or ms k 0) beside ∙ get_or-map line_marks others k none 0 low)) ∙ far.each k (omega arith) (omega arith) in
+    let rest = skipped d own p others marks (k + 1) to beside fails (omega arith) end (record { each = λ i above below. far.each i (omega arith) below }) in
+    rest ∙ sym (ap (list_any p) (drop_more others k none low) ∙ ap (λ b. b || list_any p (drop (k + 1) others)) (fails (get_or others k none) here))
+
+-- how a line stands among the others so far
+pub record Stands (x : Line) (others : List Line) (found : Bool) (place : ℕ) : Type 0 where
+  pub within : place ≤ length others
+  pub inside : list_any (line_lies x) (drop place others) ≡ list_any (line_lies x) others
+  pub over : (found || list_any (λ l. line_lies l x) (drop place others)) ≡ list_any (λ l. line_lies l x) others
+
+pub stands_none : (x : Line) (others : List Line) → Stands x others false 0
+stands_none x others = record { within = omega arith; inside = refl; over = refl }
+
+pub stands_far : (x : Line) (others : List Line) (own : ℕ) (marks : List ℕ) (over : Bool) (k to : ℕ) → own ≡ line_marks x → marks ≡ map line_marks others → k ≤ to → to ≤ length marks → AreFar own marks k to → Stands x others over k → Stands x others over to
+stands_far x others own marks over k to is beside later end far before =
+    let long : length marks ≡ length others = ap length beside ∙ length-map others line_marks in
+    let end_of_lines : to ≤ length others = omega (arith, long) in
+    let split : to ≡ k + (to - k) = omega arith in
+    let inside = skipped (to - k) own (line_lies x) others marks k to beside (λ l f. far-inside x l (ap (λ m. are_close m (line_marks l)) (sym is) ∙ f)) split end_of_lines far in
+    let under = skipped (to - k) own (λ l. line_lies l x) others marks k to beside (λ l f. far-over x l (ap (λ m. are_close m (line_marks l)) (sym is) ∙ f)) split end_of_lines far in
+    record {
+      within = end_of_lines;
+      inside = inside ∙ before.inside;
+      over = ap (λ b. over || b) under ∙ before.over;
+    }
+
+pub stands_inside : (x l : Line) (others : List Line) (over b : Bool) (place : ℕ) → place < length others → l ≡ get_or others place l → b ≡ line_lies x l → b ≡ true → Stands x others over place → true ≡ list_any (line_lies x) others
+stands_inside x l others over b place low here is t before =
+    let split : drop place others ≡ l ∷ drop (place + 1) others = drop_more others place l low ∙ ap (λ z. z ∷ drop (place + 1) others) (sym here) in
+    sym (or_left (line_lies x l) (list_any (line_lies x) (drop (place + 1) others)) (sym is ∙ t)) ∙ (ap (list_any (line_lies x)) (sym split) ∙ before.inside)
+
+pub stands_more : (x l : Line) (others : List Line) (over b c : Bool) (place : ℕ) → place < length others → l ≡ get_or others place l → b ≡ line_lies x l → b ≡ false → c ≡ line_lies l x → Stands x others over place → Stands x others (over || c) (place + 1)
+stands_more x l others over b c place low here is f under before =
+    let split : drop place others ≡ l ∷ drop (place + 1) others = drop_more others place l low ∙ ap (λ z. z ∷ drop (place + 1) others) (sym here) in
+    record {
+      within = omega arith;
+      inside =
+          ap (λ y. y || list_any (line_lies x) (drop (place + 1) others)) (sym (sym is ∙ f))
+          ∙ (ap (list_any (line_lies x)) (sym split) ∙ before.inside);
+      over =
+          ap (λ y. (over || y) || list_any (λ m. line_lies m x) (drop (place + 1) others)) under
+          ∙ (or_again over (line_lies l x) (list_any (λ m. line_lies m x) (drop (place + 1) others))
+          ∙ (ap (λ ls. over || list_any (λ m. line_lies m x) ls) (sym split) ∙ before.over));
+    }
+
+pub stands_all : (x : Line) (others : List Line) (over : Bool) (place : ℕ) → length others ≤ place → Stands x others over place → (false ≡ list_any (line_lies x) others) × (over ≡ list_any (λ l. line_lies l x) others)
+stands_all x others over place end before = (
+  ap (list_any (line_lies x)) (sym (drop_all place others end)) ∙ before.inside,
+  sym (or-false over) ∙ (ap (λ ls. over || list_any (λ l. line_lies l x) ls) (sym (drop_all place others end)) ∙ before.over),
+)
+
+-- ---- the literals, one by one
+
+join-append : (a b c : ℕ) → join (join a b) c ≡ join a (join b c)
+join-append a b c =
+    same_set _ _
+    (λ v.
+    has-join (join a b) c v
+    ∙ (ap (λ x. x || has c v) (has-join a b v)
+    ∙ (or_again (has a v) (has b v) (has c v) ∙ (ap (λ x. has a v || x) (sym (has-join b c v)) ∙ sym (has-join a (join b c) v)))))
+
+join-nothing : (a : ℕ) → join a empty ≡ a
+join-nothing a = same_set _ _ (λ v. has-join a empty v ∙ (ap (λ x. has a v || x) (has-empty v) ∙ or-false (has a v)))
+
+-- the marks so far are those of the first literals
+pub record Gathers (lits : List Lit) (i marks : ℕ) : Type 0 where
+  pub all : join marks (cube_marks (drop i lits)) ≡ cube_marks lits
+
+pub gathers_none : (lits : List Lit) → Gathers lits 0 empty
+gathers_none lits = record { all = join_empty (cube_marks lits) }
+
+pub gathers_more : (lits : List Lit) (i marks more : ℕ) (l : Lit) → i < length lits → l ≡ get_or lits i l → more ≡ set_marks l.set (net_place l.net.0) → Gathers lits i marks → Gathers lits (i + 1) (bit_or marks more)
+unfolding cube_marks join
+gathers_more lits i marks more l low here is before =
+    let own = set_marks l.set (net_place l.net.0) in
+    let rest = cube_marks (drop (i + 1) lits) in
+    let split : drop i lits ≡ l ∷ drop (i + 1) lits = drop_more lits i l low ∙ ap (λ x. x ∷ drop (i + 1) lits) (sym here) in
+    record { all = ap (λ m. join (bit_or marks m) rest) is ∙ (join-append marks own rest ∙ (ap (λ ls. join marks (cube_marks ls)) (sym split) ∙ before.all)) }
+
+pub gathers_all : (lits : List Lit) (i marks : ℕ) → length lits ≤ i → Gathers lits i marks → marks ≡ cube_marks lits
+unfolding cube_marks
+gathers_all lits i marks end before =
+    sym (join-nothing marks) ∙ (ap (λ ls. join marks (cube_marks ls)) (sym (drop_all i lits end)) ∙ before.all)
+
+-- ---- marks beside lines
+
+-- what is made of the elements is exchanged with them
+map-swap : {X Y : Type 0} (f : X → Y) (xs : List X) (i j : ℕ) → i < length xs → j < length xs → swap (map f xs) i j ≡ map f (swap xs i j)
+map-swap f [] i j p q = refl
+map-swap f (d ∷ ys) i j p q =
+    let xs = d ∷ ys in
+    let first = get_or-map f xs i d (f d) p in
+    let second = get_or-map f xs j d (f d) q in
+    (λ k. set (set (map f xs) i (second k)) j (first k))
+    ∙ sym (map-set f (set xs i (get_or xs j d)) j (get_or xs i d) ∙ ap (λ zs. set zs j (f (get_or xs i d))) (map-set f xs i (get_or xs j d)))
+
+pub exchanged : (before after : List Line) (marks turned : List ℕ) (i j : ℕ) → i < length before → j < length before → marks ≡ map line_marks before → after ≡ swap before i j → turned ≡ swap marks i j → turned ≡ map line_marks after
+exchanged before after marks turned i j p q beside lines other =
+    other ∙ (ap (λ ms. swap ms i j) beside ∙ (map-swap line_marks before i j p q ∙ ap (map line_marks) (sym lines)))

@@ -1,0 +1,4 @@
+pub mod Texts
+pub mod Members
+pub mod Visible
+pub mod Printing

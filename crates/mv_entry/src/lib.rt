@@ -1,0 +1,18 @@
+//! What a run notes: the rules that change a network, notes on them, their text, and the journal that takes them.
+#![tactic(auto)]
+
+mod fault;
+mod journal;
+mod note;
+mod note_text;
+mod rule;
+mod rule_text;
+mod set_text;
+mod words;
+
+pub use fault::RuleFault;
+pub use journal::{Journal, Tally};
+pub use note::{Command, Note, Why};
+pub use note_text::put_note;
+pub use rule::{Body, BodyLine, BodyLit, Rule};
+pub use rule_text::put_rule;

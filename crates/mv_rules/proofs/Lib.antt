@@ -1,0 +1,16 @@
+mod Rows
+mod OneAnswer
+mod Named
+mod Overs
+mod Readers
+mod Removed
+mod Added
+mod Wired
+mod Collapsed
+mod Divided
+mod Meanings
+mod Ahead
+mod Ordered
+mod Expanded
+mod Completed
+mod Found

@@ -1,0 +1,11 @@
+pub mod Checks
+pub mod Removing
+pub mod Adding
+pub mod Dividing
+pub mod Wiring
+pub mod Collapsing
+pub mod Applies
+pub mod Plans
+pub mod Orders
+pub mod Expanding
+pub mod Completing

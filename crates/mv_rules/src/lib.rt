@@ -1,0 +1,18 @@
+//! The rules by which a network is changed: what each asks, what it leaves, and that what the network means stays.
+#![tactic(auto)]
+
+mod add;
+mod applying;
+mod collapse;
+mod divide;
+mod expand;
+mod laws;
+mod lookup;
+mod order;
+mod plan;
+mod remove;
+mod wire;
+
+pub use applying::{apply, literals_after};
+pub use laws::{at_most_one_fault, at_most_one_network, never_both};
+pub use mv_entry::{Body, BodyLine, BodyLit, Command, Journal, Note, Rule, RuleFault, Tally, Why};

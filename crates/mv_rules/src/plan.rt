@@ -1,0 +1,29 @@
+ghost use Rattle.mv_rules.specs.Applies.{Applies, Fails};
+ghost use Rattle.mv_rules.specs.Checks.{Answers};
+ghost use Rattle.mv_rules.specs.Plans.{IsPlanned};
+
+use crate::add::plan_add;
+use crate::collapse::plan_collapse;
+use crate::divide::plan_divide;
+use crate::remove::plan_remove;
+use crate::wire::plan_wire;
+use mv_entry::{Rule, RuleFault};
+use mv_net::{Change, Network};
+use std::alloc::Global;
+
+/// The change that carries the rule out, or the fault of the first check that fails.
+pub fn plan(alloc: Global, net: &Network, rule: &Rule) -> Result<Change, RuleFault>
+    ensures { Answers result (IsPlanned net.now (Applies rule.now net.now)) (Fails rule.now net.now) }
+{
+    match rule {
+        Rule::Remove { net: name } => plan_remove(alloc, net, name),
+        Rule::Add { net: name, body } => plan_add(alloc, net, name, body),
+        Rule::Divide {
+            net: name,
+            by,
+            body,
+        } => plan_divide(alloc, net, name, by, body),
+        Rule::Wire { net: name } => plan_wire(alloc, net, name),
+        Rule::Collapse { net: name } => plan_collapse(alloc, net, name),
+    }
+}

@@ -1,0 +1,47 @@
+-- What a run promises where its work is done.
+use Rattle.std.specs.Prelude.{◌≡◌, ℕ, true, Some, List, []}
+use Rattle.mv_base.specs.Meaning.{Refines}
+use Rattle.mv_base.specs.Outside.{Held, Stored, Written, StillTell, file_named, Gained}
+use Rattle.mv_net.specs.declared.parts.NetParts.{NetParts}
+use Rattle.mv_design.specs.declared.design.Design.{Design}
+use Rattle.mv_model.specs.Meaning.{of_design}
+use Rattle.mv_flat.specs.Flat.{IsFlat}
+use Rattle.mv_write.specs.Text.{text_of}
+use Rattle.mv_back.specs.Back.{ReadsAs}
+use Rattle.mv_script.specs.declared.script.Command.{Command}
+use Rattle.mv_script.specs.Scripts.{is_script, commands_in}
+use Rattle.mv_run.specs.Runs.{Part, Runs, all_notes}
+use Rattle.mv_run.specs.Words.{word_at}
+
+-- the named network file was read to its end, and its design became the first network; the commands are those of the
+-- named script; and the design that was written may take the place of the one that was read
+pub record IsSource (words : List (List ℕ)) (before after : Held)
+    (commands : List Command) (first : NetParts) (written : Design) : Type 0 where
+  pub content : List ℕ
+  pub held : file_named (word_at words 1) before.files ≡ Some content
+  pub files : after.files ≡ before.files
+  pub current : after.current ≡ Some (word_at words 1)
+  pub ended : after.rest ≡ []
+  pub design : Design
+  pub read : ReadsAs content design
+  pub flat : IsFlat first design
+  pub script : List ℕ
+  pub script_held : file_named (word_at words 2) before.files ≡ Some script
+  pub accepted : is_script script ≡ true
+  pub commands_are : commands ≡ commands_in script
+  pub refines : Refines (of_design written) (of_design design)
+
+-- commands ran on a network, and the notes gained their entries and the done line; the output gained the text of the
+-- network that was left, which reads back as a design; and, where the files tell of themselves, that is a design that
+-- may take the place of the one read
+pub record Replaced (words : List (List ℕ)) (old new : Stored) (out out' notes notes' : Written) : Type 0 where
+  pub commands : List Command
+  pub first : NetParts
+  pub parts : List Part
+  pub net : NetParts
+  pub runs : Runs commands first parts net
+  pub noted : Gained notes notes' (all_notes parts first net)
+  pub gained : Gained out out' (text_of net)
+  pub written : Design
+  pub back : ReadsAs (text_of net) written
+  pub source : StillTell old new (λ before after. IsSource words before after commands first written)

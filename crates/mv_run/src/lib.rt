@@ -1,0 +1,12 @@
+//! The top call: a network and a script are read, the script's commands run, and the network that is left is written.
+#![tactic(auto)]
+
+mod commands;
+mod numbers;
+mod run;
+mod stop;
+mod take;
+mod words;
+mod work;
+
+pub use run::run;
