@@ -234,3 +234,54 @@ fn rules_answer_so_and_leave_this(rt: HostRuntime) -> Result<(), Fail> {
     }
     Ok(())
 }
+
+/// Puts so many names of a letter and a number.
+fn put_names(text: &mut String, letter: &str, count: u32) -> Result<(), Fail> {
+    for number in 0..count {
+        write!(text, " {letter}{number}")?;
+    }
+    Ok(())
+}
+
+/// Puts a row of so many columns, each of which is 1.
+fn put_ones(text: &mut String, columns: u32) -> Result<(), Fail> {
+    for _column in 0..columns {
+        text.push_str("1 ")?;
+    }
+    Ok(text.push_str("1;")?)
+}
+
+/// A network of a net that reads so many inputs, and of its reader, which reads 128 others besides.
+fn wide_network(alloc: Global, inputs: u32) -> Result<Network, Fail> {
+    let mut text = String::new(alloc);
+    text.push_str(".model w;.inputs")?;
+    put_names(&mut text, "a", inputs)?;
+    put_names(&mut text, "b", 128)?;
+    text.push_str(";.outputs z;.table")?;
+    put_names(&mut text, "a", inputs)?;
+    text.push_str(" -> n;.default 0;")?;
+    put_ones(&mut text, inputs)?;
+    text.push_str(".table")?;
+    put_names(&mut text, "b", 128)?;
+    text.push_str(" n -> z;.default 0;")?;
+    put_ones(&mut text, 129)?;
+    text.push_str(".end")?;
+    network(alloc, text.as_str())
+}
+
+#[test]
+fn a_composite_has_at_most_255_fanins(rt: HostRuntime) -> Result<(), Fail> {
+    let mut net = wide_network(rt.alloc(), 128)?;
+    says(
+        &rt,
+        answers(rt.alloc(), &mut net, "collapse n")?.as_str(),
+        " Wide=Wide",
+    );
+    let mut net = wide_network(rt.alloc(), 127)?;
+    says(
+        &rt,
+        answers(rt.alloc(), &mut net, "collapse n")?.as_str(),
+        " 255=255",
+    );
+    Ok(())
+}
