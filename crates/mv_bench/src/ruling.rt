@@ -8,6 +8,9 @@ use std::alloc::Global;
 use std::fmt;
 use std::time::Instant;
 
+/// How many inputs `a` and as many `b` the nets share.
+const INPUTS: u32 = 500;
+
 /// What rules came to.
 #[derive(Clone, Copy, Debug, PartialEq, Eq)]
 pub struct Applied {
@@ -33,19 +36,18 @@ fn name(alloc: Global, letter: &str, number: u32) -> Result<Name, Stop> {
 }
 
 /// The literal that a net is 1.
-fn is_one(alloc: Global, letter: &str, number: u32) -> Result<BodyLit, Stop> {
-    Ok(BodyLit {
-        net: name(alloc, letter, number)?,
+fn is_one(net: Name) -> BodyLit {
+    BodyLit {
+        net,
         set: ValueSet::one(Value(1)),
-    })
+    }
 }
 
-/// A body that is 1 where two nets are, or one alone, and else 0.
-fn product(alloc: Global, letters: &[&str], number: u32) -> Result<Body, Stop> {
+/// A body that is 1 where both nets are, and else 0.
+fn product(alloc: Global, first: Name, second: Name) -> Result<Body, Stop> {
     let mut lits = Items::new(alloc);
-    for letter in letters {
-        lits.push(is_one(alloc, letter, number)?)?;
-    }
+    lits.push(is_one(first))?;
+    lits.push(is_one(second))?;
     let mut lines = Items::new(alloc);
     lines.push(BodyLine {
         lits,
@@ -59,6 +61,7 @@ fn product(alloc: Global, letters: &[&str], number: u32) -> Result<Body, Stop> {
 
 /// The rule of a kind for the nets of a number.
 fn rule(alloc: Global, kind: &str, number: u32) -> Result<Rule, Stop> {
+    let input = number % INPUTS;
     match kind {
         "remove" => Ok(Rule::Remove {
             net: name(alloc, "u", number)?,
@@ -71,12 +74,12 @@ fn rule(alloc: Global, kind: &str, number: u32) -> Result<Rule, Stop> {
         }),
         "add" => Ok(Rule::Add {
             net: name(alloc, "k", number)?,
-            body: product(alloc, &["a", "b"], number)?,
+            body: product(alloc, name(alloc, "a", input)?, name(alloc, "b", input)?)?,
         }),
         "divide" => Ok(Rule::Divide {
             net: name(alloc, "f", number)?,
             by: name(alloc, "g", number)?,
-            body: product(alloc, &["g", "b"], number)?,
+            body: product(alloc, name(alloc, "g", number)?, name(alloc, "b", input)?)?,
         }),
         _ => Err(Stop::Words),
     }
