@@ -66,13 +66,13 @@ rustc -O -o "$folder/plain" bench/rules_baseline.rs 2> "$folder/said" || { cat "
 for which in proved plain; do
     for _ in 1 2 3 4 5; do
         if [ $which = proved ]; then
-            { TIMEFORMAT=%U; time "$program" rules divide $changes < "$folder/net" > "$folder/$which"; } 2>> "$folder/took.$which"
+            { TIMEFORMAT=%U; time "$program" rules divide $changes < "$folder/net" > "$folder/said.$which"; } 2>> "$folder/took.$which"
         else
-            { TIMEFORMAT=%U; time "$folder/plain" $changes < "$folder/net" > "$folder/$which"; } 2>> "$folder/took.$which"
+            { TIMEFORMAT=%U; time "$folder/plain" $changes < "$folder/net" > "$folder/said.$which"; } 2>> "$folder/took.$which"
         fi
     done
 done
-told=$(sed 's/, [0-9]* microseconds//' "$folder/proved")
-[ "$told" = "rules divide $(cat "$folder/plain")" ] || { echo "proved: $told, plain: $(cat "$folder/plain")" >&2; exit 1; }
+told=$(sed 's/, [0-9]* microseconds//' "$folder/said.proved")
+[ "$told" = "rules divide $(cat "$folder/said.plain")" ] || { echo "proved: $told, plain: $(cat "$folder/said.plain")" >&2; exit 1; }
 echo
 echo "$changes changes of one table each on 200000 nets, reading included: $(sort -n "$folder/took.proved" | head -n 1) seconds, a plain program $(sort -n "$folder/took.plain" | head -n 1)"

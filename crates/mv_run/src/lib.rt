@@ -3,10 +3,10 @@
 
 mod commands;
 mod numbers;
-mod run;
+mod running;
 mod stop;
 mod take;
 mod words;
 mod work;
 
-pub use run::run;
+pub use running::run;

@@ -2,7 +2,7 @@
 use Rattle.std.proofs.Common.{ap, sym, ◌∙◌, refl}
 use Rattle.std.specs.Prelude.{Err}
 use Rattle.mv_run.proofs.Ends.{short_early, short_work, exact_refused, complete_refused}
-use Rattle.mv_run.proofs.run.run.Goals as goal
+use Rattle.mv_run.proofs.running.run.Goals as goal
 
 pub returns-in-Err-clause-short : goal.returns-in-Err-clause-short
 returns-in-Err-clause-short g c =
