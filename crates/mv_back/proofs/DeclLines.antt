@@ -21,7 +21,7 @@ use Rattle.mv_back.proofs.NewNames.{new-word}
 use Rattle.mv_back.proofs.Declared.{mv_words, declares, declared-none}
 use Rattle.mv_back.proofs.Nets.{EachNet, CanBeSaid}
 use Rattle.mv_back.proofs.Lookups.{decl_of, declared}
-use Rattle.mv_back.proofs.TextWords.{lines_from}
+use Rattle.mv_written.specs.TextWords.{lines_from}
 
 -- behind these lines of a model these lines are fine, and declare these nets besides
 pub record AreDecls (h : LexLine) (front lines : List LexLine) (more : List Decl) : Type 0 where

@@ -1,8 +1,8 @@
 -- Lawful names, and the entries that are made of the names of values, are written words.
-use Rattle.std.proofs.Common.{◌≡◌, ℕ, Bool, true, false, not, ◌&&◌, ◌||◌, ◌==◌, List, [], ◌∷◌, ◌++◌, length, codes, refl, ◌∙◌, arith}
+use Rattle.std.proofs.Common.{◌≡◌, ℕ, true, false, not, ◌||◌, ◌==◌, List, [], ◌∷◌, length, codes, refl, ◌∙◌, arith}
 use Rattle.std.specs.Prelude.{filter}
 use Rattle.std.specs.List.{list_all, list_any, flat_map, range_with_len}
-use Rattle.std.proofs.lemmas.Bool.{cond-false, cond_both, and_parts, and_from, or_parts, or_left, or_right, ne_eqb, not-true, not_from_false}
+use Rattle.std.proofs.lemmas.Bool.{cond_both, and_parts, and_from, or_parts, ne_eqb, not_from_false}
 use Rattle.std.proofs.lemmas.List.Folds.{list_all-append, list_all-map}
 use Rattle.std.proofs.lemmas.List.Sums.{AllPass-from_list_all}
 use Rattle.mv_base.specs.Names.{is_bracketed, ends_with, is_net_name, is_value_name}
@@ -10,13 +10,10 @@ use Rattle.mv_base.specs.Set.{has, full}
 use Rattle.mv_write.specs.Text.{value_at, names_in_set, with_comma, comma_joined, one_or_list, entry_word}
 use Rattle.mv_word.proofs.LawfulNames.{is_bracket, NetName, net_name-has, value_name-has}
 use Rattle.mv_back.proofs.Passes.{picked-pass}
-use Rattle.mv_back.proofs.TextWords.{is_word_byte, is_list_rest, is_list_word, is_written_word, is_plain_word}
+use Rattle.mv_written.specs.TextWords.{is_word_byte, is_written_word}
+use Rattle.mv_written.proofs.Lists.{plain-written, is_list_byte, list-written}
 
 -- ---- names
-
-pub plain-written : (w : List ℕ) → is_plain_word w ≡ true → is_written_word w ≡ true
-unfolding is_written_word
-plain-written w h = or_left (is_plain_word w) (is_list_word w) h
 
 name-written : (w : List ℕ) → NetName w → is_written_word w ≡ true
 name-written w is =
@@ -26,10 +23,7 @@ name-written w is =
 pub net_name-written : (w : List ℕ) → is_net_name w ≡ true → is_written_word w ≡ true
 net_name-written w h = name-written w (net_name-has w h)
 
--- a byte of a name of a value may stand in a list, as may a comma
-abbrev is_list_byte : ℕ → Bool
-is_list_byte b = is_word_byte b && not (b == 41)
-
+-- a byte of a name of a value may stand in a list
 list_bytes : (w : List ℕ) → list_all is_word_byte w ≡ true → list_any is_bracket w ≡ false → list_all is_list_byte w ≡ true
 list_bytes [] h n = refl
 list_bytes (b ∷ w) h n =
@@ -66,19 +60,12 @@ comma_joined_bytes : (ws : List (List ℕ)) → list_all is_value_name ws ≡ tr
 comma_joined_bytes [] h = refl
 comma_joined_bytes (w ∷ ws) h = with_comma_bytes (w ∷ ws) h
 
-closed_list : (bs : List ℕ) → list_all is_list_byte bs ≡ true → is_list_rest (bs ++ 41 ∷ []) ≡ true
-closed_list [] h = refl
-closed_list (b ∷ bs) h =
-    let both = and_parts (is_list_byte b) (list_all is_list_byte bs) h in
-    let byte = and_parts (is_word_byte b) (not (b == 41)) both.0 in
-    cond-false (b == 41) _ _ (not-true (b == 41) byte.1) ∙ and_from (is_word_byte b) _ byte.0 (closed_list bs both.1)
-
 one_or_list-written : (ws : List (List ℕ)) → list_all is_value_name ws ≡ true → is_written_word (one_or_list ws) ≡ true
 unfolding is_written_word
 one_or_list-written [] h = refl
 one_or_list-written (w ∷ []) h = value_name-written w (and_parts (is_value_name w) true h).0
 one_or_list-written (w ∷ v ∷ ws) h =
-    or_right (is_plain_word (one_or_list (w ∷ v ∷ ws))) (is_list_word (one_or_list (w ∷ v ∷ ws))) (closed_list (comma_joined (w ∷ v ∷ ws)) (comma_joined_bytes (w ∷ v ∷ ws) h))
+    list-written (comma_joined (w ∷ v ∷ ws)) (comma_joined_bytes (w ∷ v ∷ ws) h)
 
 -- ---- entries
 

@@ -1,9 +1,5 @@
 pub mod TextModel
-pub mod TextWords
 pub mod Spelled
-pub mod Ends
-pub mod Words
-pub mod Written
 pub mod Passes
 pub mod Lawful
 pub mod NetLines
@@ -22,7 +18,6 @@ pub mod DeclLines
 pub mod Columns
 pub mod TableLines
 pub mod Rows
-pub mod LinesFrom
 pub mod Kept
 pub mod TableText
 pub mod NetTables

@@ -30,7 +30,7 @@ use Rattle.mv_back.proofs.Kept.{tables-behind, values-behind}
 use Rattle.mv_back.proofs.NetTables.{CanTable, SayTables, tables-said, tables-fine}
 use Rattle.mv_back.proofs.HeldTables.{table-net}
 use Rattle.mv_back.proofs.NetSays.{model_line, inputs_line, outputs_line, decl_part, tables_from, table_part, end_line, body, net-split, decls-alone, decls-begin_none, net-goes, net-inputs, net-outputs, decls-tables}
-use Rattle.mv_back.proofs.TextWords.{lines_from}
+use Rattle.mv_written.specs.TextWords.{lines_from}
 
 -- the lines of the network say this model, and it is the network's
 pub record IsReadModel (net : NetParts) : Type 0 where

@@ -18,12 +18,13 @@ use Rattle.mv_graph.specs.Nets.{has_id}
 use Rattle.mv_net.proofs.Known.{reads_readable}
 use Rattle.mv_lex.specs.Lines.{lines_of, is_clean}
 use Rattle.mv_write.specs.Text.{fanins_of, fanin_word, set_in, entry_word, line_words, default_words, head_words, cover_words, table_words, net_words, is_plain_pair, decl_words, names_of, inner_lines, net_lines, text_of}
-use Rattle.mv_back.proofs.TextWords.{is_written_word, is_written_line, lines_from}
+use Rattle.mv_written.specs.TextWords.{is_written_word, is_written_line, lines_from}
 use Rattle.mv_model.proofs.Decimals.{decimal-value_name}
 use Rattle.mv_back.proofs.Spelled.{spelled-held}
-use Rattle.mv_back.proofs.Lawful.{plain-written, net_name-written, value_name-written, value_names-written, entry-written}
+use Rattle.mv_back.proofs.Lawful.{net_name-written, value_name-written, value_names-written, entry-written}
+use Rattle.mv_written.proofs.Lists.{plain-written}
 use Rattle.mv_back.proofs.Passes.{flat_map-pass, stands-pass, picked-pass}
-use Rattle.mv_back.proofs.Written.{lines_of-written, is_clean-written}
+use Rattle.mv_written.proofs.Written.{lines_of-written, is_clean-written}
 
 -- ---- lines
 

@@ -18,9 +18,9 @@ use Rattle.mv_net.specs.declared.parts.NetParts.{NetParts}
 use Rattle.mv_write.specs.Text.{is_plain_pair, decl_words, net_words, names_of, inner_lines, net_lines}
 use Rattle.mv_back.proofs.Commands.{command-model, command-inputs, command-outputs, command-mv}
 use Rattle.mv_back.proofs.Opened.{goes_on}
-use Rattle.mv_back.proofs.LinesFrom.{lines_from-append}
+use Rattle.mv_written.proofs.LinesFrom.{lines_from-append}
 use Rattle.mv_back.proofs.Kept.{begins_none, of_table, table-goes}
-use Rattle.mv_back.proofs.TextWords.{lines_from}
+use Rattle.mv_written.specs.TextWords.{lines_from}
 
 -- ---- the lines
 

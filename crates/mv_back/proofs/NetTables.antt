@@ -20,10 +20,10 @@ use Rattle.mv_back.proofs.Opened.{goes_on}
 use Rattle.mv_back.proofs.Limits.{AreFine, AreFine-append}
 use Rattle.mv_back.proofs.Nets.{EachNet}
 use Rattle.mv_back.proofs.TableLines.{head_line, one_default, table_lines, table-fine}
-use Rattle.mv_back.proofs.LinesFrom.{lines_from-append}
+use Rattle.mv_written.proofs.LinesFrom.{lines_from-append}
 use Rattle.mv_back.proofs.Kept.{keeps, is_fresh, of_table, tables-table, values-table, table-goes}
 use Rattle.mv_back.proofs.TableText.{IsTableNet, are_rows, kept_words, SayTable, table-said}
-use Rattle.mv_back.proofs.TextWords.{lines_from}
+use Rattle.mv_written.specs.TextWords.{lines_from}
 
 module _ (nets : List (Option FlatNet)) (ds : List Decl) where
   -- if the net has a table, it can be said

@@ -21,7 +21,7 @@ use Rattle.mv_back.proofs.Commands.{command-table, command-default, command-row}
 use Rattle.mv_back.proofs.Opened.{goes_on, going-push, faults-going}
 use Rattle.mv_back.proofs.Limits.{only_limits, limits-append, when-limit, AreFine}
 use Rattle.mv_back.proofs.Columns.{columns, ins-written, outs-written, columns-limits}
-use Rattle.mv_back.proofs.TextWords.{lines_from}
+use Rattle.mv_written.specs.TextWords.{lines_from}
 
 -- ---- rows
 

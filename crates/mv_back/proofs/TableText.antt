@@ -28,7 +28,7 @@ use Rattle.mv_back.proofs.Columns.{ins-written, outs-written}
 use Rattle.mv_back.proofs.TableLines.{is_row_line, head_line}
 use Rattle.mv_back.proofs.Rows.{IsColumn, outs-none, outs-are, name_at, IsFanin, row-none, row-is}
 use Rattle.mv_back.proofs.Kept.{keeps}
-use Rattle.mv_back.proofs.TextWords.{lines_from}
+use Rattle.mv_written.specs.TextWords.{lines_from}
 
 -- a line of a row is no default
 not_word : (w v : List ℕ) → begins_with 46 v ≡ true → begins_with 46 w ≡ false → same_word w v ≡ false

@@ -1,9 +1,10 @@
 -- Texts of lines and entries, piece by piece as they are put.
-use Rattle.std.proofs.Common.{◌≡◌, ◌∙◌, ℕ, ◌+◌, ◌<◌, ◌≤◌, Option, Some, None, List, [], ◌∷◌, ◌++◌, length, get_or, drop, map, codes, decimal, refl, sym, ap, append_assoc}
+use Rattle.std.proofs.Common.{◌≡◌, ◌∙◌, ℕ, ◌+◌, ◌<◌, ◌≤◌, Option, Some, None, List, [], ◌∷◌, ◌++◌, length, get_or, drop, map, codes, decimal, refl, ap, append_assoc}
 use Rattle.std.specs.List.{flat_map}
-use Rattle.std.proofs.lemmas.List.{append-nil, at_drop_more, at_drop_all}
+use Rattle.std.proofs.lemmas.List.{append-nil, at_drop_all}
 use Rattle.std.proofs.lemmas.List.Concat.{flat_map-append}
 use Rattle.mv_lex.specs.Text.{spaced, line_text}
+use Rattle.mv_page.proofs.Items.{items-more}
 use Rattle.mv_entry.specs.declared.rule.BodyLit.{BodyLit}
 use Rattle.mv_entry.specs.declared.rule.BodyLine.{BodyLine}
 use Rattle.mv_entry.specs.declared.rule.Body.{Body}
@@ -87,8 +88,7 @@ lit-text l = spaced-append (l.net ∷ []) (set_word l.set ∷ []) ∙ ap (λ t. 
 
 pub lits-more : (ls : List BodyLit) (i : ℕ) (l : BodyLit) → i < length ls → l ≡ get_or ls i l → spaced (flat_map lit_words (drop i ls)) ≡ spaced (lit_words l) ++ spaced (flat_map lit_words (drop (i + 1) ls))
 lits-more ls i l low is =
-    at_drop_more (λ ms. spaced (flat_map lit_words ms)) ls i l low
-    ∙ (ap (λ m. spaced (lit_words m ++ flat_map lit_words (drop (i + 1) ls))) (sym is) ∙ spaced-append (lit_words l) (flat_map lit_words (drop (i + 1) ls)))
+    items-more (λ ms. spaced (flat_map lit_words ms)) (λ m. spaced (lit_words m)) ls i l (λ m ms. spaced-append (lit_words m) (flat_map lit_words ms)) low is
 
 pub lits-none : (ls : List BodyLit) (i : ℕ) → length ls ≤ i → spaced (flat_map lit_words (drop i ls)) ≡ []
 unfolding spaced
@@ -105,8 +105,7 @@ line-text l =
 
 pub lines-more : (ls : List BodyLine) (i : ℕ) (l : BodyLine) → i < length ls → l ≡ get_or ls i l → flat_map line_text (map line_words (drop i ls)) ≡ line_text (line_words l) ++ flat_map line_text (map line_words (drop (i + 1) ls))
 lines-more ls i l low is =
-    at_drop_more (λ ms. flat_map line_text (map line_words ms)) ls i l low
-    ∙ ap (λ m. line_text (line_words m) ++ flat_map line_text (map line_words (drop (i + 1) ls))) (sym is)
+    items-more (λ ms. flat_map line_text (map line_words ms)) (λ m. line_text (line_words m)) ls i l (λ m ms. refl) low is
 
 pub lines-none : (ls : List BodyLine) (i : ℕ) → length ls ≤ i → flat_map line_text (map line_words (drop i ls)) ≡ []
 lines-none ls i high = at_drop_all (λ ms. flat_map line_text (map line_words ms)) ls i high

@@ -22,6 +22,12 @@ pub data Entry : Type 0 where
   Applied : (rule : Rule) → Entry
   Noted : (note : Note) → Entry
 
+-- the rules among some entries, in order
+abbrev pub rules_of : List Entry → List Rule
+rules_of [] = []
+rules_of (Applied rule ∷ es) = rule ∷ rules_of es
+rules_of (Noted note ∷ es) = rules_of es
+
 -- ---- sets
 
 -- the values of a set below a number, ascending

@@ -14,30 +14,24 @@ pub struct Tally {
 /// A place that takes rules and notes in order. It takes no memory.
 pub trait Journal {
     ghost use Rattle.std.specs.Prelude.{◌≡◌};
-    ghost use Rattle.mv_base.specs.Outside.{Written, Appends};
     ghost use Rattle.mv_entry.specs.declared.journal.Tally.{Tally};
-    ghost use Rattle.mv_entry.specs.Entries.{Applied, Noted, entry_text, HasVisibleNames};
-    ghost use Rattle.mv_entry.specs.Tallies.{Counts};
+    ghost use Rattle.mv_entry.specs.Entries.{Applied, Noted, HasVisibleNames};
+    ghost use Rattle.mv_entry.specs.Tallies.{Journaled, Takes};
 
-    /// The bytes taken so far, if the journal tells them, and its count of faults.
-    ghost state: { Self → Written };
-
-    /// The numbers of entries taken so far.
-    ghost tally: { Self → Tally };
+    /// What was taken so far, and where its text goes.
+    ghost state: { Self → Journaled };
 
     /// Takes a rule that was applied, or fails and takes some first part of its text. The names in it are to be visible.
     fn rule(&mut self, rule: &Rule) -> Result<(), Failed>
         requires { HasVisibleNames (Applied rule.now) }
-        ensures text { Appends (state self.old) (state self.new) (entry_text (Applied rule.now)) result }
-        ensures tally { Counts (tally self.old) (tally self.new) (Applied rule.now) result };
+        ensures { Takes (state self.old) (state self.new) (Applied rule.now) result };
 
     /// Takes a note, or fails and takes some first part of its text. The names in it are to be visible.
     fn note(&mut self, note: &Note) -> Result<(), Failed>
         requires { HasVisibleNames (Noted note.now) }
-        ensures text { Appends (state self.old) (state self.new) (entry_text (Noted note.now)) result }
-        ensures tally { Counts (tally self.old) (tally self.new) (Noted note.now) result };
+        ensures { Takes (state self.old) (state self.new) (Noted note.now) result };
 
     /// The numbers of entries taken so far.
     fn tally(&self) -> Tally
-        ensures { result ≡ tally self.now };
+        ensures { result ≡ (state self.now).tally };
 }

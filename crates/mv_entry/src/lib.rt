@@ -5,6 +5,7 @@ mod fault;
 mod journal;
 mod note;
 mod note_text;
+mod page;
 mod rule;
 mod rule_text;
 mod set_text;

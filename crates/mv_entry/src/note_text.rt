@@ -1,8 +1,10 @@
 ghost use Rattle.std.specs.Prelude.{◌≡◌, ◌∷◌, [], decimal};
 ghost use Rattle.mv_base.specs.Outside.{Appends};
+ghost use Rattle.mv_page.specs.Page.{AddsPiece, paged};
 ghost use Rattle.mv_lex.specs.Text.{spaced};
 ghost use Rattle.mv_entry.specs.Entries.{Noted, command_word, operands, why_word, why_numbers, entry_text};
 
+use crate::page::Page;
 use crate::words::{put_number, put_word};
 use crate::{Command, Note, Why};
 use mv_base::{Failed, Sink};
@@ -27,32 +29,38 @@ fn command_word(command: &Command) -> &'static [u8]
 }
 
 /// Puts two numbers, each behind a space.
-fn put_numbers<E: Sink>(first: u128, second: u128, sink: &mut E) -> Result<(), Failed>
-    ensures { Appends (E.state sink.old) (E.state sink.new) (spaced (decimal first ∷ decimal second ∷ [])) result }
+fn put_numbers<E: Sink>(
+    first: u128,
+    second: u128,
+    page: &mut Page,
+    sink: &mut E,
+) -> Result<(), Failed>
+    ensures { AddsPiece (paged (E.state sink.old) page.old) (paged (E.state sink.new) page.new)
+        (spaced (decimal first ∷ decimal second ∷ [])) result }
 {
-    put_number(first, sink)?;
-    put_number(second, sink)
+    put_number(first, page, sink)?;
+    put_number(second, page, sink)
 }
 
 /// Puts the words of a command behind its first, each behind a space.
-fn put_operands<E: Sink>(command: &Command, sink: &mut E) -> Result<(), Failed>
-    ensures { Appends (E.state sink.old) (E.state sink.new) (spaced (operands command.now)) result }
+fn put_operands<E: Sink>(command: &Command, page: &mut Page, sink: &mut E) -> Result<(), Failed>
+    ensures { AddsPiece (paged (E.state sink.old) page.old) (paged (E.state sink.new) page.new) (spaced (operands command.now)) result }
 {
     match command {
-        Command::Collapse(net) => put_word(net.bytes(), sink),
-        Command::Simplify(down, up) => put_numbers(u128::from(*down), u128::from(*up), sink),
+        Command::Collapse(net) => put_word(net.bytes(), page, sink),
+        Command::Simplify(down, up) => put_numbers(u128::from(*down), u128::from(*up), page, sink),
         _ => Ok(()),
     }
 }
 
 /// Puts the line that a command begins.
-fn put_begin<E: Sink>(command: &Command, sink: &mut E) -> Result<(), Failed>
-    ensures { Appends (E.state sink.old) (E.state sink.new) (entry_text (Noted (Note.Begin command.now))) result }
+fn put_begin<E: Sink>(command: &Command, page: &mut Page, sink: &mut E) -> Result<(), Failed>
+    ensures { AddsPiece (paged (E.state sink.old) page.old) (paged (E.state sink.new) page.new) (entry_text (Noted (Note.Begin command.now))) result }
 {
-    sink.put(b"# begin")?;
-    put_word(command_word(command), sink)?;
-    put_operands(command, sink)?;
-    sink.put(b"\n")
+    page.put(b"# begin", sink)?;
+    put_word(command_word(command), page, sink)?;
+    put_operands(command, page, sink)?;
+    page.put(b"\n", sink)
 }
 
 /// The first word of why a step is dropped.
@@ -76,52 +84,65 @@ fn why_word(why: Why) -> &'static [u8]
 }
 
 /// Puts the numbers of why a step is dropped, each behind a space, where it has some.
-fn put_literals<E: Sink>(why: Why, sink: &mut E) -> Result<(), Failed>
-    ensures { Appends (E.state sink.old) (E.state sink.new) (spaced (why_numbers why)) result }
+fn put_literals<E: Sink>(why: Why, page: &mut Page, sink: &mut E) -> Result<(), Failed>
+    ensures { AddsPiece (paged (E.state sink.old) page.old) (paged (E.state sink.new) page.new) (spaced (why_numbers why)) result }
 {
     match why {
-        Why::Literals { before, after } => put_numbers(before, after, sink),
+        Why::Literals { before, after } => put_numbers(before, after, page, sink),
         _ => Ok(()),
     }
 }
 
 /// Puts the line that a step at the named net is dropped.
-fn put_dropped<E: Sink>(why: Why, net: &[u8], sink: &mut E) -> Result<(), Failed>
-    ensures { Appends (E.state sink.old) (E.state sink.new) (entry_text (Noted (Note.Dropped why net.now))) result }
+fn put_dropped<E: Sink>(why: Why, net: &[u8], page: &mut Page, sink: &mut E) -> Result<(), Failed>
+    ensures { AddsPiece (paged (E.state sink.old) page.old) (paged (E.state sink.new) page.new)
+        (entry_text (Noted (Note.Dropped why net.now))) result }
 {
-    sink.put(b"# note")?;
-    put_word(why_word(why), sink)?;
-    put_literals(why, sink)?;
-    put_word(net, sink)?;
-    sink.put(b"\n")
+    page.put(b"# note", sink)?;
+    put_word(why_word(why), page, sink)?;
+    put_literals(why, page, sink)?;
+    put_word(net, page, sink)?;
+    page.put(b"\n", sink)
 }
 
 /// Puts the line that a command ends with so many literals.
-fn put_end<E: Sink>(literals: u128, sink: &mut E) -> Result<(), Failed>
-    ensures { Appends (E.state sink.old) (E.state sink.new) (entry_text (Noted (Note.End literals))) result }
+fn put_end<E: Sink>(literals: u128, page: &mut Page, sink: &mut E) -> Result<(), Failed>
+    ensures { AddsPiece (paged (E.state sink.old) page.old) (paged (E.state sink.new) page.new) (entry_text (Noted (Note.End literals))) result }
 {
-    sink.put(b"# end")?;
-    put_number(literals, sink)?;
-    sink.put(b"\n")
+    page.put(b"# end", sink)?;
+    put_number(literals, page, sink)?;
+    page.put(b"\n", sink)
 }
 
 /// Puts the line that the run ends.
-fn put_done<E: Sink>(before: u128, after: u128, sink: &mut E) -> Result<(), Failed>
-    ensures { Appends (E.state sink.old) (E.state sink.new) (entry_text (Noted (Note.Done before after))) result }
+fn put_done<E: Sink>(before: u128, after: u128, page: &mut Page, sink: &mut E) -> Result<(), Failed>
+    ensures { AddsPiece (paged (E.state sink.old) page.old) (paged (E.state sink.new) page.new) (entry_text (Noted (Note.Done before after))) result }
 {
-    sink.put(b"# done")?;
-    put_numbers(before, after, sink)?;
-    sink.put(b"\n")
+    page.put(b"# done", sink)?;
+    put_numbers(before, after, page, sink)?;
+    page.put(b"\n", sink)
 }
 
-/// Appends the line of a note to the sink. It takes no memory.
+/// Puts the line of a note.
+fn put_note_text<E: Sink>(note: &Note, page: &mut Page, sink: &mut E) -> Result<(), Failed>
+    ensures { AddsPiece (paged (E.state sink.old) page.old) (paged (E.state sink.new) page.new) (entry_text (Noted note.now)) result }
+{
+    match note {
+        Note::Begin(command) => put_begin(command, page, sink),
+        Note::Dropped(why, net) => put_dropped(*why, net.bytes(), page, sink),
+        Note::End(literals) => put_end(*literals, page, sink),
+        Note::Done(before, after) => put_done(*before, *after, page, sink),
+    }
+}
+
+/// Appends the line of a note to the sink, in large pieces: in one where it fits a page. It takes no memory.
 pub fn put_note<E: Sink>(note: &Note, sink: &mut E) -> Result<(), Failed>
     ensures { Appends (E.state sink.old) (E.state sink.new) (entry_text (Noted note.now)) result }
 {
-    match note {
-        Note::Begin(command) => put_begin(command, sink),
-        Note::Dropped(why, net) => put_dropped(*why, net.bytes(), sink),
-        Note::End(literals) => put_end(*literals, sink),
-        Note::Done(before, after) => put_done(*before, *after, sink),
+    let mut page = Page::of(b"");
+    match put_note_text(note, &mut page, sink) {
+        Ok(()) => {}
+        Err(failed) => return Err(failed),
     }
+    page.hand_on(sink)
 }

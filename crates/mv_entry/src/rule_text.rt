@@ -1,92 +1,111 @@
 ghost use Rattle.std.specs.Prelude.{map};
 ghost use Rattle.std.specs.List.{flat_map};
 ghost use Rattle.mv_base.specs.Outside.{Appends};
+ghost use Rattle.mv_page.specs.Page.{AddsPiece, paged};
 ghost use Rattle.mv_lex.specs.Text.{spaced, line_text};
 ghost use Rattle.mv_entry.specs.Entries.{Applied, lit_words, line_words, default_lines, body_lines, entry_text};
 
+use crate::page::Page;
 use crate::set_text::put_set;
 use crate::words::{put_pair, put_triple, put_word};
 use crate::{Body, BodyLine, BodyLit, Rule};
 use mv_base::{Failed, Sink, ValueSet};
 
 /// Puts a literal: the net and the set, each behind a space.
-fn put_literal<E: Sink>(literal: &BodyLit, sink: &mut E) -> Result<(), Failed>
-    ensures { Appends (E.state sink.old) (E.state sink.new) (spaced (lit_words literal.now)) result }
+fn put_literal<E: Sink>(literal: &BodyLit, page: &mut Page, sink: &mut E) -> Result<(), Failed>
+    ensures { AddsPiece (paged (E.state sink.old) page.old) (paged (E.state sink.new) page.new) (spaced (lit_words literal.now)) result }
 {
-    put_word(literal.net.bytes(), sink)?;
-    sink.put(b" ")?;
-    put_set(literal.set, sink)
+    put_word(literal.net.bytes(), page, sink)?;
+    page.put(b" ", sink)?;
+    put_set(literal.set, page, sink)
 }
 
 /// Puts literals, one after the other.
-fn put_literals<E: Sink>(lits: &[BodyLit], sink: &mut E) -> Result<(), Failed>
-    ensures { Appends (E.state sink.old) (E.state sink.new) (spaced (flat_map lit_words lits.now)) result }
+fn put_literals<E: Sink>(lits: &[BodyLit], page: &mut Page, sink: &mut E) -> Result<(), Failed>
+    ensures { AddsPiece (paged (E.state sink.old) page.old) (paged (E.state sink.new) page.new) (spaced (flat_map lit_words lits.now)) result }
 {
     for literal in lits {
-        put_literal(literal, sink)?;
+        put_literal(literal, page, sink)?;
     }
     Ok(())
 }
 
 /// Puts a line of a body.
-fn put_line<E: Sink>(line: &BodyLine, sink: &mut E) -> Result<(), Failed>
-    ensures { Appends (E.state sink.old) (E.state sink.new) (line_text (line_words line.now)) result }
+fn put_line<E: Sink>(line: &BodyLine, page: &mut Page, sink: &mut E) -> Result<(), Failed>
+    ensures { AddsPiece (paged (E.state sink.old) page.old) (paged (E.state sink.new) page.new) (line_text (line_words line.now)) result }
 {
-    sink.put(b"line")?;
-    put_literals(line.lits.as_slice(), sink)?;
-    sink.put(b" -> ")?;
-    put_set(line.out, sink)?;
-    sink.put(b"\n")
+    page.put(b"line", sink)?;
+    put_literals(line.lits.as_slice(), page, sink)?;
+    page.put(b" -> ", sink)?;
+    put_set(line.out, page, sink)?;
+    page.put(b"\n", sink)
 }
 
 /// Puts lines of a body, one after the other.
-fn put_lines<E: Sink>(lines: &[BodyLine], sink: &mut E) -> Result<(), Failed>
-    ensures { Appends (E.state sink.old) (E.state sink.new) (flat_map line_text (map line_words lines.now)) result }
+fn put_lines<E: Sink>(lines: &[BodyLine], page: &mut Page, sink: &mut E) -> Result<(), Failed>
+    ensures { AddsPiece (paged (E.state sink.old) page.old) (paged (E.state sink.new) page.new)
+        (flat_map line_text (map line_words lines.now)) result }
 {
     for line in lines {
-        put_line(line, sink)?;
+        put_line(line, page, sink)?;
     }
     Ok(())
 }
 
 /// Puts the line of a default, if there is one.
-fn put_default<E: Sink>(default: Option<ValueSet>, sink: &mut E) -> Result<(), Failed>
-    ensures { Appends (E.state sink.old) (E.state sink.new) (flat_map line_text (default_lines default)) result }
+fn put_default<E: Sink>(
+    default: Option<ValueSet>,
+    page: &mut Page,
+    sink: &mut E,
+) -> Result<(), Failed>
+    ensures { AddsPiece (paged (E.state sink.old) page.old) (paged (E.state sink.new) page.new) (flat_map line_text (default_lines default)) result }
 {
     match default {
         Some(set) => {
-            sink.put(b"default ")?;
-            put_set(set, sink)?;
-            sink.put(b"\n")
+            page.put(b"default ", sink)?;
+            put_set(set, page, sink)?;
+            page.put(b"\n", sink)
         }
         None => Ok(()),
     }
 }
 
 /// Puts the lines of a body, with its end.
-fn put_body<E: Sink>(body: &Body, sink: &mut E) -> Result<(), Failed>
-    ensures { Appends (E.state sink.old) (E.state sink.new) (flat_map line_text (body_lines body.now)) result }
+fn put_body<E: Sink>(body: &Body, page: &mut Page, sink: &mut E) -> Result<(), Failed>
+    ensures { AddsPiece (paged (E.state sink.old) page.old) (paged (E.state sink.new) page.new) (flat_map line_text (body_lines body.now)) result }
 {
-    put_lines(body.lines.as_slice(), sink)?;
-    put_default(body.default, sink)?;
-    sink.put(b"end\n")
+    put_lines(body.lines.as_slice(), page, sink)?;
+    put_default(body.default, page, sink)?;
+    page.put(b"end\n", sink)
 }
 
-/// Appends the lines of a rule to the sink, value by value. It takes no memory.
+/// Puts the lines of a rule.
+fn put_rule_text<E: Sink>(rule: &Rule, page: &mut Page, sink: &mut E) -> Result<(), Failed>
+    ensures { AddsPiece (paged (E.state sink.old) page.old) (paged (E.state sink.new) page.new) (entry_text (Applied rule.now)) result }
+{
+    match rule {
+        Rule::Remove { net } => put_pair(b"remove", net.bytes(), page, sink),
+        Rule::Add { net, body } => {
+            put_pair(b"add", net.bytes(), page, sink)?;
+            put_body(body, page, sink)
+        }
+        Rule::Divide { net, by, body } => {
+            put_triple(b"divide", net.bytes(), by.bytes(), page, sink)?;
+            put_body(body, page, sink)
+        }
+        Rule::Wire { net } => put_pair(b"wire", net.bytes(), page, sink),
+        Rule::Collapse { net } => put_pair(b"collapse", net.bytes(), page, sink),
+    }
+}
+
+/// Appends the lines of a rule to the sink, in large pieces: in one where they fit a page. It takes no memory.
 pub fn put_rule<E: Sink>(rule: &Rule, sink: &mut E) -> Result<(), Failed>
     ensures { Appends (E.state sink.old) (E.state sink.new) (entry_text (Applied rule.now)) result }
 {
-    match rule {
-        Rule::Remove { net } => put_pair(b"remove", net.bytes(), sink),
-        Rule::Add { net, body } => {
-            put_pair(b"add", net.bytes(), sink)?;
-            put_body(body, sink)
-        }
-        Rule::Divide { net, by, body } => {
-            put_triple(b"divide", net.bytes(), by.bytes(), sink)?;
-            put_body(body, sink)
-        }
-        Rule::Wire { net } => put_pair(b"wire", net.bytes(), sink),
-        Rule::Collapse { net } => put_pair(b"collapse", net.bytes(), sink),
+    let mut page = Page::of(b"");
+    match put_rule_text(rule, &mut page, sink) {
+        Ok(()) => {}
+        Err(failed) => return Err(failed),
     }
+    page.hand_on(sink)
 }

@@ -1,7 +1,6 @@
 -- A file that is lexed piece by piece, while it is read. For private functions.
 use Rattle.std.specs.Prelude.{◌≡◌, ◌⊎◌, ℕ, ◌<◌, ◌≤◌, Bool, true, false, Option, Some, None, List, [], ◌++◌, length}
 use Rattle.mv_base.specs.Outside.{Held, Stored, Rose}
-use Rattle.mv_base.specs.declared.limits.TheConstants.{MAX_NETWORK_BYTES}
 use Rattle.mv_lex.specs.declared.fault.LexFault.{LexFault}
 use Rattle.mv_lex.specs.declared.fault.LexFault.TheVariants.{Memory as out_of_memory}
 use Rattle.mv_lex.specs.declared.lines.LexLine.{LexLine}
@@ -40,25 +39,25 @@ PieceCause before after old most (Lex fault) = StoppedPiece before.held after.he
 -- ---- all that is left of the current file
 
 -- these bytes were read to the end, and the lexer stands behind them without a fault
-pub record FedAll (before after : Option Held) (now : Reading) (lines : List LexLine) : Type 0 where
+pub record FedAll (before after : Option Held) (limit : ℕ) (now : Reading) (lines : List LexLine) : Type 0 where
   pub bytes : List ℕ
   pub passed : Passed before after bytes
   pub ended : Ended before after
   pub stands : IsAfter now bytes
   pub lines_are : lines ≡ complete bytes
-  pub limit : now.limit ≡ MAX_NETWORK_BYTES
+  pub limited : now.limit ≡ limit
 
 -- bytes without a fault were read and one piece behind them, in which the lexer stopped: for want of memory, or at this
 -- fault, the first of them
-pub record StoppedBytes (before after : Option Held) (fault : LexFault) : Type 0 where
+pub record StoppedBytes (before after : Option Held) (limit : ℕ) (fault : LexFault) : Type 0 where
   pub front : List ℕ
   pub piece : List ℕ
-  pub clear : first_fault MAX_NETWORK_BYTES [] front ≡ None
+  pub clear : first_fault limit [] front ≡ None
   pub few : length piece ≤ PIECE
   pub passed : Passed before after (front ++ piece)
-  pub told : (fault ≡ out_of_memory) ⊎ (first_fault MAX_NETWORK_BYTES [] (front ++ piece) ≡ Some fault)
+  pub told : (fault ≡ out_of_memory) ⊎ (first_fault limit [] (front ++ piece) ≡ Some fault)
 
 -- why the reading stops before the end: the count of faults rose, or the lexer stopped
-abbrev pub FeedCause : Stored → Stored → LinesStop → Type 0
-FeedCause before after Failed = Rose before.faults after.faults × Unsound before.held
-FeedCause before after (Lex fault) = StoppedBytes before.held after.held fault
+abbrev pub FeedCause : Stored → Stored → ℕ → LinesStop → Type 0
+FeedCause before after limit Failed = Rose before.faults after.faults × Unsound before.held
+FeedCause before after limit (Lex fault) = StoppedBytes before.held after.held limit fault

@@ -1,5 +1,4 @@
-ghost use Rattle.std.specs.Prelude.{◌≡◌, ◌<◌, [], length, Err, IfOk, OnOk, IfErr};
-ghost use Rattle.mv_base.specs.declared.limits.TheConstants.{MAX_NETWORK_BYTES as most_bytes};
+ghost use Rattle.std.specs.Prelude.{◌≡◌, ◌<◌, ◌-◌, ◌^◌, [], length, Err, IfOk, OnOk, IfErr};
 ghost use Rattle.mv_lex.specs.declared.fault.LexFault.{LexFault};
 ghost use Rattle.mv_lex.specs.Reading.{IsAfter};
 ghost use Rattle.mv_files.specs.FileReading.{Stay};
@@ -7,7 +6,7 @@ ghost use Rattle.mv_files.specs.LexedFiles.{WasLexed, ReadFront, LinesCause};
 ghost use Rattle.mv_files.specs.LexedPieces.{FedPiece, PieceCause, FedAll, FeedCause};
 
 use crate::read::PIECE;
-use mv_base::{Files, MAX_NETWORK_BYTES};
+use mv_base::Files;
 use mv_lex::{LexFault, Lexer, Lines};
 use std::alloc::Global;
 
@@ -43,16 +42,22 @@ fn feed_piece<F: Files>(
 }
 
 /// Lexes the current file up to its end or to its first fault.
-fn feed_all<F: Files>(files: &mut F, lexer: &mut Lexer, lines: &mut Lines) -> Result<(), LinesStop>
+fn feed_all<F: Files>(
+    files: &mut F,
+    lexer: &mut Lexer,
+    lines: &mut Lines,
+    limit: u64,
+) -> Result<(), LinesStop>
+    requires small { limit < 2 ^ 32 - 1 }
     requires start { IsAfter lexer.old [] }
-    requires limit { lexer.old.limit ≡ most_bytes }
+    requires limit { lexer.old.limit ≡ limit }
     requires empty { lines.old ≡ [] }
-    ensures fed { OnOk result (FedAll (F.state files.old).held (F.state files.new).held lexer.new lines.new) }
+    ensures fed { OnOk result (FedAll (F.state files.old).held (F.state files.new).held limit lexer.new lines.new) }
     ensures stay { Stay (F.state files.old) (F.state files.new) }
-    ensures stopped { IfErr result (FeedCause (F.state files.old) (F.state files.new)) }
+    ensures stopped { IfErr result (FeedCause (F.state files.old) (F.state files.new) limit) }
 {
     let mut room = [0u8; PIECE];
-    for _turn in 0..MAX_NETWORK_BYTES + 1 {
+    for _turn in 0..limit + 1 {
         match feed_piece(files, &mut room, lexer, lines) {
             Ok(true) => {}
             Ok(false) => return Ok(()),
@@ -62,21 +67,27 @@ fn feed_all<F: Files>(files: &mut F, lexer: &mut Lexer, lines: &mut Lines) -> Re
     unreachable!()
 }
 
-/// The lines of a network file. It is lexed while it is read, and the reading stops at its first fault: no piece is read
-/// behind the one in which that is told, and no more than the limit and one piece.
-pub fn read_lines<F: Files>(alloc: Global, files: &mut F, name: &str) -> Result<Lines, LinesStop>
-    ensures lexed { IfOk result (WasLexed (F.state files.old) (F.state files.new) name.now) }
+/// The lines of the named file, of so many bytes at most. It is lexed while it is read, and the reading stops at its first
+/// fault: no piece is read behind the one in which that is told, and no more than the limit and one piece.
+pub fn read_lines<F: Files>(
+    alloc: Global,
+    files: &mut F,
+    name: &str,
+    limit: u64,
+) -> Result<Lines, LinesStop>
+    requires { limit < 2 ^ 32 - 1 }
+    ensures lexed { IfOk result (WasLexed (F.state files.old) (F.state files.new) name.now limit) }
     ensures stay { Stay (F.state files.old) (F.state files.new) }
-    ensures stopped { IfErr result (LinesCause (F.state files.old) (F.state files.new) name.now) }
-    ensures in_time { (fault : LexFault) → result ≡ Err (LinesStop.Lex fault) → ReadFront (F.state files.old) (F.state files.new) name.now }
+    ensures stopped { IfErr result (LinesCause (F.state files.old) (F.state files.new) name.now limit) }
+    ensures in_time { (fault : LexFault) → result ≡ Err (LinesStop.Lex fault) → ReadFront (F.state files.old) (F.state files.new) name.now limit }
 {
     match files.start(name) {
         Ok(()) => {}
         Err(_failed) => return Err(LinesStop::Failed),
     }
     let mut lines = Lines::new(alloc);
-    let mut lexer = Lexer::new(alloc, MAX_NETWORK_BYTES);
-    match feed_all(files, &mut lexer, &mut lines) {
+    let mut lexer = Lexer::new(alloc, limit);
+    match feed_all(files, &mut lexer, &mut lines, limit) {
         Ok(()) => {}
         Err(stop) => return Err(stop),
     }

@@ -20,4 +20,6 @@ pub mod FormedNets
 pub mod FormedLists
 pub mod FormedRanks
 pub mod Formed
+pub mod ShortNames
 pub mod Whole
+pub mod OneNetwork

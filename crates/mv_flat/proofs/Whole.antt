@@ -1,8 +1,9 @@
--- The network of a sound model: it is well formed, has few enough nets, and means what the model means.
+-- The network of a sound model: it is well formed, has few enough nets and no name that is too long, and means what the
+-- model means.
 use Rattle.std.proofs.Common.{◌≡◌, ℕ, ◌≤◌, true, List, length, ◌∙◌, arith}
 use Rattle.mv_base.specs.Meaning.{SameMeaning}
 use Rattle.mv_base.specs.Names.{among}
-use Rattle.mv_base.specs.declared.limits.TheConstants.{MAX_FLAT_NETS, MAX_NETS}
+use Rattle.mv_base.specs.declared.limits.TheConstants.{MAX_NETS}
 use Rattle.mv_base.proofs.NameLemmas.{IsDistinct-from_differ}
 use Rattle.mv_design.specs.declared.design.Design.{Design}
 use Rattle.mv_design.specs.declared.design.FileModel.{FileModel}
@@ -10,16 +11,17 @@ use Rattle.mv_net.specs.Allowed.{of_net}
 use Rattle.mv_net.specs.Formed.{WellFormed}
 use Rattle.mv_net.specs.declared.parts.NetParts.{NetParts}
 use Rattle.mv_model.specs.Meaning.{of_model, of_design}
-use Rattle.mv_model.specs.Nets.{root_of, nets_named, nets_of, drivers}
+use Rattle.mv_model.specs.Nets.{root_of, nets_named, drivers}
 use Rattle.mv_model.specs.Numbers.{places}
 use Rattle.mv_model.specs.Proper.{IsProperModel}
-use Rattle.mv_model.specs.Sound.{IsDrivenOnce, IsSoundModel}
+use Rattle.mv_model.specs.Sound.{IsDrivenOnce, IsSoundModel, IsWithinLimits}
 use Rattle.mv_model.proofs.Distinct.{differ_counted, drivers_counted, net_is_driven, places_differ, few_places}
 use Rattle.mv_model.proofs.Named.{among-nets_of}
 use Rattle.mv_flat.specs.Built.{IsBuilt}
 use Rattle.mv_flat.specs.Flat.{IsFlat}
 use Rattle.mv_flat.proofs.Places.{IsModelNet, nets_size}
 use Rattle.mv_flat.proofs.Same.{net_same}
+use Rattle.mv_flat.proofs.ShortNames.{names_short}
 use Rattle.mv_flat.proofs.Formed.{net_formed}
 
 -- ---- each net is driven once
@@ -41,21 +43,23 @@ model_net m net proper sound built = record {
 pub well_formed : (m : FileModel) (net : NetParts) → IsProperModel m → IsSoundModel m → IsBuilt m net → WellFormed net
 well_formed m net proper sound built = net_formed m net (model_net m net proper sound built) sound
 
-pub few_nets : (m : FileModel) (net : NetParts) → IsProperModel m → IsSoundModel m → length (nets_of m) ≤ MAX_FLAT_NETS → IsBuilt m net → length net.nets ≤ MAX_NETS
-few_nets m net proper sound few built =
+pub few_nets : (m : FileModel) (net : NetParts) → IsProperModel m → IsSoundModel m → IsWithinLimits m → IsBuilt m net → length net.nets ≤ MAX_NETS
+few_nets m net proper sound limits built =
     let size = nets_size m net (model_net m net proper sound built) in
     let twice = few_places m sound.driven in
+    let few = limits.few in
     omega arith
 
 pub same_meaning : (m : FileModel) (net : NetParts) → IsProperModel m → IsSoundModel m → IsBuilt m net → SameMeaning (of_net net) (of_model m)
 same_meaning m net proper sound built = net_same m net (model_net m net proper sound built)
 
--- the network of a design whose root is a sound model with few enough nets
-pub flat_design : (d : Design) (net : NetParts) → IsProperModel (root_of d) → IsSoundModel (root_of d) → length (nets_of (root_of d)) ≤ MAX_FLAT_NETS → IsBuilt (root_of d) net → IsFlat net d
+-- the network of a design whose root is a sound model with nets within the limits
+pub flat_design : (d : Design) (net : NetParts) → IsProperModel (root_of d) → IsSoundModel (root_of d) → IsWithinLimits (root_of d) → IsBuilt (root_of d) net → IsFlat net d
 unfolding of_design
-flat_design d net proper sound few built = record {
+flat_design d net proper sound limits built = record {
   sound = record { root = sound };
-  nets = few;
+  limits = limits;
   built = built;
   means = same_meaning (root_of d) net proper sound built;
+  short = names_short (root_of d) net limits built;
 }

@@ -1,18 +1,24 @@
 -- The network of a design.
-use Rattle.std.specs.Prelude.{◌≤◌, length}
+use Rattle.std.specs.Prelude.{◌≤◌, Option, IfSome, List, length, All}
 use Rattle.mv_base.specs.Meaning.{SameMeaning}
-use Rattle.mv_base.specs.declared.limits.TheConstants.{MAX_FLAT_NETS}
+use Rattle.mv_base.specs.declared.limits.TheConstants.{MAX_FLAT_NAME_BYTES}
 use Rattle.mv_design.specs.declared.design.Design.{Design}
+use Rattle.mv_net.specs.declared.parts.FlatNet.{FlatNet}
 use Rattle.mv_net.specs.declared.parts.NetParts.{NetParts}
 use Rattle.mv_net.specs.Allowed.{of_net}
-use Rattle.mv_model.specs.Nets.{root_of, nets_of}
-use Rattle.mv_model.specs.Sound.{IsSound}
+use Rattle.mv_model.specs.Nets.{root_of}
+use Rattle.mv_model.specs.Sound.{IsSound, IsWithinLimits}
 use Rattle.mv_model.specs.Meaning.{of_design}
 use Rattle.mv_flat.specs.Built.{IsBuilt}
 
--- a sound design with few enough nets, and its network, which means the same
+-- no net has a name that is too long
+abbrev pub AreShort : List (Option FlatNet) → Type 0
+AreShort nets = All (λ (o : Option FlatNet). IfSome o (λ (f : FlatNet). length f.name ≤ MAX_FLAT_NAME_BYTES)) nets
+
+-- a sound design whose nets are within the limits, and its network, which means the same; no name of it is too long
 pub record IsFlat (net : NetParts) (d : Design) : Type 0 where
   pub sound : IsSound d
-  pub nets : length (nets_of (root_of d)) ≤ MAX_FLAT_NETS
+  pub limits : IsWithinLimits (root_of d)
   pub built : IsBuilt (root_of d) net
   pub means : SameMeaning (of_net net) (of_design d)
+  pub short : AreShort net.nets

@@ -4,10 +4,12 @@
 mod columns;
 mod flat;
 mod fresh;
+mod laws;
 mod marks;
 mod nets;
 mod tables;
 mod values;
 
 pub use flat::{flatten, flatten_owned};
+pub use laws::at_most_one_network;
 pub use mv_model::FlatFault;

@@ -1,14 +1,17 @@
--- Models whose nets have no fault: each net is driven once.
-use Rattle.std.proofs.Common.{◌≡◌, ◌⊎◌, ℕ, ◌+◌, ◌<◌, ◌≤◌, Bool, true, false, List, [], ◌∷◌, ◌++◌, length, Some, refl, sym, ◌∙◌, ap, subst, arith, ⊎_elim, inl, inr}
+-- Models whose nets have no fault: they are within the limits, and each is driven once.
+use Rattle.std.proofs.Common.{◌≡◌, ◌⊎◌, ℕ, ◌+◌, ◌≤◌, Bool, true, false, List, [], ◌∷◌, ◌++◌, length, take, Some, refl, sym, ◌∙◌, ap, subst, arith, ⊎_elim, inl, inr}
 use Rattle.std.specs.Prelude.{nat_lt, ◌==◌}
 use Rattle.std.specs.List.{list_any, flat_map}
-use Rattle.std.proofs.lemmas.Bool.{false≢true, and_parts, or_cases, or_left, or_right}
+use Rattle.std.proofs.lemmas.Bool.{false≢true, and_parts, or_cases, or_left, or_right, ltb-false, le-ltb}
 use Rattle.std.proofs.lemmas.Bool.Decides.{nat_tests}
+use Rattle.std.proofs.lemmas.List.{take_all}
 use Rattle.std.proofs.lemmas.Option.{same_Some}
 use Rattle.mv_base.specs.Names.{same_word, among}
-use Rattle.mv_base.specs.declared.limits.TheConstants.{MAX_FLAT_NETS}
+use Rattle.mv_base.specs.declared.limits.TheConstants.{MAX_FLAT_NETS, MAX_FLAT_NAME_BYTES}
 use Rattle.mv_base.proofs.NameLemmas.{same_word_is, same_word_refl, among-append}
-use Rattle.mv_fault.specs.declared.fault.Which.TheVariants.{Nets}
+use Rattle.mv_fault.specs.declared.fault.Which.{Which}
+use Rattle.mv_fault.specs.declared.fault.Which.TheVariants.{Nets, NetName}
+use Rattle.mv_fault.proofs.Firsts.{append-nothing}
 use Rattle.mv_fault.proofs.Nothing.{left-nothing, right-nothing, when-nothing}
 use Rattle.mv_design.specs.declared.table.FileTable.{FileTable}
 use Rattle.mv_design.specs.declared.design.FileModel.{FileModel}
@@ -16,7 +19,7 @@ use Rattle.mv_model.specs.declared.fault.FlatFault.{FlatFault}
 use Rattle.mv_model.specs.declared.fault.FlatFault.TheVariants.{DrivenTwice, Undriven, Cycle, Limit, Memory}
 use Rattle.mv_model.specs.Nets.{columns_of, nets_driven, nets_named, nets_of, drivers, drivers_of}
 use Rattle.mv_fault.specs.Tells.{when, first}
-use Rattle.mv_model.specs.Sound.{reads_through, reads, twice_at, undriven_at, many_faults, net_faults, IsDrivenOnce, IsSoundModel, IsFault}
+use Rattle.mv_model.specs.Sound.{reads_through, reads, twice_at, undriven_at, long_faults, many_faults, limit_faults, net_faults, IsDrivenOnce, IsSoundModel, IsWithinLimits, IsFault}
 use Rattle.mv_model.proofs.Named.{among-nets_of}
 
 -- ---- names in parts of lists
@@ -101,28 +104,51 @@ none_from test fault (n ∷ ns) h =
 pub one_driver : (n : ℕ) → nat_lt 1 n ≡ false → (n == 0) ≡ false → n ≡ 1
 one_driver n h k = grind (arith, nat_tests)
 
--- where the nets have no fault, each is driven once, and there are not too many
+-- where the nets have no fault, each is driven once
 pub driven_once : (m : FileModel) → net_faults m ≡ [] → IsDrivenOnce m
 unfolding net_faults
 driven_once m e =
     let twice = flat_map (twice_at m) (nets_of m) in
     let undriven = flat_map (undriven_at m) (nets_of m) in
-    let driven : twice ++ undriven ≡ [] = right-nothing (many_faults m) (twice ++ undriven) e in
+    let driven : twice ++ undriven ≡ [] = right-nothing (limit_faults m) (twice ++ undriven) e in
     record { once = λ net h. one_driver (drivers_of m net) (none_of (λ w. nat_lt 1 (drivers_of m w)) DrivenTwice (nets_of m) net (left-nothing twice undriven driven) h) (none_of (λ w. drivers_of m w == 0) Undriven (nets_of m) net (right-nothing twice undriven driven) h) }
 
-few_from : (n : ℕ) → nat_lt MAX_FLAT_NETS n ≡ false → n ≤ MAX_FLAT_NETS
-few_from n h = grind (arith, nat_tests)
-
 pub few_nets : (m : FileModel) → net_faults m ≡ [] → length (nets_of m) ≤ MAX_FLAT_NETS
-unfolding net_faults many_faults
-few_nets m e = few_from (length (nets_of m)) (when-nothing _ (Limit Nets (MAX_FLAT_NETS + 1)) (left-nothing (many_faults m) _ e))
+unfolding net_faults limit_faults many_faults
+few_nets m e =
+    let many : many_faults m ≡ [] = right-nothing (long_faults (take MAX_FLAT_NETS (nets_of m))) (many_faults m) (left-nothing (limit_faults m) _ e) in
+    ltb-false MAX_FLAT_NETS (length (nets_of m)) (when-nothing _ (Limit Nets (MAX_FLAT_NETS + 1)) many)
 
-not_many : (n : ℕ) → n ≤ MAX_FLAT_NETS → nat_lt MAX_FLAT_NETS n ≡ false
-not_many n h = grind (arith, nat_tests)
+-- few enough nets are all asked for how long their names are
+long_all : (m : FileModel) → length (nets_of m) ≤ MAX_FLAT_NETS → long_faults (take MAX_FLAT_NETS (nets_of m)) ≡ long_faults (nets_of m)
+long_all m few = ap long_faults (take_all MAX_FLAT_NETS (nets_of m) few)
+
+short_names : (m : FileModel) → long_faults (nets_of m) ≡ [] → (net : List ℕ) → among net (nets_of m) ≡ true → length net ≤ MAX_FLAT_NAME_BYTES
+unfolding long_faults
+short_names m e net h =
+    ltb-false MAX_FLAT_NAME_BYTES (length net)
+    (none_of (λ w. nat_lt MAX_FLAT_NAME_BYTES (length w)) (λ w. Limit NetName (length w)) (nets_of m) net e h)
+
+-- where the nets have no fault, they are within the limits
+pub within_limits : (m : FileModel) → net_faults m ≡ [] → IsWithinLimits m
+unfolding net_faults limit_faults
+within_limits m e =
+    let few = few_nets m e in
+    record { few = few; short = short_names m (sym (long_all m few) ∙ left-nothing (long_faults (take MAX_FLAT_NETS (nets_of m))) (many_faults m) (left-nothing (limit_faults m) _ e)) }
 
 none_many : (m : FileModel) → length (nets_of m) ≤ MAX_FLAT_NETS → many_faults m ≡ []
 unfolding many_faults
-none_many m few = ap (λ b. when b (Limit Nets (MAX_FLAT_NETS + 1))) (not_many (length (nets_of m)) few)
+none_many m few = ap (λ b. when b (Limit Nets (MAX_FLAT_NETS + 1))) (le-ltb MAX_FLAT_NETS (length (nets_of m)) few)
+
+none_long : (m : FileModel) → IsWithinLimits m → long_faults (nets_of m) ≡ []
+unfolding long_faults
+none_long m within =
+    none_from (λ w. nat_lt MAX_FLAT_NAME_BYTES (length w)) (λ w. Limit NetName (length w)) (nets_of m)
+    (λ net h. le-ltb MAX_FLAT_NAME_BYTES (length net) (within.short net h))
+
+none_past : (m : FileModel) → IsWithinLimits m → limit_faults m ≡ []
+unfolding limit_faults
+none_past m within = append-nothing _ (many_faults m) (long_all m within.few ∙ none_long m within) (none_many m within.few)
 
 one_isnt_more : (n : ℕ) → n ≡ 1 → nat_lt 1 n ≡ false
 one_isnt_more n e = rw e refl
@@ -131,10 +157,10 @@ one_isnt_none : (n : ℕ) → n ≡ 1 → (n == 0) ≡ false
 one_isnt_none n e = rw e refl
 
 -- and the other way round
-pub no_faults : (m : FileModel) → IsDrivenOnce m → length (nets_of m) ≤ MAX_FLAT_NETS → net_faults m ≡ []
+pub no_faults : (m : FileModel) → IsDrivenOnce m → IsWithinLimits m → net_faults m ≡ []
 unfolding net_faults
-no_faults m d few =
-    rw (none_many m few, none_from (λ w. nat_lt 1 (drivers_of m w)) DrivenTwice (nets_of m) (λ net h. one_isnt_more (drivers_of m net) (d.once net h)))
+no_faults m d within =
+    rw (none_past m within, none_from (λ w. nat_lt 1 (drivers_of m w)) DrivenTwice (nets_of m) (λ net h. one_isnt_more (drivers_of m net) (d.once net h)))
     (none_from (λ w. drivers_of m w == 0) Undriven (nets_of m) (λ net h. one_isnt_none (drivers_of m net) (d.once net h)))
 
 no_first : (fs : List FlatFault) (f : FlatFault) → fs ≡ [] → first fs ≡ Some f → ⊥
@@ -156,9 +182,20 @@ told_by test fault (n ∷ ns) f e =
     here true h = same_Some (fault n) f h
     here false h = cc
 
-no_limit_cycle : (b : Bool) (net : List ℕ) → first (when b (Limit Nets (MAX_FLAT_NETS + 1))) ≡ Some (Cycle net) → ⊥
-no_limit_cycle true net e = cc
-no_limit_cycle false net e = cc
+limit_isnt_cycle : (which : Which) (n : ℕ) (net : List ℕ) → Limit which n ≡ Cycle net → ⊥
+limit_isnt_cycle which n net e = cc
+
+no_many_cycle : (b : Bool) (net : List ℕ) → first (when b (Limit Nets (MAX_FLAT_NETS + 1))) ≡ Some (Cycle net) → ⊥
+no_many_cycle true net e = cc
+no_many_cycle false net e = cc
+
+no_limit_cycle : (m : FileModel) (net : List ℕ) → first (limit_faults m) ≡ Some (Cycle net) → ⊥
+unfolding limit_faults long_faults many_faults
+no_limit_cycle m net e =
+    ⊎_elim
+    (λ y. let t = told_by (λ w. nat_lt MAX_FLAT_NAME_BYTES (length w)) (λ w. Limit NetName (length w)) (take MAX_FLAT_NETS (nets_of m)) (Cycle net) y in limit_isnt_cycle NetName (length t.0) net t.1)
+    (λ y. no_many_cycle (nat_lt MAX_FLAT_NETS (length (nets_of m))) net y)
+    (first_either (long_faults (take MAX_FLAT_NETS (nets_of m))) (many_faults m) (Cycle net) e)
 
 twice_isnt_cycle : (n net : List ℕ) → DrivenTwice n ≡ Cycle net → ⊥
 twice_isnt_cycle n net e = cc
@@ -168,14 +205,14 @@ undriven_isnt_cycle n net e = cc
 
 -- no fault of the drivers is a cycle
 no_cycle : (m : FileModel) (net : List ℕ) → first (net_faults m) ≡ Some (Cycle net) → ⊥
-unfolding net_faults many_faults
+unfolding net_faults
 no_cycle m net e =
-    ⊎_elim (λ y. no_limit_cycle (nat_lt MAX_FLAT_NETS (length (nets_of m))) net y)
+    ⊎_elim (λ y. no_limit_cycle m net y)
     (λ r.
     ⊎_elim (λ y. let t = told_by (λ w. nat_lt 1 (drivers_of m w)) DrivenTwice (nets_of m) (Cycle net) y in twice_isnt_cycle t.0 net t.1)
     (λ y. let t = told_by (λ w. drivers_of m w == 0) Undriven (nets_of m) (Cycle net) y in undriven_isnt_cycle t.0 net t.1)
     (first_either (flat_map (twice_at m) (nets_of m)) (flat_map (undriven_at m) (nets_of m)) (Cycle net) r))
-    (first_either (many_faults m) (flat_map (twice_at m) (nets_of m) ++ flat_map (undriven_at m) (nets_of m)) (Cycle net) e)
+    (first_either (limit_faults m) (flat_map (twice_at m) (nets_of m) ++ flat_map (undriven_at m) (nets_of m)) (Cycle net) e)
 
 first_is_fault : (m : FileModel) (f : FlatFault) → first (net_faults m) ≡ Some f → IsFault m f
 first_is_fault m (DrivenTwice net) e = e
@@ -193,10 +230,10 @@ told_is_fault m f h = ⊎_elim (λ e. memory_is_fault m f e) (λ e. first_is_fau
 
 -- ---- a model with a fault isn't sound
 
--- a model with a fault that isn't want of memory isn't sound, or has too many nets
-pub fault-excludes : (m : FileModel) (f : FlatFault) → IsFault m f → (f ≡ Memory → ⊥) → IsSoundModel m → length (nets_of m) ≤ MAX_FLAT_NETS → ⊥
-fault-excludes m (DrivenTwice net) h n s few = no_first (net_faults m) (DrivenTwice net) (no_faults m s.driven few) h
-fault-excludes m (Undriven net) h n s few = no_first (net_faults m) (Undriven net) (no_faults m s.driven few) h
-fault-excludes m (Limit which number) h n s few = no_first (net_faults m) (Limit which number) (no_faults m s.driven few) h
-fault-excludes m (Cycle net) h n s few = s.acyclic.none net h.first.cycle
-fault-excludes m Memory h n s few = n refl
+-- a model with a fault that isn't want of memory isn't sound, or isn't within the limits
+pub fault-excludes : (m : FileModel) (f : FlatFault) → IsFault m f → (f ≡ Memory → ⊥) → IsSoundModel m → IsWithinLimits m → ⊥
+fault-excludes m (DrivenTwice net) h n s within = no_first (net_faults m) (DrivenTwice net) (no_faults m s.driven within) h
+fault-excludes m (Undriven net) h n s within = no_first (net_faults m) (Undriven net) (no_faults m s.driven within) h
+fault-excludes m (Limit which number) h n s within = no_first (net_faults m) (Limit which number) (no_faults m s.driven within) h
+fault-excludes m (Cycle net) h n s within = s.acyclic.none net h.first.cycle
+fault-excludes m Memory h n s within = n refl

@@ -4,7 +4,7 @@ ghost use Rattle.mv_base.specs.declared.limits.TheConstants.{MAX_FLAT_NETS, MAX_
 ghost use Rattle.mv_graph.specs.Above.{IsAcyclic};
 ghost use Rattle.mv_model.specs.Nets.{nets_of};
 ghost use Rattle.mv_model.specs.Proper.{IsProperModel};
-ghost use Rattle.mv_model.specs.Sound.{reads, IsDrivenOnce, IsFault, IsSoundModel};
+ghost use Rattle.mv_model.specs.Sound.{reads, IsDrivenOnce, IsFault, IsSoundModel, IsWithinLimits};
 ghost use Rattle.mv_model.specs.Numbers.{places};
 ghost use Rattle.mv_model.specs.Columns.{columns_by_net};
 ghost use Rattle.mv_model.specs.Cycles.{TellsCycle};
@@ -19,14 +19,14 @@ use mv_graph::{first_turning, sorted};
 use std::alloc::Global;
 
 /// The numbers of the model's nets, if the model is sound: each net is driven once, and none is above itself. Then each net
-/// and each mark has one number. Otherwise the first fault: there are too many nets; the first net that is driven twice; the
-/// first that nothing drives; the first that is on a cycle.
+/// and each mark has one number. Otherwise the first fault: the first net whose name is too long, or one net too many,
+/// whichever comes first; the first net that is driven twice; the first that nothing drives; the first that is on a cycle.
 pub fn numbered(alloc: Global, model: &FileModel) -> Result<Numbers, FlatFault>
     requires proper { IsProperModel model.now }
     ensures places { IfOk result (λ n. n ≡ places model.now) }
     ensures differ { IfOk result (λ n. names_differ n ≡ true) }
     ensures sound { OnOk result (IsSoundModel model.now) }
-    ensures nets { OnOk result (length (nets_of model.now) ≤ MAX_FLAT_NETS) }
+    ensures limits { OnOk result (IsWithinLimits model.now) }
     ensures few { IfOk result (λ n. length n ≤ MAX_NETS) }
     ensures fault { IfErr result (λ f. IsFault model.now f) }
 {

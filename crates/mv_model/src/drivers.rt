@@ -1,15 +1,15 @@
-//! The faults of a model's nets: too many of them, and nets that are driven twice or by nothing.
+//! The faults of a model's nets: limits that they pass, and nets that are driven twice or by nothing.
 ghost use Rattle.std.specs.Prelude.{◌≡◌, IfOk, OnOk};
 ghost use Rattle.mv_fault.specs.Tells.{TellsFirst};
 ghost use Rattle.mv_model.specs.Nets.{nets_of, drivers};
-ghost use Rattle.mv_model.specs.Sound.{net_faults, many_faults};
+ghost use Rattle.mv_model.specs.Sound.{net_faults};
 ghost use Rattle.mv_model.specs.Driving.{AreDriven, twice_faults, undriven_faults, with_driver, with_drivers, with_tables};
 
 use crate::FlatFault;
+use crate::limits::check_limits;
 use crate::nets::add_net;
-use mv_base::{MAX_FLAT_NETS, Memory, Name, NameSet};
+use mv_base::{Memory, Name, NameSet};
 use mv_design::{FileModel, FileTable};
-use mv_fault::Which;
 use std::alloc::Global;
 
 /// The nets that are driven, and those of them that are driven more than once.
@@ -25,25 +25,10 @@ pub fn check_nets(alloc: Global, model: &FileModel, nets: &NameSet) -> Result<()
     requires { nets.now ≡ nets_of model.now }
     ensures { TellsFirst FlatFault.Memory result (net_faults model.now) }
 {
-    check_count(nets, model)?;
+    check_limits(nets, model)?;
     let drivers = Drivers::of(alloc, model)?;
     drivers.check_twice(nets.as_slice())?;
     drivers.check_undriven(nets.as_slice())?;
-    Ok(())
-}
-
-/// Tells whether there are more nets than a network may have.
-#[tactic(auto, unfolding(crate::specs::Sound::many_faults))]
-fn check_count(nets: &NameSet, model: &FileModel) -> Result<(), FlatFault>
-    requires { nets.now ≡ nets_of model.now }
-    ensures { TellsFirst FlatFault.Memory result (many_faults model.now) }
-{
-    if nets.len() as u64 > MAX_FLAT_NETS {
-        return Err(FlatFault::Limit {
-            which: Which::Nets,
-            number: MAX_FLAT_NETS + 1,
-        });
-    }
     Ok(())
 }
 

@@ -13,7 +13,7 @@ pub enum FlatFault {
     Undriven { net: Name },
     /// The net is above itself.
     Cycle { net: Name },
-    /// The network would pass this limit: the limit and one more.
+    /// The network would pass this limit: the limit and one more, or how long a name is.
     Limit { which: Which, number: u64 },
     Memory,
 }

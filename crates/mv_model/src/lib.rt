@@ -5,6 +5,7 @@ mod check;
 mod columns;
 mod drivers;
 mod fault;
+mod limits;
 mod mark;
 mod nets;
 mod numbers;

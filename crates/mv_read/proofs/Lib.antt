@@ -11,3 +11,4 @@ pub mod Tables
 pub mod Models
 pub mod Proper
 pub mod Refused
+pub mod OneNetwork

@@ -1,7 +1,6 @@
 -- Lines that are refused, and those that have a network.
-use Rattle.std.proofs.Common.{◌≡◌, ◌⊎◌, ◌≤◌, List, [], inl, inr, length, refl, sym, ap, subst, ◌∙◌}
+use Rattle.std.proofs.Common.{◌≡◌, ◌⊎◌, List, [], inl, inr, refl, sym, ap, subst, ◌∙◌}
 use Rattle.std.specs.Prelude.{Some, None}
-use Rattle.mv_base.specs.declared.limits.TheConstants.{MAX_FLAT_NETS}
 use Rattle.mv_lex.specs.declared.lines.LexLine.{LexLine}
 use Rattle.mv_design.specs.declared.design.Design.{Design}
 use Rattle.mv_fault.specs.declared.fault.ParseFault.{ParseFault}
@@ -11,8 +10,8 @@ use Rattle.mv_parse.specs.Grammar.{faults_of, IsDesign, IsWithin, FirstFault}
 use Rattle.mv_net.specs.declared.parts.NetParts.{NetParts}
 use Rattle.mv_model.specs.declared.fault.FlatFault.{FlatFault}
 use Rattle.mv_model.specs.declared.fault.FlatFault.TheVariants.{Memory as NoFlatMemory}
-use Rattle.mv_model.specs.Nets.{root_of, nets_of}
-use Rattle.mv_model.specs.Sound.{IsSoundModel, IsFault}
+use Rattle.mv_model.specs.Nets.{root_of}
+use Rattle.mv_model.specs.Sound.{IsSoundModel, IsWithinLimits, IsFault}
 use Rattle.mv_model.proofs.Soundness.{fault-excludes}
 use Rattle.mv_flat.specs.Flat.{IsFlat}
 use Rattle.mv_read.specs.declared.network.NetFault.{NetFault}
@@ -48,8 +47,8 @@ flat-excludes : (lines : List LexLine) (f : FlatFault) → IsUnsound lines f →
 flat-excludes lines f u h =
     let same : h.design ≡ u.design = h.is.is ∙ sym u.is.is in
     let P : Design → Type 0 = λ d. IsSoundModel (root_of d) in
-    let Q : Design → Type 0 = λ d. length (nets_of (root_of d)) ≤ MAX_FLAT_NETS in
-    fault-excludes (root_of u.design) f u.fault u.cause (subst P same h.sound.root) (subst Q same h.nets)
+    let Q : Design → Type 0 = λ d. IsWithinLimits (root_of d) in
+    fault-excludes (root_of u.design) f u.fault u.cause (subst P same h.sound.root) (subst Q same h.limits)
 
 pub refused-excludes : (lines : List LexLine) (f : NetFault) → IsFaultOf lines f → (f ≡ Memory → ⊥) → SaySoundDesign lines → ⊥
 refused-excludes lines (Parse f) told some h = parse-excludes lines f told h

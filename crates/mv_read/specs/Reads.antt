@@ -1,6 +1,5 @@
 -- Lines and the network that they say, or why they say none.
-use Rattle.std.specs.Prelude.{◌≡◌, ◌≤◌, List, length}
-use Rattle.mv_base.specs.declared.limits.TheConstants.{MAX_FLAT_NETS}
+use Rattle.std.specs.Prelude.{◌≡◌, List}
 use Rattle.mv_lex.specs.declared.lines.LexLine.{LexLine}
 use Rattle.mv_design.specs.declared.design.Design.{Design}
 use Rattle.mv_fault.specs.declared.fault.ParseFault.{ParseFault}
@@ -9,8 +8,8 @@ use Rattle.mv_parse.specs.Grammar.{IsDesign, IsWithin, FirstFault}
 use Rattle.mv_net.specs.declared.parts.NetParts.{NetParts}
 use Rattle.mv_model.specs.declared.fault.FlatFault.{FlatFault}
 use Rattle.mv_model.specs.declared.fault.FlatFault.TheVariants.{Memory as NoFlatMemory}
-use Rattle.mv_model.specs.Nets.{root_of, nets_of}
-use Rattle.mv_model.specs.Sound.{IsSound, IsFault}
+use Rattle.mv_model.specs.Nets.{root_of}
+use Rattle.mv_model.specs.Sound.{IsSound, IsWithinLimits, IsFault}
 use Rattle.mv_flat.specs.Flat.{IsFlat}
 use Rattle.mv_read.specs.declared.network.NetFault.{NetFault}
 use Rattle.mv_read.specs.declared.network.NetFault.TheVariants.{Parse, Flat, Memory}
@@ -22,15 +21,15 @@ pub record IsNetOf (lines : List LexLine) (net : NetParts) : Type 0 where
   pub within : IsWithin lines
   pub flat : IsFlat net design
 
--- lines that say a sound design with few enough nets, within the limits
+-- lines within the limits that say a sound design, whose nets are within theirs
 pub record SaySoundDesign (lines : List LexLine) : Type 0 where
   pub design : Design
   pub is : IsDesign lines design
   pub within : IsWithin lines
   pub sound : IsSound design
-  pub nets : length (nets_of (root_of design)) ≤ MAX_FLAT_NETS
+  pub limits : IsWithinLimits (root_of design)
 
--- lines that say a design which isn't sound, or has too many nets, and the fault that is told of it
+-- lines that say a design which isn't sound, or whose nets pass a limit, and the fault that is told of it
 pub record IsUnsound (lines : List LexLine) (f : FlatFault) : Type 0 where
   pub design : Design
   pub is : IsDesign lines design

@@ -4,5 +4,5 @@
 mod laws;
 mod network;
 
-pub use laws::{designs_are_proper, one_answer};
+pub use laws::{at_most_one_network, designs_are_proper, one_answer};
 pub use network::{NetFault, network_of};

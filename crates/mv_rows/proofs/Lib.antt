@@ -6,3 +6,5 @@ pub mod Rows
 pub mod Kept
 pub mod Over
 pub mod Flat
+pub mod OneCube
+pub mod OneTable

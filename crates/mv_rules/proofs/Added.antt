@@ -69,6 +69,10 @@ planned old name body change formed can is =
       makes = record { known = can.known; form = can.form; fresh = can.fresh; room = can.room; new_is = new };
     })
 
+pub added_is_formed : (old : NetParts) (name : List ℕ) (body : Body) (new : NetParts) → WellFormed old → Adds old name body new → WellFormed new
+added_is_formed old name body new formed a =
+    subst WellFormed (sym a.new_is) (added_formed old (divisor_net name (cover_said old.nets body)) formed (made old name body a.form a.fresh))
+
 pub added_is_same : (old : NetParts) (name : List ℕ) (body : Body) (new : NetParts) → WellFormed old → Adds old name body new → SameMeaning (of_net new) (of_net old)
 added_is_same old name body new formed a =
     let P : NetParts → Type 0 = λ p. SameMeaning (of_net p) (of_net old) in

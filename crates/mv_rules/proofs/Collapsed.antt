@@ -199,6 +199,11 @@ planned net w n set change formed few tabled can has are is =
     no_reader : (m : ℕ) → has_id (n ∷ []) m ≡ true → reads_in net.nets m n.0 ≡ false
     no_reader m h = let e = listed_one n m h in subst (λ k. reads_in net.nets k n.0 ≡ false) e (false_from_ne_true _ (λ r. formed.acyclic.none n.0 (record { path = []; goes = r })))
 
+pub collapses_formed : (old : NetParts) (w : List ℕ) (new : NetParts) → WellFormed old → Collapses old w new → WellFormed new
+collapses_formed old w new formed r =
+    let has = r.composites in
+    subst WellFormed (sym r.new_is) (collapsed_is_formed old has.inner formed has.known (ap (is_seen old) has.of_net ∙ r.unseen.unseen))
+
 pub collapsed_means_same : (old : NetParts) (w : List ℕ) (new : NetParts) → WellFormed old → Collapses old w new → SameMeaning (of_net new) (of_net old)
 collapsed_means_same old w new formed r =
     let P : NetParts → Type 0 = λ p. SameMeaning (of_net p) (of_net old) in

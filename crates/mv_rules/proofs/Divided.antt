@@ -80,6 +80,11 @@ module _ (net : NetParts) (n d : ℕ) (body new : Cover) (formed : WellFormed ne
       (one_where net.nets d can.same.inner x dividing (others.each d (λ e. can.order.other (sym e))))
       can.same.divided new is (x n))
 
+pub divided_is_formed : (old : NetParts) (w by : List ℕ) (body : Body) (new : NetParts) → WellFormed old → Divides old w by body new → WellFormed new
+divided_is_formed old w by body new formed r =
+    subst WellFormed (sym r.new_is)
+    (divided_formed old r.number r.divisor (cover_said old.nets body) r.table formed (record { two = r.two; order = r.order; same = r.same }) r.form.cover r.completed)
+
 pub divided_is_same : (old : NetParts) (w by : List ℕ) (body : Body) (new : NetParts) → WellFormed old → Divides old w by body new → SameMeaning (of_net new) (of_net old)
 divided_is_same old w by body new formed r =
     let P : NetParts → Type 0 = λ p. SameMeaning (of_net p) (of_net old) in

@@ -1,5 +1,5 @@
 mod Rows
-mod OneAnswer
+pub mod OneAnswer
 mod Named
 mod Overs
 mod Readers
@@ -14,3 +14,6 @@ mod Ordered
 mod Expanded
 mod Completed
 mod Found
+pub mod Kept
+pub mod Replayed
+pub mod Spoken

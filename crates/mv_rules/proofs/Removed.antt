@@ -39,6 +39,10 @@ planned net w n change formed few tabled can is = subst (IsPlanned net (Removes 
   makes = removes net w n tabled can;
 })
 
+pub removed_formed : (old : NetParts) (w : List ℕ) (new : NetParts) → WellFormed old → Removes old w new → WellFormed new
+removed_formed old w new formed r =
+    subst WellFormed (sym r.new_is) (removal_formed old r.number formed (record { unseen = r.unseen.unseen; unread = r.unread.unread; total = r.total }))
+
 pub removed_means : (old : NetParts) (w : List ℕ) (new : NetParts) → WellFormed old → Removes old w new → SameMeaning (of_net new) (of_net old)
 removed_means old w new formed r =
     let P : NetParts → Type 0 = λ p. SameMeaning (of_net p) (of_net old) in

@@ -81,6 +81,9 @@ planned net w n m set change formed few tabled buffer read are is =
       makes = record { number = n; net = tabled; same = record { source = m; buffer = buffer }; read = read; new_is = new };
     })
 
+pub wired_is_formed : (old : NetParts) (w : List ℕ) (new : NetParts) → WellFormed old → Wires old w new → WellFormed new
+wired_is_formed old w new formed r = subst WellFormed (sym r.new_is) (readers_formed old r.number r.same.source formed r.same.buffer)
+
 pub wired_is_same : (old : NetParts) (w : List ℕ) (new : NetParts) → WellFormed old → Wires old w new → SameMeaning (of_net new) (of_net old)
 wired_is_same old w new formed r =
     let P : NetParts → Type 0 = λ p. SameMeaning (of_net p) (of_net old) in

@@ -5,6 +5,7 @@ pub mod Dividing
 pub mod Wiring
 pub mod Collapsing
 pub mod Applies
+pub mod Replaying
 pub mod Plans
 pub mod Orders
 pub mod Expanding

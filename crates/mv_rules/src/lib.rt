@@ -14,5 +14,7 @@ mod remove;
 mod wire;
 
 pub use applying::{apply, literals_after};
-pub use laws::{at_most_one_fault, at_most_one_network, never_both};
+pub use laws::{
+    at_most_one_fault, at_most_one_network, names_are_visible, never_both, replay_laws,
+};
 pub use mv_entry::{Body, BodyLine, BodyLit, Command, Journal, Note, Rule, RuleFault, Tally, Why};

@@ -1,10 +1,1 @@
-pub mod Exact
-pub mod Faults
-pub mod Made
-pub mod Outcomes
-pub mod Replaced
-pub mod Run
-pub mod Runs
-pub mod Stops
-pub mod Taken
-pub mod Words
+pub mod Replacing

@@ -1,12 +1,6 @@
-//! The top call: a network and a script are read, the script's commands run, and the network that is left is written.
+//! The top call: the task that the words ask for.
 #![tactic(auto)]
 
-mod commands;
-mod numbers;
 mod running;
-mod stop;
-mod take;
-mod words;
-mod work;
 
 pub use running::run;

@@ -1,3 +1,2 @@
-pub mod Removing
 pub mod Search
-pub mod Taking
+pub mod Stepping

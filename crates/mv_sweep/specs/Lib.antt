@@ -1,4 +1,3 @@
-pub mod Entries
 pub mod Drops
 -- what private functions alone cite
 pub mod Search

@@ -1,12 +1,10 @@
--- On the way through a `drop`: the search for the least net that can go, and the nets that went so far.
-use Rattle.std.specs.Prelude.{◌≡◌, ℕ, ◌<◌, ◌≤◌, true, List, map}
-use Rattle.mv_base.specs.Outside.{Written}
+-- On the way through a `drop`: the search for the least net that can go.
+use Rattle.std.specs.Prelude.{◌≡◌, ℕ, ◌<◌, ◌≤◌, true, List}
 use Rattle.mv_base.specs.declared.number.NetId.{NetId}
 use Rattle.mv_graph.specs.Nets.{ids_ascend, has_id}
 use Rattle.mv_net.specs.declared.parts.NetParts.{NetParts}
 use Rattle.mv_net.specs.Total.{IsRemovable}
-use Rattle.mv_sweep.specs.Entries.{Remove}
-use Rattle.mv_sweep.specs.Drops.{NoneBelow, Went, WentPart}
+use Rattle.mv_sweep.specs.Drops.{NoneBelow}
 
 -- no net from this number on can go
 pub record NoneFrom (net : NetParts) (from : ℕ) : Type 0 where
@@ -28,14 +26,3 @@ pub record IsNextPlace (net : NetParts) (n place : ℕ) : Type 0 where
   pub low : place ≤ n
   pub none_below : NoneBelow net place
   pub removable : place < n → IsRemovable net place
-
--- nets of these names went, the least first, and a sink gained their lines
-pub record HasRemoved (old new : NetParts) (notes notes' : Written) : Type 0 where
-  pub names : List (List ℕ)
-  pub went : Went old new notes notes' (map Remove names)
-
--- nets of these names went, and the sink gained their lines; then one more went, and it gained some first part of its line
-pub record IsRemoving (old new : NetParts) (notes notes' : Written) : Type 0 where
-  pub names : List (List ℕ)
-  pub last : List ℕ
-  pub went : WentPart old new notes notes' (map Remove names) (Remove last)

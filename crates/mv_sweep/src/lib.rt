@@ -1,11 +1,8 @@
-//! The command `drop`: it takes away the nets that nobody sees or reads and whose table allows something everywhere,
-//! and puts what it does to the notes.
+//! The command `drop`: it takes away the nets that nobody sees or reads and whose table allows something everywhere.
 #![tactic(auto)]
 
-mod notes;
 mod removal;
-mod stop;
 mod unread;
 
-pub use stop::Stop;
+pub use mv_pass::Stop;
 pub use unread::remove_unread;

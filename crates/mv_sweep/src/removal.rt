@@ -1,15 +1,12 @@
-ghost use Rattle.std.specs.Prelude.{◌≡◌, IsTrue, IfOk, OnOk, OnErr, MatchBool, MatchOption};
-ghost use Rattle.mv_base.specs.Meaning.{SameMeaning};
+ghost use Rattle.std.specs.Prelude.{IsTrue, IfOk, MatchBool, MatchOption};
 ghost use Rattle.mv_graph.specs.Nets.{IsAscending};
-ghost use Rattle.mv_net.specs.Allowed.{of_net};
-ghost use Rattle.mv_net.specs.Changes.{without};
 ghost use Rattle.mv_net.specs.Index.{is_held};
 ghost use Rattle.mv_net.specs.Nets.{slot, net_reads};
 ghost use Rattle.mv_net.specs.Total.{IsRemovable};
 ghost use Rattle.mv_sweep.specs.Search.{IsFirstFrom, IsNextPlace, NoneFrom, OnlyTheseBelow};
 
 use mv_base::{Items, Memory, NetId};
-use mv_net::{Change, Network};
+use mv_net::Network;
 use std::alloc::Global;
 
 /// Whether the net of this number can go.
@@ -63,23 +60,4 @@ pub fn next_place(alloc: Global, net: &Network, fanins: &[NetId], n: NetId) -> R
         }
     }
     Ok(n.0)
-}
-
-/// Takes a net away that can go. What the network means stays.
-pub fn take_away(alloc: Global, net: &mut Network, n: NetId) -> Result<(), Memory>
-    requires { IsRemovable net.old n.0 }
-    ensures ok { OnOk result (net.new ≡ without net.old n.0) }
-    ensures means { SameMeaning (of_net net.new) (of_net net.old) }
-    ensures err { OnErr result (net.new ≡ net.old) }
-{
-    net.well_formed();
-    net.few();
-    let mut gone = Items::new(alloc);
-    gone.push(n)?;
-    net.change(Change {
-        add: Items::new(alloc),
-        set: Items::new(alloc),
-        values: Items::new(alloc),
-        gone,
-    })
 }

@@ -1,55 +1,60 @@
-ghost use Rattle.std.specs.Prelude.{◌≡◌, ◌≤◌, Err, OnOk};
+ghost use Rattle.std.specs.Prelude.{◌≡◌, Err, OnOk};
 ghost use Rattle.mv_base.specs.Meaning.{SameMeaning};
 ghost use Rattle.mv_base.specs.Outside.{Rose};
+ghost use Rattle.mv_entry.specs.declared.note.Command.TheVariants.{Drop as drop};
 ghost use Rattle.mv_net.specs.Allowed.{of_net};
 ghost use Rattle.mv_net.specs.Changes.{without};
-ghost use Rattle.mv_sweep.specs.Drops.{HasDropped, IsCutOff, IsDropping, IsLeastRemovable, NoneLeft};
-ghost use Rattle.mv_sweep.specs.Search.{HasRemoved, IsRemoving};
+ghost use Rattle.mv_pass.specs.Passing.{Passes};
+ghost use Rattle.mv_pass.specs.Taking.{GoesOn, Went, WentPart};
+ghost use Rattle.mv_sweep.specs.Drops.{IsDropStep, IsLeastRemovable, NoneLeft};
 
 use crate::Stop;
-use crate::notes::{put_begin, put_end, put_remove};
-use crate::removal::{copy_fanins, next_place, next_removable, take_away};
-use mv_base::{Name, NetId, Sink};
+use crate::removal::{copy_fanins, next_place, next_removable};
+use mv_base::{Name, NetId};
+use mv_entry::{Command, Journal, Note, Rule};
 use mv_net::Network;
+use mv_pass::{few_literals, take};
 use std::alloc::Global;
 
-/// Takes away the net, which is the least that can go, and puts so to the notes.
-#[tactic(auto, using(crate::proofs::Removing::none_yet))]
-fn step<E: Sink>(alloc: Global, net: &mut Network, n: NetId, notes: &mut E) -> Result<(), Stop>
+/// No diagram is made here.
+const NO_BUDGET: u32 = 0;
+
+/// Takes away the net, which is the least that can go, and notes it.
+fn step<J: Journal>(alloc: Global, net: &mut Network, n: NetId, journal: &mut J) -> Result<(), Stop>
     requires { IsLeastRemovable net.old n.0 }
-    ensures ok { OnOk result (HasRemoved net.old net.new (E.state notes.old) (E.state notes.new)) }
+    ensures ok { OnOk result (Went IsDropStep net.old net.new (J.state journal.old) (J.state journal.new)) }
     ensures gone { OnOk result (net.new ≡ without net.old n.0) }
+    ensures memory { result ≡ Err Stop.Memory
+        → Went IsDropStep net.old net.new (J.state journal.old) (J.state journal.new) }
+    ensures note { result ≡ Err Stop.Note
+        → WentPart IsDropStep net.old net.new (J.state journal.old) (J.state journal.new) }
+    ensures cause { result ≡ Err Stop.Note → Rose (J.state journal.old).written.faults (J.state journal.new).written.faults }
     ensures means { SameMeaning (of_net net.new) (of_net net.old) }
-    ensures memory { result ≡ Err Stop.Memory → HasRemoved net.old net.new (E.state notes.old) (E.state notes.new) }
-    ensures note { result ≡ Err Stop.Note → IsRemoving net.old net.new (E.state notes.old) (E.state notes.new) }
-    ensures cause { result ≡ Err Stop.Note → Rose ((E.state notes.old).faults) ((E.state notes.new).faults) }
-    ensures later { (E.state notes.old).faults ≤ (E.state notes.new).faults }
+    ensures goes_on { GoesOn (J.state journal.old) (J.state journal.new) }
 {
+    net.well_formed();
     let name = match Name::new(alloc, net.name(n)) {
         Ok(name) => name,
         Err(_memory) => return Err(Stop::Memory),
     };
-    match take_away(alloc, net, n) {
-        Ok(()) => {}
-        Err(_memory) => return Err(Stop::Memory),
-    }
-    match put_remove(name.bytes(), notes) {
+    match take(alloc, net, &Rule::Remove { net: name }, NO_BUDGET, journal) {
         Ok(()) => Ok(()),
-        Err(_failed) => Err(Stop::Note),
+        Err(stop) => Err(stop),
     }
 }
 
 /// Takes away the least net that can go, until there is none. Of the nets below one that went only its fanins can have
 /// become nets that can go: the search goes on at the least of those that can, else behind the net.
-#[tactic(auto, using(crate::proofs::Removing::none_yet))]
-fn remove_each<E: Sink>(alloc: Global, net: &mut Network, notes: &mut E) -> Result<(), Stop>
-    ensures ok { OnOk result (HasRemoved net.old net.new (E.state notes.old) (E.state notes.new)) }
+fn remove_each<J: Journal>(alloc: Global, net: &mut Network, journal: &mut J) -> Result<(), Stop>
+    ensures ok { OnOk result (Went IsDropStep net.old net.new (J.state journal.old) (J.state journal.new)) }
     ensures none_left { OnOk result (NoneLeft net.new) }
+    ensures memory { result ≡ Err Stop.Memory
+        → Went IsDropStep net.old net.new (J.state journal.old) (J.state journal.new) }
+    ensures note { result ≡ Err Stop.Note
+        → WentPart IsDropStep net.old net.new (J.state journal.old) (J.state journal.new) }
+    ensures cause { result ≡ Err Stop.Note → Rose (J.state journal.old).written.faults (J.state journal.new).written.faults }
     ensures means { SameMeaning (of_net net.new) (of_net net.old) }
-    ensures memory { result ≡ Err Stop.Memory → HasRemoved net.old net.new (E.state notes.old) (E.state notes.new) }
-    ensures note { result ≡ Err Stop.Note → IsRemoving net.old net.new (E.state notes.old) (E.state notes.new) }
-    ensures cause { result ≡ Err Stop.Note → Rose ((E.state notes.old).faults) ((E.state notes.new).faults) }
-    ensures later { (E.state notes.old).faults ≤ (E.state notes.new).faults }
+    ensures goes_on { GoesOn (J.state journal.old) (J.state journal.new) }
 {
     let mut from = 0;
     'removing: loop {
@@ -62,7 +67,7 @@ fn remove_each<E: Sink>(alloc: Global, net: &mut Network, notes: &mut E) -> Resu
             Ok(fanins) => fanins,
             Err(_memory) => return Err(Stop::Memory),
         };
-        match step(alloc, net, n, notes) {
+        match step(alloc, net, n, journal) {
             Ok(()) => {}
             Err(stop) => return Err(stop),
         }
@@ -73,28 +78,25 @@ fn remove_each<E: Sink>(alloc: Global, net: &mut Network, notes: &mut E) -> Resu
     }
 }
 
-/// The command `drop`: takes away the least-numbered net that nobody sees or reads and whose table is total, until
-/// there is none, and puts the beginning, each net that goes and the end to the notes. What the network means stays,
-/// also where the command stops: at Memory the network is without the nets whose lines were put. At Note it is too,
-/// and where the line that failed is that of a net, also without this one: the notes have all lines before the one that
-/// failed, and some first part of it.
-pub fn remove_unread<E: Sink>(alloc: Global, net: &mut Network, notes: &mut E) -> Result<(), Stop>
-    ensures ok { OnOk result (HasDropped net.old net.new (E.state notes.old) (E.state notes.new)) }
-    ensures means { SameMeaning (of_net net.new) (of_net net.old) }
-    ensures memory { result ≡ Err Stop.Memory → IsDropping net.old net.new (E.state notes.old) (E.state notes.new) }
-    ensures note { result ≡ Err Stop.Note → IsCutOff net.old net.new (E.state notes.old) (E.state notes.new) }
-    ensures cause { result ≡ Err Stop.Note → Rose ((E.state notes.old).faults) ((E.state notes.new).faults) }
-    ensures later { (E.state notes.old).faults ≤ (E.state notes.new).faults }
+/// The command `drop`: takes away the least-numbered net that nobody sees or reads and whose table is total, until there is none,
+/// and notes the beginning, each net that goes and the end. What the network means stays, also where the command stops.
+pub fn remove_unread<J: Journal>(
+    alloc: Global,
+    net: &mut Network,
+    journal: &mut J,
+) -> Result<(), Stop>
+    ensures passes { Passes IsDropStep NoneLeft drop net.old net.new (J.state journal.old) (J.state journal.new) result }
 {
-    match put_begin(notes) {
+    match journal.note(&Note::Begin(Command::Drop)) {
         Ok(()) => {}
         Err(_failed) => return Err(Stop::Note),
     }
-    match remove_each(alloc, net, notes) {
+    match remove_each(alloc, net, journal) {
         Ok(()) => {}
         Err(stop) => return Err(stop),
     }
-    match put_end(net.literals(), notes) {
+    few_literals(net);
+    match journal.note(&Note::End(net.literals())) {
         Ok(()) => Ok(()),
         Err(_failed) => Err(Stop::Note),
     }

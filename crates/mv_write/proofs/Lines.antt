@@ -5,6 +5,7 @@ use Rattle.std.proofs.lemmas.List.{append-nil, at_drop_more, at_drop_all}
 use Rattle.std.proofs.lemmas.List.Concat.{flat_map-append}
 use Rattle.mv_base.specs.declared.number.NetId.{NetId}
 use Rattle.mv_lex.specs.Text.{spaced, line_text}
+use Rattle.mv_page.proofs.Items.{items-more}
 use Rattle.mv_cover.specs.declared.cube.Lit.{Lit}
 use Rattle.mv_cover.specs.declared.line.Line.{Line}
 use Rattle.mv_cover.specs.Cubes.{IsCube}
@@ -67,7 +68,7 @@ root-text root = ap (λ t. (codes ".model " ++ t) ++ 10 ∷ []) (append-nil root
 pub spaced-more : (names : List (List ℕ)) (i : ℕ) (name x : List ℕ) → i < length names → x ≡ get_or names i x → name ≡ x → spaced (drop i names) ≡ (32 ∷ name) ++ spaced (drop (i + 1) names)
 unfolding spaced
 spaced-more names i name x low is same =
-    at_drop_more spaced names i x low ∙ ap (λ w. (32 ∷ w) ++ spaced (drop (i + 1) names)) (sym (same ∙ is))
+    items-more spaced (λ w. 32 ∷ w) names i x (λ w ws. refl) low is ∙ ap (λ w. (32 ∷ w) ++ spaced (drop (i + 1) names)) (sym same)
 
 pub spaced-none : (names : List (List ℕ)) (i : ℕ) → length names ≤ i → spaced (drop i names) ≡ []
 unfolding spaced
@@ -97,11 +98,3 @@ row-text nets values line fanins lits same is near =
     let words : List (List ℕ) = map (fanin_word nets line.cube) (numbers fanins) in
     let met : walked nets lits fanins ≡ words = ap (λ ls. walked nets ls fanins) same ∙ walked-is nets line.cube fanins is.ascending near.ascending near.among in
     line_text-last words (entry_word values line.out) ∙ ap (λ ws. entries_text ws ++ (entry_word values line.out ++ 10 ∷ [])) (sym met)
-
--- what is made of the rest of a list, by its first element
-pub rest-more : {X : Type 0} (f : X → List ℕ) (xs : List X) (i : ℕ) (x : X) → i < length xs → x ≡ get_or xs i x → flat_map f (drop i xs) ≡ f x ++ flat_map f (drop (i + 1) xs)
-rest-more f xs i x low is =
-    at_drop_more (flat_map f) xs i x low ∙ ap (λ y. f y ++ flat_map f (drop (i + 1) xs)) (sym is)
-
-pub rest-none : {X : Type 0} (f : X → List ℕ) (xs : List X) (i : ℕ) → length xs ≤ i → flat_map f (drop i xs) ≡ []
-rest-none f xs i high = at_drop_all (flat_map f) xs i high

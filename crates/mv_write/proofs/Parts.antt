@@ -13,7 +13,7 @@ use Rattle.mv_net.specs.declared.parts.FlatNet.{FlatNet}
 use Rattle.mv_net.specs.declared.parts.NetParts.{NetParts}
 use Rattle.mv_net.specs.Nets.{slot, name_in, table_in, spelled_in}
 use Rattle.mv_write.specs.Text.{entry_word, fanins_of, line_words, default_words, cover_words, table_words, net_words, decl_words, names_of, inner_lines, net_lines, text_of}
-use Rattle.mv_write.specs.Page.{unopened}
+use Rattle.mv_write.specs.Opened.{unopened}
 use Rattle.mv_write.specs.Walk.{numbers}
 use Rattle.mv_write.proofs.Lines.{root-text}
 

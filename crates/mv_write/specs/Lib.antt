@@ -1,4 +1,4 @@
 pub mod Text
 -- what private functions alone cite
-pub mod Page
+pub mod Opened
 pub mod Walk

@@ -1,6 +1,6 @@
 ghost use Rattle.std.specs.Prelude.{◌∷◌, codes, decimal};
 ghost use Rattle.std.specs.List.{flat_map};
-ghost use Rattle.mv_write.specs.Page.{AddsPiece, paged};
+ghost use Rattle.mv_page.specs.Page.{AddsPiece, paged};
 ghost use Rattle.mv_lex.specs.Text.{spaced, line_text};
 ghost use Rattle.mv_net.specs.Nets.{slot};
 ghost use Rattle.mv_write.specs.Text.{decl_words};

@@ -1,6 +1,6 @@
 ghost use Rattle.std.specs.Prelude.{◌≡◌, ◌<◌, ◌++◌, IsTrue, length};
 ghost use Rattle.std.specs.List.{flat_map};
-ghost use Rattle.mv_write.specs.Page.{AddsPiece, paged};
+ghost use Rattle.mv_page.specs.Page.{AddsPiece, paged};
 ghost use Rattle.mv_base.specs.Set.{Within, full};
 ghost use Rattle.mv_net.specs.Nets.{slot, values_in, spelled_values, spelled_in};
 ghost use Rattle.mv_cover.specs.Lines.{IsOutput};

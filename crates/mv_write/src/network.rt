@@ -2,7 +2,8 @@ ghost use Rattle.std.specs.Prelude.{◌≡◌, ◌∷◌, ◌++◌, []};
 ghost use Rattle.std.specs.List.{flat_map};
 ghost use Rattle.mv_base.specs.Outside.{Appends};
 ghost use Rattle.mv_lex.specs.Text.{line_text};
-ghost use Rattle.mv_write.specs.Page.{AddsPiece, paged, unopened};
+ghost use Rattle.mv_page.specs.Page.{AddsPiece, paged};
+ghost use Rattle.mv_write.specs.Opened.{unopened};
 ghost use Rattle.mv_write.specs.Text.{inner_lines, text_of};
 
 use crate::declarations::put_declarations;
@@ -45,7 +46,7 @@ pub fn write<K: Sink>(net: &Network, out: &mut K) -> Result<(), Failed>
     requires { net.now.latches ≡ [] }
     ensures { Appends (K.state out.old) (K.state out.new) (text_of net.now) result }
 {
-    let mut page = Page::new();
+    let mut page = Page::of(b".model ");
     match put_network(net, &mut page, out) {
         Ok(()) => {}
         Err(failed) => return Err(failed),

@@ -1,7 +1,7 @@
 ghost use Rattle.std.specs.Prelude.{◌++◌, ◌∷◌, [], codes};
 ghost use Rattle.mv_lex.specs.Text.{spaced, line_text};
 ghost use Rattle.mv_write.specs.Text.{names_of};
-ghost use Rattle.mv_write.specs.Page.{AddsPiece, paged};
+ghost use Rattle.mv_page.specs.Page.{AddsPiece, paged};
 ghost use Rattle.mv_write.specs.Walk.{AreHeld};
 
 use crate::page::Page;

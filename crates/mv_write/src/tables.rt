@@ -1,6 +1,6 @@
 ghost use Rattle.std.specs.Prelude.{◌≡◌, Some, IsTrue};
 ghost use Rattle.std.specs.List.{flat_map};
-ghost use Rattle.mv_write.specs.Page.{AddsPiece, paged};
+ghost use Rattle.mv_page.specs.Page.{AddsPiece, paged};
 ghost use Rattle.mv_lex.specs.Text.{line_text};
 ghost use Rattle.mv_net.specs.Nets.{slot, values_in, name_in, table_in, spelled_in};
 ghost use Rattle.mv_net.specs.Index.{is_held};

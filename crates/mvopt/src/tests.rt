@@ -1,4 +1,5 @@
 //! Whole runs over files and sinks in memory.
+mod checks;
 mod examples;
 mod faults;
 mod refusals;
@@ -67,7 +68,8 @@ impl Fault {
     }
 }
 
-/// What a run is given: its words, the network in the file `n`, the script in the file `s`, and the call that fails.
+/// What a run is given: its words, the network in the file `n`, the script or the certificate in the file `s`, and the call that
+/// fails.
 #[derive(Clone, Copy)]
 struct Given<'a> {
     words: &'a str,
@@ -117,6 +119,14 @@ fn opt<'a>(net: &'a [u8], script: &'a [u8]) -> Given<'a> {
     }
 }
 
+/// A check of the certificate on the network, in which no call fails.
+fn checked<'a>(net: &'a [u8], certificate: &'a [u8]) -> Given<'a> {
+    Given {
+        words: "check n s",
+        ..opt(net, certificate)
+    }
+}
+
 /// The work is done, with this output and these notes.
 fn written<'a>(out: &'a [u8], notes: &'a [u8]) -> End<'a> {
     End {
@@ -155,7 +165,7 @@ fn words_of(alloc: Global, text: &str) -> Result<Vec<String>, Fail> {
     Ok(words)
 }
 
-/// The files `n`, the network, and `s`, the script.
+/// The files `n`, the network, and `s`, the script or the certificate.
 fn files_of(alloc: Global, given: Given) -> Result<MemoryFiles, Fail> {
     let mut files = Vec::new(alloc);
     for (name, content) in [("n", given.net), ("s", given.script)] {

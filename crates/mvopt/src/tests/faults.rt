@@ -1,7 +1,7 @@
 //! Each call of the files, of the output and of the notes that fails in turn.
 use super::{
-    End, Fault, Given, INVERTER, KEPT, NOTED, ROOM, Text, UNREAD, ends, opt, refused, repeated,
-    words_of, written,
+    End, Fault, Given, INVERTER, KEPT, NOTED, ROOM, Text, UNREAD, checked, ends, opt, refused,
+    repeated, words_of, written,
 };
 use mv_base::{HostFiles, MemorySink};
 use mv_run::run;
@@ -55,6 +55,14 @@ fn each_call_of_the_files_fails_in_turn(rt: HostRuntime) -> Result<(), Fail> {
         given.failing(Fault::Files(7)),
         written(INVERTER, noted),
     )
+}
+
+/// The same calls, with a certificate in place of the script.
+#[test]
+fn each_call_of_the_files_of_a_check_fails_in_turn(rt: HostRuntime) -> Result<(), Fail> {
+    let net = in_pieces(rt.alloc())?;
+    let given = checked(net.as_slice(), NOTED).failing(Fault::Files(0));
+    each_ends(&rt, rt.alloc(), 7, given, refused(4, b"# fault read\n"))
 }
 
 #[test]
@@ -124,6 +132,12 @@ fn a_put_of_the_output_fails_behind_a_drop(rt: HostRuntime) -> Result<(), Fail> 
         notes: Text::Whole(NOTED),
     };
     let given = opt(UNREAD, b"drop").failing(Fault::Out(0, 9));
+    ends(&rt, rt.alloc(), given, end)?;
+    let end = End {
+        notes: Text::Whole(b"# done 4 2\n"),
+        ..end
+    };
+    let given = checked(UNREAD, NOTED).failing(Fault::Out(0, 9));
     ends(&rt, rt.alloc(), given, end)
 }
 
@@ -146,9 +160,12 @@ fn no_output_is_begun_where_the_notes_fail(rt: HostRuntime) -> Result<(), Fail> 
         notes: Text::Front(b"# done 2 2\n"),
     };
     let given = opt(INVERTER, b"").failing(Fault::Notes(0, 0));
-    each_ends(&rt, rt.alloc(), 5, given, end)
+    each_ends(&rt, rt.alloc(), 1, given, end)?;
+    let given = checked(INVERTER, b"").failing(Fault::Notes(0, 3));
+    each_ends(&rt, rt.alloc(), 1, given, end)
 }
 
+/// Each entry is one put.
 #[test]
 fn each_put_of_the_notes_fails_while_drop_runs(rt: HostRuntime) -> Result<(), Fail> {
     let end = End {
@@ -158,7 +175,7 @@ fn each_put_of_the_notes_fails_while_drop_runs(rt: HostRuntime) -> Result<(), Fa
     };
     for taken in 0..3usize {
         let given = opt(UNREAD, b"drop").failing(Fault::Notes(0, taken));
-        each_ends(&rt, rt.alloc(), 12, given, end)?;
+        each_ends(&rt, rt.alloc(), 4, given, end)?;
     }
     Ok(())
 }

@@ -19,6 +19,13 @@ const WORDS: &[(&str, u8, &[u8])] = &[
     ("opt n x", 4, b"# fault read\n"),
     ("opt - s", 4, b"# fault read\n"),
     ("opt n -", 4, b"# fault read\n"),
+    ("check", 1, b"# fault words\n"),
+    ("check n s x", 1, b"# fault words\n"),
+    ("check - -", 1, b"# fault words\n"),
+    ("check n -c", 1, b"# fault words\n"),
+    ("checks n s", 1, b"# fault words\n"),
+    ("check n x", 4, b"# fault read\n"),
+    ("check x s", 4, b"# fault read\n"),
 ];
 
 #[test]
@@ -376,7 +383,9 @@ fn is_past(rt: &impl Abort, alloc: Global, net: Vec<u8>, fault: &str) -> Result<
 #[test]
 fn networks_have_limits(rt: HostRuntime) -> Result<(), Fail> {
     let alloc = rt.alloc();
-    is_kept(&rt, alloc, long_name(alloc, 1_024)?, 1)?;
+    is_kept(&rt, alloc, long_name(alloc, 1_000)?, 1)?;
+    let name = "35 Limit NetName 1001";
+    is_past(&rt, alloc, long_name(alloc, 1_001)?, name)?;
     is_past(&rt, alloc, long_name(alloc, 1_025)?, "2 LongWord line 2")?;
     is_kept(&rt, alloc, wide_table(alloc, 255)?, 255)?;
     let columns = "21 Limit line 4 Columns 257";

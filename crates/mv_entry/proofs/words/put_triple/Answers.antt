@@ -1,21 +1,22 @@
 use Rattle.std.proofs.Common.{[], ◌∷◌, ◌++◌, refl}
-use Rattle.mv_base.proofs.Gains.{appends, start, next, stop, last}
+use Rattle.mv_base.proofs.Gains.{start, next, stop, last}
+use Rattle.mv_page.proofs.Adding.{adds}
 use Rattle.mv_lex.specs.Text.{spaced}
 use Rattle.mv_entry.proofs.Texts.{line_text-triple}
 use Rattle.mv_entry.proofs.words.put_triple.Goals as goal
 
 pub returns-in_err-put : goal.returns-in_err-put
 returns-in_err-put g c =
-    stop appends (spaced (c.args.second.now ∷ []) ++ (spaced (c.args.third.now ∷ []) ++ 10 ∷ [])) _ _ (start appends _ _) (line_text-triple c.args.first.now c.args.second.now c.args.third.now) c.in_err-put.ensures c.from_residual.ensures.1
+    stop adds (spaced (c.args.second.now ∷ []) ++ (spaced (c.args.third.now ∷ []) ++ 10 ∷ [])) _ _ (start adds _ _) (line_text-triple c.args.first.now c.args.second.now c.args.third.now) c.in_err-put.ensures c.from_residual.ensures.1
 
 pub returns-in_err-put_word : goal.returns-in_err-put_word
 returns-in_err-put_word g c =
-    stop appends (spaced (c.args.third.now ∷ []) ++ 10 ∷ []) _ _ (next appends (start appends _ _) (line_text-triple c.args.first.now c.args.second.now c.args.third.now) c.in_ok-put.ensures) refl c.in_err-put_word.ensures c.from_residual-in_err-put_word.ensures.1
+    stop adds (spaced (c.args.third.now ∷ []) ++ 10 ∷ []) _ _ (next adds (start adds _ _) (line_text-triple c.args.first.now c.args.second.now c.args.third.now) c.in_ok-put.ensures) refl c.in_err-put_word.ensures c.from_residual-in_err-put_word.ensures.1
 
 pub returns-in_err-put_word-2 : goal.returns-in_err-put_word-2
 returns-in_err-put_word-2 g c =
-    stop appends (10 ∷ []) _ _ (next appends (next appends (start appends _ _) (line_text-triple c.args.first.now c.args.second.now c.args.third.now) c.in_ok-put.ensures) refl c.in_ok-put_word.ensures) refl c.in_err-put_word-2.ensures c.from_residual-in_err-put_word-2.ensures.1
+    stop adds (10 ∷ []) _ _ (next adds (next adds (start adds _ _) (line_text-triple c.args.first.now c.args.second.now c.args.third.now) c.in_ok-put.ensures) refl c.in_ok-put_word.ensures) refl c.in_err-put_word-2.ensures c.from_residual-in_err-put_word-2.ensures.1
 
 pub returns : goal.returns
 returns g c =
-    last appends (next appends (next appends (next appends (start appends _ _) (line_text-triple c.args.first.now c.args.second.now c.args.third.now) c.in_ok-put.ensures) refl c.in_ok-put_word.ensures) refl c.in_ok-put_word-2.ensures) c.put-2.ensures
+    last adds (next adds (next adds (next adds (start adds _ _) (line_text-triple c.args.first.now c.args.second.now c.args.third.now) c.in_ok-put.ensures) refl c.in_ok-put_word.ensures) refl c.in_ok-put_word-2.ensures) c.put-2.ensures

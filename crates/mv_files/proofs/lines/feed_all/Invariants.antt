@@ -6,6 +6,6 @@ use Rattle.mv_files.proofs.lines.feed_all.Given as goal
 abbrev pub invariant-loop-turn : goal.invariant-loop-turn
 invariant-loop-turn g l =
     record {
-      come : HasCome (g.F.Files.state l.fn.files).held (g.F.Files.state l.files).held l._turn l.lexer l.lines;
+      come : HasCome (g.F.Files.state l.fn.files).held (g.F.Files.state l.files).held l.limit l._turn l.lexer l.lines;
       stay : Stay (g.F.Files.state l.fn.files) (g.F.Files.state l.files);
     }

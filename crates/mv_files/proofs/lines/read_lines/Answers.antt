@@ -7,13 +7,13 @@ use Rattle.mv_files.proofs.lines.read_lines.Goals as goal
 
 pub returns-in-Err-feed_all-clause-stopped : goal.returns-in-Err-feed_all-clause-stopped
 returns-in-Err-feed_all-clause-stopped g c =
-    lines_cause _ _ _ _ _ c.in-Ok.ensures.begun c.in-Ok.ensures.cause.later c.in-Err-feed_all.ensures.stopped
+    lines_cause _ _ _ _ _ _ c.in-Ok.ensures.begun c.in-Ok.ensures.cause.later c.in-Err-feed_all.ensures.stopped
 
 pub returns-in-Ok-finish-clause-lexed : goal.returns-in-Ok-finish-clause-lexed
 returns-in-Ok-finish-clause-lexed g c =
     let all = c.in-Ok-feed_all.ensures.fed in
-    was_lexed _ _ _ _ _ _ _ c.in-Ok.ensures.begun all (gained_all _ _ _ _ all.bytes c.in-Ok-finish.ensures.lines all.stands all.lines_are) (c.in-Ok-finish.ensures.fault all.bytes all.stands)
+    was_lexed _ _ _ _ _ _ _ _ c.in-Ok.ensures.begun all (gained_all _ _ _ _ all.bytes c.in-Ok-finish.ensures.lines all.stands all.lines_are) (c.in-Ok-finish.ensures.fault all.bytes all.stands)
 
 pub returns-in-Err-feed_all-clause-in_time : goal.returns-in-Err-feed_all-clause-in_time
 returns-in-Err-feed_all-clause-in_time g c =
-    λ fault is. front_stopped (g.F.Files.state c.args.files.now) (g.F.Files.state c.start.new.self) _ _ c.in-Err-feed_all.stop fault c.in-Ok.ensures.begun c.in-Err-feed_all.ensures.stopped (grind (arith, common_steps))
+    λ fault is. front_stopped (g.F.Files.state c.args.files.now) (g.F.Files.state c.start.new.self) _ _ _ c.in-Err-feed_all.stop fault c.in-Ok.ensures.begun c.in-Err-feed_all.ensures.stopped (grind (arith, common_steps))

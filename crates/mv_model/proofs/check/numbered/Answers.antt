@@ -2,7 +2,7 @@
 use Rattle.std.proofs.Common.{◌∙◌, ap, length, arith}
 use Rattle.std.proofs.lemmas.Result.{err_from_is_err_and}
 use Rattle.mv_base.specs.Names.{names_differ}
-use Rattle.mv_model.proofs.Soundness.{driven_once, few_nets, told_is_fault}
+use Rattle.mv_model.proofs.Soundness.{driven_once, few_nets, within_limits, told_is_fault}
 use Rattle.mv_model.proofs.Distinct.{places_differ, few_places}
 use Rattle.mv_model.proofs.check.numbered.Goals as goal
 
@@ -34,8 +34,8 @@ returns-clause-differ c =
 pub returns-clause-sound : goal.returns-clause-sound
 returns-clause-sound c = record { driven = driven_once c.args.model.now c.in_ok-check_nets.ensures; acyclic = c.in_ok-check_cycles.ensures.acyclic }
 
-pub returns-clause-nets : goal.returns-clause-nets
-returns-clause-nets c = few_nets c.args.model.now c.in_ok-check_nets.ensures
+pub returns-clause-limits : goal.returns-clause-limits
+returns-clause-limits c = within_limits c.args.model.now c.in_ok-check_nets.ensures
 
 pub returns-clause-few : goal.returns-clause-few
 returns-clause-few c =

@@ -15,7 +15,7 @@ returns-in_err-check_twice c =
     let e = err_from_is_err_and c.from_residual-in_err-check_twice.result c.from_residual-in_err-check_twice.ensures.1 in
     rw (e.1, e.2)
     (told_of Memory _ (twice_faults d c.as_slice.result.now) (net_faults m)
-    (λ f. twice_told m _ d f (c.as_slice.ensures ∙ c.requires) c.in_ok-drivers.ensures c.in_ok-check_count.ensures)
+    (λ f. twice_told m _ d f (c.as_slice.ensures ∙ c.requires) c.in_ok-drivers.ensures c.in_ok-check_limits.ensures)
     c.in_err-check_twice.ensures)
 
 pub returns-in_err-check_undriven : goal.returns-in_err-check_undriven
@@ -25,6 +25,6 @@ returns-in_err-check_undriven c =
     let e = err_from_is_err_and c.from_residual-in_err-check_undriven.result c.from_residual-in_err-check_undriven.ensures.1 in
     rw (e.1, e.2)
     (told_of Memory _ (undriven_faults d c.as_slice-2.result.now) (net_faults m)
-    (λ f. undriven_told m _ d f (c.as_slice-2.ensures ∙ c.requires) c.in_ok-drivers.ensures c.in_ok-check_count.ensures
+    (λ f. undriven_told m _ d f (c.as_slice-2.ensures ∙ c.requires) c.in_ok-drivers.ensures c.in_ok-check_limits.ensures
     (ap (twice_faults d) (c.as_slice-2.ensures ∙ sym c.as_slice.ensures) ∙ c.in_ok-check_twice.ensures))
     c.in_err-check_undriven.ensures)

@@ -1,11 +1,20 @@
 -- Each net that goes is one less, and the search goes on below it.
 use Rattle.std.proofs.Common.{List, sym, subst, arith}
 use Rattle.mv_base.specs.declared.number.NetId.{NetId}
-use Rattle.mv_base.proofs.Meanings.{SameMeaning-then}
+use Rattle.mv_base.proofs.Meanings.{SameMeaning-refl, SameMeaning-then}
+use Rattle.mv_pass.proofs.Taken.{went_none, went_then, went_part, GoesOn-none, GoesOn-then}
+use Rattle.mv_sweep.specs.Drops.{IsDropStep}
 use Rattle.mv_sweep.specs.Search.{OnlyTheseBelow}
-use Rattle.mv_sweep.proofs.Removing.{HasRemoved-then, IsRemoving-then}
 use Rattle.mv_sweep.proofs.Search.{first_of_all, fanins_listed, fewer_held}
 use Rattle.mv_sweep.proofs.unread.remove_each.Goals as goal
+
+pub removing-init : goal.removing-init
+removing-init g c = record {
+  went = went_none IsDropStep _ _;
+  below = record { none = λ n low r. omega (arith, low) };
+  means = SameMeaning-refl _;
+  goes_on = GoesOn-none _;
+}
 
 pub removing-smaller : goal.removing-smaller
 removing-smaller g c =
@@ -14,10 +23,10 @@ removing-smaller g c =
 
 pub removing-preserved : goal.removing-preserved
 removing-preserved g c = record {
-  removed = HasRemoved-then _ _ _ _ _ _ c.removing.invariant.removed c.in-Ok-step.ensures.ok;
+  went = went_then IsDropStep _ _ _ _ _ _ c.removing.invariant.went c.in-Ok-step.ensures.ok;
   below = c.in-Ok-next_place.ensures.none_below;
   means = SameMeaning-then _ _ _ c.in-Ok-step.ensures.means c.removing.invariant.means;
-  later = omega arith;
+  goes_on = GoesOn-then _ _ _ c.removing.invariant.goes_on c.in-Ok-step.ensures.goes_on;
 }
 
 pub next_place-requires : goal.next_place-requires
@@ -29,12 +38,12 @@ next_place-requires g c =
 
 pub returns-in-Err-step-clause-memory : goal.returns-in-Err-step-clause-memory
 returns-in-Err-step-clause-memory g c =
-    λ e. HasRemoved-then _ _ _ _ _ _ c.removing.invariant.removed (c.in-Err-step.ensures.memory e)
+    λ e. went_then IsDropStep _ _ _ _ _ _ c.removing.invariant.went (c.in-Err-step.ensures.memory e)
 
 pub returns-in-Err-step-clause-note : goal.returns-in-Err-step-clause-note
 returns-in-Err-step-clause-note g c =
-    λ e. IsRemoving-then _ _ _ _ _ _ c.removing.invariant.removed (c.in-Err-step.ensures.note e)
+    λ e. went_part IsDropStep _ _ _ _ _ _ c.removing.invariant.went (c.in-Err-step.ensures.note e)
 
 pub returns-in-Err-next_place-clause-memory : goal.returns-in-Err-next_place-clause-memory
 returns-in-Err-next_place-clause-memory g c =
-    λ e. HasRemoved-then _ _ _ _ _ _ c.removing.invariant.removed c.in-Ok-step.ensures.ok
+    λ e. went_then IsDropStep _ _ _ _ _ _ c.removing.invariant.went c.in-Ok-step.ensures.ok

@@ -1,12 +1,23 @@
--- The name that was put is that of the net that went.
+-- The net that goes is the least that can, by its name.
 use Rattle.std.proofs.Common.{◌∙◌}
-use Rattle.mv_sweep.proofs.Removing.{removed, removing}
+use Rattle.mv_pass.proofs.Taken.{went_none, went_still, went_rule, part_rule}
+use Rattle.mv_sweep.specs.Drops.{IsDropStep}
+use Rattle.mv_sweep.proofs.Stepping.{can_go, is_step}
 use Rattle.mv_sweep.proofs.unread.step.Goals as goal
 
-pub returns-in-Ok-put_remove-clause-ok : goal.returns-in-Ok-put_remove-clause-ok
-returns-in-Ok-put_remove-clause-ok g c =
-    removed c.args.net.now c.take_away.new.net c.args.n.0 c.bytes.result.now _ _ c.requires (c.bytes.ensures ∙ (c.in-Ok.ensures ∙ c.name.ensures)) c.in-Ok-take_away.ensures.ok c.in-Ok-put_remove.ensures
+pub take-requires : goal.take-requires
+take-requires g c = can_go c.args.net.now c.args.n.0 _ c.requires (c.in-Ok.ensures ∙ c.name.ensures)
+
+pub returns-in-Err-clause-memory : goal.returns-in-Err-clause-memory
+returns-in-Err-clause-memory g c = λ e. went_none IsDropStep _ _
+
+pub returns-in-Ok-take-clause-ok : goal.returns-in-Ok-take-clause-ok
+returns-in-Ok-take-clause-ok g c =
+    went_rule IsDropStep _ _ _ _ _ (is_step c.args.net.now c.args.n.0 _ c.requires (c.in-Ok.ensures ∙ c.name.ensures)) c.in-Ok-take.ensures.ok
+
+pub returns-clause-memory : goal.returns-clause-memory
+returns-clause-memory g c = λ e. went_still IsDropStep _ _ _ _ (c.in-Err-take.ensures.net e) (c.in-Err-take.ensures.journal e)
 
 pub returns-clause-note : goal.returns-clause-note
 returns-clause-note g c =
-    λ e. removing c.args.net.now c.take_away.new.net c.args.n.0 c.bytes.result.now _ _ _ c.requires (c.bytes.ensures ∙ (c.in-Ok.ensures ∙ c.name.ensures)) c.in-Ok-take_away.ensures.ok c.in-Err-put_remove.ensures
+    λ e. part_rule IsDropStep _ _ _ _ _ (is_step c.args.net.now c.args.n.0 _ c.requires (c.in-Ok.ensures ∙ c.name.ensures)) (c.in-Err-take.ensures.note e)

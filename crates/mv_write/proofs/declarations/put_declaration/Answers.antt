@@ -1,6 +1,6 @@
 use Rattle.std.proofs.Common.{◌≡◌, ◌∙◌, [], ◌∷◌, ◌++◌, codes, decimal, refl, sym, ap}
 use Rattle.mv_base.proofs.Gains.{start, next, stop, last}
-use Rattle.mv_write.proofs.Paging.{adds}
+use Rattle.mv_page.proofs.Adding.{adds}
 use Rattle.mv_lex.specs.Text.{spaced, line_text}
 use Rattle.mv_write.proofs.Lines.{declaration-text}
 use Rattle.mv_write.proofs.declarations.put_declaration.Goals as goal

@@ -1,7 +1,7 @@
 use Rattle.std.proofs.Common.{◌+◌, ◌<◌, ◌≤◌, length, drop, arith}
 use Rattle.std.specs.List.{flat_map}
 use Rattle.mv_base.proofs.Gains.{next, stop, finish}
-use Rattle.mv_write.proofs.Paging.{adds}
+use Rattle.mv_page.proofs.Adding.{adds}
 use Rattle.mv_lex.specs.Text.{line_text}
 use Rattle.mv_write.specs.Text.{decl_words}
 use Rattle.mv_write.proofs.Parts.{nets-more, nets-none}

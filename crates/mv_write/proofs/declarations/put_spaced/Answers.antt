@@ -1,6 +1,6 @@
 use Rattle.std.proofs.Common.{◌+◌, drop}
 use Rattle.mv_base.proofs.Gains.{next, stop, finish}
-use Rattle.mv_write.proofs.Paging.{adds}
+use Rattle.mv_page.proofs.Adding.{adds}
 use Rattle.mv_lex.specs.Text.{spaced}
 use Rattle.mv_write.proofs.Lines.{spaced-more, spaced-none}
 use Rattle.mv_write.proofs.declarations.put_spaced.Goals as goal

@@ -4,7 +4,7 @@ use Rattle.std.proofs.lemmas.Bool.{eqb-true, eqb-false}
 use Rattle.mv_base.specs.Set.{empty, one, full, minus}
 use Rattle.mv_base.proofs.Sets.{IsLeast}
 use Rattle.mv_base.proofs.Gains.{start, next, stop, last, same}
-use Rattle.mv_write.proofs.Paging.{adds}
+use Rattle.mv_page.proofs.Adding.{adds}
 use Rattle.mv_net.specs.Nets.{spelled_values}
 use Rattle.mv_write.specs.Text.{names_in_set, with_comma}
 use Rattle.mv_write.specs.Walk.{named}

@@ -2,7 +2,7 @@ use Rattle.std.proofs.Common.{◌∙◌, ◌++◌, refl, ap}
 use Rattle.std.specs.List.{flat_map}
 use Rattle.mv_base.specs.Set.{one, minus}
 use Rattle.mv_base.proofs.Gains.{start, next, stop, finish}
-use Rattle.mv_write.proofs.Paging.{adds}
+use Rattle.mv_page.proofs.Adding.{adds}
 use Rattle.mv_net.specs.Nets.{spelled_values}
 use Rattle.mv_write.specs.Text.{names_in_set, with_comma}
 use Rattle.mv_write.specs.Walk.{named}

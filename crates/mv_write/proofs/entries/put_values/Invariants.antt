@@ -2,7 +2,7 @@ use Rattle.std.specs.List.{flat_map}
 use Rattle.std.specs.Prelude.{count_ones}
 use Rattle.mv_base.specs.Set.{Within, full}
 use Rattle.mv_base.proofs.Gains.{Going}
-use Rattle.mv_write.specs.Page.{AddsPiece, paged}
+use Rattle.mv_page.specs.Page.{AddsPiece, paged}
 use Rattle.mv_net.specs.Nets.{spelled_values}
 use Rattle.mv_write.specs.Text.{names_in_set, with_comma}
 use Rattle.mv_write.proofs.entries.put_values.Given as goal

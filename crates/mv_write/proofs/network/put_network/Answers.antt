@@ -3,7 +3,7 @@ use Rattle.std.specs.List.{flat_map}
 use Rattle.mv_lex.specs.Text.{line_text}
 use Rattle.mv_write.specs.Text.{names_of, inner_lines}
 use Rattle.mv_base.proofs.Gains.{start, next, stop, last}
-use Rattle.mv_write.proofs.Paging.{adds}
+use Rattle.mv_page.proofs.Adding.{adds}
 use Rattle.mv_write.proofs.Parts.{unopened-text}
 use Rattle.mv_write.proofs.Held.{inputs-held, outputs-held}
 use Rattle.mv_write.proofs.network.put_network.Goals as goal

@@ -2,7 +2,7 @@ use Rattle.std.proofs.Common.{[], ◌∷◌, ◌++◌, codes, refl}
 use Rattle.mv_lex.specs.Text.{spaced}
 use Rattle.mv_write.specs.Text.{names_of}
 use Rattle.mv_base.proofs.Gains.{start, next, stop, last}
-use Rattle.mv_write.proofs.Paging.{adds}
+use Rattle.mv_page.proofs.Adding.{adds}
 use Rattle.mv_write.proofs.Lines.{head-text}
 use Rattle.mv_write.proofs.pieces.put_head.Goals as goal
 

@@ -1,6 +1,6 @@
 use Rattle.std.proofs.Common.{◌+◌, drop}
 use Rattle.mv_base.proofs.Gains.{start, next, stop, finish}
-use Rattle.mv_write.proofs.Paging.{adds}
+use Rattle.mv_page.proofs.Adding.{adds}
 use Rattle.mv_net.proofs.Known.{values_few}
 use Rattle.mv_write.specs.Walk.{walked, entries_text}
 use Rattle.mv_write.proofs.Held.{has-at}

@@ -1,6 +1,6 @@
 use Rattle.std.proofs.Common.{drop}
 use Rattle.mv_base.proofs.Gains.{Going}
-use Rattle.mv_write.specs.Page.{AddsPiece, paged}
+use Rattle.mv_page.specs.Page.{AddsPiece, paged}
 use Rattle.mv_net.specs.Formed.{AllLiterals}
 use Rattle.mv_write.specs.Walk.{walked, entries_text}
 use Rattle.mv_write.proofs.rows.put_entries.Given as goal

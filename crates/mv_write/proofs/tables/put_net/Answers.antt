@@ -1,6 +1,6 @@
 use Rattle.std.proofs.Common.{Some, None, refl, sym}
 use Rattle.mv_base.proofs.Gains.{same}
-use Rattle.mv_write.proofs.Paging.{adds}
+use Rattle.mv_page.proofs.Adding.{adds}
 use Rattle.mv_net.specs.Nets.{slot}
 use Rattle.mv_write.specs.Text.{net_words}
 use Rattle.mv_write.proofs.Parts.{net_words-is, unheld-text}

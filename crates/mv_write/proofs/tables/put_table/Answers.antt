@@ -1,7 +1,7 @@
 use Rattle.std.proofs.Common.{◌++◌, refl}
 use Rattle.std.specs.List.{flat_map}
 use Rattle.mv_base.proofs.Gains.{start, next, stop, last}
-use Rattle.mv_write.proofs.Paging.{adds}
+use Rattle.mv_page.proofs.Adding.{adds}
 use Rattle.mv_lex.specs.Text.{line_text}
 use Rattle.mv_cover.specs.declared.line.Line.{Line}
 use Rattle.mv_net.specs.Nets.{slot, name_in, spelled_in}

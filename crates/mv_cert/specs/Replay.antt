@@ -1,0 +1,37 @@
+-- A certificate's steps, replayed on a network.
+use Rattle.std.specs.Prelude.{◌≡◌, ℕ, List, ◌∷◌, ◌++◌, map}
+use Rattle.mv_entry.specs.declared.rule.Rule.{Rule}
+use Rattle.mv_entry.specs.declared.fault.RuleFault.{RuleFault}
+use Rattle.mv_net.specs.declared.parts.NetParts.{NetParts}
+use Rattle.mv_rules.specs.Applies.{Fails}
+use Rattle.mv_rules.specs.Replaying.{Replays}
+use Rattle.mv_step.specs.declared.step.Step.{Step}
+use Rattle.mv_cert.specs.declared.fault.ReplayFault.{ReplayFault}
+use Rattle.mv_cert.specs.declared.fault.ReplayFault.TheVariants.{Rule as rule_fault, Memory}
+
+-- the rules of some steps, in order
+abbrev pub rules_in : List Step → List Rule
+rules_in steps = map (λ (s : Step). s.rule) steps
+
+-- some first steps lead from the old network to the new one
+pub record LeadPart (steps : List Step) (old new : NetParts) : Type 0 where
+  pub front : List Step
+  pub behind : List Step
+  pub steps_are : steps ≡ front ++ behind
+  pub replays : Replays (rules_in front) old new
+
+-- some first steps lead from the old network to the new one, to which the rule of the next, which stands at the line, doesn't
+-- apply, for this fault
+pub record FailsAt (steps : List Step) (old new : NetParts) (line : ℕ) (fault : RuleFault) : Type 0 where
+  pub front : List Step
+  pub step : Step
+  pub behind : List Step
+  pub steps_are : steps ≡ front ++ step ∷ behind
+  pub replays : Replays (rules_in front) old new
+  pub line_is : line ≡ step.line
+  pub fails : Fails step.rule new fault
+
+-- how a replay that ends early leaves the network
+abbrev pub StopsAt : List Step → NetParts → NetParts → ReplayFault → Type 0
+StopsAt steps old new (rule_fault line fault) = FailsAt steps old new line fault
+StopsAt steps old new Memory = LeadPart steps old new

@@ -1,0 +1,4 @@
+pub mod Takes
+pub mod Told
+pub mod Trials
+pub mod Ends

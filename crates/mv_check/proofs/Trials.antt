@@ -1,0 +1,38 @@
+-- The work on a certificate: its rules in turn, then the done line, then the text.
+use Rattle.std.proofs.Common.{◌≡◌, ◌∙◌, ℕ, List, [], subst}
+use Rattle.mv_base.specs.Meaning.{SameMeaning}
+use Rattle.mv_base.specs.Outside.{Written, Gained}
+use Rattle.mv_base.proofs.Meanings.{Refines-from_same}
+use Rattle.mv_net.specs.declared.parts.NetParts.{NetParts}
+use Rattle.mv_net.specs.Allowed.{of_net}
+use Rattle.mv_net.specs.Nets.{literals_in}
+use Rattle.mv_write.specs.Text.{text_of}
+use Rattle.mv_back.specs.Back.{ReadsBack}
+use Rattle.mv_rules.specs.Replaying.{Replays}
+use Rattle.mv_rules.proofs.Replayed.{replayed_latches}
+use Rattle.mv_step.specs.declared.step.Step.{Step}
+use Rattle.mv_cert.specs.Replay.{rules_in}
+use Rattle.mv_task.specs.Ending.{IsEndCut, done_line}
+use Rattle.mv_check.specs.Trials.{HasTried, IsTrialCut}
+
+-- the rules make no latches
+pub no_latches : (steps : List Step) (first net : NetParts) → first.latches ≡ [] → Replays (rules_in steps) first net → net.latches ≡ []
+no_latches steps first net none r = replayed_latches (rules_in steps) first net r ∙ none
+
+module _ (steps : List Step) (first net : NetParts) (before : ℕ) (count : before ≡ literals_in first.nets) (replays : Replays (rules_in steps) first net) (out out' notes notes' : Written) where
+  pub tried : SameMeaning (of_net net) (of_net first) → ReadsBack net → Gained out out' (text_of net) → Gained notes notes' (done_line before (literals_in net.nets)) → HasTried steps first out out' notes notes'
+  tried means back text line = record {
+    net = net;
+    replays = replays;
+    noted = subst (λ k. Gained notes notes' (done_line k (literals_in net.nets))) count line;
+    gained = text;
+    back = back;
+    refines = Refines-from_same (of_net net) (of_net first) means;
+  }
+
+  pub trial_cut : IsEndCut out out' notes notes' (done_line before (literals_in net.nets)) (text_of net) → IsTrialCut steps first out out' notes notes'
+  trial_cut cut = record {
+    net = net;
+    replays = replays;
+    cut = subst (λ k. IsEndCut out out' notes notes' (done_line k (literals_in net.nets)) (text_of net)) count cut;
+  }

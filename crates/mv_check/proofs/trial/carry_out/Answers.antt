@@ -1,0 +1,19 @@
+-- The network that the steps left has no latches either.
+use Rattle.mv_check.proofs.Trials.{no_latches, tried, trial_cut}
+use Rattle.mv_check.proofs.trial.carry_out.Goals as goal
+
+pub reads_back-requires : goal.reads_back-requires
+reads_back-requires g c = no_latches _ _ _ c.requires c.in-Ok.ensures.replays
+
+pub finish-requires : goal.finish-requires
+finish-requires g c = no_latches _ _ _ c.requires c.in-Ok.ensures.replays
+
+pub returns-in-Ok-finish-clause-ok : goal.returns-in-Ok-finish-clause-ok
+returns-in-Ok-finish-clause-ok g c =
+    let replays = rw c.as_slice.ensures at c.in-Ok.ensures.replays in
+    tried _ _ c.replay.new.net _ c.literals-before.ensures replays _ _ _ _ c.in-Ok.ensures.means c.reads_back.ensures c.in-Ok-finish.ensures.written c.in-Ok-finish.ensures.noted
+
+pub returns-clause-write : goal.returns-clause-write
+returns-clause-write g c =
+    let replays = rw c.as_slice.ensures at c.in-Ok.ensures.replays in
+    λ e. trial_cut _ _ c.replay.new.net _ c.literals-before.ensures replays _ _ _ _ c.in-Err.ensures.cut

@@ -1,0 +1,89 @@
+-- How a run ends that is asked to check a certificate.
+use Rattle.std.specs.Prelude.{◌≡◌, ◌⊎◌, ℕ, ◌≤◌, IfSome, IsSomeAnd, true, Some, List}
+use Rattle.mv_base.specs.Outside.{Held, Stored, Written, Gained, Rose, file_named}
+use Rattle.mv_lex.specs.Lines.{lines_of}
+use Rattle.mv_entry.specs.declared.fault.RuleFault.{RuleFault}
+use Rattle.mv_net.specs.declared.parts.NetParts.{NetParts}
+use Rattle.mv_net.specs.Nets.{literals_in}
+use Rattle.mv_read.specs.Reads.{IsNetOf}
+use Rattle.mv_write.specs.Text.{text_of}
+use Rattle.mv_cert.specs.Certificates.{IsCertificate, Certifies, steps_in}
+use Rattle.mv_cert.specs.Replay.{FailsAt}
+use Rattle.mv_task.specs.Ending.{IsEndCut, done_line}
+use Rattle.mv_task.specs.Exact.{LacksFile, HoldsAll, IsExact, IsComplete}
+use Rattle.mv_task.specs.Faults.{TellsFault}
+use Rattle.mv_task.specs.Lines.{TellsLine, read_line, memory_line}
+use Rattle.mv_task.specs.Made.{Prepared}
+use Rattle.mv_task.specs.Replaced.{Replaced}
+use Rattle.mv_task.specs.Taken.{IsTaken}
+use Rattle.mv_task.specs.Words.{word_at}
+use Rattle.mv_check.specs.declared.stop.TextFault.{TextFault}
+use Rattle.mv_check.specs.Certificates.{RefusesCertificate, IsNamed}
+use Rattle.mv_check.specs.Tellings.{text_line, rule_line}
+
+-- the named certificate, of which nothing else is assumed, leads from the network of the named file to another one
+pub record IsCertified (words : List (List ℕ)) (old new : Stored) (first net : NetParts) : Type 0 where
+  pub made : Prepared words old new first
+  pub certificate : List ℕ
+  pub named : IsNamed words old certificate
+  pub certifies : Certifies certificate first net
+
+-- the work is done: the network to which the certificate leads was written, and takes the place of the one that was read; and the
+-- notes gained the done line alone
+pub record IsChecked (words : List (List ℕ)) (old new : Stored) (out out' notes notes' : Written) : Type 0 where
+  pub first : NetParts
+  pub net : NetParts
+  pub certified : IsCertified words old new first net
+  pub replaced : Replaced words old new first net out out'
+  pub noted : Gained notes notes' (done_line (literals_in first.nets) (literals_in net.nets))
+
+-- the named certificate is refused for a fault of its bytes or of its lines, and the notes tell it
+pub record TellsText (words : List (List ℕ)) (files : Stored) (notes notes' : Written) : Type 0 where
+  pub fault : TextFault
+  pub refuses : RefusesCertificate words files fault
+  pub tells : TellsLine notes notes' (text_line fault)
+
+-- a rule of the named certificate, at some line, doesn't apply where those before it have led, and the notes tell its line and why
+pub record TellsRule (words : List (List ℕ)) (old new : Stored) (notes notes' : Written) : Type 0 where
+  pub first : NetParts
+  pub made : Prepared words old new first
+  pub certificate : List ℕ
+  pub named : IsNamed words old certificate
+  pub accepted : IsCertificate certificate
+  pub net : NetParts
+  pub line : ℕ
+  pub fault : RuleFault
+  pub fails : FailsAt (steps_in certificate) first net line fault
+  pub tells : TellsLine notes notes' (rule_line line fault)
+
+-- a write failed at the end
+pub record IsCutOff (words : List (List ℕ)) (old new : Stored) (out out' notes notes' : Written) : Type 0 where
+  pub first : NetParts
+  pub net : NetParts
+  pub certified : IsCertified words old new first net
+  pub cut : IsEndCut out out' notes notes' (done_line (literals_in first.nets) (literals_in net.nets)) (text_of net)
+
+-- the files hold a certificate whose rules apply in turn, beginning with any network of the named file
+pub record HoldsReplay (words : List (List ℕ)) (held : Held) : Type 0 where
+  pub all : HoldsAll IsCertificate words held
+  pub replays : (first : NetParts) → IsNetOf (lines_of all.network.content) first → (net : NetParts) × Certifies all.second.content first net
+
+-- each status and what it says: 0 the work is done; 2 the network is refused, behind a certificate that was accepted, and the notes
+-- tell why; 4 a read failed; 5 a write failed; 6 memory ran out; 7 the certificate is refused, or a rule of it doesn't apply
+pub record Checks (words : List (List ℕ)) (old new : Stored) (out out' notes notes' : Written) (status : ℕ) : Type 0 where
+  pub done : status ≡ 0 → IsChecked words old new out out' notes notes'
+  pub network : status ≡ 2 → TellsFault words old notes notes'
+  pub behind : status ≡ 2 → IfSome old.held (IsTaken IsCertificate (word_at words 2))
+  pub read : status ≡ 4 → Rose old.faults new.faults × IfSome old.held (LacksFile IsCertificate words)
+  pub read_told : status ≡ 4 → TellsLine notes notes' read_line
+  pub cut : status ≡ 5 → IsCutOff words old new out out' notes notes'
+  pub short : status ≡ 6 → TellsLine notes notes' memory_line
+  pub certificate : status ≡ 7 → TellsText words old notes notes' ⊎ TellsRule words old new notes notes'
+  pub untouched : (status ≡ 0 → ⊥) → (status ≡ 5 → ⊥) → out' ≡ out
+  pub exact : IsExact IsCertificate 7 words old status
+  pub complete : IsComplete IsCertificate (λ s. (s ≡ 0) ⊎ (s ≡ 6) ⊎ (s ≡ 7)) words old out out' notes notes' status
+  pub replayed : IsSomeAnd old.held (HoldsReplay words) → (Rose out.faults out'.faults → ⊥)
+      → (Rose notes.faults notes'.faults → ⊥) → (status ≡ 0) ⊎ (status ≡ 6)
+  pub known : status ≤ 7
+  pub words_accepted : status ≡ 1 → ⊥
+  pub no_script : status ≡ 3 → ⊥

@@ -1,0 +1,5 @@
+pub mod Certificates
+pub mod Tellings
+pub mod Checked
+pub mod Stops
+pub mod Trials

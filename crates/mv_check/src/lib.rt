@@ -1,0 +1,12 @@
+//! The task of checking: a certificate and a network are read, the certificate's rules are applied to the network, and the network
+//! that is left is written.
+#![tactic(auto)]
+
+mod checking;
+mod stop;
+mod take;
+mod tell;
+mod trial;
+
+pub use checking::check;
+pub use stop::TextFault;

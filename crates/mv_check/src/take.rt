@@ -1,0 +1,81 @@
+ghost use Rattle.std.specs.Prelude.{◌≡◌, [], length, Err, IfOk, IfErr, IfSome};
+ghost use Rattle.mv_files.specs.FileReading.{Stay};
+ghost use Rattle.mv_task.specs.declared.fault.FileFault.{FileFault};
+ghost use Rattle.mv_task.specs.declared.fault.SourceStop.TheVariants.{Fault as faulty};
+ghost use Rattle.mv_task.specs.Exact.{Ended};
+ghost use Rattle.mv_task.specs.Faults.{RefusesNetwork};
+ghost use Rattle.mv_task.specs.Made.{Prepared};
+ghost use Rattle.mv_task.specs.Words.{texts};
+ghost use Rattle.mv_check.specs.declared.stop.TextFault.{TextFault};
+ghost use Rattle.mv_cert.specs.Certificates.{IsCertificate};
+ghost use Rattle.mv_check.specs.Certificates.{HasSteps, RefusesCertificate};
+ghost use Rattle.mv_check.specs.Stops.{status_of};
+
+use crate::stop::{Stop, TextFault};
+use mv_base::{Files, Items, MAX_CERTIFICATE_BYTES};
+use mv_cert::{Step, StepFault, read_cert};
+use mv_files::{LinesStop, read_lines};
+use mv_lex::LexFault;
+use mv_net::Network;
+use mv_task::{take_network, word_at};
+use std::alloc::Global;
+
+/// Reads the certificate, and gives its steps.
+#[tactic(auto, using(crate::proofs::Takes::takes_certificate))]
+fn take_certificate<F: Files>(
+    alloc: Global,
+    words: &[String],
+    files: &mut F,
+) -> Result<Items<Step>, Stop>
+    requires { length words.now ≡ 3 }
+    ensures steps { IfOk result (HasSteps (texts words.now) (F.state files.old)) }
+    ensures stay { Stay (F.state files.old) (F.state files.new) }
+    ensures text { (fault : TextFault) → result ≡ Err (Stop.Text fault)
+        → RefusesCertificate (texts words.now) (F.state files.old) fault }
+    ensures own { (fault : FileFault) → result ≡ Err (Stop.Source (faulty fault)) → ⊥ }
+    ensures ended { IfErr result (λ stop.
+        Ended IsCertificate 7 (texts words.now) (F.state files.old) (F.state files.new) (status_of stop)) }
+{
+    let lines = match read_lines(alloc, files, word_at(words, 2), MAX_CERTIFICATE_BYTES) {
+        Ok(lines) => lines,
+        Err(LinesStop::Failed) => return Err(Stop::Read),
+        Err(LinesStop::Lex(LexFault::Memory)) => return Err(Stop::Memory),
+        Err(LinesStop::Lex(fault)) => return Err(Stop::Text(TextFault::Lex(fault))),
+    };
+    match read_cert(&lines) {
+        Ok(steps) => Ok(steps),
+        Err(StepFault::Memory) => Err(Stop::Memory),
+        Err(fault) => Err(Stop::Text(TextFault::Step(fault))),
+    }
+}
+
+/// What a check works on: the network of the network file, and the steps of the certificate.
+#[derive(Drop)]
+pub struct Trial {
+    pub net: Network,
+    pub steps: Items<Step>,
+}
+
+/// What the words ask for: first the certificate is judged, then the network.
+#[tactic(auto, using(crate::proofs::Takes::prepares))]
+pub fn prepare<F: Files>(alloc: Global, words: &[String], files: &mut F) -> Result<Trial, Stop>
+    requires { length words.now ≡ 3 }
+    ensures steps { IfOk result (λ trial. HasSteps (texts words.now) (F.state files.old) trial.steps) }
+    ensures made { IfOk result (λ trial. Prepared (texts words.now) (F.state files.old) (F.state files.new) trial.net) }
+    ensures latches { IfOk result (λ trial. trial.net.latches ≡ []) }
+    ensures text { (fault : TextFault) → result ≡ Err (Stop.Text fault)
+        → RefusesCertificate (texts words.now) (F.state files.old) fault }
+    ensures faulty { (fault : FileFault) → result ≡ Err (Stop.Source (faulty fault))
+        → IfSome (F.state files.old).held (RefusesNetwork (texts words.now) fault) }
+    ensures ended { IfErr result (λ stop.
+        Ended IsCertificate 7 (texts words.now) (F.state files.old) (F.state files.new) (status_of stop)) }
+{
+    let steps = match take_certificate(alloc, words, files) {
+        Ok(steps) => steps,
+        Err(stop) => return Err(stop),
+    };
+    match take_network(alloc, words, files) {
+        Ok(net) => Ok(Trial { net, steps }),
+        Err(stop) => Err(Stop::Source(stop)),
+    }
+}

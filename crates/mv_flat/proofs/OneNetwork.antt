@@ -1,0 +1,104 @@
+-- A design has at most one network: the rules say its nets one by one, and the name of each that is made.
+use Rattle.std.proofs.Common.{◌≡◌, ℕ, ◌<◌, ◌≤◌, Bool, true, false, List, [], ◌∷◌, ◌++◌, map, Option, Some, None, refl, sym, ◌∙◌, ap, subst, arith, All, ⊎_elim}
+use Rattle.std.proofs.lemmas.Bool.{false≢true, cases_lt}
+use Rattle.std.proofs.lemmas.List.Elements.{All-head, All-tail}
+use Rattle.mv_base.specs.Names.{among}
+use Rattle.mv_cover.specs.declared.cover.Cover.{Cover}
+use Rattle.mv_design.specs.declared.design.Decl.{Decl}
+use Rattle.mv_design.specs.declared.design.Design.{Design}
+use Rattle.mv_design.specs.declared.design.FileModel.{FileModel}
+use Rattle.mv_design.specs.declared.table.FileTable.{FileTable}
+use Rattle.mv_rows.specs.declared.table.FlatTable.{FlatTable}
+use Rattle.mv_rows.proofs.OneTable.{one_made}
+use Rattle.mv_net.specs.declared.parts.FlatNet.{FlatNet}
+use Rattle.mv_net.specs.declared.parts.NetParts.{NetParts}
+use Rattle.mv_net.specs.declared.parts.Kind.TheVariants.{Input, Table}
+use Rattle.mv_model.specs.Nets.{root_of, drivers}
+use Rattle.mv_model.specs.Numbers.{places, may_mark}
+use Rattle.mv_model.specs.Proper.{IsProper, IsFileDecl}
+use Rattle.mv_model.proofs.Distinct.{few_places}
+use Rattle.mv_flat.specs.Numbers.{columns_at, mark_at, output_of, made_name}
+use Rattle.mv_flat.specs.Built.{file_net, fresh_net, IsFreshName, IsMark, AreTableNets, AreTables, IsBuilt}
+use Rattle.mv_flat.specs.Flat.{IsFlat}
+use Rattle.mv_flat.specs.Placed.{IsPlacedTable, ArePlaced}
+use Rattle.mv_flat.proofs.Behinds.{placed}
+use Rattle.mv_flat.proofs.Shapes.{table_columns, marked_columns}
+
+-- ---- made nets
+
+-- the least number whose name isn't held isn't above another such number
+not_above : (held : List (List ℕ)) (v w : List ℕ) → (p : IsFreshName held v) → (q : IsFreshName held w) → p.number < q.number → ⊥
+not_above held v w p q low =
+    false≢true (sym p.fresh ∙ (ap (λ u. among u held) p.is ∙ q.least p.number p.positive low))
+
+one_name : (held : List (List ℕ)) (v w : List ℕ) → IsFreshName held v → IsFreshName held w → v ≡ w
+one_name held v w p q =
+    let same : p.number ≡ q.number =
+    ⊎_elim (λ (low : p.number < q.number). absurd (not_above held v w p q low))
+    (λ (high : q.number ≤ p.number).
+    ⊎_elim (λ (low : q.number < p.number). absurd (not_above held w v q p low)) (λ (up : p.number ≤ q.number). omega (arith, high, up)) (cases_lt q.number p.number))
+    (cases_lt p.number q.number)
+    in
+    p.is ∙ (ap made_name same ∙ sym q.is)
+
+-- ---- nets behind the names that are held
+
+-- nets, and the names that are held then, are the same
+record AreSame (nets others : List (Option FlatNet)) (after behind : List (List ℕ)) : Type 0 where
+  nets_are : nets ≡ others
+  after_is : after ≡ behind
+
+one_mark : (held : List (List ℕ)) (may : Bool) (o : Option Cover) (nets others : List (Option FlatNet)) (after behind : List (List ℕ)) → IsMark held may o nets after → IsMark held may o others behind → AreSame nets others after behind
+one_mark held true (Some c) nets others after behind p q =
+    let name = one_name held p.name q.name p.fresh q.fresh in
+    record {
+      nets_are = p.nets_are ∙ (ap (λ w. fresh_net w c ∷ []) name ∙ sym q.nets_are);
+      after_is = p.after_is ∙ (ap (λ w. held ++ w ∷ []) name ∙ sym q.after_is);
+    }
+one_mark held true None nets others after behind p q = record { nets_are = p.nets_are ∙ sym q.nets_are; after_is = p.after_is ∙ sym q.after_is }
+one_mark held false (Some c) nets others after behind p q = absurd p
+one_mark held false None nets others after behind p q = record { nets_are = p.nets_are ∙ sym q.nets_are; after_is = p.after_is ∙ sym q.after_is }
+
+module _ (ds : List Decl) (names : List (List ℕ)) (proper : All IsFileDecl ds) where
+  one_table : (held : List (List ℕ)) (t : FileTable) (nets others : List (Option FlatNet)) (after behind : List (List ℕ)) → IsPlacedTable ds names t → AreTableNets ds names held t nets after → AreTableNets ds names held t others behind → AreSame nets others after behind
+  one_table held t nets others after behind known p q =
+      let flat : p.flat ≡ q.flat =
+      one_made (columns_at ds names t) t (mark_at names t) p.flat q.flat (table_columns ds names t proper known) (marked_columns ds names t proper known) p.made q.made
+      in
+      let P : FlatTable → Type 0 = λ f. IsMark held (may_mark t) f.mark q.mark behind in
+      let marks = one_mark held (may_mark t) p.flat.mark p.mark q.mark after behind p.marked (subst P (sym flat) q.marked) in
+      record {
+        nets_are =
+            p.nets_are
+            ∙ (ap (λ ms. ms ++ file_net ds Table (Some p.flat.cover) (output_of t) ∷ []) marks.nets_are
+            ∙ (ap (λ (f : FlatTable). q.mark ++ file_net ds Table (Some f.cover) (output_of t) ∷ []) flat ∙ sym q.nets_are));
+        after_is = marks.after_is;
+      }
+
+  one_tables : (ts : List FileTable) (held : List (List ℕ)) (nets others : List (Option FlatNet)) → All (IsPlacedTable ds names) ts → AreTables ds names ts held nets → AreTables ds names ts held others → nets ≡ others
+  one_tables [] held nets others known p q = p ∙ sym q
+  one_tables (t ∷ ts) held nets others known p q =
+      let here = one_table held t p.here q.here p.after q.after (All-head (IsPlacedTable ds names) t ts known) p.are_here q.are_here in
+      let P : List (List ℕ) → Type 0 = λ ws. AreTables ds names ts ws q.rest in
+      let rest = one_tables ts p.after p.rest q.rest (All-tail (IsPlacedTable ds names) t ts known) p.are_rest (subst P (sym here.after_is) q.are_rest) in
+      p.joined ∙ ((λ i. here.nets_are i ++ rest i) ∙ sym q.joined)
+
+-- ---- the whole network
+
+same_parts : (a b : NetParts) → a.root ≡ b.root → a.inputs ≡ b.inputs → a.outputs ≡ b.outputs → a.latches ≡ b.latches → a.nets ≡ b.nets → a ≡ b
+same_parts a b r x y l n = λ i. record { root = r i; inputs = x i; outputs = y i; latches = l i; nets = n i }
+
+one_built : (m : FileModel) (a b : NetParts) → All IsFileDecl m.decls → ArePlaced m (places m) → IsBuilt m a → IsBuilt m b → a ≡ b
+one_built m a b proper known p q =
+    let tables = one_tables m.decls (places m) proper m.tables (drivers m) p.of_tables q.of_tables known.tables p.are_tables q.are_tables in
+    same_parts a b (p.root ∙ sym q.root) (p.inputs ∙ sym q.inputs) (p.outputs ∙ sym q.outputs) (p.latches ∙ sym q.latches)
+    (p.nets_are ∙ (ap (λ fs. map (file_net m.decls Input None) m.inputs ++ fs) tables ∙ sym q.nets_are))
+
+-- a design has at most one network
+pub one_network : (d : Design) (one other : NetParts) → IsProper d → IsFlat one d → IsFlat other d → one ≡ other
+one_network d one other proper p q =
+    let m = root_of d in
+    let twice = few_places m p.sound.root.driven in
+    let few = p.limits.few in
+    let known = placed m (places m) proper.root p.sound.root refl (omega (arith, twice, few)) in
+    one_built m one other proper.root.decls known p.built q.built

@@ -1,0 +1,21 @@
+-- The network that the commands left has no latches either, and what was put to the notes and to the output comes behind
+-- what the commands put.
+use Rattle.mv_opt.proofs.CommandRuns.{runs_latches}
+use Rattle.mv_opt.proofs.Works.{work_done, work_cut}
+use Rattle.mv_opt.proofs.work.carry_out.Goals as goal
+
+pub reads_back-requires : goal.reads_back-requires
+reads_back-requires g c = runs_latches _ _ _ _ c.requires.latches c.in-Ok.ensures.ok.runs
+
+pub finish-requires : goal.finish-requires
+finish-requires g c = runs_latches _ _ _ _ c.requires.latches c.in-Ok.ensures.ok.runs
+
+pub returns-in-Ok-finish-clause-ok : goal.returns-in-Ok-finish-clause-ok
+returns-in-Ok-finish-clause-ok g c =
+    let ran = rw c.as_slice.ensures at c.in-Ok.ensures.ok in
+    work_done _ _ c.run_noted.new.net _ _ _ _ _ _ c.literals-before.ensures ran c.in-Ok.ensures.refines c.reads_back.ensures c.well_formed-2.ensures c.requires.names c.few_literals.ensures c.few_literals-2.ensures c.in-Ok-finish.ensures.written c.in-Ok-finish.ensures.noted
+
+pub returns-clause-write : goal.returns-clause-write
+returns-clause-write g c =
+    let ran = rw c.as_slice.ensures at c.in-Ok.ensures.ok in
+    λ e. work_cut _ _ c.run_noted.new.net _ _ _ _ _ _ c.literals-before.ensures ran c.in-Ok.ensures.later c.in-Err.ensures.cut

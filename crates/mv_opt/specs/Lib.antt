@@ -1,0 +1,5 @@
+pub mod Scripts
+pub mod Runs
+pub mod Outcomes
+pub mod Optimised
+pub mod Stops

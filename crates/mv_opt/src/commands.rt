@@ -1,0 +1,52 @@
+ghost use Rattle.std.specs.Prelude.{◌≡◌, Err, OnOk};
+ghost use Rattle.mv_base.specs.Meaning.{Refines};
+ghost use Rattle.mv_base.specs.Outside.{Rose};
+ghost use Rattle.mv_net.specs.Allowed.{of_net};
+ghost use Rattle.mv_pass.specs.Taking.{GoesOn, Took, TookPart};
+ghost use Rattle.mv_opt.specs.Runs.{PassesCommand, Runs, StopsIn};
+
+use mv_entry::Journal;
+use mv_net::Network;
+use mv_pass::Stop;
+use mv_script::Command;
+use mv_sweep::remove_unread;
+use std::alloc::Global;
+
+/// Runs a command.
+fn run_command<J: Journal>(
+    alloc: Global,
+    net: &mut Network,
+    command: Command,
+    journal: &mut J,
+) -> Result<(), Stop>
+    ensures passes { PassesCommand command net.old net.new (J.state journal.old) (J.state journal.new) result }
+{
+    match command {
+        Command::Drop => remove_unread(alloc, net, journal),
+    }
+}
+
+/// Runs the commands one after the other. The network that is left may take the place of the old one, also where one stops.
+pub fn run_commands<J: Journal>(
+    alloc: Global,
+    net: &mut Network,
+    commands: &[Command],
+    journal: &mut J,
+) -> Result<(), Stop>
+    ensures ok { OnOk result (Took (λ entries. Runs commands.now net.old entries net.new) (J.state journal.old) (J.state journal.new)) }
+    ensures memory { result ≡ Err Stop.Memory
+        → Took (λ entries. StopsIn commands.now net.old entries net.new) (J.state journal.old) (J.state journal.new) }
+    ensures note { result ≡ Err Stop.Note
+        → TookPart (λ entries. StopsIn commands.now net.old entries net.new) (J.state journal.old) (J.state journal.new) }
+    ensures cause { result ≡ Err Stop.Note → Rose (J.state journal.old).written.faults (J.state journal.new).written.faults }
+    ensures refines { Refines (of_net net.new) (of_net net.old) }
+    ensures goes_on { GoesOn (J.state journal.old) (J.state journal.new) }
+{
+    for command in commands {
+        match run_command(alloc, net, *command, journal) {
+            Ok(()) => {}
+            Err(stop) => return Err(stop),
+        }
+    }
+    Ok(())
+}

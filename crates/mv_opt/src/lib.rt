@@ -1,0 +1,10 @@
+//! The task of optimising: a script and a network are read, the script's commands run, and the network that is left is written.
+#![tactic(auto)]
+
+mod commands;
+mod optimising;
+mod stop;
+mod take;
+mod work;
+
+pub use optimising::optimise;

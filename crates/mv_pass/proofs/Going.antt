@@ -1,0 +1,23 @@
+-- Entries one after the other: two stretches of them, and the rules among them.
+use Rattle.std.proofs.Common.{◌≡◌, List, [], ◌∷◌, ◌++◌, refl, ap, subst}
+use Rattle.mv_entry.specs.Entries.{Entry, Applied, Noted, rules_of}
+use Rattle.mv_net.specs.declared.parts.NetParts.{NetParts}
+use Rattle.mv_rules.specs.Replaying.{Replays}
+use Rattle.mv_pass.specs.Going.{Goes}
+
+module _ (Lawful : NetParts → Entry → Type 0) where
+  pub Goes-append : (a b c : NetParts) (xs ys : List Entry) → Goes Lawful a xs b → Goes Lawful b ys c → Goes Lawful a (xs ++ ys) c
+  Goes-append a b c [] ys g h = subst (λ n. Goes Lawful n ys c) g h
+  Goes-append a b c (Applied r ∷ xs) ys g h = (g.0, (g.1.0, (g.1.1.0, Goes-append g.1.0 b c xs ys g.1.1.1 h)))
+  Goes-append a b c (Noted n ∷ xs) ys g h = (g.0, Goes-append a b c xs ys g.1 h)
+
+  -- whatever the law, the rules among the entries apply in turn
+  pub goes_replays : (a b : NetParts) (es : List Entry) → Goes Lawful a es b → Replays (rules_of es) a b
+  goes_replays a b [] g = g
+  goes_replays a b (Applied r ∷ es) g = (g.1.0, (g.1.1.0, goes_replays g.1.0 b es g.1.1.1))
+  goes_replays a b (Noted n ∷ es) g = goes_replays a b es g.1
+
+pub rules_of-append : (xs ys : List Entry) → rules_of (xs ++ ys) ≡ rules_of xs ++ rules_of ys
+rules_of-append [] ys = refl
+rules_of-append (Applied r ∷ xs) ys = ap (λ rs. r ∷ rs) (rules_of-append xs ys)
+rules_of-append (Noted n ∷ xs) ys = rules_of-append xs ys

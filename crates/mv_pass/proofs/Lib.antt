@@ -1,0 +1,4 @@
+pub mod Going
+pub mod Taken
+pub mod Commands
+pub mod Passed

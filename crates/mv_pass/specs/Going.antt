@@ -1,0 +1,44 @@
+-- What a command does: rules and notes, one after the other, from its beginning to its end.
+use Rattle.std.specs.Prelude.{◌≡◌, ◌⊎◌, ℕ, ◌<◌, ◌^◌, List, [], ◌∷◌, ◌++◌}
+use Rattle.mv_entry.specs.declared.note.Command.{Command}
+use Rattle.mv_entry.specs.declared.note.Note.TheVariants.{Begin, End}
+use Rattle.mv_entry.specs.Entries.{Entry, Applied, Noted}
+use Rattle.mv_net.specs.declared.parts.NetParts.{NetParts}
+use Rattle.mv_net.specs.Nets.{literals_in}
+use Rattle.mv_rules.specs.Applies.{Applies}
+
+-- the entries lead from the old network to the new one: each is lawful in the network at its place, and each rule applies to it
+abbrev pub Goes : (NetParts → Entry → Type 0) → NetParts → List Entry → NetParts → Type 0
+Goes Lawful old [] new = new ≡ old
+Goes Lawful old (Applied rule ∷ es) new = Lawful old (Applied rule) × ((mid : NetParts) × (Applies rule old mid × Goes Lawful mid es new))
+Goes Lawful old (Noted note ∷ es) new = Lawful old (Noted note) × Goes Lawful old es new
+
+-- the entries of a command that has begun and hasn't ended
+abbrev pub begun : Command → List Entry → List Entry
+begun command steps = Noted (Begin command) ∷ steps
+
+-- the entries of a whole command, which ends with so many literals
+abbrev pub whole : Command → List Entry → ℕ → List Entry
+whole command steps literals = begun command steps ++ Noted (End literals) ∷ []
+
+-- a whole command: it begins, its steps lead to a network in which it settles, and it ends with that network's literals, which are
+-- a number of 128 bits
+pub record Does (Lawful : NetParts → Entry → Type 0) (Settles : NetParts → Type 0) (command : Command)
+    (old : NetParts) (entries : List Entry) (new : NetParts) : Type 0 where
+  pub steps : List Entry
+  pub goes : Goes Lawful old steps new
+  pub settles : Settles new
+  pub few : literals_in new.nets < 2 ^ 128
+  pub entries_are : entries ≡ whole command steps (literals_in new.nets)
+
+-- a command that has begun, and has made some of its steps
+pub record HasBegun (Lawful : NetParts → Entry → Type 0) (command : Command)
+    (old : NetParts) (entries : List Entry) (new : NetParts) : Type 0 where
+  pub steps : List Entry
+  pub goes : Goes Lawful old steps new
+  pub entries_are : entries ≡ begun command steps
+
+-- a command that stops, with these entries: it has begun, or it is even whole
+abbrev pub Begun : (NetParts → Entry → Type 0) → (NetParts → Type 0) → Command → NetParts → List Entry → NetParts → Type 0
+Begun Lawful Settles command old entries new =
+    HasBegun Lawful command old entries new ⊎ Does Lawful Settles command old entries new

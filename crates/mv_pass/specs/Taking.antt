@@ -1,0 +1,51 @@
+-- What a journal takes of a command.
+use Rattle.std.specs.Prelude.{◌≡◌, ◌≤◌, ℕ, List, [], ◌∷◌}
+use Rattle.mv_base.specs.Outside.{Gained, GainedPart, Rose}
+use Rattle.mv_entry.specs.declared.rule.Rule.{Rule}
+use Rattle.mv_entry.specs.Entries.{Entry, Applied, entry_text, print}
+use Rattle.mv_entry.specs.Tallies.{Journaled, with_entry, with_entries}
+use Rattle.mv_net.specs.declared.parts.NetParts.{NetParts}
+use Rattle.mv_rules.specs.Applies.{Applies}
+use Rattle.mv_pass.specs.Going.{Goes}
+
+-- a journal took such entries: it gained their text, and counted them
+pub record Took (Are : List Entry → Type 0) (old new : Journaled) : Type 0 where
+  pub entries : List Entry
+  pub are : Are entries
+  pub gained : Gained old.written new.written (print entries)
+  pub counted : new.tally ≡ with_entries old.tally entries
+
+-- a journal gained some first part of the text of such entries
+pub record TookPart (Are : List Entry → Type 0) (old new : Journaled) : Type 0 where
+  pub entries : List Entry
+  pub are : Are entries
+  pub gained : GainedPart old.written new.written (print entries)
+
+-- a journal goes on: its count of faults didn't fall, and its text goes where it went
+pub record GoesOn (old new : Journaled) : Type 0 where
+  pub later : old.written.faults ≤ new.written.faults
+  pub place : new.place ≡ old.place
+
+-- the rule applies to the network
+pub record CanApply (rule : Rule) (old : NetParts) : Type 0 where
+  pub new : NetParts
+  pub applies : Applies rule old new
+
+-- some steps of a command led from one network to the other, and the journal took them
+abbrev pub Went : (NetParts → Entry → Type 0) → NetParts → NetParts → Journaled → Journaled → Type 0
+Went Lawful old new journal journal' = Took (λ steps. Goes Lawful old steps new) journal journal'
+
+-- some steps of a command led from one network to the other, and the journal gained some first part of their text
+abbrev pub WentPart : (NetParts → Entry → Type 0) → NetParts → NetParts → Journaled → Journaled → Type 0
+WentPart Lawful old new journal journal' = TookPart (λ steps. Goes Lawful old steps new) journal journal'
+
+-- a rule applied, and the journal took it
+pub record TookRule (rule : Rule) (old new : NetParts) (journal journal' : Journaled) : Type 0 where
+  pub applies : Applies rule old new
+  pub gained : Gained journal.written journal'.written (entry_text (Applied rule))
+  pub counted : journal'.tally ≡ with_entry journal.tally (Applied rule)
+
+-- a rule applied, and the journal gained some first part of its text
+pub record TookRulePart (rule : Rule) (old new : NetParts) (journal journal' : Journaled) : Type 0 where
+  pub applies : Applies rule old new
+  pub gained : GainedPart journal.written journal'.written (entry_text (Applied rule))

@@ -1,0 +1,11 @@
+//! What all commands share: a rule that is applied and noted, and what it means that entries follow each other from the beginning
+//! of a command to its end, or to where it stops.
+#![tactic(auto)]
+
+mod laws;
+mod stop;
+mod taking;
+
+pub use laws::few_literals;
+pub use stop::Stop;
+pub use taking::take;

@@ -1,0 +1,98 @@
+//! Rules from texts: `remove k`, `wire k`, `collapse k`, `add k BODY` and `divide k by BODY`, where a body is words such as
+//! `a=1&b=02:1`, which are its lines, and `else:0`, which is its default.
+use mv_base::{Items, Name, Value, ValueSet};
+use mv_rules::{Body, BodyLine, BodyLit, Rule};
+use std::alloc::Global;
+use std::test::Fail;
+
+/// The name of a net.
+fn name(alloc: Global, word: &str) -> Result<Name, Fail> {
+    Ok(Name::new(alloc, word.as_bytes())?)
+}
+
+/// The values whose digits stand in the word.
+fn set(digits: &str) -> ValueSet {
+    let mut set = ValueSet::empty();
+    for digit in digits.bytes() {
+        if digit.is_ascii_digit() {
+            set = set.join(ValueSet::one(Value(u16::from(digit & 15))));
+        }
+    }
+    set
+}
+
+/// The literals with `&` between them, none of which is the empty word.
+fn literals(alloc: Global, words: &str) -> Result<Items<BodyLit>, Fail> {
+    let mut literals = Items::new(alloc);
+    for word in words.split('&') {
+        if let Some((net, values)) = word.split_once('=') {
+            let net = name(alloc, net)?;
+            literals.push(BodyLit {
+                net,
+                set: set(values),
+            })?;
+        }
+    }
+    Ok(literals)
+}
+
+/// Puts the line or the default of a word to a body.
+fn put_line(body: &mut Body, alloc: Global, word: &str) -> Result<(), Fail> {
+    let (words, out) = word.split_once(':').ok_or("a line without an output")?;
+    let out = set(out);
+    if words == "else" {
+        body.default = Some(out);
+        return Ok(());
+    }
+    let lits = literals(alloc, words)?;
+    Ok(body.lines.push(BodyLine { lits, out })?)
+}
+
+/// The body of the words.
+fn body(alloc: Global, words: &str) -> Result<Body, Fail> {
+    let mut body = Body {
+        lines: Items::new(alloc),
+        default: None,
+    };
+    for word in words.split_whitespace() {
+        put_line(&mut body, alloc, word)?;
+    }
+    Ok(body)
+}
+
+/// The rule that a net with this body comes.
+fn addition(alloc: Global, net: &str, words: &str) -> Result<Rule, Fail> {
+    let net = name(alloc, net)?;
+    let body = body(alloc, words)?;
+    Ok(Rule::Add { net, body })
+}
+
+/// The rule that a net is divided by another, which stands before the body.
+fn division(alloc: Global, net: &str, words: &str) -> Result<Rule, Fail> {
+    let (by, lines) = words.split_once(' ').ok_or("no divisor")?;
+    let net = name(alloc, net)?;
+    let by = name(alloc, by)?;
+    let body = body(alloc, lines)?;
+    Ok(Rule::Divide { net, by, body })
+}
+
+/// The rule of a net alone.
+fn short_rule(alloc: Global, what: &str, net: &str) -> Result<Rule, Fail> {
+    let net = name(alloc, net)?;
+    match what {
+        "remove" => Ok(Rule::Remove { net }),
+        "wire" => Ok(Rule::Wire { net }),
+        "collapse" => Ok(Rule::Collapse { net }),
+        _ => Err("no such rule")?,
+    }
+}
+
+/// The rule of a text.
+pub fn rule(alloc: Global, text: &str) -> Result<Rule, Fail> {
+    let (what, rest) = text.split_once(' ').ok_or("no net")?;
+    match rest.split_once(' ') {
+        Some((net, words)) if what == "add" => addition(alloc, net, words),
+        Some((net, words)) => division(alloc, net, words),
+        None => short_rule(alloc, what, rest),
+    }
+}

@@ -1,0 +1,6 @@
+pub mod Digits
+pub mod Unions
+pub mod Bracketed
+pub mod Refusals
+pub mod Written
+pub mod Listed

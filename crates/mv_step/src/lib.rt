@@ -1,0 +1,18 @@
+//! The lines of a certificate to the rules that it lists.
+#![tactic(auto)]
+
+mod fault;
+mod keyword;
+mod laws;
+mod line;
+mod reader;
+mod said;
+mod set;
+mod step;
+#[cfg(test)]
+mod tests;
+
+pub use fault::StepFault;
+pub use laws::printed_laws;
+pub use reader::read_cert;
+pub use step::Step;

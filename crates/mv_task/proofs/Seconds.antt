@@ -1,0 +1,60 @@
+-- The second file, whatever it is to be: judged, and read before the network.
+use Rattle.std.proofs.Common.{◌≡◌, ℕ, ◌≤◌, ◌+◌, List, [], ◌++◌, length, Option, Some, None, inl, inr, refl, ◌∙◌, ap, subst, arith, length-append}
+use Rattle.std.specs.Prelude.{IsTrue, IfSome}
+use Rattle.std.proofs.lemmas.List.{append-nil}
+use Rattle.mv_base.specs.Outside.{Held, Stored, Still, file_named}
+use Rattle.mv_base.proofs.OutsideLemmas.{Rose-earlier}
+use Rattle.mv_files.specs.FileReading.{WasRead, StaySame, Stay, Lacks}
+use Rattle.mv_task.specs.declared.fault.SourceStop.{SourceStop}
+use Rattle.mv_task.specs.declared.fault.SourceStop.TheVariants.{Fault, Read, Memory}
+use Rattle.mv_task.specs.Exact.{LacksFile, Ended, Network, Unread, Short}
+use Rattle.mv_task.specs.Faults.{IsNetworkCause, source_status}
+use Rattle.mv_task.specs.Taken.{IsTaken, IsRefused}
+use Rattle.mv_task.specs.Words.{word_at}
+use Rattle.mv_task.proofs.Networks.{missing_earlier, faulty_earlier}
+
+-- ---- what was read is the whole content, where that is within the limit
+
+some_whole : (bytes rest : List ℕ) → rest ≡ [] → bytes ++ rest ≡ bytes
+some_whole bytes rest e = ap (λ r. bytes ++ r) e ∙ append-nil bytes
+
+pub whole : (before after : Held) (name : List ℕ) (limit : ℕ) (bytes : List ℕ) → WasRead before after name limit bytes → length bytes ≤ limit → file_named name before.files ≡ Some bytes
+whole before after name limit bytes r h =
+    r.read.content ∙ ap Some (some_whole bytes after.rest (r.ended h))
+
+-- content that is accepted only within the limit is refused where what was read of it is
+pub refused_read : (Accepts : List ℕ → Type 0) (before after : Held) (name : List ℕ) (limit : ℕ) (bytes : List ℕ) → ((content : List ℕ) → Accepts content → length content ≤ limit) → WasRead before after name limit bytes → (Accepts bytes → ⊥) → IsRefused Accepts name before
+refused_read Accepts before after name limit bytes short r never =
+    record {
+      content = bytes ++ after.rest;
+      named = r.read.content;
+      refused = λ a. (
+          let size : length (bytes ++ after.rest) ≡ length bytes + length after.rest = length-append bytes after.rest in
+          let fits : length (bytes ++ after.rest) ≤ limit = short (bytes ++ after.rest) a in
+          let within : length bytes ≤ limit = omega arith in
+          never (subst Accepts (some_whole bytes after.rest (r.ended within)) a)
+          );
+    }
+
+-- ---- the second file isn't there, or no network comes behind it
+
+module _ (Accepts : List ℕ → Type 0) (words : List (List ℕ)) where
+  lacks_second_of : (old : Option Held) → IfSome old (λ h. IsTrue h.sound → file_named (word_at words 2) h.files ≡ None) → IfSome old (LacksFile Accepts words)
+  lacks_second_of None l = tt
+  lacks_second_of (Some o) l = λ s. inl (l s)
+
+  -- the second file isn't there
+  pub lacks_second : (old : Stored) → Lacks old (word_at words 2) → IfSome old.held (LacksFile Accepts words)
+  lacks_second old l = lacks_second_of old.held l
+
+  lacks_network : (a b : Option Held) → Still a b StaySame → IfSome a (IsTaken Accepts (word_at words 2)) → IfSome b (λ h. IsTrue h.sound → file_named (word_at words 1) h.files ≡ None) → IfSome a (LacksFile Accepts words)
+  lacks_network None b s t l = tt
+  lacks_network (Some a) None s t l = absurd s
+  lacks_network (Some a) (Some b) s t l = λ sound. inr (t, missing_earlier (word_at words 1) a b s (l (s.sound sound)))
+
+  -- no network comes, behind a second file that was taken
+  pub ended_behind : (refused : ℕ) (a b c : Stored) (stop : SourceStop) → Stay a b → IfSome a.held (IsTaken Accepts (word_at words 2)) → IsNetworkCause words b c stop → Ended Accepts refused words a c (source_status stop)
+  ended_behind refused a b c (Fault f) s t h = Network refl f t (faulty_earlier words f a.held b.held s.same h)
+  ended_behind refused a b c Read s t h =
+      Unread refl (Rose-earlier a.faults b.faults c.faults s.later h.0) (lacks_network a.held b.held s.same t h.1)
+  ended_behind refused a b c Memory s t h = Short refl

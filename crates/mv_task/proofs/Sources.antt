@@ -1,0 +1,41 @@
+-- The network that was left takes the place of the design that was read.
+use Rattle.std.proofs.Common.{ℕ, List, Option, Some, None}
+use Rattle.mv_base.specs.Meaning.{Refines}
+use Rattle.mv_base.specs.Outside.{Held, Stored, Written, Still, Gained}
+use Rattle.mv_base.proofs.Meanings.{Refines-from_same, Refines-then}
+use Rattle.mv_net.specs.declared.parts.NetParts.{NetParts}
+use Rattle.mv_net.specs.Allowed.{of_net}
+use Rattle.mv_design.specs.declared.design.Design.{Design}
+use Rattle.mv_model.specs.Meaning.{of_design}
+use Rattle.mv_write.specs.Text.{text_of}
+use Rattle.mv_back.specs.Back.{ReadsBack}
+use Rattle.mv_task.specs.Made.{WasPrepared, Prepared}
+use Rattle.mv_task.specs.Replaced.{IsSource, Replaced}
+use Rattle.mv_task.proofs.NetFiles.{reads_as}
+
+source : (words : List (List ℕ)) (before after : Option Held) (first : NetParts) (written : Design) → Refines (of_design written) (of_net first) → Still before after (λ b a. WasPrepared words b a first) → Still before after (λ b a. IsSource words b a first written)
+source words None after first written refines p = tt
+source words (Some b) None first written refines p = absurd p
+source words (Some b) (Some a) first written refines p =
+    let design = p.net_of.design in
+    record {
+      content = p.content;
+      held = p.held;
+      files = p.files;
+      current = p.current;
+      ended = p.ended;
+      design = design;
+      read = reads_as p.content design p.lexed p.net_of.is p.net_of.flat.sound;
+      flat = p.net_of.flat;
+      refines = Refines-then (of_design written) (of_net first) (of_design design) refines (Refines-from_same (of_net first) (of_design design) p.net_of.flat.means);
+    }
+
+pub replaced : (words : List (List ℕ)) (old new : Stored) (first net : NetParts) (out out' : Written) → Prepared words old new first → Gained out out' (text_of net) → ReadsBack net → Refines (of_net net) (of_net first) → Replaced words old new first net out out'
+replaced words old new first net out out' p gained back refines = record {
+  gained = gained;
+  written = back.design;
+  back = back.reads;
+  source =
+      source words old.held new.held first back.design
+      (Refines-then (of_design back.design) (of_net net) (of_net first) (Refines-from_same (of_design back.design) (of_net net) back.means) refines) p;
+}

@@ -1,0 +1,84 @@
+-- Why a network file is refused, and the line that says so.
+use Rattle.std.specs.Prelude.{◌≡◌, ℕ, IfSome, Some, None, List, codes}
+use Rattle.mv_base.specs.Outside.{Held, Stored, Written, Rose, file_named}
+use Rattle.mv_base.specs.declared.limits.TheConstants.{MAX_NETWORK_BYTES}
+use Rattle.mv_lex.specs.declared.fault.LexFault.{LexFault}
+use Rattle.mv_lex.specs.declared.fault.LexFault.TheVariants.{BadByte, LongWord, OpenBracket, TooLarge, Memory}
+use Rattle.mv_lex.specs.Lines.{lines_of, lex_fault}
+use Rattle.mv_fault.specs.declared.fault.ParseFault.{ParseFault}
+use Rattle.mv_fault.specs.Told.{parse_line}
+use Rattle.mv_parse.specs.Grammar.{FirstFault}
+use Rattle.mv_model.specs.declared.fault.FlatFault.{FlatFault}
+use Rattle.mv_model.specs.Told.{flat_line}
+use Rattle.mv_read.specs.Reads.{IsUnsound}
+use Rattle.mv_task.specs.declared.fault.FileFault.{FileFault}
+use Rattle.mv_task.specs.declared.fault.FileFault.TheVariants.{Lex, Parse, Flat}
+use Rattle.mv_task.specs.declared.fault.SourceStop.{SourceStop}
+use Rattle.mv_task.specs.declared.fault.SourceStop.TheVariants.{Fault, Read, Memory as out_of_memory}
+use Rattle.mv_files.specs.FileReading.{Lacks}
+use Rattle.mv_task.specs.Lines.{TellsLine, number_line, numbers_line, read_line, memory_line}
+use Rattle.mv_task.specs.Words.{word_at}
+
+-- the bytes have no fault, but this is the first one of their lines
+pub record HasLineFault (content : List ℕ) (f : ParseFault) : Type 0 where
+  pub lexed : lex_fault MAX_NETWORK_BYTES content ≡ None
+  pub first : FirstFault (lines_of content) f
+
+-- neither the bytes nor their lines have a fault, but the design that they say isn't sound, or its nets pass a limit
+pub record HasNetFault (content : List ℕ) (f : FlatFault) : Type 0 where
+  pub lexed : lex_fault MAX_NETWORK_BYTES content ≡ None
+  pub unsound : IsUnsound (lines_of content) f
+
+-- the content is refused for this fault
+abbrev pub Refuses : List ℕ → FileFault → Type 0
+Refuses content (Lex f) = lex_fault MAX_NETWORK_BYTES content ≡ Some f
+Refuses content (Parse f) = HasLineFault content f
+Refuses content (Flat f) = HasNetFault content f
+
+-- the named network is refused for this fault
+pub record RefusesNetwork (words : List (List ℕ)) (fault : FileFault) (held : Held) : Type 0 where
+  pub content : List ℕ
+  pub named : file_named (word_at words 1) held.files ≡ Some content
+  pub refused : Refuses content fault
+
+-- the line of a fault of the bytes. (Want of memory is none: no bytes have it.)
+abbrev pub lex_line : LexFault → List ℕ
+lex_line (BadByte line byte) = numbers_line (codes "# fault network 1 BadByte line ") line byte
+lex_line (LongWord line) = number_line (codes "# fault network 2 LongWord line ") line
+lex_line (OpenBracket line) = number_line (codes "# fault network 3 OpenBracket line ") line
+lex_line (TooLarge line) = number_line (codes "# fault network 4 TooLarge line ") line
+lex_line Memory = memory_line
+
+-- the line of each fault
+abbrev pub net_line : FileFault → List ℕ
+net_line (Lex f) = lex_line f
+net_line (Parse f) = parse_line f
+net_line (Flat f) = flat_line f
+
+-- the named network is refused for some fault, and the notes tell that fault's line
+pub record TellsFault (words : List (List ℕ)) (files : Stored) (notes notes' : Written) : Type 0 where
+  pub fault : FileFault
+  pub refuses : IfSome files.held (RefusesNetwork words fault)
+  pub tells : TellsLine notes notes' (net_line fault)
+
+-- ---- no network
+
+-- the status where no network comes of the named file
+abbrev pub source_status : SourceStop → ℕ
+source_status (Fault f) = 2
+source_status Read = 4
+source_status out_of_memory = 6
+
+-- and its line
+abbrev pub source_line : SourceStop → List ℕ
+source_line (Fault f) = net_line f
+source_line Read = read_line
+source_line out_of_memory = memory_line
+
+-- ---- what private functions alone cite
+
+-- what each cause says for which no network comes of the named file; want of memory says nothing
+abbrev pub IsNetworkCause : List (List ℕ) → Stored → Stored → SourceStop → Type 0
+IsNetworkCause words old new (Fault f) = IfSome old.held (RefusesNetwork words f)
+IsNetworkCause words old new Read = Rose old.faults new.faults × Lacks old (word_at words 1)
+IsNetworkCause words old new out_of_memory = Unit {0}

@@ -1,0 +1,27 @@
+-- The lines that tell how a run ended.
+use Rattle.std.specs.Prelude.{◌⊎◌, ℕ, List, [], ◌∷◌, ◌++◌, codes, decimal}
+use Rattle.mv_base.specs.Outside.{Written, Gained, GainedPart, Rose}
+
+-- a line of these words and a number
+abbrev pub number_line : List ℕ → ℕ → List ℕ
+number_line words number = words ++ decimal number ++ 10 ∷ []
+
+-- a line of these words and two numbers
+abbrev pub numbers_line : List ℕ → ℕ → ℕ → List ℕ
+numbers_line words first second = words ++ decimal first ++ 32 ∷ decimal second ++ 10 ∷ []
+
+-- the line of refused words
+abbrev pub words_line : List ℕ
+words_line = codes "# fault words\n"
+
+-- the line of a file that couldn't be read
+abbrev pub read_line : List ℕ
+read_line = codes "# fault read\n"
+
+-- the line of want of memory
+abbrev pub memory_line : List ℕ
+memory_line = codes "# fault memory\n"
+
+-- the notes gained the line, or some first part of it where their count of faults rose
+abbrev pub TellsLine : Written → Written → List ℕ → Type 0
+TellsLine old new line = Gained old new line ⊎ (GainedPart old new line × Rose old.faults new.faults)

@@ -1,0 +1,32 @@
+-- What a run promises where its work is done, whatever it was asked for.
+use Rattle.std.specs.Prelude.{◌≡◌, ℕ, Some, List, []}
+use Rattle.mv_base.specs.Meaning.{Refines}
+use Rattle.mv_base.specs.Outside.{Held, Stored, Written, StillTell, file_named, Gained}
+use Rattle.mv_net.specs.declared.parts.NetParts.{NetParts}
+use Rattle.mv_design.specs.declared.design.Design.{Design}
+use Rattle.mv_model.specs.Meaning.{of_design}
+use Rattle.mv_flat.specs.Flat.{IsFlat}
+use Rattle.mv_write.specs.Text.{text_of}
+use Rattle.mv_back.specs.Back.{ReadsAs}
+use Rattle.mv_task.specs.Words.{word_at}
+
+-- the named network file was read to its end, and its design became the first network; and the design that was written may take
+-- the place of the one that was read
+pub record IsSource (words : List (List ℕ)) (before after : Held) (first : NetParts) (written : Design) : Type 0 where
+  pub content : List ℕ
+  pub held : file_named (word_at words 1) before.files ≡ Some content
+  pub files : after.files ≡ before.files
+  pub current : after.current ≡ Some (word_at words 1)
+  pub ended : after.rest ≡ []
+  pub design : Design
+  pub read : ReadsAs content design
+  pub flat : IsFlat first design
+  pub refines : Refines (of_design written) (of_design design)
+
+-- the output gained the text of a network, which reads back as a design; and, where the files tell of themselves, that is a design
+-- that may take the place of the one read, of which the first network is
+pub record Replaced (words : List (List ℕ)) (old new : Stored) (first net : NetParts) (out out' : Written) : Type 0 where
+  pub gained : Gained out out' (text_of net)
+  pub written : Design
+  pub back : ReadsAs (text_of net) written
+  pub source : StillTell old new (λ before after. IsSource words before after first written)

@@ -1,0 +1,9 @@
+pub mod Decimals
+pub mod Members
+pub mod SetWords
+pub mod Sayable
+pub mod LineWords
+pub mod Saying
+pub mod Listed
+pub mod Printed
+pub mod Lawful
