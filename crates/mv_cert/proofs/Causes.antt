@@ -1,5 +1,5 @@
 -- No rule fails for want of memory: that says nothing of it.
-use Rattle.std.proofs.Common.{◌≡◌, ◌∙◌, ◌⊎◌, ℕ, Bool, true, false, inl, inr, refl, sym, ap}
+use Rattle.std.proofs.Common.{◌≡◌, ◌∙◌, ℕ, Bool, true, false, inl, inr, refl, sym, ap}
 use Rattle.std.proofs.lemmas.Bool.{false≢true}
 use Rattle.mv_entry.specs.declared.rule.Rule.{Rule}
 use Rattle.mv_entry.specs.declared.rule.Rule.TheVariants.{Remove, Add, Divide, Wire, Collapse}

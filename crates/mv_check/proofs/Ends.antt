@@ -5,7 +5,6 @@ use Rattle.mv_base.specs.Outside.{Held, Stored, Written, Still, file_named, Rose
 use Rattle.mv_lex.specs.Lines.{lines_of}
 use Rattle.mv_entry.specs.declared.fault.RuleFault.{RuleFault}
 use Rattle.mv_net.specs.declared.parts.NetParts.{NetParts}
-use Rattle.mv_net.specs.Formed.{WellFormed}
 use Rattle.mv_read.specs.Reads.{IsNetOf}
 use Rattle.mv_rules.specs.Replaying.{Replays}
 use Rattle.mv_step.specs.declared.step.Step.{Step}
@@ -18,12 +17,11 @@ use Rattle.mv_task.specs.Exact.{HoldsAll, Ended}
 use Rattle.mv_task.specs.Faults.{RefusesNetwork, TellsFault}
 use Rattle.mv_task.specs.Lines.{TellsLine, read_line, memory_line}
 use Rattle.mv_task.specs.Made.{WasPrepared, Prepared}
-use Rattle.mv_task.specs.Taken.{IsTaken, IsRefused}
 use Rattle.mv_task.specs.Words.{word_at}
-use Rattle.mv_task.proofs.Exactness.{ended_exact, ended_complete, taken_exact, both, taken_refused}
+use Rattle.mv_task.proofs.Exactness.{ended_exact, ended_complete, taken_exact}
 use Rattle.mv_task.proofs.Networks.{prepared_taken}
 use Rattle.mv_task.proofs.Sources.{replaced}
-use Rattle.mv_task.proofs.Statuses.{IsOwn, ended_second, ended_network, ended_read, ended_not_done, ended_not_cut}
+use Rattle.mv_task.proofs.Statuses.{IsOwn, ended_network, ended_read, ended_not_done, ended_not_cut}
 use Rattle.mv_check.specs.declared.stop.Stop.{Stop}
 use Rattle.mv_check.specs.declared.stop.Stop.TheVariants.{Text, Read, Memory, Source}
 use Rattle.mv_check.specs.declared.stop.TextFault.{TextFault}

@@ -1,13 +1,12 @@
 -- The certificate and the network, read and judged.
-use Rattle.std.proofs.Common.{◌≡◌, ◌∙◌, ℕ, List, Option, Some, None, refl, sym, ap, subst}
+use Rattle.std.proofs.Common.{◌≡◌, ◌∙◌, ℕ, List, Option, Some, None, refl, sym, ap}
 use Rattle.std.specs.Prelude.{IfSome}
-use Rattle.mv_base.specs.Outside.{Stored, Held, Still, file_named, Rose}
+use Rattle.mv_base.specs.Outside.{Stored, Held, file_named, Rose}
 use Rattle.mv_base.specs.declared.limits.TheConstants.{MAX_CERTIFICATE_BYTES}
 use Rattle.mv_lex.specs.declared.fault.LexFault.{LexFault}
 use Rattle.mv_lex.specs.declared.lines.LexLine.{LexLine}
-use Rattle.mv_lex.specs.Lines.{lines_of, lex_fault}
 use Rattle.mv_files.specs.FileReading.{Lacks, Stay}
-use Rattle.mv_files.specs.LexedFiles.{HasReadAll, WasLexed, HasFault}
+use Rattle.mv_files.specs.LexedFiles.{WasLexed, HasFault}
 use Rattle.mv_step.specs.declared.fault.StepFault.{StepFault}
 use Rattle.mv_step.specs.declared.step.Step.{Step}
 use Rattle.mv_step.specs.Certificates.{fault_of, steps_of}
@@ -21,8 +20,8 @@ use Rattle.mv_task.proofs.Networks.{prepared_earlier, faulty_earlier, named_of}
 use Rattle.mv_task.proofs.Seconds.{lacks_second, ended_behind}
 use Rattle.mv_check.specs.declared.stop.TextFault.{TextFault}
 use Rattle.mv_check.specs.declared.stop.TextFault.TheVariants.{Lex, Step as step_fault}
-use Rattle.mv_cert.specs.Certificates.{IsCertificate, steps_in}
-use Rattle.mv_check.specs.Certificates.{HasSteps, RefusesCertificate, RefusesText, IsNamed}
+use Rattle.mv_cert.specs.Certificates.{IsCertificate}
+use Rattle.mv_check.specs.Certificates.{HasSteps, RefusesCertificate, RefusesText}
 
 -- ---- the certificate
 

@@ -1,6 +1,6 @@
 -- How a run ends that is asked to check a certificate.
-use Rattle.std.specs.Prelude.{◌≡◌, ◌⊎◌, ℕ, ◌≤◌, IfSome, IsSomeAnd, true, Some, List}
-use Rattle.mv_base.specs.Outside.{Held, Stored, Written, Gained, Rose, file_named}
+use Rattle.std.specs.Prelude.{◌≡◌, ◌⊎◌, ℕ, ◌≤◌, IfSome, IsSomeAnd, List}
+use Rattle.mv_base.specs.Outside.{Held, Stored, Written, Gained, Rose}
 use Rattle.mv_lex.specs.Lines.{lines_of}
 use Rattle.mv_entry.specs.declared.fault.RuleFault.{RuleFault}
 use Rattle.mv_net.specs.declared.parts.NetParts.{NetParts}

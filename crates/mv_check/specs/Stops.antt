@@ -1,5 +1,5 @@
 -- Why a check has nothing to work on. Private functions alone cite these.
-use Rattle.std.specs.Prelude.{◌≡◌, ℕ, List}
+use Rattle.std.specs.Prelude.{ℕ, List}
 use Rattle.mv_check.specs.declared.stop.Stop.{Stop}
 use Rattle.mv_check.specs.declared.stop.Stop.TheVariants.{Text, Read, Memory, Source}
 use Rattle.mv_check.specs.Tellings.{text_line}

@@ -1,5 +1,5 @@
 -- How the work on a certificate ends. Private functions alone cite these.
-use Rattle.std.specs.Prelude.{◌≡◌, ℕ, List}
+use Rattle.std.specs.Prelude.{ℕ, List}
 use Rattle.mv_base.specs.Meaning.{Refines}
 use Rattle.mv_base.specs.Outside.{Written, Gained}
 use Rattle.mv_entry.specs.declared.fault.RuleFault.{RuleFault}

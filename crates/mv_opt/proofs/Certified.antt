@@ -5,10 +5,9 @@ use Rattle.std.proofs.lemmas.List.{append-nil}
 use Rattle.std.proofs.lemmas.List.Elements.{All-nil, All-cons, All-append}
 use Rattle.mv_base.specs.declared.limits.TheConstants.{MAX_CERTIFICATE_BYTES}
 use Rattle.mv_cert.specs.Certificates.{Certifies}
-use Rattle.mv_entry.specs.declared.note.Note.{Note}
 use Rattle.mv_entry.specs.declared.note.Note.TheVariants.{Begin, End, Done}
 use Rattle.mv_entry.specs.declared.note.Command.TheVariants.{Drop as drop_command}
-use Rattle.mv_entry.specs.Entries.{Entry, Applied, Noted, print, entry_text, rules_of}
+use Rattle.mv_entry.specs.Entries.{Entry, Applied, Noted, print, rules_of}
 use Rattle.mv_entry.proofs.Printing.{print-append, print-one}
 use Rattle.mv_net.specs.declared.parts.NetParts.{NetParts}
 use Rattle.mv_net.specs.Formed.{WellFormed}
@@ -24,7 +23,7 @@ use Rattle.mv_script.specs.declared.script.Command.{Command}
 use Rattle.mv_script.specs.declared.script.Command.TheVariants.{Drop}
 use Rattle.mv_sweep.specs.Drops.{IsDropStep}
 use Rattle.mv_step.specs.Printed.{IsSayable}
-use Rattle.mv_told.specs.Printable.{Printable, is_text_number}
+use Rattle.mv_told.specs.Printable.{is_text_number}
 use Rattle.mv_told.proofs.Printed.{print-faultless, steps-faultless}
 use Rattle.mv_opt.specs.Runs.{DoesCommand, Runs, IsCertified, all_notes}
 use Rattle.mv_opt.proofs.CommandRuns.{runs_replays}

@@ -1,5 +1,5 @@
 -- Commands that ran one after the other: one more, one that stops, and the rules that they applied.
-use Rattle.std.proofs.Common.{◌≡◌, ◌∙◌, ℕ, ◌+◌, ◌<◌, ◌≤◌, List, [], ◌∷◌, ◌++◌, length, take, drop, get_or, Result, Ok, Err, inl, inr, refl, sym, ap, subst, append_assoc, ⊎_elim}
+use Rattle.std.proofs.Common.{◌≡◌, ◌∙◌, ℕ, ◌+◌, ◌<◌, ◌≤◌, List, [], ◌∷◌, ◌++◌, length, take, drop, get_or, Result, Ok, Err, inl, inr, refl, sym, ap, subst, append_assoc}
 use Rattle.std.proofs.lemmas.List.{append-nil, take_all, take_more, take-append-drop, drop_more}
 use Rattle.mv_entry.specs.Entries.{Entry, rules_of}
 use Rattle.mv_entry.specs.Tallies.{Journaled}
@@ -9,7 +9,6 @@ use Rattle.mv_net.specs.declared.parts.NetParts.{NetParts}
 use Rattle.mv_net.specs.Allowed.{of_net}
 use Rattle.mv_pass.specs.declared.stop.Stop.{Stop}
 use Rattle.mv_pass.specs.declared.stop.Stop.TheVariants.{Note, Memory}
-use Rattle.mv_pass.specs.Going.{Does, HasBegun, Begun}
 use Rattle.mv_pass.specs.Taking.{Took, TookPart, GoesOn}
 use Rattle.mv_pass.proofs.Going.{goes_replays, rules_of-append}
 use Rattle.mv_pass.proofs.Taken.{Took-none, Took-then, TookPart-then}

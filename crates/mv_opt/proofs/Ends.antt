@@ -1,15 +1,14 @@
 -- How a run ends: what was put to the notes and to the output, and what its status says.
-use Rattle.std.proofs.Common.{◌≡◌, ◌∙◌, ◌⊎◌, ℕ, ◌≤◌, List, [], ◌++◌, inl, inr, refl, sym, subst, arith, ⊎_elim}
+use Rattle.std.proofs.Common.{◌≡◌, ◌⊎◌, ℕ, ◌≤◌, List, [], inl, inr, refl, sym, subst, arith, ⊎_elim}
 use Rattle.std.specs.Prelude.{IfSome}
-use Rattle.mv_base.specs.Outside.{Stored, Written, Gained, GainedPart, Rose}
+use Rattle.mv_base.specs.Outside.{Stored, Written, Rose}
 use Rattle.mv_entry.specs.Entries.{print}
 use Rattle.mv_net.specs.declared.parts.NetParts.{NetParts}
 use Rattle.mv_script.specs.declared.script.Command.{Command}
 use Rattle.mv_task.specs.declared.fault.FileFault.{FileFault}
-use Rattle.mv_task.specs.declared.fault.SourceStop.{SourceStop}
 use Rattle.mv_task.specs.declared.fault.SourceStop.TheVariants.{Fault, Read as unread, Memory as short_source}
 use Rattle.mv_task.specs.Exact.{Ended}
-use Rattle.mv_task.specs.Faults.{RefusesNetwork, TellsFault, source_status, source_line}
+use Rattle.mv_task.specs.Faults.{RefusesNetwork, TellsFault}
 use Rattle.mv_task.specs.Lines.{TellsLine, read_line, memory_line}
 use Rattle.mv_task.specs.Made.{Prepared}
 use Rattle.mv_task.specs.Taken.{IsTaken}
@@ -21,8 +20,8 @@ use Rattle.mv_task.proofs.Sources.{replaced}
 use Rattle.mv_task.proofs.Statuses.{IsOwn, ended_second, ended_network, ended_read, ended_not_done, ended_not_cut}
 use Rattle.mv_opt.specs.declared.stop.Stop.{Stop}
 use Rattle.mv_opt.specs.declared.stop.Stop.TheVariants.{Script, Read, Memory, Source}
-use Rattle.mv_opt.specs.Optimised.{IsOptimised, Optimises}
-use Rattle.mv_opt.specs.Outcomes.{HasWorked, HasStoppedAt, IsCut, EndsCut, EndsShort}
+use Rattle.mv_opt.specs.Optimised.{Optimises}
+use Rattle.mv_opt.specs.Outcomes.{HasWorked, HasStoppedAt, IsCut, EndsShort}
 use Rattle.mv_opt.specs.Scripts.{IsScript, TakesCommands, script_line}
 use Rattle.mv_opt.specs.Stops.{status_of, line_of}
 

@@ -8,7 +8,6 @@ use Rattle.mv_files.specs.FileReading.{WasRead, Read, Lacks, Stay}
 use Rattle.mv_script.specs.declared.script.Command.{Command}
 use Rattle.mv_script.specs.Scripts.{is_script, commands_in}
 use Rattle.mv_task.specs.declared.fault.FileFault.{FileFault}
-use Rattle.mv_task.specs.declared.fault.SourceStop.TheVariants.{Fault}
 use Rattle.mv_task.specs.Exact.{Ended, Second, Unread, Short}
 use Rattle.mv_task.specs.Faults.{RefusesNetwork}
 use Rattle.mv_task.specs.Taken.{IsTaken, IsRefused}

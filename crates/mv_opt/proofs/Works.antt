@@ -1,5 +1,5 @@
 -- The work on a network: its commands, then the done line, then the text, each as far as it came.
-use Rattle.std.proofs.Common.{◌≡◌, ℕ, ◌<◌, ◌≤◌, ◌^◌, List, Result, Ok, Err, OnOk, inl, inr, refl, ap, subst, ⊎_elim}
+use Rattle.std.proofs.Common.{◌≡◌, ℕ, ◌<◌, ◌≤◌, ◌^◌, List, Result, Ok, Err, OnOk, inl, inr, ap, subst, ⊎_elim}
 use Rattle.mv_base.specs.Meaning.{Refines}
 use Rattle.mv_base.specs.Outside.{Written, Gained, GainedPart, Rose}
 use Rattle.mv_base.proofs.Gains.{Gained-then, GainedPart-then}

@@ -1,6 +1,5 @@
 -- Why a run has nothing to work on. Private functions alone cite these.
-use Rattle.std.specs.Prelude.{◌≡◌, ℕ, IfSome, List}
-use Rattle.mv_base.specs.Outside.{Stored}
+use Rattle.std.specs.Prelude.{ℕ, List}
 use Rattle.mv_opt.specs.declared.stop.Stop.{Stop}
 use Rattle.mv_opt.specs.declared.stop.Stop.TheVariants.{Script, Read, Memory, Source}
 use Rattle.mv_opt.specs.Scripts.{script_line}

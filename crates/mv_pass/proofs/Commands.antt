@@ -1,5 +1,5 @@
 -- A command from its beginning to its end, or to where it stops.
-use Rattle.std.proofs.Common.{◌≡◌, ◌∙◌, ℕ, ◌<◌, ◌^◌, List, [], ◌∷◌, ◌++◌, Ok, Err, inl, inr, refl, sym, ap}
+use Rattle.std.proofs.Common.{◌≡◌, ◌∙◌, ℕ, ◌<◌, ◌^◌, List, [], ◌∷◌, ◌++◌, Ok, Err, inl, inr, refl, ap}
 use Rattle.mv_base.specs.declared.outside.Failed.{Failed}
 use Rattle.mv_entry.specs.declared.note.Command.{Command}
 use Rattle.mv_entry.specs.declared.note.Note.TheVariants.{Begin, End}
@@ -7,7 +7,7 @@ use Rattle.mv_entry.specs.Entries.{Entry, Noted}
 use Rattle.mv_entry.specs.Tallies.{Journaled, Takes}
 use Rattle.mv_net.specs.declared.parts.NetParts.{NetParts}
 use Rattle.mv_net.specs.Nets.{literals_in}
-use Rattle.mv_pass.specs.Going.{Goes, Does, HasBegun, Begun, begun, whole}
+use Rattle.mv_pass.specs.Going.{Goes, Does, HasBegun, Begun, begun}
 use Rattle.mv_pass.specs.Taking.{Took, TookPart, Went, WentPart}
 use Rattle.mv_pass.proofs.Taken.{Took-one, Took-then, TookPart-one, TookPart-then}
 

@@ -1,5 +1,5 @@
 -- How a command answers, from what its beginning, its steps and its end answered.
-use Rattle.std.proofs.Common.{◌≡◌, ℕ, ◌<◌, ◌^◌, Result, Ok, Err, OnOk, arith}
+use Rattle.std.proofs.Common.{◌≡◌, ℕ, ◌<◌, ◌^◌, Result, Ok, Err, OnOk}
 use Rattle.mv_base.specs.declared.outside.Failed.{Failed}
 use Rattle.mv_base.specs.Meaning.{Refines}
 use Rattle.mv_base.specs.Outside.{Rose}
@@ -16,7 +16,7 @@ use Rattle.mv_pass.specs.declared.stop.Stop.{Stop}
 use Rattle.mv_pass.specs.declared.stop.Stop.TheVariants.{Note, Memory}
 use Rattle.mv_pass.specs.Going.{Does}
 use Rattle.mv_pass.specs.Passing.{Passes}
-use Rattle.mv_pass.specs.Taking.{Took, TookPart, GoesOn, Went, WentPart}
+use Rattle.mv_pass.specs.Taking.{Took, GoesOn, Went, WentPart}
 use Rattle.mv_pass.proofs.Commands.{begin_cut, stopped, cut_short, did, end_cut}
 use Rattle.mv_pass.proofs.Taken.{GoesOn-then, GoesOn-took}
 

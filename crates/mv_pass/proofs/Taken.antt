@@ -1,14 +1,12 @@
 -- What a journal took, one after the other: entries of any kind, and the steps of a command.
-use Rattle.std.proofs.Common.{◌≡◌, ◌∙◌, ◌≤◌, ℕ, List, [], ◌∷◌, ◌++◌, Result, Ok, Err, refl, sym, ap, subst, arith}
+use Rattle.std.proofs.Common.{◌≡◌, ◌∙◌, List, [], ◌∷◌, ◌++◌, Result, Ok, Err, refl, sym, ap, subst, arith}
 use Rattle.mv_base.specs.declared.outside.Failed.{Failed}
-use Rattle.mv_base.specs.Outside.{Gained, GainedPart, Rose}
+use Rattle.mv_base.specs.Outside.{Gained, GainedPart}
 use Rattle.mv_base.proofs.Gains.{Gained-none, Gained-then, GainedPart-then}
 use Rattle.mv_entry.specs.declared.rule.Rule.{Rule}
-use Rattle.mv_entry.specs.declared.note.Note.{Note}
-use Rattle.mv_entry.specs.Entries.{Entry, Applied, Noted, print}
+use Rattle.mv_entry.specs.Entries.{Entry, Applied, print}
 use Rattle.mv_entry.specs.Tallies.{Journaled, Takes, with_entries}
 use Rattle.mv_net.specs.declared.parts.NetParts.{NetParts}
-use Rattle.mv_pass.specs.Going.{Goes}
 use Rattle.mv_pass.specs.Taking.{Took, TookPart, GoesOn, Went, WentPart, TookRule, TookRulePart}
 use Rattle.mv_pass.proofs.Going.{Goes-append}
 use Rattle.mv_entry.proofs.Printing.{print-append, print-one, print-none, counts-append}

@@ -1,6 +1,6 @@
 -- What a journal takes of a command.
-use Rattle.std.specs.Prelude.{◌≡◌, ◌≤◌, ℕ, List, [], ◌∷◌}
-use Rattle.mv_base.specs.Outside.{Gained, GainedPart, Rose}
+use Rattle.std.specs.Prelude.{◌≡◌, ◌≤◌, List}
+use Rattle.mv_base.specs.Outside.{Gained, GainedPart}
 use Rattle.mv_entry.specs.declared.rule.Rule.{Rule}
 use Rattle.mv_entry.specs.Entries.{Entry, Applied, entry_text, print}
 use Rattle.mv_entry.specs.Tallies.{Journaled, with_entry, with_entries}

@@ -7,7 +7,6 @@ use Rattle.mv_net.specs.declared.parts.NetParts.{NetParts}
 use Rattle.mv_net.specs.Changes.{without}
 use Rattle.mv_net.specs.Formed.{WellFormed}
 use Rattle.mv_net.specs.Nets.{slot, name_in, table_in}
-use Rattle.mv_net.specs.Total.{IsRemovable}
 use Rattle.mv_rules.specs.Applies.{Applies}
 use Rattle.mv_rules.specs.Removing.{Removes}
 use Rattle.mv_rules.proofs.OneAnswer.{one_network}

@@ -1,5 +1,5 @@
 //! Certificates that are replayed, and those that are refused.
-use super::{INVERTER, UNREAD, checked, ends, is_case, opt, refused, run_on, text_of, written};
+use super::{INVERTER, checked, ends, is_case, opt, refused, run_on, text_of, written};
 use std::alloc::Global;
 use std::process::Abort;
 use std::test::Fail;
@@ -56,7 +56,7 @@ fn certificates_are_replayed(rt: HostRuntime) -> Result<(), Fail> {
 }
 
 /// What a run notes is a certificate, by which a check writes the same.
-fn checks_back(rt: &impl Abort, alloc: Global, net: &[u8], script: &[u8]) -> Result<(), Fail> {
+pub fn checks_back(rt: &impl Abort, alloc: Global, net: &[u8], script: &[u8]) -> Result<(), Fail> {
     let first = run_on(alloc, opt(net, script))?;
     let again = run_on(alloc, checked(net, first.notes.bytes()))?;
     assert_eq!(rt; again.status, 0, "{script:?} on {net:?}");
@@ -65,18 +65,6 @@ fn checks_back(rt: &impl Abort, alloc: Global, net: &[u8], script: &[u8]) -> Res
         first.out.bytes(),
         "{script:?} on {net:?}"
     );
-    Ok(())
-}
-
-#[test]
-fn what_a_run_notes_is_a_certificate_of_it(rt: HostRuntime) -> Result<(), Fail> {
-    for (net, script) in [
-        (INVERTER, b"".as_slice()),
-        (UNREAD, b"drop".as_slice()),
-        (UNREAD, b"drop; drop".as_slice()),
-    ] {
-        checks_back(&rt, rt.alloc(), net, script)?;
-    }
     Ok(())
 }
 
@@ -91,10 +79,41 @@ const DIVIDED: &str =
 /// The network of an inverter.
 const SMALL: &str = ".model inv;.inputs a;.outputs z;.table a -> z;0 1;1 0;.end;";
 
+/// A network with a net of three values, one of two at choice, a partial one and one that nobody reads.
+const MIXED: &str =
+    ".model h;.inputs a b;.outputs z y;.mv n 3;.table a b -> n;0 - 0;1 0 1;1 1 2;.table n -> z;0 0;(1,2) 1;.table n -> y;0 1;(1,2) 0;.table -> c;-;.table c -> d;0 0;.table a -> e;0 0;1 1;.end;";
+
 /// A network, a certificate, and the line and the cause for which it is refused.
 const REFUSED: &[(&str, &str, &str)] = &[
-    (SMALL, "remove z;", "1 Visible"),
-    (SMALL, "remove q;", "1 NoNet"),
+    (MIXED, "remove q;", "1 NoNet"),
+    (MIXED, "collapse a;", "1 NoNet"),
+    (MIXED, "remove z;", "1 Visible"),
+    (MIXED, "remove n;", "1 Read"),
+    (MIXED, "remove d;", "1 Partial"),
+    (MIXED, "add a;line b 1 -> 1;default 0;end;", "1 NotFresh"),
+    (MIXED, "add k;line b 1 -> 0;default 0;end;", "1 Form"),
+    (
+        MIXED,
+        "divide z e;line n 0 -> 0;line n (1,2) -> 1;end;",
+        "1 NotSame",
+    ),
+    (
+        MIXED,
+        "add k;line z 1 -> 1;default 0;end;divide z k;line n 0 -> 0;line n (1,2) -> 1;end;",
+        "5 Loop",
+    ),
+    (
+        MIXED,
+        "add k;default 0;end;divide n k;line a 0 -> 0;line a 1 b 0 -> 1;line a 1 b 1 -> 2;line z 1 k 1 -> 0;end;",
+        "4 Loop",
+    ),
+    (MIXED, "wire n;", "1 NotSame"),
+    (MIXED, "wire e;", "1 Unread"),
+    (MIXED, "collapse e;", "1 Unread"),
+    (MIXED, "remove;", "1 Syntax"),
+    (MIXED, "line a 0 -> 0;", "1 Syntax"),
+    (MIXED, "add k;line b 2000 -> 1;default 0;end;", "2 Syntax"),
+    (MIXED, "remove e;\u{80}", "2 Lex 1"),
     (SMALL, "remove (a);", "1 NoNet"),
     (SMALL, "# a line more;;remove z;", "3 Visible"),
     (SMALL, "add k;line a 1 -> 1;end;", "1 Form"),
@@ -123,7 +142,6 @@ const REFUSED: &[(&str, &str, &str)] = &[
     (SMALL, "end;", "1 Syntax"),
     (SMALL, "remove z z;", "1 Syntax"),
     (SMALL, SMALL, "1 Syntax"),
-    (SMALL, "remove \u{80};", "1 Lex 1"),
     (SMALL, "remove z;add (k;", "2 Lex 3"),
     ("", "divide a;", "1 Syntax"),
 ];

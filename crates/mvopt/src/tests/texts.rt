@@ -1,4 +1,5 @@
 //! What is written of networks, and what is noted.
+use super::checks::checks_back;
 use super::{INVERTER, KEPT, UNREAD, ends, is_case, opt, text_of, written};
 use std::alloc::Global;
 use std::process::Abort;
@@ -40,13 +41,14 @@ fn case_of(alloc: Global, line: &str) -> Result<Case, Fail> {
     })
 }
 
-/// The script makes of each network file what its case says.
+/// The script makes of each network file what its case says, and its notes are a certificate by which a check does the same.
 pub fn are_written(rt: &impl Abort, alloc: Global, script: &[u8], cases: &str) -> Result<(), Fail> {
     for line in cases.lines() {
         if is_case(line) {
             let case = case_of(alloc, line)?;
             let end = written(case.text.as_slice(), case.notes.as_slice());
             ends(rt, alloc, opt(case.net.as_slice(), script), end)?;
+            checks_back(rt, alloc, case.net.as_slice(), script)?;
         }
     }
     Ok(())

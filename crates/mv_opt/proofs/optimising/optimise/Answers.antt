@@ -1,6 +1,6 @@
 -- A refusal has its status; and the work, once begun, ends as its status says.
 use Rattle.std.proofs.Common.{Err, ap}
-use Rattle.mv_opt.proofs.Ends.{early, worked, cut_off, ran_short}
+use Rattle.mv_opt.proofs.Ends.{early, worked, ran_short}
 use Rattle.mv_opt.proofs.optimising.optimise.Goals as goal
 
 pub returns-in-Err : goal.returns-in-Err
