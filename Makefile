@@ -18,7 +18,7 @@ SHELL = /bin/bash
 .ONESHELL:
 .PHONY: demo look test
 
-# Runs the proved program on each example, and compares what it writes with what stands beside the example.
+# Runs the proved program on each example, compares what it writes with what stands beside the example, and checks the notes.
 demo: $(PROGRAM)
 	@made=$$(mktemp -d)
 	trap 'rm -r "$$made"' EXIT
@@ -29,8 +29,9 @@ demo: $(PROGRAM)
 		cat $$made/notes $$made/out
 		diff $$name.notes $$made/notes
 		diff $$name.out $$made/out
+		$(PROGRAM) check $$net $$made/notes 2> $$made/checked | diff - $$made/out
 	done
-	echo "each output and its notes are those of examples/"
+	echo "each output and its notes are those of examples/, and a check of the notes writes the same"
 
 # Runs the program on one example (make look EXAMPLE=spare for another) before any proof. Nothing is proved of what it shows.
 look:
