@@ -2,9 +2,11 @@
 #![tactic(auto)]
 
 mod commands;
+mod laws;
 mod optimising;
 mod stop;
 mod take;
 mod work;
 
+pub use laws::entries_replay;
 pub use optimising::optimise;

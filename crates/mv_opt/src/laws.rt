@@ -1,0 +1,14 @@
+ghost use Rattle.std.specs.Prelude.{List};
+ghost use Rattle.mv_entry.specs.Entries.{Entry, rules_of};
+ghost use Rattle.mv_net.specs.declared.parts.NetParts.{NetParts};
+ghost use Rattle.mv_opt.specs.Runs.{Runs, StopsIn};
+ghost use Rattle.mv_rules.specs.Replaying.{Replays};
+ghost use Rattle.mv_script.specs.declared.script.Command.{Command};
+
+/// The rules among the entries of commands apply in turn, where the commands ran and where they stopped.
+pub fn entries_replay()
+    ensures runs { (commands : List Command) (old new : NetParts) (entries : List Entry) → Runs commands old entries new
+        → Replays (rules_of entries) old new }
+    ensures stops { (commands : List Command) (old new : NetParts) (entries : List Entry) → StopsIn commands old entries new
+        → Replays (rules_of entries) old new }
+{}
