@@ -1,3 +1,4 @@
 pub mod Drops
+pub mod Sweeps
 -- what private functions alone cite
 pub mod Search

@@ -4,9 +4,10 @@ ghost use Rattle.mv_base.specs.Outside.{Rose};
 ghost use Rattle.mv_entry.specs.declared.note.Command.TheVariants.{Drop as drop};
 ghost use Rattle.mv_net.specs.Allowed.{of_net};
 ghost use Rattle.mv_net.specs.Changes.{without};
+ghost use Rattle.mv_pass.specs.Going.{Goes};
 ghost use Rattle.mv_pass.specs.Passing.{Passes};
 ghost use Rattle.mv_pass.specs.Taking.{GoesOn, Went, WentPart};
-ghost use Rattle.mv_sweep.specs.Drops.{IsDropStep, IsLeastRemovable, NoneLeft};
+ghost use Rattle.mv_sweep.specs.Drops.{IsDropStep, IsLeastRemovable, NoneLeft, EndsDrop};
 
 use crate::Stop;
 use crate::removal::{copy_fanins, next_place, next_removable};
@@ -85,7 +86,7 @@ pub fn remove_unread<J: Journal>(
     net: &mut Network,
     journal: &mut J,
 ) -> Result<(), Stop>
-    ensures passes { Passes IsDropStep NoneLeft drop net.old net.new (J.state journal.old) (J.state journal.new) result }
+    ensures passes { Passes (Goes IsDropStep) EndsDrop drop net.old net.new (J.state journal.old) (J.state journal.new) result }
 {
     match journal.note(&Note::Begin(Command::Drop)) {
         Ok(()) => {}
