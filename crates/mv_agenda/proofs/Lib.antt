@@ -1,2 +1,3 @@
-pub mod Waiting
-pub mod NearOnes
+pub mod Looking
+mod Waiting
+mod NearOnes

@@ -38,3 +38,11 @@ pub record TakesLeast (old new : List ℕ) (n : ℕ) : Type 0 where
 pub record PutsNear (nets : List (Option FlatNet)) (n : ℕ) (old new : List ℕ) : Type 0 where
   pub stay : (m : ℕ) → waits old m ≡ true → waits new m ≡ true
   pub near : (m : ℕ) → IsNear nets n m → waits new m ≡ true
+
+-- each number of which P holds waits
+pub record AllWait (P : ℕ → Type 0) (agenda : List ℕ) : Type 0 where
+  pub each : (n : ℕ) → P n → waits agenda n ≡ true
+
+-- each number of which P holds waits, but n may not
+pub record AllWaitBut (P : ℕ → Type 0) (agenda : List ℕ) (n : ℕ) : Type 0 where
+  pub each : (m : ℕ) → P m → (n ≡ m → ⊥) → waits agenda m ≡ true

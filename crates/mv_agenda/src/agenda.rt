@@ -1,4 +1,4 @@
-ghost use Rattle.std.specs.Prelude.{IfOk, OnOk, MatchOption};
+ghost use Rattle.std.specs.Prelude.{◌^◌, ◌<◌, length, IfOk, OnOk, MatchOption};
 ghost use Rattle.mv_agenda.specs.Agenda.{NoneWaits, Puts, PutsAll, TakesLeast, WaitBelow};
 
 use mv_base::{Memory, NetId};
@@ -48,6 +48,13 @@ impl Agenda {
             self.put(*n)?;
         }
         Ok(())
+    }
+
+    /// No more wait than memory holds.
+    pub fn few(&self)
+        ensures { length self.now < 2 ^ 63 }
+    {
+        let _ = self.nets.len();
     }
 
     /// Takes out the least, if any waits.
