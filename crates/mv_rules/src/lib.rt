@@ -18,7 +18,8 @@ pub use applying::{apply, literals_after};
 pub use collapse::inner_of;
 pub use composites::composite_literals;
 pub use laws::{
-    at_most_one_fault, at_most_one_network, names_are_visible, never_both, replay_laws,
+    at_most_one_fault, at_most_one_network, collapse_laws, composite_laws, names_are_visible,
+    never_both, replay_laws,
 };
 pub use mv_composite::Inner;
 pub use mv_cover::CoverStop;
