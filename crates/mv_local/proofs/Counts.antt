@@ -1,7 +1,7 @@
 -- What is made of covers depends on the counts of the nets that they read, and on no other.
-use Rattle.std.proofs.Common.{◌≡◌, ◌∙◌, ℕ, ◌<◌, ◌≤◌, ◌||◌, ◌++◌, Bool, true, false, nat_eq, take, zero, suc, Option, Some, None, List, [], ◌∷◌, length, get_or, inl, inr, unwrap_or, refl, sym, ap, subst, eq-eqb, arith, if◌then◌else◌}
+use Rattle.std.proofs.Common.{◌≡◌, ◌∙◌, ℕ, ◌<◌, ◌++◌, true, nat_eq, take, zero, suc, Option, Some, None, List, [], ◌∷◌, length, get_or, inl, inr, unwrap_or, refl, ap, subst, eq-eqb, if◌then◌else◌}
 use Rattle.std.specs.List.{fold, flat_map}
-use Rattle.std.proofs.lemmas.Bool.{cases_Bool, false≢true, or_cases, or_left, or_right}
+use Rattle.std.proofs.lemmas.Bool.{false≢true, or_cases, or_left, or_right}
 use Rattle.mv_base.specs.Set.{empty, full, meet, minus}
 use Rattle.mv_base.specs.declared.limits.TheConstants.{MAX_COMPLEMENT_CUBES}
 use Rattle.mv_cover.specs.declared.cube.Lit.{Lit}
@@ -15,7 +15,7 @@ use Rattle.mv_cover.specs.Complement.{sharps_of, complement_of, IsWide, lines_fo
 use Rattle.mv_cover.specs.Absorb.{absorbed}
 use Rattle.mv_composite.specs.declared.inner.Inner.{Inner}
 use Rattle.mv_composite.specs.Composite.{lines_given, default_stays, spelled, composed}
-use Rattle.mv_composite.specs.Wide.{IsReaderWide, IsInnerWide, HasManyLines, HasManyFanins, IsTooWide, default_asked}
+use Rattle.mv_composite.specs.Wide.{HasManyLines, HasManyFanins, IsTooWide, default_asked}
 use Rattle.mv_composite.specs.Wide.IsTooWide.{ByReader, ByInner, ByLines, ByFanins}
 use Rattle.mv_local.specs.Same.{SameCounts}
 
