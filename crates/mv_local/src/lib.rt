@@ -2,3 +2,7 @@
 //! answer. There is no code here but laws, whose contracts are theorems for the commands that look at nets again; the lemmas behind
 //! them are in `proofs/`.
 #![tactic(auto)]
+
+mod step_laws;
+
+pub use step_laws::{around_laws, named_by_itself};
