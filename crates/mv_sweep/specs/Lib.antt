@@ -2,3 +2,4 @@ pub mod Drops
 pub mod Sweeps
 -- what private functions alone cite
 pub mod Search
+pub mod Ways

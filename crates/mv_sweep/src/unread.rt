@@ -9,16 +9,13 @@ ghost use Rattle.mv_pass.specs.Passing.{Passes};
 ghost use Rattle.mv_pass.specs.Taking.{GoesOn, Went, WentPart};
 ghost use Rattle.mv_sweep.specs.Drops.{IsDropStep, IsLeastRemovable, NoneLeft, EndsDrop};
 
-use crate::Stop;
+use crate::{NO_BUDGET, Stop};
 use crate::removal::{copy_fanins, next_place, next_removable};
 use mv_base::{Name, NetId};
 use mv_entry::{Command, Journal, Note, Rule};
 use mv_net::Network;
 use mv_pass::{few_literals, take};
 use std::alloc::Global;
-
-/// No diagram is made here.
-const NO_BUDGET: u32 = 0;
 
 /// Takes away the net, which is the least that can go, and notes it.
 fn step<J: Journal>(alloc: Global, net: &mut Network, n: NetId, journal: &mut J) -> Result<(), Stop>
