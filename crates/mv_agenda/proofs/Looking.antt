@@ -29,15 +29,16 @@ all_without_taken P agenda n h stays =
     record { each = λ m p. h.each m p (λ (same : n ≡ m). stays (subst P (sym same) p)) }
 
 -- something changed around the one that was taken, and what is near it was put: of numbers that aren't near it, Q holds only where P did
-pub all_with_near : (P Q : ℕ → Type 0) (nets : List (Option FlatNet)) (old new : List ℕ) (n : ℕ) → AllWaitBut P old n → PutsNear nets n old new → ((m : ℕ) → Q m → P m ⊎ IsNear nets n m) → AllWait Q new
-all_with_near P Q nets old new n h put from = record {
-  each = λ m q.
-      ⊎_elim
-      (λ (p : P m).
-      ⊎_elim
-      (λ (same : n ≡ m). put.near m (Itself (sym same)))
-      (λ (apart : n ≡ m → ⊥). put.stay m (h.each m p apart))
-      (cases_eq n m))
-      (λ (near : IsNear nets n m). put.near m near)
-      (from m q);
-}
+module _ (P Q : ℕ → Type 0) (nets : List (Option FlatNet)) (old new : List ℕ) (n : ℕ) where
+  pub all_with_near : AllWaitBut P old n → PutsNear nets n old new → ((m : ℕ) → Q m → P m ⊎ IsNear nets n m) → AllWait Q new
+  all_with_near h put from = record {
+    each = λ m q.
+        ⊎_elim
+        (λ (p : P m).
+        ⊎_elim
+        (λ (same : n ≡ m). put.near m (Itself (sym same)))
+        (λ (apart : n ≡ m → ⊥). put.stay m (h.each m p apart))
+        (cases_eq n m))
+        (λ (near : IsNear nets n m). put.near m near)
+        (from m q);
+  }

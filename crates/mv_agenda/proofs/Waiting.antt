@@ -32,20 +32,22 @@ taken_as_and true false = refl
 taken_as_and false true = refl
 taken_as_and false false = refl
 
-pub puts : (old new : BTreeSet ℕ) (n : ℕ) → Updates nat_cmp old new n true → Puts old.keys new.keys n
-puts old new n u = record {
-  each = λ m.
-      sym (waits_is m new.keys) ∙ (u.0 m ∙ (ap (λ b. cond b true (contains nat_cmp old m)) (same_at n m) ∙ (ap (λ a. cond (nat_eq n m) true a) (waits_is m old.keys) ∙ put_as_or (waits old.keys m) (nat_eq n m))));
-}
+updated : (old new : BTreeSet ℕ) (n : ℕ) (b : Bool) → Updates nat_cmp old new n b → (m : ℕ) → waits new.keys m ≡ cond (nat_eq n m) b (waits old.keys m)
+updated old new n b u m =
+    let has = ap (λ t. cond t b (contains nat_cmp old m)) (same_at n m) ∙ ap (λ a. cond (nat_eq n m) b a) (waits_is m old.keys) in
+    sym (waits_is m new.keys) ∙ (u.0 m ∙ has)
 
-pub takes_least : (old new : BTreeSet ℕ) (n : ℕ) → contains nat_cmp old n ≡ true → IsLowerBound nat_cmp old n → Updates nat_cmp old new n false → old.keys ≡ n ∷ new.keys → TakesLeast old.keys new.keys n
-takes_least old new n has low u first = record {
-  waiting = sym (waits_is n old.keys) ∙ has;
-  least = λ m w. le_from_not_gt n m (low m (waits_is m old.keys ∙ w));
-  rest = λ m.
-      sym (waits_is m new.keys) ∙ (u.0 m ∙ (ap (λ b. cond b false (contains nat_cmp old m)) (same_at n m) ∙ (ap (λ a. cond (nat_eq n m) false a) (waits_is m old.keys) ∙ taken_as_and (waits old.keys m) (nat_eq n m))));
-  fewer = let e : length old.keys ≡ length (n ∷ new.keys) = ap length first in omega (arith, e);
-}
+pub puts : (old new : BTreeSet ℕ) (n : ℕ) → Updates nat_cmp old new n true → Puts old.keys new.keys n
+puts old new n u = record { each = λ m. updated old new n true u m ∙ put_as_or (waits old.keys m) (nat_eq n m) }
+
+module _ (old new : BTreeSet ℕ) (n : ℕ) where
+  pub takes_least : contains nat_cmp old n ≡ true → IsLowerBound nat_cmp old n → Updates nat_cmp old new n false → old.keys ≡ n ∷ new.keys → TakesLeast old.keys new.keys n
+  takes_least has low u first = record {
+    waiting = sym (waits_is n old.keys) ∙ has;
+    least = λ m w. le_from_not_gt n m (low m (waits_is m old.keys ∙ w));
+    rest = λ m. updated old new n false u m ∙ taken_as_and (waits old.keys m) (nat_eq n m);
+    fewer = let e : length old.keys ≡ length (n ∷ new.keys) = ap length first in omega (arith, e);
+  }
 
 pub empty : (ns : List ℕ) → (0 < length ns → ⊥) → ns ≡ []
 empty [] few = refl

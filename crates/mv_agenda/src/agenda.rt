@@ -32,7 +32,7 @@ impl Agenda {
         Ok(Agenda { nets })
     }
 
-    /// Puts a net to the others. On an error the agenda may be used no more.
+    /// Puts a net to the others. On an error nothing is said of what waits.
     pub fn put(&mut self, n: NetId) -> Result<(), Memory>
         ensures { OnOk result (Puts self.old self.new n.0) }
     {
@@ -40,7 +40,7 @@ impl Agenda {
         Ok(())
     }
 
-    /// Puts each of these nets to the others.
+    /// Puts each of these nets to the others. On an error nothing is said of what waits.
     pub fn put_all(&mut self, nets: &[NetId]) -> Result<(), Memory>
         ensures { OnOk result (PutsAll self.old self.new nets.now) }
     {

@@ -16,7 +16,7 @@ fn put_with_fanins(agenda: &mut Agenda, net: &Network, n: NetId) -> Result<(), M
     agenda.put_all(net.fanins(n))
 }
 
-/// Puts the net, those that it reads, its readers, and those that these read.
+/// Puts the net, those that it reads, its readers, and those that these read. On an error nothing is said of what waits.
 pub fn put_near(agenda: &mut Agenda, net: &Network, n: NetId) -> Result<(), Memory>
     requires { IsTrue (is_held net.now.nets n.0) }
     ensures { OnOk result (PutsNear net.now.nets n.0 agenda.old agenda.new) }

@@ -7,4 +7,5 @@ loop-number-init c = none_below _ c.new-nets.ensures.empty
 
 pub loop-number-preserved : goal.loop-number-preserved
 loop-number-preserved c =
-    one_more_below _ _ c.loop-number.number c.loop-number.invariant (puts c.loop-number.nets c.insert.new.self c.loop-number.number c.in_ok-insert.ensures.updates)
+    let at = c.loop-number.number in
+    one_more_below _ _ at c.loop-number.invariant (puts c.loop-number.nets c.insert.new.self at c.in_ok-insert.ensures.updates)

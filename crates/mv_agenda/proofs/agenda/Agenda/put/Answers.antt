@@ -1,3 +1,4 @@
+-- One key more, where it isn't there already.
 use Rattle.mv_agenda.proofs.Waiting.{puts}
 use Rattle.mv_agenda.proofs.agenda.Agenda.put.Goals as goal
 
