@@ -1,10 +1,12 @@
 -- Steps by which a net goes, or goes into its readers: nothing changes but near the net, and something is used up.
-use Rattle.std.proofs.Common.{◌≡◌, ◌∙◌, ◌⊎◌, ℕ, zero, suc, ◌+◌, ◌<◌, ◌≤◌, Bool, true, false, cond, nat_eq, All, List, [], ◌∷◌, length, map, set, Option, Some, None, is_some, inl, inr, refl, sym, ap, subst, ⊎_elim, eq-eqb, arith}
+use Rattle.std.proofs.Common.{◌≡◌, ◌∙◌, ◌⊎◌, ℕ, zero, suc, ◌+◌, ◌<◌, ◌≤◌, Bool, true, false, cond, nat_eq, eq-eqb, List, [], ◌∷◌, length, map, set, All}
+use Rattle.std.proofs.Common.{Option, Some, None, is_some, inl, inr, refl, sym, ap, subst, ⊎_elim, arith}
 use Rattle.std.specs.List.{list_any}
 use Rattle.std.proofs.lemmas.Bool.{cases_Bool, cases_eq, false≢true, false_from_ne_true, or_cases, or_left, or_right}
 use Rattle.std.proofs.lemmas.List.{length-map, length-set}
 use Rattle.std.proofs.lemmas.List.Elements.{All-nil, All-cons}
 use Rattle.mv_agenda.specs.Near.{IsNear, Itself, Fanin, Reader, Beside}
+use Rattle.mv_composite.specs.declared.inner.Inner.{Inner}
 use Rattle.mv_composite.specs.Composite.{composed}
 use Rattle.mv_composite.specs.Wired.{wired}
 use Rattle.mv_composite.proofs.Wires.{wired_reads}
@@ -26,7 +28,7 @@ use Rattle.mv_net.specs.Nets.{slot, values_in, name_in, table_in, table_reads, n
 use Rattle.mv_net.proofs.Named.{held_below}
 use Rattle.mv_net.proofs.Patches.{IsWritten-gone}
 use Rattle.mv_rules.specs.Checks.{IsTabled}
-use Rattle.mv_rules.specs.Collapsing.{Collapses}
+use Rattle.mv_rules.specs.Collapsing.{IsInnerOf, Collapses}
 use Rattle.mv_rules.specs.Removing.{Removes}
 use Rattle.mv_rules.specs.Wiring.{Wires}
 use Rattle.mv_local.proofs.StepsReading.{composed_on}
@@ -292,26 +294,35 @@ wires_goes old w new formed r =
     let e : new.nets ≡ rewritten (wired r.number r.same.source) r.number old.nets = ap (λ (p : NetParts). p.nets) r.new_is in
     subst (λ nets. GoesInto old.nets nets r.number) (sym e) (goes_rewritten old r.number (wired r.number r.same.source) formed reads)
   where
-    reads : (m k : ℕ) (c : Cover) → IsReader old.nets r.number m c → cover_reads (wired r.number r.same.source c) k ≡ true → (cover_reads c k ≡ true) ⊎ (reads_in old.nets r.number k ≡ true)
+    reads : (m k : ℕ) (c : Cover) → IsReader old.nets r.number m c → cover_reads (wired r.number r.same.source c) k ≡ true
+        → (cover_reads c k ≡ true) ⊎ (reads_in old.nets r.number k ≡ true)
     reads m k c reader h =
         ⊎_elim
         (λ (own : (cover_reads c k ≡ true) × (nat_eq k r.number ≡ false)). inl own.0)
         (λ (e : k ≡ r.same.source). inr (ap (reads_in old.nets r.number) e ∙ buffer_reads old.nets r.number r.same.source r.same.buffer))
         ((wired_reads r.number r.same.source c (are_cubes c.lines (cover_at old m c formed reader.table).cubes)).only k h)
 
+-- the readers have their composites
+abbrev composites : List (Option FlatNet) → Inner → List (Option FlatNet)
+composites nets inner = rewritten (composed (map values_in nets) inner) inner.net.0 nets
+
+composites_go : (old : NetParts) (inner : Inner) → WellFormed old → IsInnerOf old.nets inner → GoesInto old.nets (composites old.nets inner) inner.net.0
+composites_go old inner formed known = goes_rewritten old inner.net.0 (composed (map values_in old.nets) inner) formed reads
+  where
+    reads : (m k : ℕ) (c : Cover) → IsReader old.nets inner.net.0 m c → cover_reads (composed (map values_in old.nets) inner c) k ≡ true
+        → (cover_reads c k ≡ true) ⊎ (reads_in old.nets inner.net.0 k ≡ true)
+    reads m k c reader h =
+        let Was : ℕ → Type 0 = λ j. (cover_reads c j ≡ true) ⊎ (reads_in old.nets inner.net.0 j ≡ true) in
+        composed_on Was (map values_in old.nets) inner (λ j its. inr (ap (λ t. table_reads t j) known.table ∙ its)) c (λ j own. inl own) k h
+
 collapses_goes : (old : NetParts) (w : List ℕ) (new : NetParts) → WellFormed old → (r : Collapses old w new) → GoesInto old.nets new.nets r.number
 unfolding with_nets
 collapses_goes old w new formed r =
-    let e : new.nets ≡ set (rewritten (composed (map values_in old.nets) r.composites.inner) r.composites.inner.net.0 old.nets) r.composites.inner.net.0 None = ap (λ (p : NetParts). p.nets) r.new_is in
+    let inner = r.composites.inner in
+    let mid = composites old.nets inner in
+    let e : new.nets ≡ set mid inner.net.0 None = ap (λ (p : NetParts). p.nets) r.new_is in
     subst (GoesInto old.nets new.nets) r.composites.of_net
-    (subst (λ nets. GoesInto old.nets nets r.composites.inner.net.0) (sym e)
-    (goes_besides old.nets (rewritten (composed (map values_in old.nets) r.composites.inner) r.composites.inner.net.0 old.nets) r.composites.inner.net.0
-    (goes_rewritten old r.composites.inner.net.0 (composed (map values_in old.nets) r.composites.inner) formed reads)))
-  where
-    reads : (m k : ℕ) (c : Cover) → IsReader old.nets r.composites.inner.net.0 m c → cover_reads (composed (map values_in old.nets) r.composites.inner c) k ≡ true → (cover_reads c k ≡ true) ⊎ (reads_in old.nets r.composites.inner.net.0 k ≡ true)
-    reads m k c reader h =
-        composed_on (λ j. (cover_reads c j ≡ true) ⊎ (reads_in old.nets r.composites.inner.net.0 j ≡ true)) (map values_in old.nets) r.composites.inner
-        (λ j its. inr (ap (λ t. table_reads t j) r.composites.known.table ∙ its)) c (λ j own. inl own) k h
+    (subst (λ nets. GoesInto old.nets nets inner.net.0) (sym e) (goes_besides old.nets mid inner.net.0 (composites_go old inner formed r.composites.known)))
 
 -- ---- what each of them leaves
 
@@ -338,7 +349,7 @@ unfolding with_nets
 collapses_fewer old w new formed r =
     let held = named_held old.nets w r.number r.net in
     let n = r.composites.inner.net.0 in
-    let mid = rewritten (composed (map values_in old.nets) r.composites.inner) n old.nets in
+    let mid = composites old.nets r.composites.inner in
     let e : new.nets ≡ set mid n None = ap (λ (p : NetParts). p.nets) r.new_is in
     let gone : slot new.nets n ≡ None = ap (λ nets. slot nets n) e ∙ (IsWritten-gone mid n).here in
     less_held old.nets new.nets r.number (collapses_goes old w new formed r) held.0 (ap (slot new.nets) (sym r.composites.of_net) ∙ gone) held.1

@@ -107,9 +107,6 @@ on-cubes_of Q (l ∷ ls) all =
     All-cons (AreOn Q) l.cube (cubes_of ls) (All-head (λ (k : Line). AreOn Q k.cube) l ls all) (on-cubes_of Q ls (All-tail (λ (k : Line). AreOn Q k.cube) l ls all))
 
 module _ (Q : ℕ → Type 0) (counts : List ℕ) (inner : Inner) (own : (m : ℕ) → cover_reads inner.cover m ≡ true → Q m) where
-  outside : List (List Lit)
-  outside = complement_of counts inner.cover.lines
-
   on-cubes_giving : (asked : Option ℕ) → All (AreOn Q) (cubes_giving (complement_of counts inner.cover.lines) inner.cover asked)
   on-cubes_giving asked =
       All-append (AreOn Q) (cubes_of (filter (λ (l : Line). set_meets asked l.out) inner.cover.lines)) _

@@ -5,4 +5,4 @@
 
 mod step_laws;
 
-pub use step_laws::{around_laws, named_by_itself};
+pub use step_laws::{around_laws, literal_laws, named_by_itself};
