@@ -2,3 +2,9 @@
 //! answer. There is no code here but laws, whose contracts are theorems for the commands that look at nets again; the lemmas behind
 //! them are in `proofs/`.
 #![tactic(auto)]
+
+mod laws;
+
+pub use laws::{
+    check_laws, composite_laws, count_laws, place_laws, row_laws, saving_laws, table_laws,
+};
