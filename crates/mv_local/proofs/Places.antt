@@ -10,14 +10,15 @@ use Rattle.mv_net.specs.Changes.{with_nets}
 use Rattle.mv_net.specs.Formed.{WellFormed}
 use Rattle.mv_net.specs.Index.{kind_in, is_reset, is_latch_input, is_seen}
 use Rattle.mv_net.specs.Nets.{table_in, net_reads, reads_in}
-use Rattle.mv_net.specs.Total.{IsTotalNet, IsRemovable}
+use Rattle.mv_net.specs.Total.{IsRemovable}
 use Rattle.mv_entry.specs.declared.fault.RuleFault.{RuleFault}
 use Rattle.mv_entry.specs.declared.fault.RuleFault.TheVariants.{Visible, Read, Partial, Unread, Shared, Wide, NotSame}
 use Rattle.mv_rules.specs.Checks.{IsUnseen, IsUnread, IsRead}
 use Rattle.mv_rules.specs.Collapsing.{IsInnerOf, AreNarrow, HasComposites, IsUnshared, CanCollapse, CollapseRow}
 use Rattle.mv_rules.specs.Removing.{RemoveRow}
-use Rattle.mv_rules.specs.Wiring.{IsBuffer, WireRow}
-use Rattle.mv_local.specs.Local.{KeepsValues, IsStill}
+use Rattle.mv_rules.specs.Wiring.{WireRow}
+use Rattle.mv_agenda.specs.Near.{IsNear}
+use Rattle.mv_local.specs.Local.{KeepsValues, IsStill, StaysAround}
 use Rattle.mv_local.specs.Same.{StaysAt, KeepsNet, KeepsReaders, KeepsPlace}
 use Rattle.mv_local.proofs.Tables.{net_kept, net_back, IsTotalNet-same, IsPlainNet-same, IsBuffer-same, IsInnerOf-same, IsTooWide-kept}
 
@@ -58,6 +59,10 @@ place_back old new n keeps = record {
   around = readers_back old.nets new.nets n keeps.around;
 }
 
+-- what isn't near a net around which all stays
+pub far_stays : (old new : NetParts) (n : ℕ) → WellFormed new → new ≡ with_nets old new.nets → StaysAround old.nets new.nets n → (m : ℕ) → (IsNear old.nets n m → ⊥) → StaysAt old new m
+far_stays old new n formed nets around m far = record { formed = formed; nets = nets; values = around.values; still = around.still m far }
+
 -- ---- its readers
 
 pub reads-same : (old new : List (Option FlatNet)) (n : ℕ) → KeepsReaders old new n → (k : ℕ) → reads_in new k n ≡ reads_in old k n
@@ -84,7 +89,8 @@ IsUnshared-same old new n keeps (inr one) = inr (HasOneReader-same old new n kee
 
 -- ---- its composites
 
-pub AreNarrow-same : (old new : List (Option FlatNet)) (n : ℕ) (inner : Inner) → KeepsReaders old new n → inner.net.0 ≡ n → IsInnerOf old inner → AreNarrow old inner (λ m. reads_in old m n) → AreNarrow new inner (λ m. reads_in new m n)
+pub AreNarrow-same : (old new : List (Option FlatNet)) (n : ℕ) (inner : Inner) → KeepsReaders old new n → inner.net.0 ≡ n → IsInnerOf old inner
+    → AreNarrow old inner (λ m. reads_in old m n) → AreNarrow new inner (λ m. reads_in new m n)
 AreNarrow-same old new n inner keeps of_net is narrow = record {
   each = λ m c reads r wide.
       elim (keeps.readers m) [
@@ -169,8 +175,7 @@ pub AreNarrow-both : (old new : NetParts) (inner : Inner) → StaysAt old new in
     → AreNarrow new.nets inner (λ m. reads_in new.nets m inner.net.0) ↔ AreNarrow old.nets inner (λ m. reads_in old.nets m inner.net.0)
 AreNarrow-both old new inner stays is =
     let n = inner.net.0 in
-    let keeps = (place_kept old new n stays).around in
-    (
+    let keeps = (place_kept old new n stays).around in (
       AreNarrow-same new.nets old.nets n inner (readers_back old.nets new.nets n keeps) refl (IsInnerOf-same old.nets new.nets inner keeps.net is),
       AreNarrow-same old.nets new.nets n inner keeps refl is,
     )

@@ -162,7 +162,8 @@ pub IsTooWide-both : (old new : NetParts) (inner : Inner) (m : ℕ) (c : Cover) 
 IsTooWide-both old new inner m c formed keeps own same is table =
     let inner_kept = net_kept old.nets new inner.net.0 formed keeps own in
     let kept = net_kept old.nets new m formed keeps same in
-    (
-      IsTooWide-kept new.nets old.nets inner m c (IsInnerOf-same old.nets new.nets inner inner_kept is) (net_back old.nets new.nets inner.net.0 inner_kept) (net_back old.nets new.nets m kept) (ap table_in same ∙ table),
+    let inner_back = net_back old.nets new.nets inner.net.0 inner_kept in
+    let back = net_back old.nets new.nets m kept in (
+      IsTooWide-kept new.nets old.nets inner m c (IsInnerOf-same old.nets new.nets inner inner_kept is) inner_back back (ap table_in same ∙ table),
       IsTooWide-kept old.nets new.nets inner m c is inner_kept kept table,
     )

@@ -1,4 +1,5 @@
 ghost use Rattle.std.specs.Prelude.{◌≡◌, ◌↔◌, ◌+◌, ◌≤◌, ℕ, Option, Some, List, map};
+ghost use Rattle.mv_agenda.specs.Near.{IsNear};
 ghost use Rattle.mv_composite.specs.declared.inner.Inner.{Inner};
 ghost use Rattle.mv_composite.specs.Composite.{spelled, composed};
 ghost use Rattle.mv_composite.specs.Wide.{IsTooWide};
@@ -8,6 +9,7 @@ ghost use Rattle.mv_cover.specs.Complement.{complement_of, IsWide, spelled_of};
 ghost use Rattle.mv_entry.specs.declared.fault.RuleFault.{RuleFault};
 ghost use Rattle.mv_meaning.specs.Rewriting.{HasOneReader};
 ghost use Rattle.mv_net.specs.declared.parts.NetParts.{NetParts};
+ghost use Rattle.mv_net.specs.Changes.{with_nets};
 ghost use Rattle.mv_net.specs.Formed.{WellFormed};
 ghost use Rattle.mv_net.specs.Nets.{slot, values_in, table_in, literals_in, reads_in};
 ghost use Rattle.mv_net.specs.Plain.{IsPlainNet, IsPlainBuffer, IsPlainConstant};
@@ -24,7 +26,7 @@ ghost use Rattle.mv_rules.specs.Collapsing.{
 };
 ghost use Rattle.mv_rules.specs.Removing.{RemoveRow};
 ghost use Rattle.mv_rules.specs.Wiring.{IsBuffer, WireRow};
-ghost use Rattle.mv_local.specs.Local.{KeepsValues};
+ghost use Rattle.mv_local.specs.Local.{KeepsValues, StaysAround};
 ghost use Rattle.mv_local.specs.Same.{SameCounts, StaysAt};
 ghost use Rattle.mv_local.specs.Saving.{ExchangesLiterals};
 
@@ -75,8 +77,11 @@ pub fn composite_laws()
         → IsTooWide (map values_in new.nets) inner c ↔ IsTooWide (map values_in old.nets) inner c }
 {}
 
-/// A net for which nothing has changed: it has the readers that it had, and the composites of these are too wide where they were.
+/// Where nothing changes but near one net, nothing changes for a net that isn't near it; and a net for which nothing changes has
+/// the readers that it had, whose composites with it are too wide where they were.
 pub fn place_laws()
+    ensures far { (old new : NetParts) (n : ℕ) → WellFormed new → new ≡ with_nets old new.nets → StaysAround old.nets new.nets n
+        → (m : ℕ) → (IsNear old.nets n m → ⊥) → StaysAt old new m }
     ensures reads { (old new : NetParts) (n : ℕ) → StaysAt old new n → (k : ℕ) → reads_in new.nets k n ≡ reads_in old.nets k n }
     ensures one { (old new : NetParts) (n : ℕ) → StaysAt old new n → HasOneReader new.nets n ↔ HasOneReader old.nets n }
     ensures narrow { (old new : NetParts) (inner : Inner) → StaysAt old new inner.net.0 → IsInnerOf old.nets inner
@@ -94,7 +99,7 @@ pub fn check_laws()
     ensures can_collapse { (old new : NetParts) (n : ℕ) → StaysAt old new n → CanCollapse new n ↔ CanCollapse old n }
 {}
 
-/// So these rules fail there with the fault with which they failed, and apply where they applied.
+/// So the first check of such a rule that fails there is the one that failed.
 pub fn row_laws()
     ensures remove { (old new : NetParts) (n : ℕ) (f : RuleFault) → StaysAt old new n → RemoveRow new n f ↔ RemoveRow old n f }
     ensures wire { (old new : NetParts) (n : ℕ) (f : RuleFault) → StaysAt old new n → WireRow new n f ↔ WireRow old n f }
