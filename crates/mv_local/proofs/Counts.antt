@@ -31,7 +31,8 @@ parts_outside-same counts others [] c on = refl
 parts_outside-same counts others (l ∷ ls) c on =
     let here : get_or counts l.net.0 0 ≡ get_or others l.net.0 0 = on l.net.0 (or_left (nat_eq l.net.0 l.net.0) (cube_reads ls l.net.0) (eq-eqb l.net.0 l.net.0 refl)) in
     let left : values_left counts c l.net.0 ≡ values_left others c l.net.0 = ap (λ k. unwrap_or (literal_at c l.net.0) (full k)) here in
-    let rest = parts_outside-same counts others ls (with_literal (record { net = l.net; set = meet (values_left others c l.net.0) l.set }) c) (λ n r. on n (or_right (nat_eq l.net.0 n) (cube_reads ls n) r)) in
+    let inside = with_literal (record { net = l.net; set = meet (values_left others c l.net.0) l.set }) c in
+    let rest = parts_outside-same counts others ls inside (λ n r. on n (or_right (nat_eq l.net.0 n) (cube_reads ls n) r)) in
     ap
     (λ s. (if nat_eq (minus s l.set) empty then [] else with_literal (record { net = l.net; set = minus s l.set }) c ∷ [])
     ++ parts_outside counts (with_literal (record { net = l.net; set = meet s l.set }) c) ls)

@@ -1,5 +1,5 @@
 -- What the checks of the rules ask of a net depends on the net and its readers, and on what is seen from outside.
-use Rattle.std.proofs.Common.{◌≡◌, ◌∙◌, ℕ, ◌||◌, Option, List, inl, inr, sym, ap, subst}
+use Rattle.std.proofs.Common.{◌≡◌, ◌↔◌, refl, ◌⊎◌, ◌∙◌, ℕ, ◌||◌, Option, List, inl, inr, sym, ap, subst}
 use Rattle.std.proofs.lemmas.Bool.{false≢true}
 use Rattle.mv_composite.specs.declared.inner.Inner.{Inner}
 use Rattle.mv_graph.specs.Nets.{has_id}
@@ -11,11 +11,16 @@ use Rattle.mv_net.specs.Formed.{WellFormed}
 use Rattle.mv_net.specs.Index.{kind_in, is_reset, is_latch_input, is_seen}
 use Rattle.mv_net.specs.Nets.{table_in, net_reads, reads_in}
 use Rattle.mv_net.specs.Total.{IsRemovable}
+use Rattle.mv_entry.specs.declared.fault.RuleFault.{RuleFault}
+use Rattle.mv_entry.specs.declared.fault.RuleFault.TheVariants.{Visible, Read, Partial, Unread, Shared, Wide, NotSame}
 use Rattle.mv_rules.specs.Checks.{IsUnseen, IsUnread, IsRead}
-use Rattle.mv_rules.specs.Collapsing.{IsInnerOf, AreNarrow, HasComposites, IsUnshared, CanCollapse}
-use Rattle.mv_local.specs.Local.{KeepsValues, IsStill}
-use Rattle.mv_local.specs.Same.{KeepsNet, KeepsReaders, KeepsPlace}
-use Rattle.mv_local.proofs.Tables.{net_kept, net_back, IsTotalNet-same, IsPlainNet-same, IsInnerOf-same, IsTooWide-kept}
+use Rattle.mv_rules.specs.Collapsing.{IsInnerOf, AreNarrow, HasComposites, IsUnshared, CanCollapse, CollapseRow}
+use Rattle.mv_rules.specs.Removing.{RemoveRow}
+use Rattle.mv_rules.specs.Wiring.{WireRow}
+use Rattle.mv_agenda.specs.Near.{IsNear}
+use Rattle.mv_local.specs.Local.{KeepsValues, IsStill, StaysAround}
+use Rattle.mv_local.specs.Same.{StaysAt, KeepsNet, KeepsReaders, KeepsPlace}
+use Rattle.mv_local.proofs.Tables.{net_kept, net_back, IsTotalNet-same, IsPlainNet-same, IsBuffer-same, IsInnerOf-same, IsTooWide-kept}
 
 -- ---- places that are kept
 
@@ -39,12 +44,12 @@ readers_back old new n keeps = record {
       ];
 }
 
-pub place_kept : (old new : NetParts) (n : ℕ) → WellFormed new → new ≡ with_nets old new.nets → KeepsValues old.nets new.nets → IsStill old.nets new.nets n → KeepsPlace old new n
+pub place_kept : (old new : NetParts) (n : ℕ) → StaysAt old new n → KeepsPlace old new n
 unfolding with_nets
-place_kept old new n formed is keeps still = record {
-  outputs = ap (λ (p : NetParts). p.outputs) is;
-  latches = ap (λ (p : NetParts). p.latches) is;
-  around = readers_kept old.nets new n formed keeps still;
+place_kept old new n stays = record {
+  outputs = ap (λ (p : NetParts). p.outputs) stays.nets;
+  latches = ap (λ (p : NetParts). p.latches) stays.nets;
+  around = readers_kept old.nets new n stays.formed stays.values stays.still;
 }
 
 pub place_back : (old new : NetParts) (n : ℕ) → KeepsPlace old new n → KeepsPlace new old n
@@ -53,6 +58,10 @@ place_back old new n keeps = record {
   latches = sym keeps.latches;
   around = readers_back old.nets new.nets n keeps.around;
 }
+
+-- what isn't near a net around which all stays
+pub far_stays : (old new : NetParts) (n : ℕ) → WellFormed new → new ≡ with_nets old new.nets → StaysAround old.nets new.nets n → (m : ℕ) → (IsNear old.nets n m → ⊥) → StaysAt old new m
+far_stays old new n formed nets around m far = record { formed = formed; nets = nets; values = around.values; still = around.still m far }
 
 -- ---- its readers
 
@@ -80,7 +89,8 @@ IsUnshared-same old new n keeps (inr one) = inr (HasOneReader-same old new n kee
 
 -- ---- its composites
 
-pub AreNarrow-same : (old new : List (Option FlatNet)) (n : ℕ) (inner : Inner) → KeepsReaders old new n → inner.net.0 ≡ n → IsInnerOf old inner → AreNarrow old inner (λ m. reads_in old m n) → AreNarrow new inner (λ m. reads_in new m n)
+pub AreNarrow-same : (old new : List (Option FlatNet)) (n : ℕ) (inner : Inner) → KeepsReaders old new n → inner.net.0 ≡ n → IsInnerOf old inner
+    → AreNarrow old inner (λ m. reads_in old m n) → AreNarrow new inner (λ m. reads_in new m n)
 AreNarrow-same old new n inner keeps of_net is narrow = record {
   each = λ m c reads r wide.
       elim (keeps.readers m) [
@@ -124,3 +134,48 @@ CanCollapse-same old new n keeps can = record {
   read = IsRead-same old.nets new.nets n keeps.around can.read;
   unshared = IsUnshared-same old.nets new.nets n keeps.around can.unshared;
 }
+
+-- ---- which check fails first
+
+-- a check that holds as before, with those behind it that fail as before
+unless_same : {A B R S : Type 0} (fault f : RuleFault) → (A → B) → (B → A) → (R → S) → ((A → ⊥) × (f ≡ fault)) ⊎ (A × R) → ((B → ⊥) × (f ≡ fault)) ⊎ (B × S)
+unless_same fault f to back rest (inl fails) = inl ((λ b. fails.0 (back b)), fails.1)
+unless_same fault f to back rest (inr holds) = inr (to holds.0, rest holds.1)
+
+pub RemoveRow-same : (f : RuleFault) (old new : NetParts) (n : ℕ) → KeepsPlace old new n → RemoveRow old n f → RemoveRow new n f
+RemoveRow-same f old new n keeps row =
+    let back = place_back old new n keeps in
+    unless_same Visible f (IsUnseen-same old new n keeps) (IsUnseen-same new old n back)
+    (unless_same Read f (IsUnread-same old.nets new.nets n keeps.around) (IsUnread-same new.nets old.nets n back.around)
+    (unless_same Partial f (IsTotalNet-same old.nets new.nets n keeps.around.net) (IsTotalNet-same new.nets old.nets n back.around.net) (λ h. h)))
+    row
+
+pub WireRow-same : (f : RuleFault) (old new : NetParts) (n : ℕ) → KeepsPlace old new n → WireRow old n f → WireRow new n f
+WireRow-same f old new n keeps row =
+    let back = place_back old new n keeps in
+    unless_same NotSame f (IsBuffer-same old.nets new.nets n keeps.around.net) (IsBuffer-same new.nets old.nets n back.around.net)
+    (unless_same Unread f (IsRead-same old.nets new.nets n keeps.around) (IsRead-same new.nets old.nets n back.around) (λ h. h))
+    row
+
+pub CollapseRow-same : (f : RuleFault) (old new : NetParts) (n : ℕ) → KeepsPlace old new n → CollapseRow old n f → CollapseRow new n f
+CollapseRow-same f old new n keeps row =
+    let back = place_back old new n keeps in
+    unless_same Visible f (IsUnseen-same old new n keeps) (IsUnseen-same new old n back)
+    (unless_same Unread f (IsRead-same old.nets new.nets n keeps.around) (IsRead-same new.nets old.nets n back.around)
+    (unless_same Shared f (IsUnshared-same old.nets new.nets n keeps.around) (IsUnshared-same new.nets old.nets n back.around)
+    (unless_same Wide f (HasComposites-same old.nets new.nets n keeps.around) (HasComposites-same new.nets old.nets n back.around) (λ h. h))))
+    row
+
+-- ---- both ways
+
+pub both_ways : (P : NetParts → ℕ → Type 0) → ((old new : NetParts) (n : ℕ) → KeepsPlace old new n → P old n → P new n) → (old new : NetParts) (n : ℕ) → StaysAt old new n → P new n ↔ P old n
+both_ways P to old new n stays = let keeps = place_kept old new n stays in (to new old n (place_back old new n keeps), to old new n keeps)
+
+pub AreNarrow-both : (old new : NetParts) (inner : Inner) → StaysAt old new inner.net.0 → IsInnerOf old.nets inner
+    → AreNarrow new.nets inner (λ m. reads_in new.nets m inner.net.0) ↔ AreNarrow old.nets inner (λ m. reads_in old.nets m inner.net.0)
+AreNarrow-both old new inner stays is =
+    let n = inner.net.0 in
+    let keeps = (place_kept old new n stays).around in (
+      AreNarrow-same new.nets old.nets n inner (readers_back old.nets new.nets n keeps) refl (IsInnerOf-same old.nets new.nets inner keeps.net is),
+      AreNarrow-same old.nets new.nets n inner keeps refl is,
+    )

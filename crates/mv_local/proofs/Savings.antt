@@ -1,8 +1,7 @@
 -- Whether a collapse brings more literals than it takes away depends on the net and its readers.
-use Rattle.std.proofs.Common.{◌≡◌, ◌∙◌, ◌⊎◌, ℕ, zero, suc, ◌+◌, ◌<◌, ◌≤◌, Bool, true, false, ◌&&◌, nat_lt, nat_eq, Option, Some, None, List, [], ◌∷◌, ◌++◌, length, map, inl, inr, refl, sym, ap, subst, ⊎_elim, eq-eqb, arith}
+use Rattle.std.proofs.Common.{◌≡◌, ◌↔◌, ◌∙◌, ℕ, zero, suc, ◌+◌, ◌<◌, ◌≤◌, Bool, true, false, ◌&&◌, nat_lt, nat_eq, Option, None, List, [], ◌∷◌, ◌++◌, length, map, inl, inr, refl, sym, ap, subst, ⊎_elim, eq-eqb, arith}
 use Rattle.std.specs.Prelude.{option_map}
 use Rattle.std.specs.List.{sum_by}
-use Rattle.std.proofs.Math.Bool.{and-true}
 use Rattle.std.proofs.lemmas.Bool.{cases_Bool, cases_lt, false≢true, lt-ltb, le-ltb, or_left, or_right}
 use Rattle.std.proofs.lemmas.List.{get_or_past}
 use Rattle.std.proofs.lemmas.List.Sums.{sum_by-cons}
@@ -17,12 +16,12 @@ use Rattle.mv_meaning.proofs.Rewired.{reader_at}
 use Rattle.mv_net.specs.declared.parts.FlatNet.{FlatNet}
 use Rattle.mv_net.specs.declared.parts.NetParts.{NetParts}
 use Rattle.mv_net.specs.Behind.{literals_at}
-use Rattle.mv_net.specs.Nets.{slot, values_in, table_in, table_literals, literals_in, net_reads, reads_in}
+use Rattle.mv_net.specs.Nets.{values_in, table_in, table_literals, literals_in, net_reads, reads_in}
 use Rattle.mv_rules.specs.Collapsing.{IsInnerOf, collapsed}
-use Rattle.mv_local.specs.Same.{KeepsNet, KeepsReaders}
+use Rattle.mv_local.specs.Same.{StaysAt, KeepsNet, KeepsReaders}
 use Rattle.mv_local.specs.Saving.{composite_weight, ExchangesLiterals}
-use Rattle.mv_local.proofs.Tables.{composed_kept}
-use Rattle.mv_local.proofs.Places.{reads-same}
+use Rattle.mv_local.proofs.Tables.{composed_kept, IsInnerOf-same}
+use Rattle.mv_local.proofs.Places.{reads-same, readers_back, place_kept}
 
 -- ---- the list of a net's readers
 
@@ -83,7 +82,8 @@ module _ (old new : List (Option FlatNet)) (n : ℕ) (keeps : KeepsReaders old n
       ]
 
 -- and so is its composite
-weight_kept : (old new : List (Option FlatNet)) (inner : Inner) (k : ℕ) → KeepsReaders old new inner.net.0 → IsInnerOf old inner → reads_in old k inner.net.0 ≡ true → composite_weight old inner k ≡ composite_weight new inner k
+weight_kept : (old new : List (Option FlatNet)) (inner : Inner) (k : ℕ) → KeepsReaders old new inner.net.0 → IsInnerOf old inner
+    → reads_in old k inner.net.0 ≡ true → composite_weight old inner k ≡ composite_weight new inner k
 weight_kept old new inner k keeps is reads =
     let same = reader_kept old new inner.net.0 keeps k reads in
     let r = reader_at old inner.net.0 k reads in
@@ -93,9 +93,10 @@ weight_kept old new inner k keeps is reads =
 
 -- ---- what a collapse saves
 
-pub saving_same : (old new : NetParts) (inner : Inner) → KeepsReaders old.nets new.nets inner.net.0 → IsInnerOf old.nets inner → ExchangesLiterals old inner → ExchangesLiterals new inner
-    → literals_in (collapsed old inner).nets ≤ literals_in old.nets → literals_in (collapsed new inner).nets ≤ literals_in new.nets
-saving_same old new inner keeps is was now saves =
+-- it changes the number of literals by as many in both networks
+pub change_same : (old new : NetParts) (inner : Inner) → KeepsReaders old.nets new.nets inner.net.0 → IsInnerOf old.nets inner → ExchangesLiterals old inner → ExchangesLiterals new inner
+    → literals_in (collapsed new inner).nets + literals_in old.nets ≡ literals_in (collapsed old inner).nets + literals_in new.nets
+change_same old new inner keeps is was now =
     let n = inner.net.0 in
     let list = readers_of old.nets n in
     let rs = list.0 in
@@ -103,5 +104,19 @@ saving_same old new inner keeps is was now saves =
     let reads : (r : NetId) → has_id rs r.0 ≡ true → reads_in old.nets r.0 n ≡ true = λ r h. sym (list.1.members r.0) ∙ h in
     let own : literals_at new.nets inner.net ≡ literals_at old.nets inner.net = ap (λ f. table_literals (table_in f)) keeps.net.same in
     let gone = sum_same (literals_at new.nets) (literals_at old.nets) rs (λ r h. ap (λ f. table_literals (table_in f)) (reader_kept old.nets new.nets n keeps r.0 (reads r h)).same) in
-    let come = sum_same (λ (r : NetId). composite_weight old.nets inner r.0) (λ (r : NetId). composite_weight new.nets inner r.0) rs (λ r h. weight_kept old.nets new.nets inner r.0 keeps is (reads r h)) in
-    omega (arith, was.balance rs list.1, now.balance rs also, own, gone, come, saves)
+    let weight : NetParts → NetId → ℕ = λ net r. composite_weight net.nets inner r.0 in
+    let come = sum_same (weight old) (weight new) rs (λ r h. weight_kept old.nets new.nets inner r.0 keeps is (reads r h)) in
+    omega (arith, was.balance rs list.1, now.balance rs also, own, gone, come)
+
+pub saving_same : (old new : NetParts) (inner : Inner) → KeepsReaders old.nets new.nets inner.net.0 → IsInnerOf old.nets inner → ExchangesLiterals old inner → ExchangesLiterals new inner
+    → literals_in (collapsed old inner).nets ≤ literals_in old.nets → literals_in (collapsed new inner).nets ≤ literals_in new.nets
+saving_same old new inner keeps is was now saves = omega (arith, change_same old new inner keeps is was now, saves)
+
+-- both ways
+pub saving_both : (old new : NetParts) (inner : Inner) → StaysAt old new inner.net.0 → IsInnerOf old.nets inner → ExchangesLiterals old inner → ExchangesLiterals new inner
+    → (literals_in (collapsed new inner).nets ≤ literals_in new.nets) ↔ (literals_in (collapsed old inner).nets ≤ literals_in old.nets)
+saving_both old new inner stays is was now =
+    let keeps = (place_kept old new inner.net.0 stays).around in (
+      saving_same new old inner (readers_back old.nets new.nets inner.net.0 keeps) (IsInnerOf-same old.nets new.nets inner keeps.net is) now was,
+      saving_same old new inner keeps is was now,
+    )

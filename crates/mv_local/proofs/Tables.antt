@@ -1,5 +1,5 @@
 -- What is asked of a net's table depends on the table, and on the numbers of values of the nets that it reads.
-use Rattle.std.proofs.Common.{◌≡◌, ◌∙◌, ℕ, ◌<◌, ◌≤◌, Bool, true, false, cond, Option, Some, List, map, get_or, is_some, MatchBool, inl, inr, sym, ap, subst}
+use Rattle.std.proofs.Common.{◌≡◌, ◌↔◌, ◌∙◌, ℕ, ◌<◌, ◌≤◌, Bool, true, false, cond, Option, Some, List, map, get_or, is_some, MatchBool, inl, inr, sym, ap, subst}
 use Rattle.std.proofs.lemmas.Bool.{cases_Bool}
 use Rattle.mv_cover.specs.declared.cover.Cover.{Cover}
 use Rattle.mv_cover.specs.Covers.{cover_reads}
@@ -135,3 +135,35 @@ pub IsTooWide-kept : (old new : List (Option FlatNet)) (inner : Inner) (m : ℕ)
     → IsTooWide (map values_in old) inner c → IsTooWide (map values_in new) inner c
 IsTooWide-kept old new inner m c is own keeps table =
     IsTooWide-same (map values_in old) (map values_in new) inner c (counts_kept old new inner.net.0 inner.cover own is.table) (counts_kept old new m c keeps table)
+
+-- ---- both ways
+
+pub both_ways : (P : List (Option FlatNet) → ℕ → Type 0) → ((old new : List (Option FlatNet)) (n : ℕ) → KeepsNet old new n → P old n → P new n)
+    → (old new : NetParts) (n : ℕ) → WellFormed new → KeepsValues old.nets new.nets → slot new.nets n ≡ slot old.nets n → P new.nets n ↔ P old.nets n
+both_ways P to old new n formed keeps same =
+    let kept = net_kept old.nets new n formed keeps same in
+    (to new.nets old.nets n (net_back old.nets new.nets n kept), to old.nets new.nets n kept)
+
+pub IsInnerOf-both : (old new : NetParts) (inner : Inner) → WellFormed new → KeepsValues old.nets new.nets → slot new.nets inner.net.0 ≡ slot old.nets inner.net.0
+    → IsInnerOf new.nets inner ↔ IsInnerOf old.nets inner
+IsInnerOf-both old new inner formed keeps same =
+    let kept = net_kept old.nets new inner.net.0 formed keeps same in
+    (IsInnerOf-same new.nets old.nets inner (net_back old.nets new.nets inner.net.0 kept), IsInnerOf-same old.nets new.nets inner kept)
+
+pub composed_both : (old new : NetParts) (inner : Inner) (m : ℕ) (c : Cover) → WellFormed new → KeepsValues old.nets new.nets
+    → slot new.nets inner.net.0 ≡ slot old.nets inner.net.0 → slot new.nets m ≡ slot old.nets m → IsInnerOf old.nets inner → table_in (slot old.nets m) ≡ Some c
+    → composed (map values_in new.nets) inner c ≡ composed (map values_in old.nets) inner c
+composed_both old new inner m c formed keeps own same is table =
+    sym (composed_kept old.nets new.nets inner m c is (net_kept old.nets new inner.net.0 formed keeps own) (net_kept old.nets new m formed keeps same) table)
+
+pub IsTooWide-both : (old new : NetParts) (inner : Inner) (m : ℕ) (c : Cover) → WellFormed new → KeepsValues old.nets new.nets
+    → slot new.nets inner.net.0 ≡ slot old.nets inner.net.0 → slot new.nets m ≡ slot old.nets m → IsInnerOf old.nets inner → table_in (slot old.nets m) ≡ Some c
+    → IsTooWide (map values_in new.nets) inner c ↔ IsTooWide (map values_in old.nets) inner c
+IsTooWide-both old new inner m c formed keeps own same is table =
+    let inner_kept = net_kept old.nets new inner.net.0 formed keeps own in
+    let kept = net_kept old.nets new m formed keeps same in
+    let inner_back = net_back old.nets new.nets inner.net.0 inner_kept in
+    let back = net_back old.nets new.nets m kept in (
+      IsTooWide-kept new.nets old.nets inner m c (IsInnerOf-same old.nets new.nets inner inner_kept is) inner_back back (ap table_in same ∙ table),
+      IsTooWide-kept old.nets new.nets inner m c is inner_kept kept table,
+    )

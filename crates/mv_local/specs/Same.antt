@@ -4,7 +4,19 @@ use Rattle.mv_cover.specs.declared.line.Line.{Line}
 use Rattle.mv_cover.specs.Covers.{lines_read}
 use Rattle.mv_net.specs.declared.parts.FlatNet.{FlatNet}
 use Rattle.mv_net.specs.declared.parts.NetParts.{NetParts}
+use Rattle.mv_net.specs.Changes.{with_nets}
+use Rattle.mv_net.specs.Formed.{WellFormed}
 use Rattle.mv_net.specs.Nets.{slot, values_in, reads_in}
+use Rattle.mv_local.specs.Local.{KeepsValues, IsStill}
+
+-- the new network has other nets at most and is well formed, no held net has another number of values, and nothing has changed for the net at n
+pub record StaysAt (old new : NetParts) (n : ℕ) : Type 0 where
+  pub formed : WellFormed new
+  pub nets : new ≡ with_nets old new.nets
+  pub values : KeepsValues old.nets new.nets
+  pub still : IsStill old.nets new.nets n
+
+-- ---- what follows, the same both ways
 
 -- each net that the lines have literals on has the same count in both lists
 pub record SameCounts (counts others : List ℕ) (lines : List Line) : Type 0 where

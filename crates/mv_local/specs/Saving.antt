@@ -18,5 +18,5 @@ composite_weight nets inner m = table_literals (option_map (composed (map values
 -- a collapse takes the literals of the net and of its readers away, and brings those of the readers' composites
 pub record ExchangesLiterals (net : NetParts) (inner : Inner) : Type 0 where
   pub balance : (readers : List NetId) → IsAscending (λ m. reads_in net.nets m inner.net.0) readers
-    → literals_in (collapsed net inner).nets + (literals_at net.nets inner.net + sum_by (literals_at net.nets) readers)
-    ≡ literals_in net.nets + sum_by (λ (r : NetId). composite_weight net.nets inner r.0) readers
+      → literals_in (collapsed net inner).nets + (literals_at net.nets inner.net + sum_by (literals_at net.nets) readers)
+      ≡ literals_in net.nets + sum_by (λ (r : NetId). composite_weight net.nets inner r.0) readers

@@ -1,0 +1,10 @@
+-- Each law is a lemma, at a place that is kept.
+use Rattle.mv_local.proofs.Places.{place_kept}
+use Rattle.mv_local.proofs.Savings.{change_same, saving_both}
+use Rattle.mv_local.proofs.laws.saving_laws.Goals as goal
+
+pub returns : goal.returns
+returns c = record {
+  change = λ old new inner stays. change_same old new inner (place_kept old new inner.net.0 stays).around;
+  saves = saving_both;
+}
