@@ -21,6 +21,7 @@ use mv_pass::{few_literals, take};
 use std::alloc::Global;
 
 /// A net, and the rule that `sweep` applies to it.
+#[derive(Clone, Copy)]
 struct Found {
     n: NetId,
     way: Way,
