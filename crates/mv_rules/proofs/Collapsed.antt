@@ -23,7 +23,7 @@ use Rattle.mv_meaning.proofs.Rewired.{cover_at}
 use Rattle.mv_net.specs.declared.parts.FlatNet.{FlatNet}
 use Rattle.mv_net.specs.declared.parts.NetParts.{NetParts}
 use Rattle.mv_net.specs.Allowed.{of_net}
-use Rattle.mv_net.specs.Changes.{with_nets, AreHeldOnce}
+use Rattle.mv_net.specs.Changes.{with_nets, AreHeldOnce, Fits}
 use Rattle.mv_net.specs.Formed.{IsReadable, WellFormed}
 use Rattle.mv_net.specs.Nets.{slot, values_in, table_in, table_reads, net_reads, reads_in}
 use Rattle.mv_net.specs.Index.{is_held, is_seen}
@@ -172,8 +172,16 @@ tabled_held nets n h = by (slot nets n) h
     by (Some f) t = refl
 
 -- the change by which a net goes and others get these tables
-abbrev going_into : NetId → List NewTable → Change
+abbrev pub going_into : NetId → List NewTable → Change
 going_into n set = record { add = []; set = set; values = []; gone = n ∷ [] }
+
+-- it fits where the net has a table, and the others are its readers
+pub going_fits : (net : NetParts) (new : Cover → Cover) (n : NetId) (set : List NewTable) → WellFormed net → is_some (table_in (slot net.nets n.0)) ≡ true → AreRewritten net.nets new n.0 set
+    → Fits net (going_into n set)
+going_fits net new n set formed table are = fits_tables net new n.0 set (n ∷ []) are (one_held net.nets n (tabled_held net.nets n.0 table)) (λ m h. no_reader m h)
+  where
+    no_reader : (m : ℕ) → has_id (n ∷ []) m ≡ true → reads_in net.nets m n.0 ≡ false
+    no_reader m h = let e = listed_one n m h in subst (λ k. reads_in net.nets k n.0 ≡ false) e (false_from_ne_true _ (λ r. formed.acyclic.none n.0 (record { path = []; goes = r })))
 
 pub planned : (net : NetParts) (w : List ℕ) (n : NetId) (set : List NewTable) (change : Change) → WellFormed net → length net.nets ≤ MAX_NETS → IsTabled net.nets w n.0
     → CanCollapse net n.0 → (has : HasComposites net.nets n.0) → AreRewritten net.nets (composed (counts_of net.nets) has.inner) n.0 set → change ≡ going_into n set
@@ -183,7 +191,7 @@ planned net w n set change formed few tabled can has are is =
     let there = new ∙ ap (λ k. with_nets net (slice_set (rewritten (composed (counts_of net.nets) has.inner) k net.nets) k None)) (sym has.of_net) in
     subst (IsPlanned net (Collapses net w)) (sym is) (record {
       few = omega (arith, few);
-      fits = fits_tables net (composed (counts_of net.nets) has.inner) n.0 set (n ∷ []) are (one_held net.nets n (tabled_held net.nets n.0 tabled.table)) (λ m h. no_reader m h);
+      fits = going_fits net (composed (counts_of net.nets) has.inner) n set formed tabled.table are;
       formed = subst WellFormed (sym there) (collapsed_is_formed net has.inner formed has.known (ap (is_seen net) has.of_net ∙ can.unseen.unseen));
       makes = record {
         number = n.0;
@@ -195,9 +203,6 @@ planned net w n set change formed few tabled can has are is =
         new_is = there;
       };
     })
-  where
-    no_reader : (m : ℕ) → has_id (n ∷ []) m ≡ true → reads_in net.nets m n.0 ≡ false
-    no_reader m h = let e = listed_one n m h in subst (λ k. reads_in net.nets k n.0 ≡ false) e (false_from_ne_true _ (λ r. formed.acyclic.none n.0 (record { path = []; goes = r })))
 
 pub collapses_formed : (old : NetParts) (w : List ℕ) (new : NetParts) → WellFormed old → Collapses old w new → WellFormed new
 collapses_formed old w new formed r =

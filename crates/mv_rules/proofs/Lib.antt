@@ -7,6 +7,7 @@ mod Removed
 mod Added
 mod Wired
 mod Collapsed
+pub mod CompositeLiterals
 mod Divided
 mod Meanings
 mod Ahead

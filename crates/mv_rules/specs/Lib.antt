@@ -4,6 +4,7 @@ pub mod Adding
 pub mod Dividing
 pub mod Wiring
 pub mod Collapsing
+pub mod Composites
 pub mod Applies
 pub mod Replaying
 pub mod Plans

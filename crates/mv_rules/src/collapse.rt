@@ -70,8 +70,8 @@ fn is_unshared(net: &Network, n: NetId) -> bool
     true
 }
 
-/// The net as a composite asks for it.
-fn inner_of(alloc: Global, net: &Network, n: NetId) -> Result<Inner, Memory>
+/// The net as a composite asks for it: its table, whether it is total, and whether it is plainly deterministic.
+pub fn inner_of(alloc: Global, net: &Network, n: NetId) -> Result<Inner, Memory>
     requires { is_some (table_in (slot net.now.nets n.0)) ≡ true }
     ensures known { IfOk result (λ inner. IsInnerOf net.now.nets inner) }
     ensures net { IfOk result (λ inner. inner.net ≡ n) }

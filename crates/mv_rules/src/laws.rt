@@ -1,12 +1,23 @@
-ghost use Rattle.std.specs.Prelude.{◌≡◌, List};
+ghost use Rattle.std.specs.Prelude.{◌≡◌, ◌+◌, ℕ, true, Option, List};
+ghost use Rattle.std.specs.List.{sum_by};
+ghost use Rattle.mv_base.specs.declared.number.NetId.{NetId};
 ghost use Rattle.mv_base.specs.Meaning.{SameMeaning};
+ghost use Rattle.mv_composite.specs.declared.inner.Inner.{Inner};
 ghost use Rattle.mv_entry.specs.declared.rule.Rule.{Rule};
+ghost use Rattle.mv_entry.specs.declared.rule.Rule.TheVariants.{Collapse};
 ghost use Rattle.mv_entry.specs.declared.fault.RuleFault.{RuleFault};
 ghost use Rattle.mv_entry.specs.Entries.{Applied, HasVisibleNames};
+ghost use Rattle.mv_graph.specs.Nets.{IsAscending};
+ghost use Rattle.mv_net.specs.declared.parts.FlatNet.{FlatNet};
 ghost use Rattle.mv_net.specs.declared.parts.NetParts.{NetParts};
 ghost use Rattle.mv_net.specs.Allowed.{of_net};
+ghost use Rattle.mv_net.specs.Behind.{literals_at};
 ghost use Rattle.mv_net.specs.Formed.{WellFormed};
-ghost use Rattle.mv_rules.specs.Applies.{Applies, Fails};
+ghost use Rattle.mv_net.specs.Nets.{literals_in, reads_in};
+ghost use Rattle.mv_rules.specs.Applies.{Applies, Fails, LeavesLiterals};
+ghost use Rattle.mv_rules.specs.Checks.{IsTabled};
+ghost use Rattle.mv_rules.specs.Collapsing.{IsInnerOf, CanCollapse, Collapses, FailsCollapse, collapsed};
+ghost use Rattle.mv_rules.specs.Composites.{HasCompositeLiterals, HasWideComposite, composite_count};
 ghost use Rattle.mv_rules.specs.Replaying.{Replays};
 
 /// A rule makes at most one network of a network.
@@ -42,4 +53,39 @@ pub fn replay_laws()
     ensures latches { (rules : List Rule) (old new : NetParts) → Replays rules old new → new.latches ≡ old.latches }
     ensures means { (rules : List Rule) (old new : NetParts) → WellFormed old → Replays rules old new
         → SameMeaning (of_net new) (of_net old) }
+{}
+
+/// What a net is asked for by its readers' composites is told by the network: two such of one net are the same. The literals of
+/// a composite are those of the composed table, and a composite that has them isn't too wide.
+#[tactic(auto, using(crate::proofs::CompositeLiterals::inner_same, crate::proofs::CompositeLiterals::not_wide))]
+pub fn composite_laws()
+    ensures same { (nets : List (Option FlatNet)) (one other : Inner) → IsInnerOf nets one → IsInnerOf nets other → one.net ≡ other.net → one ≡ other }
+    ensures counted { (nets : List (Option FlatNet)) (inner : Inner) (m count : ℕ) → HasCompositeLiterals nets inner m count
+        → composite_count nets inner m ≡ count }
+    ensures narrow { (nets : List (Option FlatNet)) (inner : Inner) (m count : ℕ) → HasCompositeLiterals nets inner m count
+        → HasWideComposite nets inner m → ⊥ }
+{}
+
+/// How a collapse is told by the composites of the net's readers. It leaves the literals that were there, without those of the
+/// net and of its readers, and with those of the composites. Where each composite has its literals the rule applies, and where
+/// one is too wide it fails.
+#[tactic(auto, using(crate::proofs::CompositeLiterals::collapsed_literals, crate::proofs::CompositeLiterals::collapse_leaves))]
+pub fn collapse_laws()
+    ensures literals { (net : NetParts) (inner : Inner) (readers : List NetId) → WellFormed net → IsInnerOf net.nets inner
+        → IsAscending (λ m. reads_in net.nets m inner.net.0) readers
+        → literals_in (collapsed net inner).nets + (literals_at net.nets inner.net + sum_by (literals_at net.nets) readers)
+        ≡ literals_in net.nets + sum_by (λ (r : NetId). composite_count net.nets inner r.0) readers }
+    ensures left { (net : NetParts) (name : List ℕ) (inner : Inner) (readers : List NetId) (count : ℕ) → WellFormed net
+        → IsTabled net.nets name inner.net.0 → IsInnerOf net.nets inner → IsAscending (λ m. reads_in net.nets m inner.net.0) readers
+        → LeavesLiterals (Collapse name) net count
+        → count + (literals_at net.nets inner.net + sum_by (literals_at net.nets) readers)
+        ≡ literals_in net.nets + sum_by (λ (r : NetId). composite_count net.nets inner r.0) readers }
+    ensures applies { (net : NetParts) (name : List ℕ) (inner : Inner) (counts : ℕ → ℕ) → IsTabled net.nets name inner.net.0
+        → CanCollapse net inner.net.0 → IsInnerOf net.nets inner
+        → ((m : ℕ) → reads_in net.nets m inner.net.0 ≡ true → HasCompositeLiterals net.nets inner m (counts m))
+        → Collapses net name (collapsed net inner) }
+    ensures fails { (net : NetParts) (name : List ℕ) (inner : Inner) (m : ℕ) → IsTabled net.nets name inner.net.0
+        → CanCollapse net inner.net.0 → IsInnerOf net.nets inner → HasWideComposite net.nets inner m → FailsCollapse net name RuleFault.Wide }
+    ensures leaves { (net new : NetParts) (name : List ℕ) (inner : Inner) → WellFormed net → IsTabled net.nets name inner.net.0
+        → IsInnerOf net.nets inner → Collapses net name new → new ≡ collapsed net inner }
 {}

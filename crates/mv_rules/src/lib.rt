@@ -4,6 +4,7 @@
 mod add;
 mod applying;
 mod collapse;
+mod composites;
 mod divide;
 mod expand;
 mod laws;
@@ -14,7 +15,12 @@ mod remove;
 mod wire;
 
 pub use applying::{apply, literals_after};
+pub use collapse::inner_of;
+pub use composites::composite_literals;
 pub use laws::{
-    at_most_one_fault, at_most_one_network, names_are_visible, never_both, replay_laws,
+    at_most_one_fault, at_most_one_network, collapse_laws, composite_laws, names_are_visible,
+    never_both, replay_laws,
 };
+pub use mv_composite::Inner;
+pub use mv_cover::CoverStop;
 pub use mv_entry::{Body, BodyLine, BodyLit, Command, Journal, Note, Rule, RuleFault, Tally, Why};
