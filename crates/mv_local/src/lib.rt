@@ -4,7 +4,9 @@
 #![tactic(auto)]
 
 mod laws;
+mod step_laws;
 
 pub use laws::{
     check_laws, composite_laws, count_laws, place_laws, row_laws, saving_laws, table_laws,
 };
+pub use step_laws::{around_laws, literal_laws, named_by_itself};

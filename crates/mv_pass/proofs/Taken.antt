@@ -4,7 +4,8 @@ use Rattle.mv_base.specs.declared.outside.Failed.{Failed}
 use Rattle.mv_base.specs.Outside.{Gained, GainedPart}
 use Rattle.mv_base.proofs.Gains.{Gained-none, Gained-then, GainedPart-then}
 use Rattle.mv_entry.specs.declared.rule.Rule.{Rule}
-use Rattle.mv_entry.specs.Entries.{Entry, Applied, print}
+use Rattle.mv_entry.specs.declared.note.Note.{Note}
+use Rattle.mv_entry.specs.Entries.{Entry, Applied, Noted, print}
 use Rattle.mv_entry.specs.Tallies.{Journaled, Takes, with_entries}
 use Rattle.mv_net.specs.declared.parts.NetParts.{NetParts}
 use Rattle.mv_pass.specs.Taking.{Took, TookPart, GoesOn, Went, WentPart, TookRule, TookRulePart}
@@ -88,6 +89,18 @@ module _ (Lawful : NetParts → Entry → Type 0) where
     are = (lawful, (b, (t.applies, refl)));
     gained = subst (λ z. GainedPart j.written k.written z) (sym (print-one (Applied rule))) t.gained;
   }
+
+  -- a note
+  pub went_note : (a : NetParts) (note : Note) (j k : Journaled) → Lawful a (Noted note) → Takes j k (Noted note) (Ok tt) → Went Lawful a a j k
+  went_note a note j k lawful t = Took-one j k (Noted note) (lawful, refl) t
+
+  pub part_note : (a : NetParts) (note : Note) (j k : Journaled) (f : Failed) → Lawful a (Noted note) → Takes j k (Noted note) (Err f) → WentPart Lawful a a j k
+  part_note a note j k f lawful t = TookPart-one j k (Noted note) f (lawful, refl) t
+
+-- the same, where more holds of all steps that lead there
+pub took_ended : {Are : List Entry → Type 0} (Ends : List Entry → Type 0) (j k : Journaled) → Took Are j k → ((steps : List Entry) → Are steps → Ends steps) → Took (λ steps. Are steps × Ends steps) j k
+took_ended Ends j k p ends =
+    record { entries = p.entries; are = (p.are, ends p.entries p.are); gained = p.gained; counted = p.counted }
 
 -- ---- a journal that goes on
 

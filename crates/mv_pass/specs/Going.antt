@@ -1,5 +1,5 @@
 -- What a command does: rules and notes, one after the other, from its beginning to its end.
-use Rattle.std.specs.Prelude.{◌≡◌, ◌⊎◌, ℕ, ◌<◌, ◌^◌, List, [], ◌∷◌, ◌++◌}
+use Rattle.std.specs.Prelude.{◌≡◌, ℕ, ◌<◌, ◌^◌, List, [], ◌∷◌, ◌++◌}
 use Rattle.mv_entry.specs.declared.note.Command.{Command}
 use Rattle.mv_entry.specs.declared.note.Note.TheVariants.{Begin, End}
 use Rattle.mv_entry.specs.Entries.{Entry, Applied, Noted}
@@ -21,24 +21,26 @@ begun command steps = Noted (Begin command) ∷ steps
 abbrev pub whole : Command → List Entry → ℕ → List Entry
 whole command steps literals = begun command steps ++ Noted (End literals) ∷ []
 
--- a whole command: it begins, its steps lead to a network in which it settles, and it ends with that network's literals, which are
--- a number of 128 bits
-pub record Does (Lawful : NetParts → Entry → Type 0) (Settles : NetParts → Type 0) (command : Command)
+-- a whole command: it begins, its steps are a course from the old network to the new one, where it may end with them, and it ends
+-- with that network's literals, which are a number of 128 bits
+pub record Does (Course : NetParts → List Entry → NetParts → Type 0) (Ends : List Entry → NetParts → Type 0) (command : Command)
     (old : NetParts) (entries : List Entry) (new : NetParts) : Type 0 where
   pub steps : List Entry
-  pub goes : Goes Lawful old steps new
-  pub settles : Settles new
+  pub course : Course old steps new
+  pub ends : Ends steps new
   pub few : literals_in new.nets < 2 ^ 128
   pub entries_are : entries ≡ whole command steps (literals_in new.nets)
 
--- a command that has begun, and has made some of its steps
-pub record HasBegun (Lawful : NetParts → Entry → Type 0) (command : Command)
+-- a command that has begun, and has come some way of its course
+pub record HasBegun (Course : NetParts → List Entry → NetParts → Type 0) (command : Command)
     (old : NetParts) (entries : List Entry) (new : NetParts) : Type 0 where
   pub steps : List Entry
-  pub goes : Goes Lawful old steps new
+  pub course : Course old steps new
   pub entries_are : entries ≡ begun command steps
 
--- a command that stops, with these entries: it has begun, or it is even whole
-abbrev pub Begun : (NetParts → Entry → Type 0) → (NetParts → Type 0) → Command → NetParts → List Entry → NetParts → Type 0
-Begun Lawful Settles command old entries new =
-    HasBegun Lawful command old entries new ⊎ Does Lawful Settles command old entries new
+-- a command that stops, with these entries: it hasn't begun, it has begun, or it is even whole
+pub data Begun (Course : NetParts → List Entry → NetParts → Type 0) (Ends : List Entry → NetParts → Type 0) (command : Command)
+    (old : NetParts) (entries : List Entry) (new : NetParts) : Type 0 where
+  Before : entries ≡ [] → new ≡ old → Begun Course Ends command old entries new
+  Within : HasBegun Course command old entries new → Begun Course Ends command old entries new
+  Behind : Does Course Ends command old entries new → Begun Course Ends command old entries new

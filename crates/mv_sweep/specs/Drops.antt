@@ -29,3 +29,7 @@ pub record IsLeastNamed (net : NetParts) (name : List ℕ) : Type 0 where
 abbrev pub IsDropStep : NetParts → Entry → Type 0
 IsDropStep net (Applied (Remove name)) = IsLeastNamed net name
 IsDropStep net _ = ⊥
+
+-- `drop` ends where no net can go
+abbrev pub EndsDrop : List Entry → NetParts → Type 0
+EndsDrop steps net = NoneLeft net

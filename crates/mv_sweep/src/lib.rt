@@ -1,8 +1,15 @@
-//! The command `drop`: it takes away the nets that nobody sees or reads and whose table allows something everywhere.
+//! The commands `drop` and `sweep`: nets go that nobody sees or reads and whose table allows something everywhere; and with `sweep` the
+//! readers of buffers read their fanins, and constants go into their readers.
 #![tactic(auto)]
 
 mod removal;
+mod sweep;
 mod unread;
+mod way;
 
 pub use mv_pass::Stop;
+pub use sweep::sweep as sweep_network;
 pub use unread::remove_unread;
+
+/// The budget of diagram nodes: no rule of these commands makes a diagram.
+const NO_BUDGET: u32 = 0;

@@ -4,20 +4,18 @@ ghost use Rattle.mv_base.specs.Outside.{Rose};
 ghost use Rattle.mv_entry.specs.declared.note.Command.TheVariants.{Drop as drop};
 ghost use Rattle.mv_net.specs.Allowed.{of_net};
 ghost use Rattle.mv_net.specs.Changes.{without};
+ghost use Rattle.mv_pass.specs.Going.{Goes};
 ghost use Rattle.mv_pass.specs.Passing.{Passes};
 ghost use Rattle.mv_pass.specs.Taking.{GoesOn, Went, WentPart};
-ghost use Rattle.mv_sweep.specs.Drops.{IsDropStep, IsLeastRemovable, NoneLeft};
+ghost use Rattle.mv_sweep.specs.Drops.{IsDropStep, IsLeastRemovable, NoneLeft, EndsDrop};
 
-use crate::Stop;
+use crate::{NO_BUDGET, Stop};
 use crate::removal::{copy_fanins, next_place, next_removable};
 use mv_base::{Name, NetId};
 use mv_entry::{Command, Journal, Note, Rule};
 use mv_net::Network;
 use mv_pass::{few_literals, take};
 use std::alloc::Global;
-
-/// No diagram is made here.
-const NO_BUDGET: u32 = 0;
 
 /// Takes away the net, which is the least that can go, and notes it.
 fn step<J: Journal>(alloc: Global, net: &mut Network, n: NetId, journal: &mut J) -> Result<(), Stop>
@@ -85,7 +83,7 @@ pub fn remove_unread<J: Journal>(
     net: &mut Network,
     journal: &mut J,
 ) -> Result<(), Stop>
-    ensures passes { Passes IsDropStep NoneLeft drop net.old net.new (J.state journal.old) (J.state journal.new) result }
+    ensures passes { Passes (Goes IsDropStep) EndsDrop drop net.old net.new (J.state journal.old) (J.state journal.new) result }
 {
     match journal.note(&Note::Begin(Command::Drop)) {
         Ok(()) => {}

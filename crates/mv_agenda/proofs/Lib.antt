@@ -1,0 +1,3 @@
+pub mod Looking
+mod Waiting
+mod NearOnes

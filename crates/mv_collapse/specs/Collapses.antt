@@ -1,0 +1,46 @@
+-- What the command `collapse NET` does to a network.
+use Rattle.std.specs.Prelude.{◌≡◌, ℕ, ◌<◌, ◌≤◌, List, [], ◌∷◌}
+use Rattle.mv_entry.specs.declared.rule.Rule.TheVariants.{Collapse}
+use Rattle.mv_entry.specs.declared.fault.RuleFault.TheVariants.{NoNet, Visible, Unread as unread_net, Shared as shared_net, Wide}
+use Rattle.mv_entry.specs.declared.note.Note.TheVariants.{Dropped}
+use Rattle.mv_entry.specs.declared.note.Why.{Why}
+use Rattle.mv_entry.specs.declared.note.Why.TheVariants.{Literals, Lines, Shared, Seen, Absent, Unread}
+use Rattle.mv_entry.specs.Entries.{Entry, Applied, Noted}
+use Rattle.mv_net.specs.declared.parts.NetParts.{NetParts}
+use Rattle.mv_net.specs.Nets.{literals_in}
+use Rattle.mv_rules.specs.Applies.{Applies, Fails, LeavesLiterals}
+
+-- the net with this name can go into its readers, and the literals are no more then
+pub record CollapsesFreely (net : NetParts) (name : List ℕ) : Type 0 where
+  pub new : NetParts
+  pub applies : Applies (Collapse name) net new
+  pub no_more : literals_in new.nets ≤ literals_in net.nets
+
+-- it can, but the literals would rise from the one number to the other
+pub record RaisesLiterals (net : NetParts) (name : List ℕ) (before after : ℕ) : Type 0 where
+  pub now : before ≡ literals_in net.nets
+  pub leaves : LeavesLiterals (Collapse name) net after
+  pub rises : before < after
+
+-- why the net with this name stays: there is no such net with a table; or it is seen, isn't read, has several readers and may have one
+-- of several values, or has a composite that is too wide, which the rule asks in this order; or the literals would rise
+abbrev pub StaysFor : NetParts → List ℕ → Why → Type 0
+StaysFor net name Absent = Fails (Collapse name) net NoNet
+StaysFor net name Seen = Fails (Collapse name) net Visible
+StaysFor net name Unread = Fails (Collapse name) net unread_net
+StaysFor net name Shared = Fails (Collapse name) net shared_net
+StaysFor net name Lines = Fails (Collapse name) net Wide
+StaysFor net name (Literals before after) = RaisesLiterals net name before after
+StaysFor net name _ = ⊥
+
+-- the step of `collapse NET`: the rule, or a note why the net stays
+abbrev pub IsCollapseStep : List ℕ → NetParts → Entry → Type 0
+IsCollapseStep name net (Applied (Collapse net_name)) = (net_name ≡ name) × CollapsesFreely net name
+IsCollapseStep name net (Noted (Dropped why net_name)) = (net_name ≡ name) × StaysFor net name why
+IsCollapseStep name net _ = ⊥
+
+-- `collapse NET` ends behind one step
+abbrev pub EndsCollapse : List Entry → NetParts → Type 0
+EndsCollapse [] net = ⊥
+EndsCollapse (step ∷ []) net = Unit {0}
+EndsCollapse (step ∷ second ∷ steps) net = ⊥

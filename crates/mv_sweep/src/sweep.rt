@@ -1,0 +1,139 @@
+ghost use Rattle.std.specs.Prelude.{◌≡◌, Err, IfOk, OnOk, MatchOption};
+ghost use Rattle.mv_agenda.specs.Agenda.{AllWait};
+ghost use Rattle.mv_base.specs.Meaning.{SameMeaning};
+ghost use Rattle.mv_base.specs.Outside.{Rose};
+ghost use Rattle.mv_entry.specs.declared.note.Command.TheVariants.{Sweep as sweep_command};
+ghost use Rattle.mv_net.specs.Allowed.{of_net};
+ghost use Rattle.mv_pass.specs.Going.{Goes};
+ghost use Rattle.mv_pass.specs.Passing.{Passes};
+ghost use Rattle.mv_pass.specs.Taking.{GoesOn, Went, WentPart};
+ghost use Rattle.mv_sweep.specs.Sweeps.{IsSwept, IsSweepStep, EndsSweep};
+ghost use Rattle.mv_sweep.specs.Ways as spec;
+ghost use Rattle.mv_sweep.specs.Ways.{CanSweep, IsNext, IsLeastWay, StepsAround};
+
+use crate::way::{Way, way_of};
+use crate::{NO_BUDGET, Stop};
+use mv_agenda::{Agenda, put_near};
+use mv_base::{Memory, Name, NetId};
+use mv_entry::{Command, Journal, Note, Rule};
+use mv_net::Network;
+use mv_pass::{few_literals, take};
+use std::alloc::Global;
+
+/// A net, and the rule that `sweep` applies to it.
+struct Found {
+    n: NetId,
+    way: Way,
+}
+
+/// The least net that waits to which a rule applies, with that rule; those before it wait no more.
+fn next_found(alloc: Global, net: &Network, agenda: &mut Agenda) -> Result<Option<Found>, Memory>
+    requires { AllWait (CanSweep net.now) agenda.old }
+    ensures { IfOk result (λ found. MatchOption found (IsSwept net.now) (λ f. IsNext net.now agenda.new f.n.0 f.way)) }
+{
+    'looking: loop {
+        let Some(n) = agenda.take_least() else {
+            return Ok(None);
+        };
+        match way_of(alloc, net, n) {
+            Ok(Some(way)) => return Ok(Some(Found { n, way })),
+            Ok(None) => {}
+            Err(memory) => return Err(memory),
+        }
+    }
+}
+
+/// The rule for the net with this name.
+fn rule_for(way: Way, name: Name) -> Rule
+    ensures { result ≡ spec.rule_for way name }
+{
+    match way {
+        Way::Remove => Rule::Remove { net: name },
+        Way::Wire => Rule::Wire { net: name },
+        Way::Collapse => Rule::Collapse { net: name },
+    }
+}
+
+/// Applies the rule to the net, which is the least to which one applies, and notes it.
+fn step<J: Journal>(
+    alloc: Global,
+    net: &mut Network,
+    found: &Found,
+    journal: &mut J,
+) -> Result<(), Stop>
+    requires { IsLeastWay net.old found.now.n.0 found.now.way }
+    ensures ok { OnOk result (Went IsSweepStep net.old net.new (J.state journal.old) (J.state journal.new)) }
+    ensures around { OnOk result (StepsAround net.old net.new found.now.n.0) }
+    ensures memory { result ≡ Err Stop.Memory
+        → Went IsSweepStep net.old net.new (J.state journal.old) (J.state journal.new) }
+    ensures note { result ≡ Err Stop.Note
+        → WentPart IsSweepStep net.old net.new (J.state journal.old) (J.state journal.new) }
+    ensures cause { result ≡ Err Stop.Note → Rose (J.state journal.old).written.faults (J.state journal.new).written.faults }
+    ensures means { SameMeaning (of_net net.new) (of_net net.old) }
+    ensures goes_on { GoesOn (J.state journal.old) (J.state journal.new) }
+{
+    net.well_formed();
+    let name = match Name::new(alloc, net.name(found.n)) {
+        Ok(name) => name,
+        Err(_memory) => return Err(Stop::Memory),
+    };
+    match take(alloc, net, &rule_for(found.way, name), NO_BUDGET, journal) {
+        Ok(()) => Ok(()),
+        Err(stop) => Err(stop),
+    }
+}
+
+/// Applies the rule for the least net to which one applies, until there is none. A net that was looked at waits again once
+/// something near it changes, so that the least that waits and has a rule is the least of all.
+fn sweep_each<J: Journal>(alloc: Global, net: &mut Network, journal: &mut J) -> Result<(), Stop>
+    ensures ok { OnOk result (Went IsSweepStep net.old net.new (J.state journal.old) (J.state journal.new)) }
+    ensures swept { OnOk result (IsSwept net.new) }
+    ensures memory { result ≡ Err Stop.Memory
+        → Went IsSweepStep net.old net.new (J.state journal.old) (J.state journal.new) }
+    ensures note { result ≡ Err Stop.Note
+        → WentPart IsSweepStep net.old net.new (J.state journal.old) (J.state journal.new) }
+    ensures cause { result ≡ Err Stop.Note → Rose (J.state journal.old).written.faults (J.state journal.new).written.faults }
+    ensures means { SameMeaning (of_net net.new) (of_net net.old) }
+    ensures goes_on { GoesOn (J.state journal.old) (J.state journal.new) }
+{
+    let mut agenda = match Agenda::of_all(alloc, net.next_number()) {
+        Ok(agenda) => agenda,
+        Err(_memory) => return Err(Stop::Memory),
+    };
+    'sweeping: loop {
+        let found = match next_found(alloc, net, &mut agenda) {
+            Ok(Some(found)) => found,
+            Ok(None) => return Ok(()),
+            Err(_memory) => return Err(Stop::Memory),
+        };
+        match put_near(&mut agenda, net, found.n) {
+            Ok(()) => {}
+            Err(_memory) => return Err(Stop::Memory),
+        }
+        match step(alloc, net, &found, journal) {
+            Ok(()) => {}
+            Err(stop) => return Err(stop),
+        }
+    }
+}
+
+/// The command `sweep`: at the least-numbered net to which one applies, takes away a net that nobody sees or reads and whose table is
+/// total, has the readers of a plain buffer read its fanin, or puts a plain constant into its readers, until there is none; and notes
+/// the beginning, each rule and the end. What the network means stays, also where the command stops.
+pub fn sweep<J: Journal>(alloc: Global, net: &mut Network, journal: &mut J) -> Result<(), Stop>
+    ensures passes { Passes (Goes IsSweepStep) EndsSweep sweep_command net.old net.new (J.state journal.old) (J.state journal.new) result }
+{
+    match journal.note(&Note::Begin(Command::Sweep)) {
+        Ok(()) => {}
+        Err(_failed) => return Err(Stop::Note),
+    }
+    match sweep_each(alloc, net, journal) {
+        Ok(()) => {}
+        Err(stop) => return Err(stop),
+    }
+    few_literals(net);
+    match journal.note(&Note::End(net.literals())) {
+        Ok(()) => Ok(()),
+        Err(_failed) => Err(Stop::Note),
+    }
+}
