@@ -16,10 +16,12 @@ use Rattle.mv_meaning.proofs.Rewired.{reader_at}
 use Rattle.mv_net.specs.declared.parts.FlatNet.{FlatNet}
 use Rattle.mv_net.specs.declared.parts.NetParts.{NetParts}
 use Rattle.mv_net.specs.Behind.{literals_at}
+use Rattle.mv_net.specs.Formed.{WellFormed}
 use Rattle.mv_net.specs.Nets.{values_in, table_in, table_literals, literals_in, net_reads, reads_in}
 use Rattle.mv_rules.specs.Collapsing.{IsInnerOf, collapsed}
+use Rattle.mv_rules.specs.Composites.{composite_count}
+use Rattle.mv_rules.proofs.CompositeLiterals.{collapsed_literals}
 use Rattle.mv_local.specs.Same.{StaysAt, KeepsNet, KeepsReaders}
-use Rattle.mv_local.specs.Saving.{composite_weight, ExchangesLiterals}
 use Rattle.mv_local.proofs.Tables.{composed_kept, IsInnerOf-same}
 use Rattle.mv_local.proofs.Places.{reads-same, readers_back, place_kept}
 
@@ -82,9 +84,10 @@ module _ (old new : List (Option FlatNet)) (n : ℕ) (keeps : KeepsReaders old n
       ]
 
 -- and so is its composite
-weight_kept : (old new : List (Option FlatNet)) (inner : Inner) (k : ℕ) → KeepsReaders old new inner.net.0 → IsInnerOf old inner
-    → reads_in old k inner.net.0 ≡ true → composite_weight old inner k ≡ composite_weight new inner k
-weight_kept old new inner k keeps is reads =
+count_kept : (old new : List (Option FlatNet)) (inner : Inner) (k : ℕ) → KeepsReaders old new inner.net.0 → IsInnerOf old inner
+    → reads_in old k inner.net.0 ≡ true → composite_count old inner k ≡ composite_count new inner k
+unfolding composite_count
+count_kept old new inner k keeps is reads =
     let same = reader_kept old new inner.net.0 keeps k reads in
     let r = reader_at old inner.net.0 k reads in
     ap (λ t. table_literals (option_map (composed (map values_in old) inner) t)) r.1.table
@@ -94,9 +97,9 @@ weight_kept old new inner k keeps is reads =
 -- ---- what a collapse saves
 
 -- it changes the number of literals by as many in both networks
-pub change_same : (old new : NetParts) (inner : Inner) → KeepsReaders old.nets new.nets inner.net.0 → IsInnerOf old.nets inner → ExchangesLiterals old inner → ExchangesLiterals new inner
+pub change_same : (old new : NetParts) (inner : Inner) → WellFormed old → WellFormed new → KeepsReaders old.nets new.nets inner.net.0 → IsInnerOf old.nets inner
     → literals_in (collapsed new inner).nets + literals_in old.nets ≡ literals_in (collapsed old inner).nets + literals_in new.nets
-change_same old new inner keeps is was now =
+change_same old new inner was now keeps is =
     let n = inner.net.0 in
     let list = readers_of old.nets n in
     let rs = list.0 in
@@ -104,19 +107,19 @@ change_same old new inner keeps is was now =
     let reads : (r : NetId) → has_id rs r.0 ≡ true → reads_in old.nets r.0 n ≡ true = λ r h. sym (list.1.members r.0) ∙ h in
     let own : literals_at new.nets inner.net ≡ literals_at old.nets inner.net = ap (λ f. table_literals (table_in f)) keeps.net.same in
     let gone = sum_same (literals_at new.nets) (literals_at old.nets) rs (λ r h. ap (λ f. table_literals (table_in f)) (reader_kept old.nets new.nets n keeps r.0 (reads r h)).same) in
-    let weight : NetParts → NetId → ℕ = λ net r. composite_weight net.nets inner r.0 in
-    let come = sum_same (weight old) (weight new) rs (λ r h. weight_kept old.nets new.nets inner r.0 keeps is (reads r h)) in
-    omega (arith, was.balance rs list.1, now.balance rs also, own, gone, come)
+    let counted : NetParts → NetId → ℕ = λ net r. composite_count net.nets inner r.0 in
+    let come = sum_same (counted old) (counted new) rs (λ r h. count_kept old.nets new.nets inner r.0 keeps is (reads r h)) in
+    omega (arith, collapsed_literals old inner rs was is list.1, collapsed_literals new inner rs now (IsInnerOf-same old.nets new.nets inner keeps.net is) also, own, gone, come)
 
-pub saving_same : (old new : NetParts) (inner : Inner) → KeepsReaders old.nets new.nets inner.net.0 → IsInnerOf old.nets inner → ExchangesLiterals old inner → ExchangesLiterals new inner
+pub saving_same : (old new : NetParts) (inner : Inner) → WellFormed old → WellFormed new → KeepsReaders old.nets new.nets inner.net.0 → IsInnerOf old.nets inner
     → literals_in (collapsed old inner).nets ≤ literals_in old.nets → literals_in (collapsed new inner).nets ≤ literals_in new.nets
-saving_same old new inner keeps is was now saves = omega (arith, change_same old new inner keeps is was now, saves)
+saving_same old new inner was now keeps is saves = omega (arith, change_same old new inner was now keeps is, saves)
 
 -- both ways
-pub saving_both : (old new : NetParts) (inner : Inner) → StaysAt old new inner.net.0 → IsInnerOf old.nets inner → ExchangesLiterals old inner → ExchangesLiterals new inner
+pub saving_both : (old new : NetParts) (inner : Inner) → WellFormed old → StaysAt old new inner.net.0 → IsInnerOf old.nets inner
     → (literals_in (collapsed new inner).nets ≤ literals_in new.nets) ↔ (literals_in (collapsed old inner).nets ≤ literals_in old.nets)
-saving_both old new inner stays is was now =
+saving_both old new inner was stays is =
     let keeps = (place_kept old new inner.net.0 stays).around in (
-      saving_same new old inner (readers_back old.nets new.nets inner.net.0 keeps) (IsInnerOf-same old.nets new.nets inner keeps.net is) now was,
-      saving_same old new inner keeps is was now,
+      saving_same new old inner stays.formed was (readers_back old.nets new.nets inner.net.0 keeps) (IsInnerOf-same old.nets new.nets inner keeps.net is),
+      saving_same old new inner was stays.formed keeps is,
     )

@@ -28,7 +28,6 @@ ghost use Rattle.mv_rules.specs.Removing.{RemoveRow};
 ghost use Rattle.mv_rules.specs.Wiring.{IsBuffer, WireRow};
 ghost use Rattle.mv_local.specs.Local.{KeepsValues, StaysAround};
 ghost use Rattle.mv_local.specs.Same.{SameCounts, StaysAt};
-ghost use Rattle.mv_local.specs.Saving.{ExchangesLiterals};
 
 /// What is made of covers depends on the counts of the nets that they read, and on no other.
 pub fn count_laws()
@@ -108,10 +107,8 @@ pub fn row_laws()
 
 /// A collapse of such a net changes the number of literals by as many as it did.
 pub fn saving_laws()
-    ensures change { (old new : NetParts) (inner : Inner) → StaysAt old new inner.net.0 → IsInnerOf old.nets inner
-        → ExchangesLiterals old inner → ExchangesLiterals new inner
+    ensures change { (old new : NetParts) (inner : Inner) → WellFormed old → StaysAt old new inner.net.0 → IsInnerOf old.nets inner
         → literals_in (collapsed new inner).nets + literals_in old.nets ≡ literals_in (collapsed old inner).nets + literals_in new.nets }
-    ensures saves { (old new : NetParts) (inner : Inner) → StaysAt old new inner.net.0 → IsInnerOf old.nets inner
-        → ExchangesLiterals old inner → ExchangesLiterals new inner
+    ensures saves { (old new : NetParts) (inner : Inner) → WellFormed old → StaysAt old new inner.net.0 → IsInnerOf old.nets inner
         → (literals_in (collapsed new inner).nets ≤ literals_in new.nets) ↔ (literals_in (collapsed old inner).nets ≤ literals_in old.nets) }
 {}

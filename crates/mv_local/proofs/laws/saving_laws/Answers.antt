@@ -5,6 +5,6 @@ use Rattle.mv_local.proofs.laws.saving_laws.Goals as goal
 
 pub returns : goal.returns
 returns c = record {
-  change = λ old new inner stays. change_same old new inner (place_kept old new inner.net.0 stays).around;
+  change = λ old new inner formed stays. change_same old new inner formed stays.formed (place_kept old new inner.net.0 stays).around;
   saves = saving_both;
 }
