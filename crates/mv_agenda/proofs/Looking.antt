@@ -1,6 +1,6 @@
 -- What a command that looks at the nets of an agenda keeps: that each net of which something holds waits.
-use Rattle.std.proofs.Common.{◌≡◌, ◌∙◌, ℕ, ◌<◌, ◌≤◌, not, nat_eq, Option, List, sym, ap, ⊎_elim, ◌⊎◌, subst}
-use Rattle.std.proofs.lemmas.Bool.{false≢true, cases_eq, and_from, ne_eqb}
+use Rattle.std.proofs.Common.{◌≡◌, ◌∙◌, ℕ, ◌<◌, ◌≤◌, true, false, not, nat_eq, Option, List, sym, ap, ⊎_elim, subst}
+use Rattle.std.proofs.lemmas.Bool.{cases_Bool, false≢true, and_from, ne_eqb}
 use Rattle.mv_net.specs.declared.parts.FlatNet.{FlatNet}
 use Rattle.mv_agenda.specs.Agenda.{waits, AllWait, AllWaitBut, NoneWaits, PutsNear, TakesLeast, WaitBelow}
 use Rattle.mv_agenda.specs.Near.{IsNear, Itself}
@@ -29,16 +29,14 @@ all_without_taken P agenda n h stays =
     record { each = λ m p. h.each m p (λ (same : n ≡ m). stays (subst P (sym same) p)) }
 
 -- something changed around the one that was taken, and what is near it was put: of numbers that aren't near it, Q holds only where P did
-module _ (P Q : ℕ → Type 0) (nets : List (Option FlatNet)) (old new : List ℕ) (n : ℕ) where
-  pub all_with_near : AllWaitBut P old n → PutsNear nets n old new → ((m : ℕ) → Q m → P m ⊎ IsNear nets n m) → AllWait Q new
-  all_with_near h put from = record {
-    each = λ m q.
-        ⊎_elim
-        (λ (p : P m).
-        ⊎_elim
-        (λ (same : n ≡ m). put.near m (Itself (sym same)))
-        (λ (apart : n ≡ m → ⊥). put.stay m (h.each m p apart))
-        (cases_eq n m))
-        (λ (near : IsNear nets n m). put.near m near)
-        (from m q);
-  }
+pub all_with_near : (P Q : ℕ → Type 0) (nets : List (Option FlatNet)) (old new : List ℕ) (n : ℕ) → AllWaitBut P old n → PutsNear nets n old new
+    → ((m : ℕ) → (IsNear nets n m → ⊥) → Q m → P m) → AllWait Q new
+all_with_near P Q nets old new n h put from = record {
+  each = λ m q.
+      ⊎_elim
+      (λ (y : waits new m ≡ true). y)
+      (λ (no : waits new m ≡ false).
+      let far : IsNear nets n m → ⊥ = λ near. false≢true (sym no ∙ put.near m near) in
+      put.stay m (h.each m (from m far q) (λ (same : n ≡ m). far (Itself (sym same)))))
+      (cases_Bool (waits new m));
+}

@@ -1,6 +1,6 @@
 mod Rows
 pub mod OneAnswer
-mod Named
+pub mod Named
 mod Overs
 mod Readers
 mod Removed

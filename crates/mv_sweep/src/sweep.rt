@@ -78,8 +78,12 @@ fn step<J: Journal>(
         Ok(name) => name,
         Err(_memory) => return Err(Stop::Memory),
     };
-    match take(alloc, net, &rule_for(found.way, name), NO_BUDGET, journal) {
-        Ok(()) => Ok(()),
+    let rule = rule_for(found.way, name);
+    match take(alloc, net, &rule, NO_BUDGET, journal) {
+        Ok(()) => {
+            net.well_formed();
+            Ok(())
+        }
         Err(stop) => Err(stop),
     }
 }
