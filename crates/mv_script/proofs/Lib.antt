@@ -1,1 +1,3 @@
-pub mod ScriptWords
+pub mod Words
+pub mod Commands
+pub mod Scripts
