@@ -38,12 +38,16 @@ pub reads_collapse : (w : List ℕ) (old : List Command) → same_word w (codes 
 reads_collapse w old e f = record { each = λ ws. ap (all_before old) (says_collapse w ws e f) }
 
 pub reads_plain : (w : List ℕ) (c : Command) (old new : List Command) → same_word w (codes ";") ≡ false → same_word w (codes "collapse") ≡ false → plain_command w ≡ Some c → new ≡ old ++ c ∷ [] → ReadsOn false w false old new
-reads_plain w c old new e f is more = record { each = λ ws.
-    ap (all_before old) (says_plain w ws e f ∙ ap (λ o. put_before o (commands_of ws)) is) ∙ all_before-put old c (commands_of ws) ∙ ap (λ t. all_before t (commands_of ws)) (sym more) }
+reads_plain w c old new e f is more = record {
+  each = λ ws.
+      ap (all_before old) (says_plain w ws e f ∙ ap (λ o. put_before o (commands_of ws)) is) ∙ all_before-put old c (commands_of ws) ∙ ap (λ t. all_before t (commands_of ws)) (sym more);
+}
 
 pub reads_name : (w : List ℕ) (old new : List Command) → is_name w ≡ true → new ≡ old ++ Collapse w ∷ [] → ReadsOn true w false old new
-reads_name w old new e more = record { each = λ ws.
-    ap (λ o. all_before old (put_before o (commands_of ws))) (cond-true (is_name w) _ _ e) ∙ all_before-put old (Collapse w) (commands_of ws) ∙ ap (λ t. all_before t (commands_of ws)) (sym more) }
+reads_name w old new e more = record {
+  each = λ ws.
+      ap (λ o. all_before old (put_before o (commands_of ws))) (cond-true (is_name w) _ _ e) ∙ all_before-put old (Collapse w) (commands_of ws) ∙ ap (λ t. all_before t (commands_of ws)) (sym more);
+}
 
 pub refuses_plain : (w : List ℕ) → same_word w (codes ";") ≡ false → same_word w (codes "collapse") ≡ false → plain_command w ≡ None → RefusesAt false w
 refuses_plain w e f is = record { each = λ ws. says_plain w ws e f ∙ ap (λ o. put_before o (commands_of ws)) is }

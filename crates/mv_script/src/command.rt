@@ -46,7 +46,7 @@ fn plain_command(word: &[u8]) -> Option<Command>
     None
 }
 
-/// Adds the command that collapses the net of this name.
+/// Adds the command that collapses the net of this name. The answer is that no `collapse` waits behind it.
 fn read_name(word: &Name, commands: &mut Items<Command>) -> Result<bool, ScriptStop>
     ensures ok { IfOk result (λ waits. ReadsOn true word.now waits commands.old commands.new) }
     ensures refused { result ≡ Err ScriptStop.NotBuilt → RefusesAt true word.now }
@@ -58,8 +58,8 @@ fn read_name(word: &Name, commands: &mut Items<Command>) -> Result<bool, ScriptS
     Ok(false)
 }
 
-/// Adds the command that the word ends, if it ends one. The answer is whether the word is a `collapse` that waits for its name,
-/// as `waits` says it of the words before.
+/// Reads a word behind others, the last of which is a `collapse` that waits for its name or not, and adds the command that
+/// it ends, if it ends one. The answer is whether the word itself is a `collapse` that waits.
 fn read_word(word: &Name, waits: bool, commands: &mut Items<Command>) -> Result<bool, ScriptStop>
     ensures ok { IfOk result (λ waits'. ReadsOn waits word.now waits' commands.old commands.new) }
     ensures refused { result ≡ Err ScriptStop.NotBuilt → RefusesAt waits word.now }
@@ -80,7 +80,7 @@ fn read_word(word: &Name, waits: bool, commands: &mut Items<Command>) -> Result<
     Ok(false)
 }
 
-/// The commands that the words say.
+/// The commands that the words say, or NotBuilt where they don't.
 pub fn commands_of(alloc: Global, words: &[Name]) -> Result<Items<Command>, ScriptStop>
     ensures ok { IfOk result (λ commands. commands_of words.now ≡ Some commands) }
     ensures refused { result ≡ Err ScriptStop.NotBuilt → commands_of words.now ≡ None }
