@@ -100,7 +100,11 @@ commands_in text = unwrap_or (script_commands text) []
 unfoldable pub is_script : List ℕ → Bool
 is_script text = nat_le (length text) MAX_SCRIPT_BYTES && is_some (script_commands text) && nat_le (length (commands_in text)) MAX_SCRIPT_COMMANDS
 
--- ---- what each command of a script is
+-- ---- what is so of each script that is accepted
+
+-- each byte outside comments is a blank or can be seen
+abbrev pub is_readable : List ℕ → Bool
+is_readable text = list_all (λ line. list_all (λ b. is_blank b || is_visible b) (said line)) (script_lines text)
 
 -- the command is one of those that a script may say
 abbrev pub is_built : Command → Bool
