@@ -73,7 +73,7 @@ plain_lawful w =
 named_lawful : (w : List ℕ) → IfSome (named_collapse w) IsCommand
 named_lawful w =
     let P : Option Command → Type 0 = λ o. IfSome o IsCommand in
-    cond_both (is_name w) _ _ P (λ e. record { built = refl; names = visible-one (Noted (Begin (Collapse w))) w refl (visible_name w e) }) (λ _. tt)
+    cond_both (is_name w) _ _ P (λ e. record { built = e; names = visible-one (Noted (Begin (Collapse w))) w refl (visible_name w e) }) (λ _. tt)
 
 put_lawful : (c : Option Command) (o : Option (List Command)) → IfSome c IsCommand → IfSome o (All IsCommand) → IfSome (put_before c o) (All IsCommand)
 put_lawful None o h k = tt

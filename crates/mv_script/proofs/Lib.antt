@@ -2,3 +2,4 @@ pub mod Words
 pub mod Commands
 pub mod Scripts
 pub mod Seen
+pub mod Spoken

@@ -8,7 +8,7 @@ use Rattle.mv_base.specs.declared.limits.TheConstants.{MAX_SCRIPT_BYTES, MAX_SCR
 use Rattle.mv_entry.specs.declared.note.Command.{Command}
 use Rattle.mv_entry.specs.declared.note.Command.TheVariants.{Drop, Sweep, Eliminate, Collapse}
 use Rattle.mv_entry.specs.declared.note.Note.TheVariants.{Begin}
-use Rattle.mv_entry.specs.Entries.{Noted, HasVisibleNames}
+use Rattle.mv_entry.specs.Entries.{Noted, command_word, operands, HasVisibleNames}
 
 -- ---- words
 
@@ -100,21 +100,31 @@ commands_in text = unwrap_or (script_commands text) []
 unfoldable pub is_script : List ℕ → Bool
 is_script text = nat_le (length text) MAX_SCRIPT_BYTES && is_some (script_commands text) && nat_le (length (commands_in text)) MAX_SCRIPT_COMMANDS
 
--- ---- what is so of each script that is accepted
+-- ---- what each command of a script is
 
--- each byte outside comments is a blank or can be seen
-abbrev pub is_readable : List ℕ → Bool
-is_readable text = list_all (λ line. list_all (λ b. is_blank b || is_visible b) (said line)) (script_lines text)
-
--- the command is one of those that a script may say
+-- the command is one of those that a script can say
 abbrev pub is_built : Command → Bool
 is_built Drop = true
 is_built Sweep = true
 is_built Eliminate = true
-is_built (Collapse net) = true
+is_built (Collapse net) = is_name net
 is_built _ = false
 
 -- a command as scripts say them: the note that it begins can be printed
 pub record IsCommand (command : Command) : Type 0 where
   pub built : is_built command ≡ true
   pub names : HasVisibleNames (Noted (Begin command))
+
+-- ---- what is so of all scripts
+
+-- each byte outside comments is a blank or can be seen
+abbrev pub is_readable : List ℕ → Bool
+is_readable text = list_all (λ line. list_all (λ b. is_blank b || is_visible b) (said line)) (script_lines text)
+
+-- the words of a command: its first one, and its name if it has one
+abbrev pub command_words : Command → List (List ℕ)
+command_words command = command_word command ∷ operands command
+
+-- the words that are no `;`
+abbrev pub spoken : List (List ℕ) → List (List ℕ)
+spoken words = filter (λ w. not (same_word w (codes ";"))) words
