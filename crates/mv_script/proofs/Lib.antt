@@ -1,1 +1,5 @@
-pub mod ScriptWords
+pub mod Words
+pub mod Commands
+pub mod Scripts
+pub mod Seen
+pub mod Spoken

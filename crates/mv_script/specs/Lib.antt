@@ -1,1 +1,3 @@
 pub mod Scripts
+-- what private functions alone cite
+pub mod Steps

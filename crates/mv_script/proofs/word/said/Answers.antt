@@ -5,7 +5,7 @@ use Rattle.std.proofs.lemmas.Iterator.Consumers.{count_from_yields_List}
 use Rattle.std.proofs.lemmas.Iterator.Search.{YieldsList-from_take_while}
 use Rattle.std.proofs.lemmas.List.Folds.{length-prefix_len}
 use Rattle.mv_script.specs.Scripts.{said}
-use Rattle.mv_script.proofs.script.said.Goals as goal
+use Rattle.mv_script.proofs.word.said.Goals as goal
 
 pub returns : goal.returns
 returns c =
