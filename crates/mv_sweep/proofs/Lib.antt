@@ -1,3 +1,3 @@
 pub mod Search
 pub mod Stepping
-pub mod Sweeping
+pub mod Swept

@@ -1,5 +1,5 @@
 -- On the way through a `sweep`: the rule for a net, and what a step leaves. For private functions.
-use Rattle.std.specs.Prelude.{◌≡◌, ℕ, ◌<◌, List, []}
+use Rattle.std.specs.Prelude.{◌≡◌, ℕ, ◌<◌, List}
 use Rattle.mv_agenda.specs.Agenda.{AllWaitBut}
 use Rattle.mv_entry.specs.declared.rule.Rule.{Rule}
 use Rattle.mv_entry.specs.declared.rule.Rule.TheVariants.{Remove, Wire, Collapse}

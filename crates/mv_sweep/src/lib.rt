@@ -3,12 +3,12 @@
 #![tactic(auto)]
 
 mod removal;
-mod sweep;
+mod sweeping;
 mod unread;
 mod way;
 
 pub use mv_pass::Stop;
-pub use sweep::sweep as sweep_network;
+pub use sweeping::sweep;
 pub use unread::remove_unread;
 
 /// The budget of diagram nodes: no rule of these commands makes a diagram.

@@ -11,7 +11,7 @@ use crate::NO_BUDGET;
 use mv_base::{Memory, Name, NetId};
 use mv_entry::{Rule, RuleFault};
 use mv_net::Network;
-use mv_rules::{literals_after, never_both};
+use mv_rules::literals_after;
 use std::alloc::Global;
 
 /// Which of its rules `sweep` applies to a net.
@@ -58,12 +58,13 @@ fn way_of_read(alloc: Global, net: &Network, n: NetId) -> Result<Option<Way>, Me
     requires read { IsRead net.now.nets n.0 }
     ensures { IfOk result (λ way. MatchOption way (IsSweptNet net.now n.0) (IsWay net.now n.0)) }
 {
-    if net.plain_buffer(n).is_some() {
+    net.well_formed();
+    if let Some(_source) = net.plain_buffer(n) {
         return Ok(Some(Way::Wire));
     }
-    if net.plain_constant(n).is_none() {
+    let Some(_value) = net.plain_constant(n) else {
         return Ok(None);
-    }
+    };
     if can_collapse(alloc, net, n)? {
         return Ok(Some(Way::Collapse));
     }
@@ -77,7 +78,7 @@ fn can_collapse(alloc: Global, net: &Network, n: NetId) -> Result<bool, Memory>
         (CanApply (collapse (name_in (slot net.now.nets n.0))) net.now)
         (CanApply (collapse (name_in (slot net.now.nets n.0))) net.now → ⊥)) }
 {
-    never_both();
+    net.well_formed();
     let name = Name::new(alloc, net.name(n))?;
     match literals_after(alloc, net, &Rule::Collapse { net: name }, NO_BUDGET) {
         Ok(_literals) => Ok(true),

@@ -6,7 +6,7 @@ use Rattle.mv_net.specs.Allowed.{of_net}
 use Rattle.mv_pass.specs.Taking.{GoesOn, Went}
 use Rattle.mv_sweep.specs.Sweeps.{IsSweepStep}
 use Rattle.mv_sweep.specs.Ways.{CanSweep}
-use Rattle.mv_sweep.proofs.sweep.sweep_each.Given as goal
+use Rattle.mv_sweep.proofs.sweeping.sweep_each.Given as goal
 
 abbrev pub invariant-sweeping : goal.invariant-sweeping
 invariant-sweeping g l = record {

@@ -6,7 +6,7 @@ use Rattle.mv_pass.specs.Going.{Goes}
 use Rattle.mv_pass.proofs.Taken.{took_ended}
 use Rattle.mv_pass.proofs.Passed.{unbegun, halted, ended, unended}
 use Rattle.mv_sweep.specs.Sweeps.{IsSweepStep, EndsSweep}
-use Rattle.mv_sweep.proofs.sweep.sweep.Goals as goal
+use Rattle.mv_sweep.proofs.sweeping.sweep.Goals as goal
 
 pub returns-in-Err : goal.returns-in-Err
 returns-in-Err g c = record { passes = unbegun (Goes IsSweepStep) EndsSweep Sweep _ _ _ _ refl c.in-Err.ensures }

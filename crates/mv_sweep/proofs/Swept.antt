@@ -1,16 +1,20 @@
 -- The rules of `sweep`: each applies to its net, what it leaves, and that nets far from it are swept where they were.
-use Rattle.std.proofs.Common.{◌≡◌, ◌∙◌, ℕ, ◌<◌, true, Option, Some, None, is_some, List, [], ◌∷◌, length, inl, refl, sym, ap, subst}
+use Rattle.std.proofs.Common.{◌≡◌, ◌∙◌, ℕ, ◌<◌, ◌≤◌, true, Option, Some, None, is_some, List, [], ◌∷◌, length, ◌⊎◌, ⊎_elim, inl, refl, sym, ap, subst, arith}
 use Rattle.std.proofs.lemmas.Bool.{false≢true}
-use Rattle.mv_agenda.specs.Agenda.{AllWait, AllWaitBut, PutsNear, WaitBelow}
+use Rattle.mv_agenda.specs.Agenda.{AllWait, AllWaitBut, NoneWaits, PutsNear, TakesLeast, WaitBelow}
 use Rattle.mv_agenda.specs.Near.{IsNear}
-use Rattle.mv_agenda.proofs.Looking.{all_at_first, all_with_near}
+use Rattle.mv_agenda.proofs.Looking.{all_at_first, all_but_taken, all_with_near, all_without_taken, least_of_all, none_at_end}
 use Rattle.mv_cover.specs.declared.cover.Cover.{Cover}
+use Rattle.mv_entry.specs.declared.fault.RuleFault.{RuleFault}
+use Rattle.mv_entry.specs.declared.fault.RuleFault.TheVariants.{Memory as out_of_memory}
+use Rattle.mv_entry.specs.declared.rule.Rule.{Rule}
+use Rattle.mv_entry.specs.declared.rule.Rule.TheVariants.{Collapse as CollapseNet}
 use Rattle.mv_entry.specs.Entries.{Applied}
 use Rattle.mv_local.specs.Local.{StaysAround}
-use Rattle.mv_local.specs.Same.{StaysAt, KeepsPlace}
+use Rattle.mv_local.specs.Same.{KeepsPlace}
 use Rattle.mv_local.proofs.Fewer.{is_plain}
 use Rattle.mv_local.proofs.Places.{place_kept, place_back, far_stays, IsRead-same, HasComposites-same, IsUnseen-same, IsRemovable-same}
-use Rattle.mv_local.proofs.Steps.{names_itself, steps_left, removes_around, wires_around, collapses_around, removes_fewer, wires_fewer, collapses_fewer}
+use Rattle.mv_local.proofs.Steps.{names_itself, removes_around, wires_around, collapses_around, removes_fewer, wires_fewer, collapses_fewer}
 use Rattle.mv_local.proofs.Tables.{IsBuffer-same, IsPlainConstant-same}
 use Rattle.mv_net.specs.declared.parts.FlatNet.{FlatNet}
 use Rattle.mv_net.specs.declared.parts.NetParts.{NetParts}
@@ -20,13 +24,15 @@ use Rattle.mv_net.specs.Index.{is_held}
 use Rattle.mv_net.specs.Nets.{slot, name_in, table_in}
 use Rattle.mv_net.proofs.Known.{is_held_below}
 use Rattle.mv_pass.specs.Taking.{CanApply}
-use Rattle.mv_rules.specs.Applies.{Applies}
-use Rattle.mv_rules.specs.Checks.{IsTabled}
-use Rattle.mv_rules.specs.Collapsing.{collapsed}
+use Rattle.mv_rules.specs.Applies.{Applies, Fails}
+use Rattle.mv_rules.proofs.OneAnswer.{not_both}
+use Rattle.mv_net.specs.Plain.{IsPlainBuffer, IsPlainConstant}
+use Rattle.mv_rules.specs.Checks.{IsTabled, IsUnseen, IsRead}
+use Rattle.mv_rules.specs.Collapsing.{HasComposites, collapsed}
 use Rattle.mv_sweep.specs.declared.way.Way.{Way}
 use Rattle.mv_sweep.specs.declared.way.Way.TheVariants.{Remove, Wire, Collapse}
-use Rattle.mv_sweep.specs.Sweeps.{IsConstant, IsSweptNet, IsSwept, IsSweepStep}
-use Rattle.mv_sweep.specs.Ways.{rule_for, IsWay, CanSweep, IsLeastWay, StepsAround}
+use Rattle.mv_sweep.specs.Sweeps.{IsFoldable, IsSweptNet, IsSwept, IsSweepStep}
+use Rattle.mv_sweep.specs.Ways.{rule_for, IsWay, CanSweep, IsLeastWay, IsNext, StepsAround}
 use Rattle.mv_sweep.proofs.Stepping.{removes}
 
 -- ---- nets with a rule and without
@@ -169,3 +175,51 @@ pub all_wait_behind : (old new : NetParts) (n : ℕ) (before agenda : List ℕ) 
     → AllWait (CanSweep new) agenda
 all_wait_behind old new n before agenda others put step =
     all_with_near (CanSweep old) (CanSweep new) old.nets before agenda n others put (can_before old new n step)
+
+-- where nothing waits each net is swept
+pub all_swept : (net : NetParts) (agenda : List ℕ) → AllWait (CanSweep net) agenda → NoneWaits agenda → IsSwept net
+all_swept net agenda wait none = record { each = λ n. swept_net net n (none_at_end (CanSweep net) agenda wait none n) }
+
+-- the least that waits and has a rule is the least of all that have one
+pub next_of : (net : NetParts) (old new : List ℕ) (n : ℕ) (way : Way) → AllWait (CanSweep net) old → TakesLeast old new n → IsWay net n way → IsNext net new n way
+next_of net old new n way wait takes is = record {
+  first = record {
+    way_is = is;
+    least = λ m low. swept_net net m (λ can. let up : n ≤ m = least_of_all (CanSweep net) old new n wait takes m can in absurd (omega arith));
+  };
+  others = all_but_taken (CanSweep net) old new n wait takes;
+}
+
+pub wait_without : (net : NetParts) (old new : List ℕ) (n : ℕ) → AllWait (CanSweep net) old → TakesLeast old new n → IsSweptNet net n → AllWait (CanSweep net) new
+wait_without net old new n wait takes swept =
+    all_without_taken (CanSweep net) new n (all_but_taken (CanSweep net) old new n wait takes) (cannot net n swept)
+
+-- ---- what is asked of a net
+
+-- the rule that collapses the net applies exactly where it may be folded
+pub folds : (net : NetParts) (n : ℕ) → WellFormed net → IsUnseen net n → IsRead net.nets n → (v : ℕ) → IsPlainConstant net.nets n v → CanApply (CollapseNet (name_in (slot net.nets n))) net → IsFoldable net n
+folds net n formed unseen read v constant can = record {
+  unseen = unseen;
+  read = read;
+  constant = record { value = v; constant = constant };
+  composites =
+      let r = can.applies in
+      let held = ap (λ (f : Option FlatNet). is_some f) (tabled_in (slot net.nets n) constant.cover constant.table).1 in
+      subst (HasComposites net.nets) (names_itself net (name_in (slot net.nets n)) n r.number formed r.net held refl) r.composites;
+}
+
+pub no_fold : (net : NetParts) (n : ℕ) → WellFormed net → (CanApply (CollapseNet (name_in (slot net.nets n))) net → ⊥) → IsFoldable net n → ⊥
+no_fold net n formed cannot is = cannot (way_applies net n (name_in (slot net.nets n)) formed refl Collapse is)
+
+-- a rule that fails doesn't apply
+pub fails_not : (net : NetParts) (rule other : Rule) (f : RuleFault) → WellFormed net → (f ≡ out_of_memory) ⊎ Fails rule net f → (f ≡ out_of_memory → ⊥) → rule ≡ other → CanApply other net → ⊥
+fails_not net rule other f formed answer not_memory same can =
+    ⊎_elim not_memory (λ (fails : Fails rule net f). not_both rule net can.new f formed (subst (λ r. Applies r net can.new) (sym same) can.applies) fails) answer
+
+-- a net that is read can't go, and one that is no buffer can't be wired
+pub read_swept : (net : NetParts) (n : ℕ) → IsRead net.nets n → ((m : ℕ) → IsPlainBuffer net.nets n m → ⊥) → (IsFoldable net n → ⊥) → IsSweptNet net n
+read_swept net n read no_buffer no_fold = record {
+  removable = λ r. false≢true (sym (r.unread read.reader) ∙ read.reads);
+  wirable = λ w. no_buffer w.buffer.source w.buffer.buffer;
+  foldable = no_fold;
+}

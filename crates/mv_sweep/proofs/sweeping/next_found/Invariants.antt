@@ -2,7 +2,7 @@
 use Rattle.std.proofs.Common.{length}
 use Rattle.mv_agenda.specs.Agenda.{AllWait}
 use Rattle.mv_sweep.specs.Ways.{CanSweep}
-use Rattle.mv_sweep.proofs.sweep.next_found.Given as goal
+use Rattle.mv_sweep.proofs.sweeping.next_found.Given as goal
 
 abbrev pub invariant-looking : goal.invariant-looking
 invariant-looking l = AllWait (CanSweep l.net) l.agenda
