@@ -1,8 +1,13 @@
 -- Entries one after the other: two stretches of them, and the rules among them.
-use Rattle.std.proofs.Common.{◌≡◌, List, [], ◌∷◌, ◌++◌, refl, ap, subst}
+use Rattle.std.proofs.Common.{◌≡◌, ◌≤◌, List, [], ◌∷◌, ◌++◌, refl, ap, subst, arith}
+use Rattle.mv_entry.specs.declared.rule.Rule.{Rule}
 use Rattle.mv_entry.specs.Entries.{Entry, Applied, Noted, rules_of}
 use Rattle.mv_net.specs.declared.parts.NetParts.{NetParts}
+use Rattle.mv_net.specs.Formed.{WellFormed}
+use Rattle.mv_net.specs.Nets.{literals_in}
+use Rattle.mv_rules.specs.Applies.{Applies}
 use Rattle.mv_rules.specs.Replaying.{Replays}
+use Rattle.mv_rules.proofs.Kept.{kept_formed}
 use Rattle.mv_pass.specs.Going.{Goes}
 
 module _ (Lawful : NetParts → Entry → Type 0) where
@@ -21,3 +26,15 @@ pub rules_of-append : (xs ys : List Entry) → rules_of (xs ++ ys) ≡ rules_of 
 rules_of-append [] ys = refl
 rules_of-append (Applied r ∷ xs) ys = ap (λ rs. r ∷ rs) (rules_of-append xs ys)
 rules_of-append (Noted n ∷ xs) ys = rules_of-append xs ys
+
+-- where each rule that is lawful leaves no more literals than there were, all together leave no more
+pub goes_no_more : (Lawful : NetParts → Entry → Type 0)
+    → ((a b : NetParts) (r : Rule) → WellFormed a → Lawful a (Applied r) → Applies r a b → literals_in b.nets ≤ literals_in a.nets)
+    → (a b : NetParts) (es : List Entry) → WellFormed a → Goes Lawful a es b → literals_in b.nets ≤ literals_in a.nets
+goes_no_more Lawful each a b [] formed g = let e : literals_in b.nets ≡ literals_in a.nets = ap (λ (n : NetParts). literals_in n.nets) g in omega (arith, e)
+goes_no_more Lawful each a b (Applied r ∷ es) formed g =
+    let mid = g.1.0 in
+    let here = each a mid r formed g.0 g.1.1.0 in
+    let rest = goes_no_more Lawful each mid b es (kept_formed r a mid formed g.1.1.0) g.1.1.1 in
+    omega (arith, here, rest)
+goes_no_more Lawful each a b (Noted n ∷ es) formed g = goes_no_more Lawful each a b es formed g.1
