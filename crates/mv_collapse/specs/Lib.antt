@@ -2,4 +2,5 @@ pub mod Savings
 pub mod Eliminates
 pub mod Collapses
 -- what private functions alone cite
+pub mod Pairs
 pub mod Kept
