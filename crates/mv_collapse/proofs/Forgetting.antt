@@ -34,7 +34,7 @@ forgotten_stays nets n old new part gone = record {
 -- ---- one more of a list
 
 -- a member of the first so many and one more is one of the first, or that one
-one_of_more : (list : List NetId) (i : ℕ) (d : NetId) (n : ℕ) → i < length list → has_id (take (i + 1) list) n ≡ true → (has_id (take i list) n ≡ true) ⊎ ((get_or list i d).0 ≡ n)
+pub one_of_more : (list : List NetId) (i : ℕ) (d : NetId) (n : ℕ) → i < length list → has_id (take (i + 1) list) n ≡ true → (has_id (take i list) n ≡ true) ⊎ ((get_or list i d).0 ≡ n)
 one_of_more list i d n low h =
     ⊎_elim
     (λ (before : has_id (take i list) n ≡ true). inl before)

@@ -4,3 +4,4 @@ pub mod Collapses
 -- what private functions alone cite
 pub mod Pairs
 pub mod Kept
+pub mod Judging
