@@ -1,8 +1,7 @@
 -- What is kept of pairs that a collapse doesn't touch is right behind it.
 use Rattle.std.proofs.Common.{◌≡◌, ◌∙◌, ◌⊎◌, ℕ, true, false, Option, Some, None, List, map, set, is_some, refl, sym, ap, subst, ⊎_elim, inl, inr}
-use Rattle.std.proofs.lemmas.Bool.{cases_Bool, cases_eq, false≢true, false_from_ne_true}
+use Rattle.std.proofs.lemmas.Bool.{false≢true, false_from_ne_true}
 use Rattle.mv_base.specs.declared.number.NetId.{NetId}
-use Rattle.mv_composite.specs.declared.inner.Inner.{Inner}
 use Rattle.mv_composite.specs.Composite.{composed}
 use Rattle.mv_cover.specs.declared.cover.Cover.{Cover}
 use Rattle.mv_cover.specs.Covers.{literal_count}
@@ -16,10 +15,9 @@ use Rattle.mv_net.specs.declared.parts.NetParts.{NetParts}
 use Rattle.mv_net.specs.Changes.{with_nets}
 use Rattle.mv_net.specs.Nets.{slot, values_in, table_in, net_reads, reads_in}
 use Rattle.mv_net.proofs.Patches.{IsWritten-gone}
-use Rattle.mv_rules.specs.Collapsing.{Collapses, IsInnerOf}
-use Rattle.mv_rules.specs.Composites.{HasCompositeLiterals, HasWideComposite}
+use Rattle.mv_rules.specs.Collapsing.{Collapses}
 use Rattle.mv_collapse.specs.declared.kept.KeptComposites.{KeptComposites}
-use Rattle.mv_collapse.specs.Kept.{HasLiterals, IsWidePair, IsPair, AreRight, RightBehind}
+use Rattle.mv_collapse.specs.Kept.{IsPair, AreRight, RightBehind}
 use Rattle.mv_collapse.specs.Pairs.{kept_at, IsForgotten, ForgetsEach}
 
 -- ---- nets that a collapse leaves alone
@@ -110,16 +108,16 @@ pub right_behind : (net : NetParts) (n : ℕ) (readers : List NetId) (old kept :
     → ForgetsEach net.nets n readers old kept → RightBehind net n kept
 right_behind net n readers old kept right are forgets = record {
   each = λ name new formed c same. record {
-      each = λ j k it some.
-          let pair = right.each j k it (forgets.first.part.each j k it some) in
-          let reads = pair_reads net.nets j k it pair in
-          let apart = not_forgotten net.nets kept n j k it forgets.first.gone reads some in
-          let alone : LeavesAlone net.nets new.nets n = subst (LeavesAlone net.nets new.nets) same (collapse_alone net new name c) in
-          let unread : (m : ℕ) → ((m ≡ j) ⊎ (m ≡ k)) → reads_in net.nets m n ≡ false =
-              λ m which. false_from_ne_true _ (λ h. reader_apart j k it some reads m (are.members m ∙ h) which) in
-          pair_kept net.nets new.nets j k it (alone_keeps net.nets new.nets n j alone apart.0 (unread j (inl refl)))
-          (alone_keeps net.nets new.nets n k alone apart.1 (unread k (inr refl))) pair;
-    };
+    each = λ j k it some.
+        let pair = right.each j k it (forgets.first.part.each j k it some) in
+        let reads = pair_reads net.nets j k it pair in
+        let apart = not_forgotten net.nets kept n j k it forgets.first.gone reads some in
+        let alone : LeavesAlone net.nets new.nets n = subst (LeavesAlone net.nets new.nets) same (collapse_alone net new name c) in
+        let unread : (m : ℕ) → ((m ≡ j) ⊎ (m ≡ k)) → reads_in net.nets m n ≡ false =
+        λ m which. false_from_ne_true _ (λ h. reader_apart j k it some reads m (are.members m ∙ h) which) in
+        pair_kept net.nets new.nets j k it (alone_keeps net.nets new.nets n j alone apart.0 (unread j (inl refl)))
+        (alone_keeps net.nets new.nets n k alone apart.1 (unread k (inr refl))) pair;
+  };
 }
   where
     reader_apart : (j k : ℕ) (it : Option ℕ) → kept_at kept j k ≡ Some it → reads_in net.nets k j ≡ true → (m : ℕ) → has_id readers m ≡ true → ((m ≡ j) ⊎ (m ≡ k)) → ⊥

@@ -1,14 +1,12 @@
 -- Pairs are forgotten one after the other.
-use Rattle.std.proofs.Common.{◌≡◌, ◌∙◌, ◌⊎◌, ℕ, ◌+◌, ◌<◌, ◌≤◌, Bool, true, ◌||◌, nat_eq, Option, Some, None, List, [], length, take, get_or, is_some, refl, sym, ap, subst, ⊎_elim, eqb-true, inl, inr}
+use Rattle.std.proofs.Common.{◌≡◌, ◌∙◌, ◌⊎◌, ℕ, ◌+◌, ◌<◌, true, nat_eq, Option, Some, None, List, length, take, get_or, is_some, refl, sym, ap, subst, ⊎_elim, eqb-true, inl, inr}
 use Rattle.std.proofs.lemmas.Bool.{false≢true, or_cases}
-use Rattle.std.proofs.lemmas.List.{take_all}
 use Rattle.mv_base.specs.declared.number.NetId.{NetId}
-use Rattle.mv_graph.specs.Nets.{has_id, IsAscending}
+use Rattle.mv_graph.specs.Nets.{has_id}
 use Rattle.mv_graph.proofs.Nets.{has_id-more}
 use Rattle.mv_net.specs.declared.parts.FlatNet.{FlatNet}
-use Rattle.mv_net.specs.Nets.{slot, net_reads, reads_in}
 use Rattle.mv_collapse.specs.declared.kept.KeptComposites.{KeptComposites}
-use Rattle.mv_collapse.specs.Pairs.{kept_at, IsPart, LacksNet, LacksReader, IsForgotten, Forgets, ForgetsEach}
+use Rattle.mv_collapse.specs.Pairs.{kept_at, IsPart, IsForgotten, Forgets, ForgetsEach}
 
 -- ---- what is forgotten stays so
 
@@ -41,33 +39,7 @@ one_of_more list i d n low h =
     (λ (here : nat_eq (get_or list i d).0 n ≡ true). inr (eqb-true (get_or list i d).0 n here))
     (or_cases (has_id (take i list) n) (nat_eq (get_or list i d).0 n) (sym (has_id-more list i (get_or list i d) d n low refl) ∙ h))
 
-pub lacks_more : (list : List NetId) (i : ℕ) (d : NetId) (m : ℕ) (old new : KeptComposites) → i < length list → IsPart old new → kept_at new (get_or list i d).0 m ≡ None
-    → LacksReader old (take i list) m → LacksReader new (take (i + 1) list) m
-lacks_more list i d m old new low part gone lacks = record {
-  none = λ n h.
-      ⊎_elim
-      (λ (before : has_id (take i list) n ≡ true). none_stays old new n m part (lacks.none n before))
-      (λ (here : (get_or list i d).0 ≡ n). subst (λ k. kept_at new k m ≡ None) here gone)
-      (one_of_more list i d n low h);
-}
-
-pub lacks_all : (list : List NetId) (i m : ℕ) (kept : KeptComposites) → length list ≤ i → LacksReader kept (take i list) m → LacksReader kept list m
-lacks_all list i m kept past lacks = subst (λ l. LacksReader kept l m) (take_all i list past) lacks
-
 -- ---- a net, and then each reader
-
-pub forgets_net : (nets : List (Option FlatNet)) (n : ℕ) (list : List NetId) (old mid new : KeptComposites) → IsAscending (λ m. net_reads (slot nets n) m) list
-    → IsPart old mid → LacksNet mid n → IsPart mid new → LacksReader new list n → Forgets nets n old new
-forgets_net nets n list old mid new is part lacks after fanins = record {
-  part = part_of_part old mid new part after;
-  gone = record {
-    itself = record { none = λ m. none_stays mid new n m after (lacks.none m) };
-    fanins = λ m reads. fanins.none m (is.members m ∙ reads);
-  };
-}
-
-pub forgets_none : (nets : List (Option FlatNet)) (n : ℕ) (old new : KeptComposites) → Forgets nets n old new → ForgetsEach nets n [] old new
-forgets_none nets n old new first = record { first = first; each = λ m h. absurd (false≢true h) }
 
 pub forgets_more : (nets : List (Option FlatNet)) (n : ℕ) (list : List NetId) (i : ℕ) (d : NetId) (old mid new : KeptComposites) → i < length list
     → ForgetsEach nets n (take i list) old mid → Forgets nets (get_or list i d).0 mid new → ForgetsEach nets n (take (i + 1) list) old new

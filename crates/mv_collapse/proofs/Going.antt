@@ -1,5 +1,5 @@
 -- Which nets can go into their readers, as far as the composites let them.
-use Rattle.std.proofs.Common.{◌≡◌, ◌∙◌, ◌⊎◌, ℕ, ◌<◌, Bool, true, false, nat_eq, Option, Some, None, List, [], ◌∷◌, length, is_some, inl, inr, refl, sym, ap, subst, eq-eqb, arith}
+use Rattle.std.proofs.Common.{◌≡◌, ◌∙◌, ℕ, ◌<◌, Bool, true, false, nat_eq, Option, Some, None, List, [], ◌∷◌, length, is_some, inl, inr, refl, sym, ap, subst, eq-eqb, arith}
 use Rattle.std.specs.Prelude.{◌==◌, MatchBool}
 use Rattle.std.proofs.lemmas.Bool.{false≢true, or_left, or_right}
 use Rattle.mv_base.specs.declared.number.NetId.{NetId}
@@ -12,8 +12,8 @@ use Rattle.mv_meaning.proofs.Rewired.{some_reader}
 use Rattle.mv_net.specs.declared.parts.FlatNet.{FlatNet}
 use Rattle.mv_net.specs.declared.parts.NetParts.{NetParts}
 use Rattle.mv_net.specs.Formed.{WellFormed}
-use Rattle.mv_net.specs.Index.{is_held, is_seen}
-use Rattle.mv_net.specs.Nets.{slot, name_in, table_in, net_reads, reads_in}
+use Rattle.mv_net.specs.Index.{is_seen}
+use Rattle.mv_net.specs.Nets.{slot, name_in, table_in, net_reads}
 use Rattle.mv_net.specs.Plain.{IsPlainNet}
 use Rattle.mv_rules.specs.Checks.{IsTabled, IsRead}
 use Rattle.mv_rules.specs.Collapsing.{IsUnshared, HasComposites, CanCollapse, CollapseRow, FailsCollapse}

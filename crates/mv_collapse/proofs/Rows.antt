@@ -1,5 +1,5 @@
 -- What is kept of pairs where a row of them changes.
-use Rattle.std.proofs.Common.{◌≡◌, ◌∙◌, ◌⊎◌, ℕ, zero, suc, ◌<◌, ◌≤◌, Bool, true, false, cond, nat_eq, nat_cmp, Option, Some, None, List, [], ◌∷◌, ◌++◌, length, get_or, set, is_some, inl, inr, refl, sym, ap, subst, ⊎_elim, eqb-true, arith}
+use Rattle.std.proofs.Common.{◌≡◌, ◌∙◌, ◌⊎◌, ℕ, zero, suc, ◌<◌, ◌≤◌, true, false, cond, nat_eq, nat_cmp, Option, Some, None, List, [], ◌∷◌, ◌++◌, length, get_or, set, is_some, inl, inr, refl, sym, ap, subst, ⊎_elim, eqb-true, arith}
 use Rattle.std.specs.Prelude.{slice_get}
 use Rattle.std.specs.BTreeMap.{BTreeMap, is_at, get, Updates}
 use Rattle.std.specs.Map.{lookup}

@@ -1,5 +1,5 @@
 -- The literals of composites that `eliminate` keeps, for pairs of a net and a reader. For private functions.
-use Rattle.std.specs.Prelude.{◌≡◌, ◌≤◌, ℕ, Option, Some, None, List}
+use Rattle.std.specs.Prelude.{◌≡◌, ℕ, Option, Some, None, List}
 use Rattle.mv_composite.specs.declared.inner.Inner.{Inner}
 use Rattle.mv_net.specs.declared.parts.FlatNet.{FlatNet}
 use Rattle.mv_net.specs.declared.parts.NetParts.{NetParts}

@@ -49,12 +49,7 @@ impl KeptComposites {
 
     /// The literals of the composites of all readers with the net, or the greatest number where they are more, and None where one
     /// of them is too wide.
-    fn composites(
-        &mut self,
-        alloc: Global,
-        net: &Network,
-        n: NetId,
-    ) -> Result<Option<u128>, Memory>
+    fn composites(&mut self, alloc: Global, net: &Network, n: NetId) -> Result<Option<u128>, Memory>
         requires tabled { is_some (table_in (slot net.now.nets n.0)) ≡ true }
         requires right { AreRight net.now.nets self.old }
         ensures right { OnOk result (AreRight net.now.nets self.new) }

@@ -6,5 +6,5 @@ use Rattle.mv_collapse.proofs.judging.literals_around.Given as goal
 abbrev pub invariant-loop-reader : goal.invariant-loop-reader
 invariant-loop-reader l = record {
   value : l.total ≡ literals_at l.net.nets l.fn.n + sum_by (literals_at l.net.nets) (take l.reader-index l.reader-items);
-  most : l.total ≤ 2 ^ 96 * (l.reader-index + 1)
+  most : l.total ≤ 2 ^ 96 * (l.reader-index + 1);
 }

@@ -7,5 +7,5 @@ abbrev pub invariant-loop-reader : goal.invariant-loop-reader
 invariant-loop-reader l = record {
   right : AreRight l.net.nets l.self;
   made : IsMade l.net.nets l.n.0 l.inner;
-  have : HaveLiterals l.net.nets l.n.0 (take l.reader-index l.reader-items) l.total
+  have : HaveLiterals l.net.nets l.n.0 (take l.reader-index l.reader-items) l.total;
 }

@@ -1,5 +1,5 @@
 -- All readers are forgotten behind the loop.
-use Rattle.std.proofs.Common.{refl, arith, subst}
+use Rattle.std.proofs.Common.{arith, subst}
 use Rattle.std.proofs.lemmas.List.{take_all}
 use Rattle.mv_collapse.proofs.Behind.{right_behind}
 use Rattle.mv_collapse.proofs.Forgetting.{forgets_more}
