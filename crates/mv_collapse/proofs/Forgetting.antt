@@ -10,10 +10,7 @@ use Rattle.mv_collapse.specs.Pairs.{kept_at, IsPart, IsForgotten, Forgets, Forge
 
 -- ---- what is forgotten stays so
 
-pub part_itself : (kept : KeptComposites) → IsPart kept kept
-part_itself kept = record { each = λ n m it h. h }
-
-pub part_of_part : (old mid new : KeptComposites) → IsPart old mid → IsPart mid new → IsPart old new
+part_of_part : (old mid new : KeptComposites) → IsPart old mid → IsPart mid new → IsPart old new
 part_of_part old mid new p q = record { each = λ n m it h. p.each n m it (q.each n m it h) }
 
 none_stays : (old new : KeptComposites) (n m : ℕ) → IsPart old new → kept_at old n m ≡ None → kept_at new n m ≡ None
