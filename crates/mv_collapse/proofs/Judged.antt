@@ -1,8 +1,7 @@
 -- What the literals of a net's composites say of it.
-use Rattle.std.proofs.Common.{◌≡◌, ◌∙◌, ℕ, ◌+◌, ◌-◌, ◌^◌, ◌<◌, ◌≤◌, true, Option, Some, List, [], length, take, get_or, refl, sym, ap, subst, ⊎_elim, arith}
+use Rattle.std.proofs.Common.{◌≡◌, ◌∙◌, ℕ, ◌+◌, ◌-◌, ◌^◌, ◌<◌, ◌≤◌, true, Option, Some, List, length, take, get_or, sym, ap, subst, ⊎_elim, arith}
 use Rattle.std.specs.Prelude.{min}
 use Rattle.std.specs.List.{sum_by}
-use Rattle.std.proofs.lemmas.Bool.{false≢true}
 use Rattle.std.proofs.lemmas.List.{take_all}
 use Rattle.std.proofs.lemmas.List.Sums.{sum_by_more}
 use Rattle.mv_base.specs.declared.number.NetId.{NetId}
@@ -44,9 +43,6 @@ not_over sum total around top is few low = grind (arith)
 
 over : (sum total around top : ℕ) → total ≡ min sum top → around < total → around < sum
 over sum total around top is more = grind (arith)
-
-pub have_none : (nets : List (Option FlatNet)) (n : ℕ) → HaveLiterals nets n [] 0
-have_none nets n = record { each = λ m h. absurd (false≢true h); total_is = λ inner asked. refl }
 
 one_more : (nets : List (Option FlatNet)) (n : ℕ) (list : List NetId) (i : ℕ) (d : NetId) (total count : ℕ) → i < length list → HaveLiterals nets n (take i list) total
     → HasLiterals nets n (get_or list i d).0 count → HaveLiterals nets n (take (i + 1) list) (min (total + count) (2 ^ 128 - 1))

@@ -1,5 +1,5 @@
 -- What is kept of pairs where a row of them changes.
-use Rattle.std.proofs.Common.{◌≡◌, ◌∙◌, ◌⊎◌, ℕ, zero, suc, ◌<◌, ◌≤◌, true, false, cond, nat_eq, nat_cmp, Option, Some, None, List, [], ◌∷◌, ◌++◌, length, get_or, set, is_some, inl, inr, refl, sym, ap, subst, ⊎_elim, eqb-true, arith}
+use Rattle.std.proofs.Common.{◌≡◌, ◌∙◌, ◌⊎◌, ℕ, zero, suc, ◌<◌, ◌≤◌, true, false, cond, nat_eq, nat_cmp, Option, Some, None, List, [], ◌∷◌, length, get_or, set, is_some, inl, inr, refl, sym, ap, subst, ⊎_elim, eqb-true, arith}
 use Rattle.std.specs.Prelude.{slice_get}
 use Rattle.std.specs.BTreeMap.{BTreeMap, is_at, get, Updates}
 use Rattle.std.specs.Map.{lookup}
@@ -143,19 +143,6 @@ found_past kept rows n m same past = sym (past_rows kept n m (subst (λ l. lengt
 -- no row has anything
 pub record HaveNothing (rows : List (BTreeMap ℕ (Option ℕ))) : Type 0 where
   pub none : (n m : ℕ) → in_row (slice_get rows n) m ≡ None
-
-pub no_rows : HaveNothing []
-no_rows = record { none = λ n m. refl }
-
--- an empty row more
-pub one_row_more : (rows : List (BTreeMap ℕ (Option ℕ))) (row : BTreeMap ℕ (Option ℕ)) → HaveNothing rows → row.entries ≡ [] → HaveNothing (rows ++ row ∷ [])
-one_row_more rows row have empty = record { none = λ n m. by rows n m (have.none n m) }
-  where
-    by : (rs : List (BTreeMap ℕ (Option ℕ))) (n m : ℕ) → in_row (slice_get rs n) m ≡ None → in_row (slice_get (rs ++ row ∷ []) n) m ≡ None
-    by [] zero m h = nothing_at row m empty
-    by [] (suc n) m h = refl
-    by (r ∷ rs) zero m h = h
-    by (r ∷ rs) (suc n) m h = by rs n m h
 
 -- so all that they have is right
 pub nothing_right : (kept : KeptComposites) → HaveNothing kept.nets.items → (nets : List (Option FlatNet)) → AreRight nets kept
