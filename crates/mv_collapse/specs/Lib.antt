@@ -2,4 +2,6 @@ pub mod Savings
 pub mod Eliminates
 pub mod Collapses
 -- what private functions alone cite
+pub mod Pairs
 pub mod Kept
+pub mod Judging

@@ -4,6 +4,7 @@
 mod collapsing;
 mod eliminating;
 mod judging;
+mod kept;
 
 pub use collapsing::collapse;
 pub use eliminating::eliminate;

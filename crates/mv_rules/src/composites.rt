@@ -1,4 +1,4 @@
-ghost use Rattle.std.specs.Prelude.{◌≡◌, true, IfOk, IfErr};
+ghost use Rattle.std.specs.Prelude.{◌≡◌, ◌≤◌, ◌^◌, true, IfOk, IfErr};
 ghost use Rattle.mv_net.specs.Nets.{reads_in};
 ghost use Rattle.mv_rules.specs.Collapsing.{IsInnerOf};
 ghost use Rattle.mv_rules.specs.Composites.{HasCompositeLiterals, HasWideComposite};
@@ -22,6 +22,7 @@ pub fn composite_literals(
     requires reader { reads_in net.now.nets reader.0 inner.now.net.0 ≡ true }
     ensures counted { IfOk result (λ count. HasCompositeLiterals net.now.nets inner.now reader.0 count) }
     ensures wide { IfErr result (λ stop. stop ≡ CoverStop.Wide → HasWideComposite net.now.nets inner.now reader.0) }
+    ensures few { IfOk result (λ count. count ≤ 2 ^ 96) }
 {
     net.well_formed();
     match compose(alloc, net.counts(), inner, table_of(net, reader)) {

@@ -1,0 +1,6 @@
+mod Rows
+mod Forgetting
+mod Behind
+mod Going
+mod Around
+mod Judged

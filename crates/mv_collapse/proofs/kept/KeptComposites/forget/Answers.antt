@@ -1,0 +1,17 @@
+-- One place of the row is empty now.
+use Rattle.std.proofs.Common.{refl}
+use Rattle.mv_collapse.proofs.Rows.{writes_row, row_part, row_gone, past_rows}
+use Rattle.mv_collapse.proofs.kept.KeptComposites.forget.Goals as goal
+
+pub returns-in-Some-clause-part : goal.returns-in-Some-clause-part
+returns-in-Some-clause-part c =
+    let i = c.in-Some.ensures.item in
+    row_part _ _ _ _ _ (writes_row _ _ c.args.n.0 c.in-Some.row.now c.remove.new.self i.3.0 i.1 refl) _ c.remove.ensures.updates
+
+pub returns-in-Some-clause-gone : goal.returns-in-Some-clause-gone
+returns-in-Some-clause-gone c =
+    let i = c.in-Some.ensures.item in
+    row_gone c.args.self.now _ _ _ _ (writes_row _ _ c.args.n.0 c.in-Some.row.now c.remove.new.self i.3.0 i.1 refl) _ c.remove.ensures.updates
+
+pub returns-in-None-clause-gone : goal.returns-in-None-clause-gone
+returns-in-None-clause-gone c = past_rows _ _ _ c.in-None.ensures.item.3
