@@ -4,3 +4,4 @@ mod Behind
 mod Going
 mod Around
 mod Judged
+pub mod Reasons

@@ -9,3 +9,6 @@ mod kept;
 pub use collapsing::collapse;
 pub use eliminating::eliminate;
 pub use mv_pass::Stop;
+
+/// The budget of diagram nodes: no rule of these commands makes a diagram.
+const NO_BUDGET: u32 = 0;
