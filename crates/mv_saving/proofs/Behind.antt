@@ -16,9 +16,9 @@ use Rattle.mv_net.specs.Changes.{with_nets}
 use Rattle.mv_net.specs.Nets.{slot, values_in, table_in, net_reads, reads_in}
 use Rattle.mv_net.proofs.Patches.{IsWritten-gone}
 use Rattle.mv_rules.specs.Collapsing.{Collapses}
-use Rattle.mv_collapse.specs.declared.kept.KeptComposites.{KeptComposites}
-use Rattle.mv_collapse.specs.Kept.{IsPair, AreRight, RightBehind}
-use Rattle.mv_collapse.specs.Pairs.{kept_at, IsForgotten, ForgetsEach}
+use Rattle.mv_saving.specs.declared.kept.KeptComposites.{KeptComposites}
+use Rattle.mv_saving.specs.Kept.{IsPair, AreRight, RightBehind}
+use Rattle.mv_saving.specs.Pairs.{kept_at, IsForgotten, ForgetsEach}
 
 -- ---- nets that a collapse leaves alone
 

@@ -5,8 +5,8 @@ use Rattle.mv_base.specs.declared.number.NetId.{NetId}
 use Rattle.mv_graph.specs.Nets.{has_id}
 use Rattle.mv_graph.proofs.Nets.{has_id-more}
 use Rattle.mv_net.specs.declared.parts.FlatNet.{FlatNet}
-use Rattle.mv_collapse.specs.declared.kept.KeptComposites.{KeptComposites}
-use Rattle.mv_collapse.specs.Pairs.{kept_at, IsPart, IsForgotten, Forgets, ForgetsEach}
+use Rattle.mv_saving.specs.declared.kept.KeptComposites.{KeptComposites}
+use Rattle.mv_saving.specs.Pairs.{kept_at, IsPart, IsForgotten, Forgets, ForgetsEach}
 
 -- ---- what is forgotten stays so
 

@@ -17,8 +17,8 @@ use Rattle.mv_net.specs.Nets.{slot, name_in, table_in, net_reads}
 use Rattle.mv_net.specs.Plain.{IsPlainNet}
 use Rattle.mv_rules.specs.Checks.{IsTabled, IsRead}
 use Rattle.mv_rules.specs.Collapsing.{IsUnshared, HasComposites, CanCollapse, CollapseRow, FailsCollapse}
-use Rattle.mv_collapse.specs.Judging.{CanGo}
-use Rattle.mv_collapse.specs.Savings.{IsSaving, IsWideNet}
+use Rattle.mv_saving.specs.Judging.{CanGo}
+use Rattle.mv_saving.specs.Savings.{IsSaving, IsWideNet}
 
 -- ---- readers
 

@@ -16,11 +16,11 @@ use Rattle.mv_rules.specs.Checks.{IsTabled}
 use Rattle.mv_rules.specs.Collapsing.{AreNarrow, HasComposites, CanCollapse, collapsed}
 use Rattle.mv_rules.specs.Composites.{HasCompositeLiterals, composite_count}
 use Rattle.mv_rules.proofs.CompositeLiterals.{inner_same, counted_is, not_wide, wide_collapse_fails, collapsed_literals}
-use Rattle.mv_collapse.specs.Judging.{CanGo, IsAsked, HaveLiterals, AllHaveLiterals, HasWidePair}
-use Rattle.mv_collapse.specs.Kept.{HasLiterals, IsPair}
-use Rattle.mv_collapse.specs.Savings.{IsSaving, IsWideNet}
-use Rattle.mv_collapse.proofs.Forgetting.{one_of_more}
-use Rattle.mv_collapse.proofs.Going.{named_itself, wide_net}
+use Rattle.mv_saving.specs.Judging.{CanGo, IsAsked, HaveLiterals, AllHaveLiterals, HasWidePair}
+use Rattle.mv_saving.specs.Kept.{HasLiterals, IsPair}
+use Rattle.mv_saving.specs.Savings.{IsSaving, IsWideNet}
+use Rattle.mv_saving.proofs.Forgetting.{one_of_more}
+use Rattle.mv_saving.proofs.Going.{named_itself, wide_net}
 
 -- ---- one composite
 

@@ -6,9 +6,9 @@ use Rattle.std.specs.Map.{lookup}
 use Rattle.std.proofs.lemmas.Bool.{cases_Bool, cases_eq, false≢true}
 use Rattle.std.proofs.lemmas.Option.{same_Some, slice_get_past, slice_get_read}
 use Rattle.mv_net.specs.declared.parts.FlatNet.{FlatNet}
-use Rattle.mv_collapse.specs.declared.kept.KeptComposites.{KeptComposites}
-use Rattle.mv_collapse.specs.Kept.{AreRight}
-use Rattle.mv_collapse.specs.Pairs.{in_row, kept_at, IsPart, LacksNet, Puts}
+use Rattle.mv_saving.specs.declared.kept.KeptComposites.{KeptComposites}
+use Rattle.mv_saving.specs.Kept.{AreRight}
+use Rattle.mv_saving.specs.Pairs.{in_row, kept_at, IsPart, LacksNet, Puts}
 
 -- ---- lists of rows
 

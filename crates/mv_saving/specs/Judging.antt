@@ -9,7 +9,7 @@ use Rattle.mv_net.specs.declared.parts.NetParts.{NetParts}
 use Rattle.mv_net.specs.Nets.{slot, table_in, reads_in}
 use Rattle.mv_rules.specs.Collapsing.{IsInnerOf, CanCollapse}
 use Rattle.mv_rules.specs.Composites.{composite_count}
-use Rattle.mv_collapse.specs.Kept.{HasLiterals, IsWidePair}
+use Rattle.mv_saving.specs.Kept.{HasLiterals, IsWidePair}
 
 -- the net at n has a table, and the checks hold but for the composites
 pub record CanGo (net : NetParts) (n : ℕ) : Type 0 where

@@ -6,11 +6,11 @@ use Rattle.mv_net.specs.declared.parts.NetParts.{NetParts}
 use Rattle.mv_net.specs.Formed.{WellFormed}
 use Rattle.mv_rules.specs.Collapsing.{Collapses, IsInnerOf}
 use Rattle.mv_rules.specs.Composites.{HasCompositeLiterals, HasWideComposite}
-use Rattle.mv_collapse.specs.declared.judging.Verdict.{Verdict}
-use Rattle.mv_collapse.specs.declared.judging.Verdict.TheVariants.{Saves, Wide, Stays}
-use Rattle.mv_collapse.specs.declared.kept.KeptComposites.{KeptComposites}
-use Rattle.mv_collapse.specs.Pairs.{kept_at}
-use Rattle.mv_collapse.specs.Savings.{IsSaving, IsWideNet}
+use Rattle.mv_saving.specs.declared.judging.Verdict.{Verdict}
+use Rattle.mv_saving.specs.declared.judging.Verdict.TheVariants.{Saves, Wide, Stays}
+use Rattle.mv_saving.specs.declared.kept.KeptComposites.{KeptComposites}
+use Rattle.mv_saving.specs.Pairs.{kept_at}
+use Rattle.mv_saving.specs.Savings.{IsSaving, IsWideNet}
 
 -- the composite of the reader m with the net n has so many literals
 pub record HasLiterals (nets : List (Option FlatNet)) (n m count : ℕ) : Type 0 where

@@ -6,7 +6,7 @@ use Rattle.mv_base.specs.declared.number.NetId.{NetId}
 use Rattle.mv_graph.specs.Nets.{has_id}
 use Rattle.mv_net.specs.declared.parts.FlatNet.{FlatNet}
 use Rattle.mv_net.specs.Nets.{reads_in}
-use Rattle.mv_collapse.specs.declared.kept.KeptComposites.{KeptComposites}
+use Rattle.mv_saving.specs.declared.kept.KeptComposites.{KeptComposites}
 
 -- what a row has for a reader
 abbrev pub in_row : Option (BTreeMap ℕ (Option ℕ)) → ℕ → Option (Option ℕ)

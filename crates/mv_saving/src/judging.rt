@@ -6,8 +6,8 @@ ghost use Rattle.mv_net.specs.Behind.{literals_at};
 ghost use Rattle.mv_net.specs.Index.{is_held};
 ghost use Rattle.mv_net.specs.Nets.{slot, table_in, reads_in};
 ghost use Rattle.mv_rules.specs.Collapsing.{IsUnshared};
-ghost use Rattle.mv_collapse.specs.Judging.{CanGo, IsMade, IsAsked, AreTold};
-ghost use Rattle.mv_collapse.specs.Kept.{IsPair, AreRight, IsJudged};
+ghost use Rattle.mv_saving.specs.Judging.{CanGo, IsMade, IsAsked, AreTold};
+ghost use Rattle.mv_saving.specs.Kept.{IsPair, AreRight, IsJudged};
 
 use crate::kept::KeptComposites;
 use mv_base::{Memory, NetId};

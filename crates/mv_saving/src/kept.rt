@@ -1,8 +1,8 @@
 ghost use Rattle.std.specs.Prelude.{◌≡◌, ℕ, true, Option, None, List, IsTrue, IfOk, OnOk};
 ghost use Rattle.mv_net.specs.declared.parts.FlatNet.{FlatNet};
 ghost use Rattle.mv_net.specs.Index.{is_held};
-ghost use Rattle.mv_collapse.specs.Kept.{AreRight, RightBehind};
-ghost use Rattle.mv_collapse.specs.Pairs.{kept_at, IsPart, LacksNet, LacksReader, Forgets, Puts};
+ghost use Rattle.mv_saving.specs.Kept.{AreRight, RightBehind};
+ghost use Rattle.mv_saving.specs.Pairs.{kept_at, IsPart, LacksNet, LacksReader, Forgets, Puts};
 
 use mv_base::{Memory, NetId};
 use mv_net::Network;

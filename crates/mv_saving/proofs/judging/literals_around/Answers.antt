@@ -5,8 +5,8 @@ use Rattle.std.proofs.lemmas.List.{take_all}
 use Rattle.mv_graph.proofs.Nets.{IsAscending-unique}
 use Rattle.mv_net.specs.Behind.{literals_at}
 use Rattle.mv_net.specs.Nets.{reads_in}
-use Rattle.mv_collapse.proofs.Around.{few_readers}
-use Rattle.mv_collapse.proofs.judging.literals_around.Goals as goal
+use Rattle.mv_saving.proofs.Around.{few_readers}
+use Rattle.mv_saving.proofs.judging.literals_around.Goals as goal
 
 pub overflow_add-total : goal.overflow_add-total
 overflow_add-total c =

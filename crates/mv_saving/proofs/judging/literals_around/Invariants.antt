@@ -1,7 +1,7 @@
 use Rattle.std.proofs.Common.{◌≡◌, ◌+◌, ◌*◌, ◌^◌, ◌≤◌, take}
 use Rattle.std.specs.List.{sum_by}
 use Rattle.mv_net.specs.Behind.{literals_at}
-use Rattle.mv_collapse.proofs.judging.literals_around.Given as goal
+use Rattle.mv_saving.proofs.judging.literals_around.Given as goal
 
 abbrev pub invariant-loop-reader : goal.invariant-loop-reader
 invariant-loop-reader l = record {

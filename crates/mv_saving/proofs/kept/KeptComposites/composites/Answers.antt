@@ -1,6 +1,6 @@
 -- One reader more.
-use Rattle.mv_collapse.proofs.Judged.{have_more}
-use Rattle.mv_collapse.proofs.kept.KeptComposites.composites.Goals as goal
+use Rattle.mv_saving.proofs.Judged.{have_more}
+use Rattle.mv_saving.proofs.kept.KeptComposites.composites.Goals as goal
 
 pub loop-reader-preserved : goal.loop-reader-preserved
 loop-reader-preserved c = record {

@@ -1,7 +1,7 @@
 use Rattle.std.proofs.Common.{take}
-use Rattle.mv_collapse.specs.Judging.{IsMade, HaveLiterals}
-use Rattle.mv_collapse.specs.Kept.{AreRight}
-use Rattle.mv_collapse.proofs.kept.KeptComposites.composites.Given as goal
+use Rattle.mv_saving.specs.Judging.{IsMade, HaveLiterals}
+use Rattle.mv_saving.specs.Kept.{AreRight}
+use Rattle.mv_saving.proofs.kept.KeptComposites.composites.Given as goal
 
 abbrev pub invariant-loop-reader : goal.invariant-loop-reader
 invariant-loop-reader l = record {

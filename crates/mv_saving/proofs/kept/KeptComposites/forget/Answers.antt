@@ -1,7 +1,7 @@
 -- One place of the row is empty now.
 use Rattle.std.proofs.Common.{refl}
-use Rattle.mv_collapse.proofs.Rows.{writes_row, row_part, row_gone, past_rows}
-use Rattle.mv_collapse.proofs.kept.KeptComposites.forget.Goals as goal
+use Rattle.mv_saving.proofs.Rows.{writes_row, row_part, row_gone, past_rows}
+use Rattle.mv_saving.proofs.kept.KeptComposites.forget.Goals as goal
 
 pub returns-in-Some-clause-part : goal.returns-in-Some-clause-part
 returns-in-Some-clause-part c =

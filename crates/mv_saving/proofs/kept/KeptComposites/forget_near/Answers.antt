@@ -1,10 +1,10 @@
 -- All readers are forgotten behind the loop.
 use Rattle.std.proofs.Common.{arith, subst}
 use Rattle.std.proofs.lemmas.List.{take_all}
-use Rattle.mv_collapse.proofs.Behind.{right_behind}
-use Rattle.mv_collapse.proofs.Forgetting.{forgets_more}
-use Rattle.mv_collapse.specs.Pairs.{ForgetsEach}
-use Rattle.mv_collapse.proofs.kept.KeptComposites.forget_near.Goals as goal
+use Rattle.mv_saving.proofs.Behind.{right_behind}
+use Rattle.mv_saving.proofs.Forgetting.{forgets_more}
+use Rattle.mv_saving.specs.Pairs.{ForgetsEach}
+use Rattle.mv_saving.proofs.kept.KeptComposites.forget_near.Goals as goal
 
 pub loop-reader-preserved : goal.loop-reader-preserved
 loop-reader-preserved c =

@@ -1,7 +1,7 @@
 -- The row is empty now.
 use Rattle.std.proofs.Common.{refl}
-use Rattle.mv_collapse.proofs.Rows.{writes_row, row_empty, row_empty_part, past_lacks}
-use Rattle.mv_collapse.proofs.kept.KeptComposites.forget_readers.Goals as goal
+use Rattle.mv_saving.proofs.Rows.{writes_row, row_empty, row_empty_part, past_lacks}
+use Rattle.mv_saving.proofs.kept.KeptComposites.forget_readers.Goals as goal
 
 pub returns-in-Some-clause-part : goal.returns-in-Some-clause-part
 returns-in-Some-clause-part c =

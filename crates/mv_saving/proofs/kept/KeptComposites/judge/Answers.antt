@@ -1,8 +1,8 @@
 -- What comes is weighed against what is there.
 use Rattle.std.proofs.Common.{subst, arith}
-use Rattle.mv_collapse.specs.Judging.{AreTold}
-use Rattle.mv_collapse.proofs.Judged.{all_save, all_stay, one_wide}
-use Rattle.mv_collapse.proofs.kept.KeptComposites.judge.Goals as goal
+use Rattle.mv_saving.specs.Judging.{AreTold}
+use Rattle.mv_saving.proofs.Judged.{all_save, all_stay, one_wide}
+use Rattle.mv_saving.proofs.kept.KeptComposites.judge.Goals as goal
 
 pub returns-in-None-clause-verdict : goal.returns-in-None-clause-verdict
 returns-in-None-clause-verdict c =

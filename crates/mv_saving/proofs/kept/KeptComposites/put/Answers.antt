@@ -1,7 +1,7 @@
 -- One place of the row has this now.
 use Rattle.std.proofs.Common.{refl}
-use Rattle.mv_collapse.proofs.Rows.{writes_row, row_put}
-use Rattle.mv_collapse.proofs.kept.KeptComposites.put.Goals as goal
+use Rattle.mv_saving.proofs.Rows.{writes_row, row_put}
+use Rattle.mv_saving.proofs.kept.KeptComposites.put.Goals as goal
 
 pub returns-in_ok-insert-in-Some : goal.returns-in_ok-insert-in-Some
 returns-in_ok-insert-in-Some c =

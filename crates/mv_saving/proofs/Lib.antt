@@ -1,0 +1,6 @@
+mod Rows
+mod Forgetting
+mod Behind
+pub mod Going
+mod Around
+mod Judged
