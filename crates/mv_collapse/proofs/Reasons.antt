@@ -34,7 +34,7 @@ fails_for net name f (inr (n, tabled, inr (unseen, inr (read, inl (shared, e))))
     rw e (inr (n, tabled, inr (unseen, inr (read, inl (shared, refl)))))
 fails_for net name f (inr (n, tabled, inr (unseen, inr (read, inr (unshared, inl (wide, e)))))) =
     rw e (inr (n, tabled, inr (unseen, inr (read, inr (unshared, inl (wide, refl))))))
-fails_for net name f (inr (n, tabled, inr (unseen, inr (read, inr (unshared, inr nothing))))) = absurd nothing
+fails_for net name f (inr (n, tabled, inr (unseen, inr (read, inr (unshared, inr nothing))))) = absurd nothing.1
 
 pub reason_for : (net : NetParts) (name : List ℕ) (rule : Rule) (f : RuleFault) → rule ≡ Collapse name → (f ≡ out_of_memory) ⊎ Fails rule net f → (f ≡ out_of_memory → ⊥) → MatchOption (why_for f) ⊥ (StaysFor net name)
 reason_for net name rule f is answer not_memory =
