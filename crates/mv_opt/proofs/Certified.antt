@@ -1,93 +1,140 @@
 -- What the commands put to the notes is a certificate of what they did.
-use Rattle.std.proofs.Common.{◌≡◌, ◌∙◌, ℕ, ◌<◌, ◌≤◌, ◌^◌, true, ◌&&◌, List, [], ◌∷◌, ◌++◌, length, All, refl, sym, ap, subst}
-use Rattle.std.proofs.lemmas.Bool.{and_from, lt-ltb}
+use Rattle.std.proofs.Common.{◌≡◌, ◌∙◌, ℕ, ◌<◌, ◌≤◌, ◌+◌, suc, Bool, true, nat_eq, is_some, List, [], ◌∷◌, ◌++◌, length, map, get_or, All, Option, Some, None, refl, sym, ap, subst, arith, ⊎_elim}
+use Rattle.std.proofs.lemmas.Bool.{and_parts, eq-eqb, false≢true, or_left, or_right}
 use Rattle.std.proofs.lemmas.List.{append-nil}
-use Rattle.std.proofs.lemmas.List.Elements.{All-nil, All-cons, All-append}
+use Rattle.std.proofs.lemmas.List.Elements.{All-nil, All-cons, All-head, All-tail, All-append}
 use Rattle.mv_base.specs.declared.limits.TheConstants.{MAX_CERTIFICATE_BYTES}
+use Rattle.mv_base.specs.declared.number.NetId.{NetId}
 use Rattle.mv_cert.specs.Certificates.{Certifies}
-use Rattle.mv_entry.specs.declared.note.Note.TheVariants.{Begin, End, Done}
-use Rattle.mv_entry.specs.declared.note.Command.TheVariants.{Drop as drop_command}
-use Rattle.mv_entry.specs.Entries.{Entry, Applied, Noted, print, rules_of}
+use Rattle.mv_collapse.specs.Collapses.{IsCollapseStep}
+use Rattle.mv_collapse.specs.Eliminates.{IsEliminateStep, Eliminates, HasNoted, NotesWide, wide_note}
+use Rattle.mv_collapse.specs.Savings.{NoneSaves}
+use Rattle.mv_entry.specs.declared.note.Command.{Command}
+use Rattle.mv_entry.specs.declared.note.Command.TheVariants.{Drop, Sweep, Eliminate, Collapse, Kernel, Cube, Simplify, Merge, Default, Determinize, Encode}
+use Rattle.mv_entry.specs.declared.note.Note.{Note}
+use Rattle.mv_entry.specs.declared.note.Note.TheVariants.{Begin, Dropped, End, Done}
+use Rattle.mv_entry.specs.declared.note.Why.TheVariants.{Lines}
+use Rattle.mv_entry.specs.Entries.{Entry, Applied, Noted, entry_names, print, rules_of, is_visible_name}
 use Rattle.mv_entry.proofs.Printing.{print-append, print-one}
+use Rattle.mv_entry.proofs.Visible.{visible-none, visible-one}
+use Rattle.mv_graph.specs.Nets.{has_id}
+use Rattle.mv_net.specs.declared.parts.FlatNet.{FlatNet}
 use Rattle.mv_net.specs.declared.parts.NetParts.{NetParts}
 use Rattle.mv_net.specs.Formed.{WellFormed}
-use Rattle.mv_net.specs.Nets.{literals_in}
+use Rattle.mv_net.specs.Nets.{slot, name_in, table_in, literals_in}
 use Rattle.mv_pass.specs.Going.{Goes}
 use Rattle.mv_pass.proofs.Going.{rules_of-append}
 use Rattle.mv_printed.specs.Names.{HasWordNames}
-use Rattle.mv_printed.specs.Notes.{notes_of, IsPrintableNote}
-use Rattle.mv_printed.proofs.Printing.{replayed_printable}
-use Rattle.mv_printed.proofs.Replaying.{replayed_from_print}
+use Rattle.mv_printed.specs.Notes.{notes_of}
 use Rattle.mv_rules.specs.Replaying.{Replays}
-use Rattle.mv_script.specs.declared.script.Command.{Command}
-use Rattle.mv_script.specs.declared.script.Command.TheVariants.{Drop}
+use Rattle.mv_rules.proofs.Kept.{kept_formed}
+use Rattle.mv_rules.proofs.Replayed.{replayed_formed}
+use Rattle.mv_rules.proofs.Spoken.{held_visible}
+use Rattle.mv_script.specs.Scripts.{IsCommand}
 use Rattle.mv_sweep.specs.Drops.{IsDropStep}
-use Rattle.mv_step.specs.Printed.{IsSayable}
-use Rattle.mv_told.specs.Printable.{is_text_number}
-use Rattle.mv_told.proofs.Printed.{print-faultless, steps-faultless}
-use Rattle.mv_opt.specs.Runs.{DoesCommand, Runs, IsCertified, all_notes}
-use Rattle.mv_opt.proofs.CommandRuns.{runs_replays}
-
--- ---- the notes can be printed
-
-begin_printable : IsPrintableNote (Begin drop_command)
-begin_printable = record { names = refl; sets = All-nil IsSayable; numbers = refl }
-
-end_printable : (literals : ℕ) → literals < 2 ^ 128 → IsPrintableNote (End literals)
-end_printable literals few =
-    record { names = refl; sets = All-nil IsSayable; numbers = and_from (is_text_number literals) true (lt-ltb literals (2 ^ 128) few) refl }
-
-done_printable : (before after : ℕ) → before < 2 ^ 128 → after < 2 ^ 128 → IsPrintableNote (Done before after)
-done_printable before after few few' = record {
-  names = refl;
-  sets = All-nil IsSayable;
-  numbers =
-      and_from (is_text_number before) (is_text_number after && true) (lt-ltb before (2 ^ 128) few)
-      (and_from (is_text_number after) true (lt-ltb after (2 ^ 128) few') refl);
-}
+use Rattle.mv_sweep.specs.Sweeps.{IsSweepStep}
+use Rattle.mv_opt.specs.Runs.{CourseOf, DoesCommand, Runs, IsCertified, all_notes}
+use Rattle.mv_opt.proofs.CommandRuns.{course_replays, does_replays, runs_replays}
+use Rattle.mv_opt.proofs.Seen.{IsSeenNote, seen_certifies}
 
 notes_of-append : (xs ys : List Entry) → notes_of (xs ++ ys) ≡ notes_of xs ++ notes_of ys
 notes_of-append [] ys = refl
 notes_of-append (Applied r ∷ xs) ys = notes_of-append xs ys
 notes_of-append (Noted n ∷ xs) ys = ap (λ ns. n ∷ ns) (notes_of-append xs ys)
 
--- `drop` notes nothing between its beginning and its end
-steps_silent : (a b : NetParts) (es : List Entry) → Goes IsDropStep a es b → notes_of es ≡ []
-steps_silent a b [] g = refl
-steps_silent a b (Applied r ∷ es) g = steps_silent g.1.0 b es g.1.1.1
-steps_silent a b (Noted n ∷ es) g = absurd g.0
+-- notes that can be seen
+abbrev AreSeen : List Entry → Type 0
+AreSeen es = All IsSeenNote (notes_of es)
 
-does_printable : (c : Command) (a b : NetParts) (es : List Entry) → DoesCommand c a es b → All IsPrintableNote (notes_of es)
-does_printable Drop a b es d =
-    let last : List Entry = Noted (End (literals_in b.nets)) ∷ [] in
-    let notes : notes_of es ≡ Begin drop_command ∷ End (literals_in b.nets) ∷ [] =
-    ap notes_of d.entries_are ∙ ap (λ ns. Begin drop_command ∷ ns) (notes_of-append d.steps last ∙ ap (λ ns. ns ++ notes_of last) (steps_silent a b d.steps d.goes)) in
-    subst (λ ns. All IsPrintableNote ns) (sym notes)
-    (All-cons IsPrintableNote (Begin drop_command) (End (literals_in b.nets) ∷ []) begin_printable (All-cons IsPrintableNote (End (literals_in b.nets)) [] (end_printable (literals_in b.nets) d.few) (All-nil IsPrintableNote)))
+seen_append : (xs ys : List Entry) → AreSeen xs → AreSeen ys → AreSeen (xs ++ ys)
+seen_append xs ys p q = subst (λ ns. All IsSeenNote ns) (sym (notes_of-append xs ys)) (All-append IsSeenNote (notes_of xs) (notes_of ys) p q)
 
-runs_printable : (cs : List Command) (a b : NetParts) (es : List Entry) → Runs cs a es b → All IsPrintableNote (notes_of es)
-runs_printable [] a b es (none, same) = subst (λ xs. All IsPrintableNote (notes_of xs)) (sym none) (All-nil IsPrintableNote)
-runs_printable (c ∷ cs) a b es (mid, (front, (rest, (is, (first, behind))))) =
-    subst (λ ns. All IsPrintableNote ns) (sym (ap notes_of is ∙ notes_of-append front rest))
-    (All-append IsPrintableNote (notes_of front) (notes_of rest) (does_printable c a mid front first) (runs_printable cs mid b rest behind))
+-- ---- the notes of a command's steps
+
+-- where each note that is lawful can be seen, all can
+goes_seen : (Lawful : NetParts → Entry → Type 0) → ((net : NetParts) (note : Note) → Lawful net (Noted note) → IsSeenNote note) → (a b : NetParts) (es : List Entry) → Goes Lawful a es b → AreSeen es
+goes_seen Lawful each a b [] g = All-nil IsSeenNote
+goes_seen Lawful each a b (Applied r ∷ es) g = goes_seen Lawful each g.1.0 b es g.1.1.1
+goes_seen Lawful each a b (Noted n ∷ es) g = All-cons IsSeenNote n (notes_of es) (each a n g.0) (goes_seen Lawful each a b es g.1)
+
+-- the name of a net with a table
+tabled_visible : (net : NetParts) (n : ℕ) → WellFormed net → is_some (table_in (slot net.nets n)) ≡ true → is_visible_name (name_in (slot net.nets n)) ≡ true
+tabled_visible net n formed tabled = by (slot net.nets n) refl tabled
+  where
+    by : (f : Option FlatNet) → slot net.nets n ≡ f → is_some (table_in f) ≡ true → is_visible_name (name_in f) ≡ true
+    by None held t = absurd (false≢true t)
+    by (Some f) held t = held_visible net n f.name formed (record { net = f; held = held; is = refl })
+
+wide_seen : (net : NetParts) (numbers : List NetId) → WellFormed net → ((n : ℕ) → has_id numbers n ≡ true → is_some (table_in (slot net.nets n)) ≡ true) → AreSeen (map (wide_note net) numbers)
+wide_seen net [] formed each = All-nil IsSeenNote
+wide_seen net (n ∷ ns) formed each =
+    let name = name_in (slot net.nets n.0) in
+    let tabled = each n.0 (or_left (nat_eq n.0 n.0) (has_id ns n.0) (eq-eqb n.0 n.0 refl)) in
+    All-cons IsSeenNote (Dropped Lines name) (notes_of (map (wide_note net) ns)) (visible-one (Noted (Dropped Lines name)) name refl (tabled_visible net n.0 formed tabled))
+    (wide_seen net ns formed (λ m h. each m (or_right (nat_eq n.0 m) (has_id ns m) h)))
+
+noted_seen : (net : NetParts) (notes : List Entry) → WellFormed net → HasNoted net notes → AreSeen notes
+noted_seen net notes formed h =
+    ⊎_elim
+    (λ (none : notes ≡ []). subst AreSeen (sym none) (All-nil IsSeenNote))
+    (λ (some : NoneSaves net × ((end : ℕ) × NotesWide net end notes)).
+    let wide = some.1.1 in
+    subst AreSeen (sym wide.notes_are) (wide_seen net wide.numbers formed (λ n y. (wide.wide n y).1.tabled)))
+    h.how
+
+eliminates_seen : (a b : NetParts) (steps : List Entry) → WellFormed b → Eliminates a steps b → AreSeen steps
+eliminates_seen a b steps formed e =
+    subst AreSeen (sym e.steps_are)
+    (seen_append e.collapses e.notes (goes_seen IsEliminateStep (λ net note never. absurd never) a b e.collapses e.goes) (noted_seen b e.notes formed e.noted))
+
+collapse_note_seen : (name : List ℕ) → is_visible_name name ≡ true → (net : NetParts) (note : Note) → IsCollapseStep name net (Noted note) → IsSeenNote note
+collapse_note_seen name h net (Begin command) never = absurd never
+collapse_note_seen name h net (Dropped why w) stays = visible-one (Noted (Dropped why w)) w refl (subst (λ v. is_visible_name v ≡ true) (sym stays.0) h)
+collapse_note_seen name h net (End literals) never = absurd never
+collapse_note_seen name h net (Done before after) never = absurd never
+
+course_seen : (c : Command) (a b : NetParts) (steps : List Entry) → IsCommand c → WellFormed b → CourseOf c a steps b → AreSeen steps
+course_seen Drop a b steps is formed g = goes_seen IsDropStep (λ net note never. absurd never) a b steps g
+course_seen Sweep a b steps is formed g = goes_seen IsSweepStep (λ net note never. absurd never) a b steps g
+course_seen Eliminate a b steps is formed e = eliminates_seen a b steps formed e
+course_seen (Collapse name) a b steps is formed g =
+    goes_seen (IsCollapseStep name) (collapse_note_seen name (and_parts (is_visible_name name) true is.names.each).0) a b steps g
+course_seen Kernel a b steps is formed g = absurd g
+course_seen Cube a b steps is formed g = absurd g
+course_seen (Simplify down up) a b steps is formed g = absurd g
+course_seen Merge a b steps is formed g = absurd g
+course_seen Default a b steps is formed g = absurd g
+course_seen Determinize a b steps is formed g = absurd g
+course_seen Encode a b steps is formed g = absurd g
+
+-- ---- the notes of commands
+
+numbers_seen : (note : Note) → entry_names (Noted note) ≡ [] → AreSeen (Noted note ∷ [])
+numbers_seen note none = All-cons IsSeenNote note [] (visible-none (Noted note) none) (All-nil IsSeenNote)
+
+does_seen : (c : Command) (a b : NetParts) (es : List Entry) → IsCommand c → WellFormed a → DoesCommand c a es b → AreSeen es
+does_seen c a b es is formed d =
+    let formed' = replayed_formed (rules_of d.steps) a b formed (course_replays c a b d.steps d.course) in
+    let end = End (literals_in b.nets) in
+    let rest = seen_append d.steps (Noted end ∷ []) (course_seen c a b d.steps is formed' d.course) (numbers_seen end refl) in
+    subst AreSeen (sym d.entries_are) (All-cons IsSeenNote (Begin c) (notes_of (d.steps ++ Noted end ∷ [])) is.names rest)
+
+runs_seen : (cs : List Command) (a b : NetParts) (es : List Entry) → All IsCommand cs → WellFormed a → Runs cs a es b → AreSeen es
+runs_seen [] a b es all formed (none, same) = subst AreSeen (sym none) (All-nil IsSeenNote)
+runs_seen (c ∷ cs) a b es all formed (mid, (front, (rest, (is, (first, behind))))) =
+    let formed' = replayed_formed (rules_of front) a mid formed (does_replays c a mid front first) in
+    subst AreSeen (sym is)
+    (seen_append front rest (does_seen c a mid front (All-head IsCommand c cs all) formed first) (runs_seen cs mid b rest (All-tail IsCommand c cs all) formed' behind))
 
 -- ---- the certificate
 
-pub certified : (cs : List Command) (first net : NetParts) (es : List Entry) → WellFormed first → HasWordNames first.nets → literals_in first.nets < 2 ^ 128 → literals_in net.nets < 2 ^ 128 → Runs cs first es net → IsCertified es first net
-certified cs first net es formed names few few' runs short =
+pub certified : (cs : List Command) (first net : NetParts) (es : List Entry) → All IsCommand cs → WellFormed first → HasWordNames first.nets → Runs cs first es net → IsCertified es first net
+certified cs first net es lawful formed names runs short =
     let done = Done (literals_in first.nets) (literals_in net.nets) in
     let all = es ++ Noted done ∷ [] in
     let text : print all ≡ all_notes es first net = print-append es (Noted done ∷ []) ∙ ap (λ t. print es ++ t) (print-one (Noted done)) in
     let replays : Replays (rules_of all) first net =
     subst (λ rs. Replays rs first net) (sym (rules_of-append es (Noted done ∷ []) ∙ append-nil (rules_of es))) (runs_replays cs first net es runs) in
-    let notes : All IsPrintableNote (notes_of all) =
-    subst (λ ns. All IsPrintableNote ns) (sym (notes_of-append es (Noted done ∷ [])))
-    (All-append IsPrintableNote (notes_of es) (done ∷ []) (runs_printable cs first net es runs) (All-cons IsPrintableNote done [] (done_printable _ _ few few') (All-nil IsPrintableNote))) in
-    let printable = replayed_printable all first net formed names notes replays in
-    subst (λ t. Certifies t first net) text (record {
-      accepted = record {
-        lexed = print-faultless MAX_CERTIFICATE_BYTES all printable (subst (λ t. length t ≤ MAX_CERTIFICATE_BYTES) (sym text) short);
-        form = steps-faultless all printable;
-      };
-      replays = replayed_from_print all first net printable replays;
-    })
+    let notes = seen_append es (Noted done ∷ []) (runs_seen cs first net es lawful formed runs) (numbers_seen done refl) in
+    subst (λ t. Certifies t first net) text
+    (seen_certifies all first net formed names notes replays (subst (λ t. length t ≤ MAX_CERTIFICATE_BYTES) (sym text) short))

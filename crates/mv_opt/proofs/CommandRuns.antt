@@ -1,44 +1,24 @@
 -- Commands that ran one after the other: one more, one that stops, and the rules that they applied.
-use Rattle.std.proofs.Common.{◌≡◌, ◌∙◌, ℕ, ◌+◌, ◌<◌, ◌≤◌, List, [], ◌∷◌, ◌++◌, length, take, drop, get_or, Result, Ok, Err, inl, inr, refl, sym, ap, subst, append_assoc}
+use Rattle.std.proofs.Common.{◌≡◌, ◌∙◌, ℕ, ◌+◌, ◌<◌, ◌≤◌, List, [], ◌∷◌, ◌++◌, length, take, drop, get_or, map, refl, sym, ap, subst, append_assoc, ⊎_elim}
 use Rattle.std.proofs.lemmas.List.{append-nil, take_all, take_more, take-append-drop, drop_more}
+use Rattle.mv_base.specs.declared.number.NetId.{NetId}
+use Rattle.mv_collapse.specs.Collapses.{IsCollapseStep}
+use Rattle.mv_collapse.specs.Eliminates.{IsEliminateStep, Eliminates, HasNoted, NotesWide, wide_note}
+use Rattle.mv_collapse.specs.Savings.{NoneSaves}
+use Rattle.mv_entry.specs.declared.note.Command.{Command}
+use Rattle.mv_entry.specs.declared.note.Command.TheVariants.{Drop, Sweep, Eliminate, Collapse, Kernel, Cube, Simplify, Merge, Default, Determinize, Encode}
 use Rattle.mv_entry.specs.Entries.{Entry, rules_of}
 use Rattle.mv_entry.specs.Tallies.{Journaled}
-use Rattle.mv_base.specs.Meaning.{Refines}
-use Rattle.mv_base.specs.Outside.{Rose}
 use Rattle.mv_net.specs.declared.parts.NetParts.{NetParts}
-use Rattle.mv_net.specs.Allowed.{of_net}
-use Rattle.mv_pass.specs.declared.stop.Stop.{Stop}
-use Rattle.mv_pass.specs.declared.stop.Stop.TheVariants.{Note, Memory}
-use Rattle.mv_pass.specs.Taking.{Took, TookPart, GoesOn}
+use Rattle.mv_pass.specs.Going.{Before, Within, Behind}
+use Rattle.mv_pass.specs.Taking.{Took, TookPart}
 use Rattle.mv_pass.proofs.Going.{goes_replays, rules_of-append}
 use Rattle.mv_pass.proofs.Taken.{Took-none, Took-then, TookPart-then}
 use Rattle.mv_rules.specs.Replaying.{Replays}
 use Rattle.mv_rules.proofs.Replayed.{replayed_then, replayed_latches}
-use Rattle.mv_script.specs.declared.script.Command.{Command}
-use Rattle.mv_script.specs.declared.script.Command.TheVariants.{Drop}
 use Rattle.mv_sweep.specs.Drops.{IsDropStep}
-use Rattle.mv_opt.specs.Runs.{DoesCommand, BegunCommand, PassesCommand, Runs, StopsIn}
-
--- ---- how a command answers
-
-pub passes_ok : (c : Command) (a b : NetParts) (j k : Journaled) → PassesCommand c a b j k (Ok tt) → Took (λ es. DoesCommand c a es b) j k
-passes_ok Drop a b j k p = p.ok
-
-module _ (a b : NetParts) (j k : Journaled) (r : Result (Unit {0}) Stop) where
-  pub passes_memory : (c : Command) → PassesCommand c a b j k r → r ≡ Err Memory → Took (λ es. BegunCommand c a es b) j k
-  passes_memory Drop p e = p.memory e
-
-  pub passes_note : (c : Command) → PassesCommand c a b j k r → r ≡ Err Note → TookPart (λ es. BegunCommand c a es b) j k
-  passes_note Drop p e = p.note e
-
-  pub passes_cause : (c : Command) → PassesCommand c a b j k r → r ≡ Err Note → Rose j.written.faults k.written.faults
-  passes_cause Drop p e = p.cause e
-
-  pub passes_refines : (c : Command) → PassesCommand c a b j k r → Refines (of_net b) (of_net a)
-  passes_refines Drop p = p.refines
-
-  pub passes_on : (c : Command) → PassesCommand c a b j k r → GoesOn j k
-  passes_on Drop p = p.goes_on
+use Rattle.mv_sweep.specs.Sweeps.{IsSweepStep}
+use Rattle.mv_opt.specs.Runs.{CourseOf, DoesCommand, BegunCommand, Runs, StopsIn}
 
 -- ---- one command more
 
@@ -87,14 +67,48 @@ module _ (commands : List Command) (a : NetParts) where
 
 -- ---- the rules
 
--- the notes of a command's beginning and end are no rules
-does_replays : (c : Command) (a b : NetParts) (es : List Entry) → DoesCommand c a es b → Replays (rules_of es) a b
-does_replays Drop a b es d =
-    subst (λ rs. Replays rs a b) (sym (ap rules_of d.entries_are ∙ (rules_of-append d.steps _ ∙ append-nil (rules_of d.steps)))) (goes_replays IsDropStep a b d.steps d.goes)
+-- notes of nets are no rules
+wide_notes_ruleless : (net : NetParts) (numbers : List NetId) → rules_of (map (wide_note net) numbers) ≡ []
+wide_notes_ruleless net [] = refl
+wide_notes_ruleless net (n ∷ ns) = wide_notes_ruleless net ns
 
-begun_replays : (c : Command) (a b : NetParts) (es : List Entry) → BegunCommand c a es b → Replays (rules_of es) a b
-begun_replays Drop a b es (inl p) = subst (λ rs. Replays rs a b) (sym (ap rules_of p.entries_are)) (goes_replays IsDropStep a b p.steps p.goes)
-begun_replays Drop a b es (inr d) = does_replays Drop a b es d
+noted_ruleless : (net : NetParts) (notes : List Entry) → HasNoted net notes → rules_of notes ≡ []
+noted_ruleless net notes h =
+    ⊎_elim
+    (λ (none : notes ≡ []). ap rules_of none)
+    (λ (some : NoneSaves net × ((end : ℕ) × NotesWide net end notes)). ap rules_of some.1.1.notes_are ∙ wide_notes_ruleless net some.1.1.numbers)
+    h.how
+
+eliminates_replays : (a b : NetParts) (steps : List Entry) → Eliminates a steps b → Replays (rules_of steps) a b
+eliminates_replays a b steps e =
+    let rules : rules_of steps ≡ rules_of e.collapses =
+    ap rules_of e.steps_are ∙ (rules_of-append e.collapses e.notes ∙ (ap (λ rs. rules_of e.collapses ++ rs) (noted_ruleless b e.notes e.noted) ∙ append-nil (rules_of e.collapses))) in
+    subst (λ rs. Replays rs a b) (sym rules) (goes_replays IsEliminateStep a b e.collapses e.goes)
+
+-- the rules among the steps of a command apply in turn
+pub course_replays : (c : Command) (a b : NetParts) (steps : List Entry) → CourseOf c a steps b → Replays (rules_of steps) a b
+course_replays Drop a b steps g = goes_replays IsDropStep a b steps g
+course_replays Sweep a b steps g = goes_replays IsSweepStep a b steps g
+course_replays Eliminate a b steps e = eliminates_replays a b steps e
+course_replays (Collapse name) a b steps g = goes_replays (IsCollapseStep name) a b steps g
+course_replays Kernel a b steps g = absurd g
+course_replays Cube a b steps g = absurd g
+course_replays (Simplify down up) a b steps g = absurd g
+course_replays Merge a b steps g = absurd g
+course_replays Default a b steps g = absurd g
+course_replays Determinize a b steps g = absurd g
+course_replays Encode a b steps g = absurd g
+
+module _ (c : Command) (a b : NetParts) (es : List Entry) where
+  -- the notes of a command's beginning and end are no rules
+  pub does_replays : DoesCommand c a es b → Replays (rules_of es) a b
+  does_replays d =
+      subst (λ rs. Replays rs a b) (sym (ap rules_of d.entries_are ∙ (rules_of-append d.steps _ ∙ append-nil (rules_of d.steps)))) (course_replays c a b d.steps d.course)
+
+  begun_replays : BegunCommand c a es b → Replays (rules_of es) a b
+  begun_replays (Before none same) = subst (λ xs. Replays (rules_of xs) a b) (sym none) same
+  begun_replays (Within p) = subst (λ rs. Replays rs a b) (sym (ap rules_of p.entries_are)) (course_replays c a b p.steps p.course)
+  begun_replays (Behind d) = does_replays d
 
 pub runs_replays : (cs : List Command) (a b : NetParts) (es : List Entry) → Runs cs a es b → Replays (rules_of es) a b
 runs_replays [] a b es (none, same) = subst (λ xs. Replays (rules_of xs) a b) (sym none) same

@@ -4,7 +4,7 @@ use Rattle.std.specs.Prelude.{IfSome}
 use Rattle.mv_base.specs.Outside.{Stored, Written, Rose}
 use Rattle.mv_entry.specs.Entries.{print}
 use Rattle.mv_net.specs.declared.parts.NetParts.{NetParts}
-use Rattle.mv_script.specs.declared.script.Command.{Command}
+use Rattle.mv_entry.specs.declared.note.Command.{Command}
 use Rattle.mv_task.specs.declared.fault.FileFault.{FileFault}
 use Rattle.mv_task.specs.declared.fault.SourceStop.TheVariants.{Fault, Read as unread, Memory as short_source}
 use Rattle.mv_task.specs.Exact.{Ended}

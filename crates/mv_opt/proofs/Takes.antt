@@ -5,7 +5,7 @@ use Rattle.std.proofs.lemmas.Bool.{and_parts, leb-true, false≢true}
 use Rattle.mv_base.specs.Outside.{Stored, Held, Still, Rose}
 use Rattle.mv_base.specs.declared.limits.TheConstants.{MAX_SCRIPT_BYTES}
 use Rattle.mv_files.specs.FileReading.{WasRead, Read, Lacks, Stay}
-use Rattle.mv_script.specs.declared.script.Command.{Command}
+use Rattle.mv_entry.specs.declared.note.Command.{Command}
 use Rattle.mv_script.specs.Scripts.{is_script, commands_in}
 use Rattle.mv_task.specs.declared.fault.FileFault.{FileFault}
 use Rattle.mv_task.specs.Exact.{Ended, Second, Unread, Short}

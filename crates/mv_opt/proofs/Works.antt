@@ -1,5 +1,5 @@
 -- The work on a network: its commands, then the done line, then the text, each as far as it came.
-use Rattle.std.proofs.Common.{◌≡◌, ℕ, ◌<◌, ◌≤◌, ◌^◌, List, Result, Ok, Err, OnOk, inl, inr, ap, subst, ⊎_elim}
+use Rattle.std.proofs.Common.{◌≡◌, ℕ, ◌≤◌, All, List, Result, Ok, Err, OnOk, inl, inr, ap, subst, ⊎_elim}
 use Rattle.mv_base.specs.Meaning.{Refines}
 use Rattle.mv_base.specs.Outside.{Written, Gained, GainedPart, Rose}
 use Rattle.mv_base.proofs.Gains.{Gained-then, GainedPart-then}
@@ -12,12 +12,13 @@ use Rattle.mv_opt.proofs.Certified.{certified}
 use Rattle.mv_net.specs.Nets.{literals_in}
 use Rattle.mv_write.specs.Text.{text_of}
 use Rattle.mv_back.specs.Back.{ReadsBack}
-use Rattle.mv_script.specs.declared.script.Command.{Command}
+use Rattle.mv_entry.specs.declared.note.Command.{Command}
 use Rattle.mv_entry.specs.Tallies.{Journaled}
 use Rattle.mv_pass.specs.Taking.{Took, TookPart}
 use Rattle.mv_opt.specs.Outcomes.{HasRun, HasStopped, IsNoteCut, HasWorked, IsCut}
 use Rattle.mv_pass.specs.declared.stop.Stop.{Stop}
 use Rattle.mv_opt.specs.Runs.{Runs, StopsIn}
+use Rattle.mv_script.specs.Scripts.{IsCommand}
 use Rattle.mv_task.specs.Ending.{IsEndCut, done_line}
 
 -- ---- the commands
@@ -42,15 +43,15 @@ pub ruleset noted = (ran, stopped, note_cut)
 same_line : (first net : NetParts) (before : ℕ) → before ≡ literals_in first.nets → done_line before (literals_in net.nets) ≡ done_line (literals_in first.nets) (literals_in net.nets)
 same_line first net before e = ap (λ n. done_line n (literals_in net.nets)) e
 
-pub work_done : (commands : List Command) (first net : NetParts) (before : ℕ) (out out' notes mid notes' : Written) → before ≡ literals_in first.nets → HasRun commands first net notes mid → Refines (of_net net) (of_net first) → ReadsBack net → WellFormed first → HasWordNames first.nets → literals_in first.nets < 2 ^ 128 → literals_in net.nets < 2 ^ 128 → Gained out out' (text_of net) → Gained mid notes' (done_line before (literals_in net.nets)) → HasWorked commands first out out' notes notes'
-work_done commands first net before out out' notes mid notes' e ran refines back formed names few few' text line =
+pub work_done : (commands : List Command) (first net : NetParts) (before : ℕ) (out out' notes mid notes' : Written) → before ≡ literals_in first.nets → HasRun commands first net notes mid → Refines (of_net net) (of_net first) → ReadsBack net → All IsCommand commands → WellFormed first → HasWordNames first.nets → Gained out out' (text_of net) → Gained mid notes' (done_line before (literals_in net.nets)) → HasWorked commands first out out' notes notes'
+work_done commands first net before out out' notes mid notes' e ran refines back lawful formed names text line =
     let P : List ℕ → Type 0 = λ z. Gained mid notes' z in
     record {
       entries = ran.entries;
       net = net;
       runs = ran.runs;
       noted = Gained-then notes mid notes' _ _ ran.gained (subst P (same_line first net before e) line);
-      certified = certified commands first net ran.entries formed names few few' ran.runs;
+      certified = certified commands first net ran.entries lawful formed names ran.runs;
       gained = text;
       back = back;
       refines = refines;

@@ -3,7 +3,7 @@ use Rattle.std.specs.Prelude.{◌≡◌, ◌⊎◌, ℕ, ◌≤◌, IfSome, List
 use Rattle.mv_base.specs.Outside.{Stored, Written, Gained, Rose}
 use Rattle.mv_entry.specs.Entries.{Entry}
 use Rattle.mv_net.specs.declared.parts.NetParts.{NetParts}
-use Rattle.mv_script.specs.declared.script.Command.{Command}
+use Rattle.mv_entry.specs.declared.note.Command.{Command}
 use Rattle.mv_task.specs.Exact.{LacksFile, IsExact, IsComplete}
 use Rattle.mv_task.specs.Faults.{TellsFault}
 use Rattle.mv_task.specs.Lines.{TellsLine, read_line}

@@ -7,7 +7,7 @@ use Rattle.mv_net.specs.Allowed.{of_net}
 use Rattle.mv_entry.specs.Entries.{Entry, print}
 use Rattle.mv_write.specs.Text.{text_of}
 use Rattle.mv_back.specs.Back.{ReadsBack}
-use Rattle.mv_script.specs.declared.script.Command.{Command}
+use Rattle.mv_entry.specs.declared.note.Command.{Command}
 use Rattle.mv_task.specs.Made.{Prepared}
 use Rattle.mv_task.specs.Lines.{TellsLine, memory_line}
 use Rattle.mv_opt.specs.Runs.{Runs, StopsIn, all_notes, IsCertified}

@@ -2,32 +2,50 @@
 use Rattle.std.specs.Prelude.{◌≡◌, ℕ, ◌≤◌, List, [], ◌∷◌, ◌++◌, length, Result}
 use Rattle.mv_base.specs.declared.limits.TheConstants.{MAX_CERTIFICATE_BYTES}
 use Rattle.mv_cert.specs.Certificates.{Certifies}
-use Rattle.mv_entry.specs.declared.note.Command.TheVariants.{Drop as drop_command}
+use Rattle.mv_collapse.specs.Collapses.{IsCollapseStep, EndsCollapse}
+use Rattle.mv_collapse.specs.Eliminates.{Eliminates, EndsEliminate}
+use Rattle.mv_entry.specs.declared.note.Command.{Command}
+use Rattle.mv_entry.specs.declared.note.Command.TheVariants.{Drop, Sweep, Eliminate, Collapse}
 use Rattle.mv_entry.specs.Entries.{Entry, print}
 use Rattle.mv_entry.specs.Tallies.{Journaled}
 use Rattle.mv_net.specs.declared.parts.NetParts.{NetParts}
 use Rattle.mv_net.specs.Nets.{literals_in}
 use Rattle.mv_pass.specs.declared.stop.Stop.{Stop}
-use Rattle.mv_pass.specs.Going.{Does, Begun}
+use Rattle.mv_pass.specs.Going.{Goes, Does, Begun}
 use Rattle.mv_pass.specs.Passing.{Passes}
-use Rattle.mv_script.specs.declared.script.Command.{Command}
-use Rattle.mv_script.specs.declared.script.Command.TheVariants.{Drop}
-use Rattle.mv_sweep.specs.Drops.{IsDropStep, NoneLeft}
+use Rattle.mv_sweep.specs.Drops.{IsDropStep, EndsDrop}
+use Rattle.mv_sweep.specs.Sweeps.{IsSweepStep, EndsSweep}
 use Rattle.mv_task.specs.Ending.{done_line}
 
 -- ---- one command
 
+-- the steps of a command are a course from the old network to the new one
+abbrev pub CourseOf : Command → NetParts → List Entry → NetParts → Type 0
+CourseOf Drop old steps new = Goes IsDropStep old steps new
+CourseOf Sweep old steps new = Goes IsSweepStep old steps new
+CourseOf Eliminate old steps new = Eliminates old steps new
+CourseOf (Collapse name) old steps new = Goes (IsCollapseStep name) old steps new
+CourseOf _ old steps new = ⊥
+
+-- a command may end behind its steps at the network
+abbrev pub EndOf : Command → List Entry → NetParts → Type 0
+EndOf Drop steps net = EndsDrop steps net
+EndOf Sweep steps net = EndsSweep steps net
+EndOf Eliminate steps net = EndsEliminate steps net
+EndOf (Collapse name) steps net = EndsCollapse steps net
+EndOf _ steps net = ⊥
+
 -- a whole command, with its entries
 abbrev pub DoesCommand : Command → NetParts → List Entry → NetParts → Type 0
-DoesCommand Drop old entries new = Does IsDropStep NoneLeft drop_command old entries new
+DoesCommand c old entries new = Does (CourseOf c) (EndOf c) c old entries new
 
--- a command that has begun, or is even whole
+-- a command that stops, with the entries that came
 abbrev pub BegunCommand : Command → NetParts → List Entry → NetParts → Type 0
-BegunCommand Drop old entries new = Begun IsDropStep NoneLeft drop_command old entries new
+BegunCommand c old entries new = Begun (CourseOf c) (EndOf c) c old entries new
 
 -- how a command answers
 abbrev pub PassesCommand : Command → NetParts → NetParts → Journaled → Journaled → Result (Unit {0}) Stop → Type 0
-PassesCommand Drop old new journal journal' result = Passes IsDropStep NoneLeft drop_command old new journal journal' result
+PassesCommand c old new journal journal' result = Passes (CourseOf c) (EndOf c) c old new journal journal' result
 
 -- ---- several
 

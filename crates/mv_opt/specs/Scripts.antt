@@ -1,7 +1,7 @@
 -- The script that a run takes, and its commands.
 use Rattle.std.specs.Prelude.{◌≡◌, true, List, ℕ, codes}
 use Rattle.mv_base.specs.Outside.{Held}
-use Rattle.mv_script.specs.declared.script.Command.{Command}
+use Rattle.mv_entry.specs.declared.note.Command.{Command}
 use Rattle.mv_script.specs.Scripts.{is_script, commands_in}
 use Rattle.mv_task.specs.Taken.{IsTaken}
 use Rattle.mv_task.specs.Words.{word_at}

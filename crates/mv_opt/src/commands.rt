@@ -1,28 +1,35 @@
-ghost use Rattle.std.specs.Prelude.{◌≡◌, Err, OnOk};
+ghost use Rattle.std.specs.Prelude.{◌≡◌, All, Err, OnOk};
 ghost use Rattle.mv_base.specs.Meaning.{Refines};
 ghost use Rattle.mv_base.specs.Outside.{Rose};
 ghost use Rattle.mv_net.specs.Allowed.{of_net};
 ghost use Rattle.mv_pass.specs.Taking.{GoesOn, Took, TookPart};
+ghost use Rattle.mv_script.specs.Scripts.{IsCommand};
 ghost use Rattle.mv_opt.specs.Runs.{PassesCommand, Runs, StopsIn};
 
+use mv_collapse::{collapse, eliminate};
 use mv_entry::Journal;
 use mv_net::Network;
 use mv_pass::Stop;
 use mv_script::Command;
-use mv_sweep::remove_unread;
+use mv_sweep::{remove_unread, sweep};
 use std::alloc::Global;
 
-/// Runs a command.
+/// Runs a command of a script.
 fn run_command<J: Journal>(
     alloc: Global,
     net: &mut Network,
-    command: Command,
+    command: &Command,
     journal: &mut J,
 ) -> Result<(), Stop>
-    ensures passes { PassesCommand command net.old net.new (J.state journal.old) (J.state journal.new) result }
+    requires { IsCommand command.now }
+    ensures passes { PassesCommand command.now net.old net.new (J.state journal.old) (J.state journal.new) result }
 {
     match command {
         Command::Drop => remove_unread(alloc, net, journal),
+        Command::Sweep => sweep(alloc, net, journal),
+        Command::Eliminate => eliminate(alloc, net, journal),
+        Command::Collapse(name) => collapse(alloc, net, name, journal),
+        _ => unreachable!(),
     }
 }
 
@@ -33,6 +40,7 @@ pub fn run_commands<J: Journal>(
     commands: &[Command],
     journal: &mut J,
 ) -> Result<(), Stop>
+    requires { All IsCommand commands.now }
     ensures ok { OnOk result (Took (λ entries. Runs commands.now net.old entries net.new) (J.state journal.old) (J.state journal.new)) }
     ensures memory { result ≡ Err Stop.Memory
         → Took (λ entries. StopsIn commands.now net.old entries net.new) (J.state journal.old) (J.state journal.new) }
@@ -43,7 +51,7 @@ pub fn run_commands<J: Journal>(
     ensures goes_on { GoesOn (J.state journal.old) (J.state journal.new) }
 {
     for command in commands {
-        match run_command(alloc, net, *command, journal) {
+        match run_command(alloc, net, command, journal) {
             Ok(()) => {}
             Err(stop) => return Err(stop),
         }

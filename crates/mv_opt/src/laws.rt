@@ -3,7 +3,7 @@ ghost use Rattle.mv_entry.specs.Entries.{Entry, rules_of};
 ghost use Rattle.mv_net.specs.declared.parts.NetParts.{NetParts};
 ghost use Rattle.mv_opt.specs.Runs.{Runs, StopsIn};
 ghost use Rattle.mv_rules.specs.Replaying.{Replays};
-ghost use Rattle.mv_script.specs.declared.script.Command.{Command};
+ghost use Rattle.mv_entry.specs.declared.note.Command.{Command};
 
 /// The rules among the entries of commands apply in turn, where the commands ran and where they stopped.
 pub fn entries_replay()

@@ -1,6 +1,7 @@
-ghost use Rattle.std.specs.Prelude.{◌≡◌, [], length, Err, IfOk, IfErr, IfSome, OnOk};
+ghost use Rattle.std.specs.Prelude.{◌≡◌, [], length, All, Err, IfOk, IfErr, IfSome, OnOk};
 ghost use Rattle.mv_files.specs.FileReading.{Stay};
 ghost use Rattle.mv_printed.specs.Names.{HasWordNames};
+ghost use Rattle.mv_script.specs.Scripts.{IsCommand};
 ghost use Rattle.mv_task.specs.declared.fault.FileFault.{FileFault};
 ghost use Rattle.mv_task.specs.declared.fault.SourceStop.TheVariants.{Fault as faulty};
 ghost use Rattle.mv_task.specs.Exact.{Ended};
@@ -30,6 +31,7 @@ fn take_script<F: Files>(
     ensures taken { OnOk result (IfSome (F.state files.old).held (IsTaken IsScript (word_at (texts words.now) 2))) }
     ensures commands { IfOk result (λ commands.
         IfSome (F.state files.old).held (TakesCommands (texts words.now) commands)) }
+    ensures lawful { IfOk result (λ commands. All IsCommand commands) }
     ensures stay { Stay (F.state files.old) (F.state files.new) }
     ensures own { (fault : FileFault) → result ≡ Err (Stop.Source (faulty fault)) → ⊥ }
     ensures ended { IfErr result (λ stop. Ended IsScript 3 (texts words.now) (F.state files.old) (F.state files.new) (status_of stop)) }
@@ -60,6 +62,7 @@ pub fn prepare<F: Files>(alloc: Global, words: &[String], files: &mut F) -> Resu
     ensures taken { OnOk result (IfSome (F.state files.old).held (IsTaken IsScript (word_at (texts words.now) 2))) }
     ensures commands { IfOk result (λ work.
         IfSome (F.state files.old).held (TakesCommands (texts words.now) work.commands)) }
+    ensures lawful { IfOk result (λ work. All IsCommand work.commands) }
     ensures made { IfOk result (λ work. Prepared (texts words.now) (F.state files.old) (F.state files.new) work.net) }
     ensures latches { IfOk result (λ work. work.net.latches ≡ []) }
     ensures names { IfOk result (λ work. HasWordNames work.net.nets) }

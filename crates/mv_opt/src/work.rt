@@ -1,8 +1,9 @@
-ghost use Rattle.std.specs.Prelude.{◌≡◌, ◌≤◌, [], Err, OnOk};
+ghost use Rattle.std.specs.Prelude.{◌≡◌, ◌≤◌, [], All, Err, OnOk};
 ghost use Rattle.mv_printed.specs.Names.{HasWordNames};
 ghost use Rattle.mv_base.specs.Meaning.{Refines};
 ghost use Rattle.mv_base.specs.Outside.{Rose};
 ghost use Rattle.mv_net.specs.Allowed.{of_net};
+ghost use Rattle.mv_script.specs.Scripts.{IsCommand};
 ghost use Rattle.mv_opt.specs.Outcomes.{HasRun, HasStopped, HasStoppedAt, HasWorked, IsCut, IsNoteCut};
 
 use crate::commands::run_commands;
@@ -11,7 +12,7 @@ use mv_back::reads_back;
 use mv_base::Sink;
 use mv_cert::NoteJournal;
 use mv_net::Network;
-use mv_pass::{Stop, few_literals};
+use mv_pass::Stop;
 use mv_script::Command;
 use mv_task::finish;
 use std::alloc::Global;
@@ -31,6 +32,7 @@ fn run_noted<E: Sink>(
     commands: &[Command],
     notes: &mut E,
 ) -> Result<(), Stop>
+    requires { All IsCommand commands.now }
     ensures ok { OnOk result (HasRun commands.now net.old net.new (E.state notes.old) (E.state notes.new)) }
     ensures memory { result ≡ Err Stop.Memory
         → HasStopped commands.now net.old net.new (E.state notes.old) (E.state notes.new) }
@@ -54,6 +56,7 @@ pub fn carry_out<O: Sink, E: Sink>(
 ) -> Result<(), WorkStop>
     requires latches { work.net.latches ≡ [] }
     requires names { HasWordNames work.net.nets }
+    requires lawful { All IsCommand work.commands }
     ensures ok { OnOk result (HasWorked work.commands work.net
         (O.state out.old) (O.state out.new) (E.state notes.old) (E.state notes.new)) }
     ensures write { result ≡ Err WorkStop.Write → IsCut work.commands work.net
@@ -65,7 +68,6 @@ pub fn carry_out<O: Sink, E: Sink>(
 {
     let Work { mut net, commands } = work;
     net.well_formed();
-    few_literals(&net);
     let before = net.literals();
     match run_noted(alloc, &mut net, commands.as_slice(), notes) {
         Ok(()) => {}
@@ -73,7 +75,6 @@ pub fn carry_out<O: Sink, E: Sink>(
         Err(Stop::Memory) => return Err(WorkStop::Memory),
     }
     reads_back(&net);
-    few_literals(&net);
     match finish(&net, before, out, notes) {
         Ok(()) => Ok(()),
         Err(_failed) => Err(WorkStop::Write),

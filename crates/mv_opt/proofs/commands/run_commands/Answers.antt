@@ -2,7 +2,7 @@
 use Rattle.mv_base.proofs.Meanings.{Refines-refl, Refines-then}
 use Rattle.mv_base.proofs.OutsideLemmas.{Rose-earlier}
 use Rattle.mv_pass.proofs.Taken.{GoesOn-none, GoesOn-then}
-use Rattle.mv_opt.proofs.CommandRuns.{passes_ok, passes_memory, passes_note, passes_cause, passes_refines, passes_on, ran_none, ran_more, ran_stopped, ran_cut, ran_all}
+use Rattle.mv_opt.proofs.CommandRuns.{ran_none, ran_more, ran_stopped, ran_cut, ran_all}
 use Rattle.mv_opt.proofs.commands.run_commands.Goals as goal
 
 pub loop-command-init : goal.loop-command-init
@@ -11,23 +11,23 @@ loop-command-init g c =
 
 pub loop-command-preserved : goal.loop-command-preserved
 loop-command-preserved g c =
-    let passed = c.in-Ok.ensures.passes in
+    let passed = rw c.command-item.is at c.in-Ok.ensures.passes in
     record {
-      ran = ran_more c.args.commands.now c.args.net.now c.loop-command.command-index _ _ _ _ c.loop-command-test.true c.loop-command.invariant.ran _ _ (passes_ok _ _ _ _ _ passed);
-      refines = Refines-then _ _ _ (passes_refines _ _ _ _ _ _ passed) c.loop-command.invariant.refines;
-      goes_on = GoesOn-then _ _ _ c.loop-command.invariant.goes_on (passes_on _ _ _ _ _ _ passed);
+      ran = ran_more c.args.commands.now c.args.net.now c.loop-command.command-index c.command-item.result _ _ _ c.loop-command-test.true c.loop-command.invariant.ran _ _ passed.ok;
+      refines = Refines-then _ _ _ passed.refines c.loop-command.invariant.refines;
+      goes_on = GoesOn-then _ _ _ c.loop-command.invariant.goes_on passed.goes_on;
     }
 
 pub returns-in-Err : goal.returns-in-Err
 returns-in-Err g c =
-    let passed = c.in-Err.ensures.passes in
+    let passed = rw c.command-item.is at c.in-Err.ensures.passes in
     record {
       ok = tt;
-      memory = λ e. ran_stopped c.args.commands.now c.args.net.now c.loop-command.command-index _ _ _ _ c.loop-command-test.true c.loop-command.invariant.ran _ _ (passes_memory _ _ _ _ _ _ passed e);
-      note = λ e. ran_cut c.args.commands.now c.args.net.now c.loop-command.command-index _ _ _ _ c.loop-command-test.true c.loop-command.invariant.ran _ _ (passes_note _ _ _ _ _ _ passed e);
-      cause = λ e. Rose-earlier _ _ _ c.loop-command.invariant.goes_on.later (passes_cause _ _ _ _ _ _ passed e);
-      refines = Refines-then _ _ _ (passes_refines _ _ _ _ _ _ passed) c.loop-command.invariant.refines;
-      goes_on = GoesOn-then _ _ _ c.loop-command.invariant.goes_on (passes_on _ _ _ _ _ _ passed);
+      memory = λ e. ran_stopped c.args.commands.now c.args.net.now c.loop-command.command-index c.command-item.result _ _ _ c.loop-command-test.true c.loop-command.invariant.ran _ _ (passed.memory e);
+      note = λ e. ran_cut c.args.commands.now c.args.net.now c.loop-command.command-index c.command-item.result _ _ _ c.loop-command-test.true c.loop-command.invariant.ran _ _ (passed.note e);
+      cause = λ e. Rose-earlier _ _ _ c.loop-command.invariant.goes_on.later (passed.cause e);
+      refines = Refines-then _ _ _ passed.refines c.loop-command.invariant.refines;
+      goes_on = GoesOn-then _ _ _ c.loop-command.invariant.goes_on passed.goes_on;
     }
 
 pub returns-clause-ok : goal.returns-clause-ok

@@ -13,7 +13,7 @@ finish-requires g c = runs_latches _ _ _ _ c.requires.latches c.in-Ok.ensures.ok
 pub returns-in-Ok-finish-clause-ok : goal.returns-in-Ok-finish-clause-ok
 returns-in-Ok-finish-clause-ok g c =
     let ran = rw c.as_slice.ensures at c.in-Ok.ensures.ok in
-    work_done _ _ c.run_noted.new.net _ _ _ _ _ _ c.literals-before.ensures ran c.in-Ok.ensures.refines c.reads_back.ensures c.well_formed-2.ensures c.requires.names c.few_literals.ensures c.few_literals-2.ensures c.in-Ok-finish.ensures.written c.in-Ok-finish.ensures.noted
+    work_done _ _ c.run_noted.new.net _ _ _ _ _ _ c.literals-before.ensures ran c.in-Ok.ensures.refines c.reads_back.ensures c.requires.lawful c.well_formed-2.ensures c.requires.names c.in-Ok-finish.ensures.written c.in-Ok-finish.ensures.noted
 
 pub returns-clause-write : goal.returns-clause-write
 returns-clause-write g c =
