@@ -1,6 +1,0 @@
-mod Rows
-mod Forgetting
-mod Behind
-mod Going
-mod Around
-mod Judged

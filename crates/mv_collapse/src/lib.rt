@@ -3,8 +3,6 @@
 
 mod collapsing;
 mod eliminating;
-mod judging;
-mod kept;
 
 pub use collapsing::collapse;
 pub use eliminating::eliminate;

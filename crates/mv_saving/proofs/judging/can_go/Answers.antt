@@ -1,7 +1,7 @@
 -- The checks before have passed, and the last one decides.
 use Rattle.std.proofs.Common.{◌∙◌, sym}
-use Rattle.mv_collapse.proofs.Going.{can_go_unshared}
-use Rattle.mv_collapse.proofs.judging.can_go.Goals as goal
+use Rattle.mv_saving.proofs.Going.{can_go_unshared}
+use Rattle.mv_saving.proofs.judging.can_go.Goals as goal
 
 pub returns : goal.returns
 returns c =

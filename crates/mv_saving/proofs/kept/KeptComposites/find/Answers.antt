@@ -1,7 +1,7 @@
 -- The row and the place in it.
 use Rattle.std.proofs.Common.{◌∙◌}
-use Rattle.mv_collapse.proofs.Rows.{found_in, found_past}
-use Rattle.mv_collapse.proofs.kept.KeptComposites.find.Goals as goal
+use Rattle.mv_saving.proofs.Rows.{found_in, found_past}
+use Rattle.mv_saving.proofs.kept.KeptComposites.find.Goals as goal
 
 pub returns-in-Some : goal.returns-in-Some
 returns-in-Some c =

@@ -1,0 +1,9 @@
+mod Summed
+mod Entries
+mod Rows
+mod Forgetting
+mod Behind
+mod Right
+mod Going
+mod Around
+mod Judged
