@@ -1,2 +1,5 @@
 pub mod Eliminates
 pub mod Collapses
+-- what private functions alone cite
+pub mod Reasons
+pub mod Eliminating

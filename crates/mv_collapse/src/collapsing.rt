@@ -1,17 +1,124 @@
-ghost use Rattle.std.specs.Prelude.{◌≡◌, true};
-ghost use Rattle.mv_collapse.specs.Collapses.{IsCollapseStep, EndsCollapse};
+ghost use Rattle.std.specs.Prelude.{◌≡◌, true, Err, IfOk, OnOk, MatchOption};
+ghost use Rattle.mv_base.specs.Meaning.{SameMeaning};
+ghost use Rattle.mv_base.specs.Outside.{Rose};
+ghost use Rattle.mv_collapse.specs.Collapses.{CollapsesFreely, StaysFor, IsCollapseStep, EndsCollapse};
+ghost use Rattle.mv_collapse.specs.Reasons.{why_for, TookAll};
 ghost use Rattle.mv_entry.specs.declared.note.Command.TheVariants.{Collapse as collapse_command};
 ghost use Rattle.mv_entry.specs.Entries.{is_visible_name};
+ghost use Rattle.mv_net.specs.Allowed.{of_net};
 ghost use Rattle.mv_pass.specs.Going.{Goes};
 ghost use Rattle.mv_pass.specs.Passing.{Passes};
+ghost use Rattle.mv_pass.specs.Taking.{GoesOn, Went, WentPart};
 
-use crate::Stop;
-use mv_base::Name;
-use mv_entry::Journal;
+use crate::{NO_BUDGET, Stop};
+use mv_base::{Memory, Name};
+use mv_entry::{Command, Journal, Note, Rule, RuleFault, Why};
 use mv_net::Network;
+use mv_pass::{few_literals, take};
+use mv_rules::literals_after;
 use std::alloc::Global;
 
-/// The command `collapse NET`.
+/// The note of a check of the rule that fails.
+fn why_of(fault: RuleFault) -> Option<Why>
+    ensures { result ≡ why_for fault }
+{
+    match fault {
+        RuleFault::NoNet => Some(Why::Absent),
+        RuleFault::Visible => Some(Why::Seen),
+        RuleFault::Unread => Some(Why::Unread),
+        RuleFault::Shared => Some(Why::Shared),
+        RuleFault::Wide => Some(Why::Lines),
+        _ => None,
+    }
+}
+
+/// Why the net with this name stays, if it does.
+fn reason(alloc: Global, net: &Network, rule: &Rule, name: &Name) -> Result<Option<Why>, Memory>
+    requires { rule.now ≡ Rule.Collapse name.now }
+    ensures { IfOk result (λ why. MatchOption why (CollapsesFreely net.now name.now) (StaysFor net.now name.now)) }
+{
+    match literals_after(alloc, net, rule, NO_BUDGET) {
+        Ok(after) => {
+            let before = net.literals();
+            if before < after {
+                return Ok(Some(Why::Literals { before, after }));
+            }
+            Ok(None)
+        }
+        Err(fault) => {
+            if fault == RuleFault::Memory {
+                return Err(Memory);
+            }
+            match why_of(fault) {
+                Some(why) => Ok(Some(why)),
+                None => unreachable!(),
+            }
+        }
+    }
+}
+
+/// Notes why the net with this name stays.
+fn note_reason<J: Journal>(
+    net: &Network,
+    name: &Name,
+    why: Why,
+    journal: &mut J,
+) -> Result<(), Stop>
+    requires visible { is_visible_name name.now ≡ true }
+    requires stays { StaysFor net.now name.now why }
+    ensures ok { OnOk result (TookAll name.now net.now net.now (J.state journal.old) (J.state journal.new)) }
+    ensures memory { result ≡ Err Stop.Memory → J.state journal.new ≡ J.state journal.old }
+    ensures note { result ≡ Err Stop.Note
+        → WentPart (IsCollapseStep name.now) net.now net.now (J.state journal.old) (J.state journal.new) }
+    ensures cause { result ≡ Err Stop.Note → Rose (J.state journal.old).written.faults (J.state journal.new).written.faults }
+    ensures goes_on { GoesOn (J.state journal.old) (J.state journal.new) }
+{
+    let own = match name.copy() {
+        Ok(own) => own,
+        Err(_memory) => return Err(Stop::Memory),
+    };
+    match journal.note(&Note::Dropped(why, own)) {
+        Ok(()) => Ok(()),
+        Err(_failed) => Err(Stop::Note),
+    }
+}
+
+/// Applies the rule to the net with this name, or notes why the net stays.
+fn step<J: Journal>(
+    alloc: Global,
+    net: &mut Network,
+    name: &Name,
+    journal: &mut J,
+) -> Result<(), Stop>
+    requires { is_visible_name name.now ≡ true }
+    ensures ok { OnOk result (TookAll name.now net.old net.new (J.state journal.old) (J.state journal.new)) }
+    ensures memory { result ≡ Err Stop.Memory
+        → Went (IsCollapseStep name.now) net.old net.new (J.state journal.old) (J.state journal.new) }
+    ensures note { result ≡ Err Stop.Note
+        → WentPart (IsCollapseStep name.now) net.old net.new (J.state journal.old) (J.state journal.new) }
+    ensures cause { result ≡ Err Stop.Note → Rose (J.state journal.old).written.faults (J.state journal.new).written.faults }
+    ensures means { SameMeaning (of_net net.new) (of_net net.old) }
+    ensures goes_on { GoesOn (J.state journal.old) (J.state journal.new) }
+{
+    let own = match name.copy() {
+        Ok(own) => own,
+        Err(_memory) => return Err(Stop::Memory),
+    };
+    let rule = Rule::Collapse { net: own };
+    match reason(alloc, net, &rule, name) {
+        Ok(None) => match take(alloc, net, &rule, NO_BUDGET, journal) {
+            Ok(()) => Ok(()),
+            Err(stop) => Err(stop),
+        },
+        Ok(Some(why)) => note_reason(net, name, why, journal),
+        Err(_memory) => Err(Stop::Memory),
+    }
+}
+
+/// The command `collapse NET`: the net goes into its readers, where the literals are no more then; else it is noted why it stays: the
+/// first of that there is no such net with a table, that it is seen, that it isn't read, that several nets read it and it may have one of
+/// several values, that a composite is too wide, and that the literals would rise. What the network means stays, also where the command
+/// stops.
 pub fn collapse<J: Journal>(
     alloc: Global,
     net: &mut Network,
@@ -22,5 +129,21 @@ pub fn collapse<J: Journal>(
     ensures passes { Passes (Goes (IsCollapseStep name.now)) EndsCollapse (collapse_command name.now)
         net.old net.new (J.state journal.old) (J.state journal.new) result }
 {
-    Err(Stop::Memory)
+    let own = match name.copy() {
+        Ok(own) => own,
+        Err(_memory) => return Err(Stop::Memory),
+    };
+    match journal.note(&Note::Begin(Command::Collapse(own))) {
+        Ok(()) => {}
+        Err(_failed) => return Err(Stop::Note),
+    }
+    match step(alloc, net, name, journal) {
+        Ok(()) => {}
+        Err(stop) => return Err(stop),
+    }
+    few_literals(net);
+    match journal.note(&Note::End(net.literals())) {
+        Ok(()) => Ok(()),
+        Err(_failed) => Err(Stop::Note),
+    }
 }

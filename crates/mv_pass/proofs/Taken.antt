@@ -97,6 +97,13 @@ module _ (Lawful : NetParts → Entry → Type 0) where
   pub part_note : (a : NetParts) (note : Note) (j k : Journaled) (f : Failed) → Lawful a (Noted note) → Takes j k (Noted note) (Err f) → WentPart Lawful a a j k
   part_note a note j k f lawful t = TookPart-one j k (Noted note) f (lawful, refl) t
 
+-- entries of one kind are of another
+pub Took-as : {Are Also : List Entry → Type 0} (j k : Journaled) → ((es : List Entry) → Are es → Also es) → Took Are j k → Took Also j k
+Took-as j k also p = record { entries = p.entries; are = also p.entries p.are; gained = p.gained; counted = p.counted }
+
+pub TookPart-as : {Are Also : List Entry → Type 0} (j k : Journaled) → ((es : List Entry) → Are es → Also es) → TookPart Are j k → TookPart Also j k
+TookPart-as j k also p = record { entries = p.entries; are = also p.entries p.are; gained = p.gained }
+
 -- the same, where more holds of all steps that lead there
 pub took_ended : {Are : List Entry → Type 0} (Ends : List Entry → Type 0) (j k : Journaled) → Took Are j k → ((steps : List Entry) → Are steps → Ends steps) → Took (λ steps. Are steps × Ends steps) j k
 took_ended Ends j k p ends =

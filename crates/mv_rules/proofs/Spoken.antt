@@ -129,3 +129,7 @@ visible_passes nets = record {
 
 pub applied_visible : (rule : Rule) (old new : NetParts) → WellFormed old → Applies rule old new → HasVisibleNames (Applied rule)
 applied_visible rule old new formed p = record { each = rule_passes is_visible_name old formed (visible_passes old.nets) rule new p }
+
+-- the name of a held net can be seen
+pub held_visible : (net : NetParts) (n : ℕ) (w : List ℕ) → WellFormed net → HasName net.nets n w → is_visible_name w ≡ true
+held_visible net n w formed named = named_passes is_visible_name net formed (visible_passes net.nets) n w named

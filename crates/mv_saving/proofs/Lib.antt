@@ -4,6 +4,6 @@ mod Rows
 mod Forgetting
 mod Behind
 mod Right
-mod Going
+pub mod Going
 mod Around
 mod Judged

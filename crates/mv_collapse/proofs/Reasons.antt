@@ -1,0 +1,79 @@
+-- The one step of `collapse NET`: a check of the rule that fails has its note, and a step is all.
+use Rattle.std.proofs.Common.{◌≡◌, ◌⊎◌, ⊎_elim, ◌<◌, ◌≤◌, ℕ, List, [], ◌∷◌, inl, inr, Result, Ok, refl, sym, ap, subst, arith}
+use Rattle.std.specs.Prelude.{MatchOption}
+use Rattle.mv_entry.specs.declared.fault.RuleFault.{RuleFault}
+use Rattle.mv_entry.specs.declared.fault.RuleFault.TheVariants.{Memory as out_of_memory}
+use Rattle.mv_base.specs.declared.outside.Failed.{Failed}
+use Rattle.mv_entry.specs.declared.note.Command.TheVariants.{Collapse as CollapseNet}
+use Rattle.mv_entry.specs.declared.note.Note.TheVariants.{Begin, Dropped}
+use Rattle.mv_entry.specs.declared.note.Why.{Why}
+use Rattle.mv_entry.specs.declared.note.Why.TheVariants.{Literals}
+use Rattle.mv_entry.specs.declared.rule.Rule.{Rule}
+use Rattle.mv_entry.specs.declared.rule.Rule.TheVariants.{Collapse}
+use Rattle.mv_entry.specs.Entries.{Applied, Noted}
+use Rattle.mv_entry.specs.Tallies.{Journaled, Takes}
+use Rattle.mv_entry.proofs.Printing.{print-one}
+use Rattle.mv_base.specs.Outside.{Gained}
+use Rattle.mv_net.specs.declared.parts.NetParts.{NetParts}
+use Rattle.mv_net.specs.Nets.{literals_in}
+use Rattle.mv_pass.specs.Taking.{CanApply, TookRule}
+use Rattle.mv_pass.proofs.Taken.{Took-one}
+use Rattle.mv_rules.specs.Applies.{Applies, Fails, LeavesLiterals}
+use Rattle.mv_rules.specs.Collapsing.{FailsCollapse}
+use Rattle.mv_collapse.specs.Collapses.{CollapsesFreely, StaysFor}
+use Rattle.mv_collapse.specs.Reasons.{why_for, TookAll}
+
+-- ---- the reason
+
+-- each check of the rule that fails has its note
+fails_for : (net : NetParts) (name : List ℕ) (f : RuleFault) → FailsCollapse net name f → MatchOption (why_for f) ⊥ (StaysFor net name)
+fails_for net name f (inl (none, e)) = rw e (inl (none, refl))
+fails_for net name f (inr (n, tabled, inl (seen, e))) = rw e (inr (n, tabled, inl (seen, refl)))
+fails_for net name f (inr (n, tabled, inr (unseen, inl (unread, e)))) = rw e (inr (n, tabled, inr (unseen, inl (unread, refl))))
+fails_for net name f (inr (n, tabled, inr (unseen, inr (read, inl (shared, e))))) =
+    rw e (inr (n, tabled, inr (unseen, inr (read, inl (shared, refl)))))
+fails_for net name f (inr (n, tabled, inr (unseen, inr (read, inr (unshared, inl (wide, e)))))) =
+    rw e (inr (n, tabled, inr (unseen, inr (read, inr (unshared, inl (wide, refl))))))
+fails_for net name f (inr (n, tabled, inr (unseen, inr (read, inr (unshared, inr nothing))))) = absurd nothing.1
+
+pub reason_for : (net : NetParts) (name : List ℕ) (rule : Rule) (f : RuleFault) → rule ≡ Collapse name → (f ≡ out_of_memory) ⊎ Fails rule net f → (f ≡ out_of_memory → ⊥) → MatchOption (why_for f) ⊥ (StaysFor net name)
+reason_for net name rule f is answer not_memory =
+    ⊎_elim (λ e. absurd (not_memory e)) (λ (fails : Fails rule net f). fails_for net name f (subst (λ r. Fails r net f) is fails)) answer
+
+pub free : (net : NetParts) (name : List ℕ) (rule : Rule) (after before : ℕ) → rule ≡ Collapse name → LeavesLiterals rule net after → before ≡ literals_in net.nets → after ≤ before → CollapsesFreely net name
+free net name rule after before is leaves now low = record {
+  new = leaves.new;
+  applies = subst (λ r. Applies r net leaves.new) is leaves.applies;
+  no_more = omega (arith, low, now, leaves.counted);
+}
+
+pub raised : (net : NetParts) (name : List ℕ) (rule : Rule) (after before : ℕ) → rule ≡ Collapse name → LeavesLiterals rule net after → before ≡ literals_in net.nets → before < after → StaysFor net name (Literals before after)
+raised net name rule after before is leaves now up =
+    record { now = now; leaves = subst (λ r. LeavesLiterals r net after) is leaves; rises = up }
+
+pub can_apply : (net : NetParts) (name : List ℕ) (rule : Rule) → rule ≡ Collapse name → CollapsesFreely net name → CanApply rule net
+can_apply net name rule is f = record { new = f.new; applies = subst (λ r. Applies r net f.new) (sym is) f.applies }
+
+-- ---- the step
+
+-- the rule
+pub took_rule : (name : List ℕ) (rule : Rule) (a b : NetParts) (j k : Journaled) → rule ≡ Collapse name → CollapsesFreely a name → TookRule rule a b j k → TookAll name a b j k
+took_rule name rule a b j k is f t =
+    let u = subst (λ r. TookRule r a b j k) is t in
+    record {
+      entries = Applied (Collapse name) ∷ [];
+      are = (((refl, f), (b, (u.applies, refl))), tt);
+      gained = subst (λ z. Gained j.written k.written z) (sym (print-one (Applied (Collapse name)))) u.gained;
+      counted = u.counted;
+    }
+
+-- the note
+pub took_note : (name own : List ℕ) (why : Why) (a : NetParts) (j k : Journaled) → own ≡ name → StaysFor a name why → Takes j k (Noted (Dropped why own)) (Ok tt) → TookAll name a a j k
+took_note name own why a j k is stays t = Took-one j k (Noted (Dropped why own)) (((is, stays), refl), tt) t
+
+-- a copy of the name serves as well as the name
+pub is_rule : (own name : List ℕ) → own ≡ name → Collapse own ≡ Collapse name
+is_rule own name is = ap Collapse is
+
+pub begun_so : (own name : List ℕ) (j k : Journaled) (r : Result (Unit {0}) Failed) → own ≡ name → Takes j k (Noted (Begin (CollapseNet own))) r → Takes j k (Noted (Begin (CollapseNet name))) r
+begun_so own name j k r is t = subst (λ w. Takes j k (Noted (Begin (CollapseNet w))) r) is t
