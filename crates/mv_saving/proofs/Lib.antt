@@ -2,7 +2,7 @@ mod Summed
 mod Entries
 mod Rows
 mod Forgetting
-mod Behind
+pub mod Behind
 mod Right
 pub mod Going
 mod Around
