@@ -56,8 +56,8 @@ impl KeptComposites {
         }
     }
 
-    /// Works out composites of the net till one is too wide or those of all readers are kept: first those of the readers that are
-    /// marked, and where that isn't enough, of all in turn.
+    /// Works out composites of the net till one is too wide or those of all readers are kept: those of the readers that are marked,
+    /// and of those that weren't looked at yet. Where some are lacking even so, all readers are looked at again.
     fn fill(&mut self, alloc: Global, net: &Network, n: NetId) -> Result<(), Memory>
         requires tabled { is_some (table_in (slot net.now.nets n.0)) ≡ true }
         requires right { AreRight net.now.nets self.old }
@@ -69,7 +69,12 @@ impl KeptComposites {
         if self.is_filled(net, n) {
             return Ok(());
         }
-        self.fill_all(alloc, net, n, &mut inner)?;
+        let next = self.next(n);
+        self.fill_from(alloc, net, n, next, &mut inner)?;
+        if self.is_filled(net, n) {
+            return Ok(());
+        }
+        self.fill_from(alloc, net, n, 0, &mut inner)?;
         Ok(())
     }
 
@@ -115,21 +120,26 @@ impl KeptComposites {
         Ok(())
     }
 
-    /// Works out the composites of all readers, till one is too wide.
-    fn fill_all(
+    /// Works out the composites of the readers from this number on, till one is too wide.
+    fn fill_from(
         &mut self,
         alloc: Global,
         net: &Network,
         n: NetId,
+        start: u32,
         inner: &mut Option<Inner>,
     ) -> Result<(), Memory>
         requires tabled { is_some (table_in (slot net.now.nets n.0)) ≡ true }
         requires right { AreRight net.now.nets self.old }
         requires made { IsMade net.now.nets n.0 inner.old }
         ensures right { OnOk result (AreRight net.now.nets self.new) }
-        ensures filled { OnOk result (IsFilled net.now.nets n.0 self.new) }
+        ensures made { OnOk result (IsMade net.now.nets n.0 inner.new) }
+        ensures filled { OnOk result (start ≡ 0 → IsFilled net.now.nets n.0 self.new) }
     {
         for reader in net.readers(n) {
+            if reader.0 < start {
+                continue;
+            }
             if self.composite(alloc, net, n, *reader, inner)?.is_none() {
                 self.set_next(n, reader.0);
                 return Ok(());

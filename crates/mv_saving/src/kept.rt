@@ -151,13 +151,21 @@ impl KeptComposites {
         }
     }
 
-    /// Marks these readers for the net, and no others. Those below the end have been looked at.
+    /// Marks these readers for the net, and no others.
     pub(crate) fn set_marked(&mut self, n: NetId, marked: BTreeSet<u32>)
         ensures { Stays self.old self.new }
     {
         match self.nets.get_mut(n.0 as usize) {
             Some(row) => row.set_marked(marked),
             None => {}
+        }
+    }
+
+    /// The readers of the net below this have been looked at, if it has a row.
+    pub(crate) fn next(&self, n: NetId) -> u32 {
+        match self.nets.get(n.0 as usize) {
+            Some(row) => row.next,
+            None => 0,
         }
     }
 

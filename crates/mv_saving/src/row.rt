@@ -25,7 +25,7 @@ pub(crate) struct Row {
     pub(crate) going: u128,
     pub(crate) wide: u64,
     marked: BTreeSet<u32>,
-    next: u32,
+    pub(crate) next: u32,
 }
 
 impl Row {
