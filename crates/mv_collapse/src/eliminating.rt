@@ -124,7 +124,10 @@ fn collapse_each<J: Journal>(
             Ok(()) => {}
             Err(_memory) => return Err(Stop::Memory),
         }
-        kept.forget_near(net, n);
+        match kept.forget_near(net, n) {
+            Ok(()) => {}
+            Err(_memory) => return Err(Stop::Memory),
+        }
         match step(alloc, net, n, journal) {
             Ok(()) => {}
             Err(stop) => return Err(stop),
@@ -133,7 +136,11 @@ fn collapse_each<J: Journal>(
 }
 
 /// All steps of `eliminate`: its collapses, and then its notes.
-fn collapse_and_note<J: Journal>(alloc: Global, net: &mut Network, journal: &mut J) -> Result<(), Stop>
+fn collapse_and_note<J: Journal>(
+    alloc: Global,
+    net: &mut Network,
+    journal: &mut J,
+) -> Result<(), Stop>
     ensures ok { OnOk result (Took (λ steps. Eliminates net.old steps net.new × EndsEliminate steps net.new)
         (J.state journal.old) (J.state journal.new)) }
     ensures memory { result ≡ Err Stop.Memory

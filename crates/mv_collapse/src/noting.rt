@@ -14,7 +14,12 @@ use mv_saving::{KeptComposites, Verdict};
 use std::alloc::Global;
 
 /// Whether the rule refuses to collapse the net of this number for this alone that a composite is too wide.
-fn is_wide(alloc: Global, net: &Network, kept: &mut KeptComposites, n: NetId) -> Result<bool, Memory>
+fn is_wide(
+    alloc: Global,
+    net: &Network,
+    kept: &mut KeptComposites,
+    n: NetId,
+) -> Result<bool, Memory>
     requires { AreRight net.now.nets kept.old }
     ensures right { OnOk result (AreRight net.now.nets kept.new) }
     ensures wide { IfOk result (λ wide. MatchBool wide (IsWideNet net.now n.0) (IsWideNet net.now n.0 → ⊥)) }

@@ -6,17 +6,18 @@ use Rattle.mv_graph.specs.Nets.{has_id}
 use Rattle.mv_graph.proofs.Nets.{has_id-more}
 use Rattle.mv_net.specs.declared.parts.FlatNet.{FlatNet}
 use Rattle.mv_saving.specs.declared.kept.KeptComposites.{KeptComposites}
+use Rattle.mv_saving.specs.declared.row.Pair.{Pair}
 use Rattle.mv_saving.specs.Pairs.{kept_at, IsPart, IsForgotten, Forgets, ForgetsEach}
 
 -- ---- what is forgotten stays so
 
-part_of_part : (old mid new : KeptComposites) → IsPart old mid → IsPart mid new → IsPart old new
-part_of_part old mid new p q = record { each = λ n m it h. p.each n m it (q.each n m it h) }
+pub part_of_part : (old mid new : KeptComposites) → IsPart old mid → IsPart mid new → IsPart old new
+part_of_part old mid new p q = record { each = λ n m it h. p.each n m it (q.each n m it h); summed = λ all. q.summed (p.summed all); long = q.long ∙ p.long }
 
 none_stays : (old new : KeptComposites) (n m : ℕ) → IsPart old new → kept_at old n m ≡ None → kept_at new n m ≡ None
 none_stays old new n m part none = by (kept_at new n m) refl
   where
-    by : (it : Option (Option ℕ)) → kept_at new n m ≡ it → kept_at new n m ≡ None
+    by : (it : Option Pair) → kept_at new n m ≡ it → kept_at new n m ≡ None
     by None e = e
     by (Some it) e = absurd (false≢true (ap is_some (sym none ∙ part.each n m it e)))
 
@@ -37,6 +38,10 @@ one_of_more list i d n low h =
     (or_cases (has_id (take i list) n) (nat_eq (get_or list i d).0 n) (sym (has_id-more list i (get_or list i d) d n low refl) ∙ h))
 
 -- ---- a net, and then each reader
+
+-- what is kept of the others is no matter
+pub part_forgets : (nets : List (Option FlatNet)) (n : ℕ) (old mid new : KeptComposites) → Forgets nets n old mid → IsPart mid new → Forgets nets n old new
+part_forgets nets n old mid new before part = record { part = part_of_part old mid new before.part part; gone = forgotten_stays nets n mid new part before.gone }
 
 pub forgets_more : (nets : List (Option FlatNet)) (n : ℕ) (list : List NetId) (i : ℕ) (d : NetId) (old mid new : KeptComposites) → i < length list
     → ForgetsEach nets n (take i list) old mid → Forgets nets (get_or list i d).0 mid new → ForgetsEach nets n (take (i + 1) list) old new

@@ -1,53 +1,21 @@
 -- Which nets can go into their readers, as far as the composites let them.
-use Rattle.std.proofs.Common.{◌≡◌, ◌∙◌, ℕ, ◌<◌, Bool, true, false, nat_eq, Option, Some, None, List, [], ◌∷◌, length, is_some, inl, inr, refl, sym, ap, subst, eq-eqb, arith}
+use Rattle.std.proofs.Common.{◌≡◌, ℕ, Bool, true, false, Option, Some, None, List, length, is_some, inl, inr, refl, sym, ap, subst}
 use Rattle.std.specs.Prelude.{◌==◌, MatchBool}
-use Rattle.std.proofs.lemmas.Bool.{false≢true, or_left, or_right}
+use Rattle.std.proofs.lemmas.Bool.{false≢true}
 use Rattle.mv_base.specs.declared.number.NetId.{NetId}
 use Rattle.mv_entry.specs.declared.fault.RuleFault.TheVariants.{Wide}
-use Rattle.mv_graph.specs.Nets.{has_id, IsAscending}
-use Rattle.mv_graph.proofs.Nets.{above_first}
+use Rattle.mv_graph.specs.Nets.{IsAscending}
 use Rattle.mv_local.proofs.Steps.{names_itself}
-use Rattle.mv_meaning.specs.Rewriting.{HasOneReader}
-use Rattle.mv_meaning.proofs.Rewired.{some_reader}
 use Rattle.mv_net.specs.declared.parts.FlatNet.{FlatNet}
 use Rattle.mv_net.specs.declared.parts.NetParts.{NetParts}
 use Rattle.mv_net.specs.Formed.{WellFormed}
 use Rattle.mv_net.specs.Index.{is_seen}
 use Rattle.mv_net.specs.Nets.{slot, name_in, table_in, net_reads}
-use Rattle.mv_net.specs.Plain.{IsPlainNet}
-use Rattle.mv_rules.specs.Checks.{IsTabled, IsRead}
+use Rattle.mv_rules.proofs.Named.{listed_reader}
+use Rattle.mv_rules.specs.Checks.{IsTabled}
 use Rattle.mv_rules.specs.Collapsing.{IsUnshared, HasComposites, CanCollapse, CollapseRow, FailsCollapse}
 use Rattle.mv_saving.specs.Judging.{CanGo}
 use Rattle.mv_saving.specs.Savings.{IsSaving, IsWideNet}
-
--- ---- readers
-
--- of two readers or more no one is the only one
-many_readers : (nets : List (Option FlatNet)) (n : ℕ) (list : List NetId) → IsAscending (λ m. net_reads (slot nets m) n) list → 1 < length list → HasOneReader nets n → ⊥
-many_readers nets n [] is many one = absurd (omega (arith, many))
-many_readers nets n (a ∷ []) is many one = absurd (omega (arith, many))
-many_readers nets n (a ∷ b ∷ list) is many one =
-    let first = sym (is.members a.0) ∙ or_left (nat_eq a.0 a.0) (has_id (b ∷ list) a.0) (eq-eqb a.0 a.0 refl) in
-    let later = or_left (nat_eq b.0 b.0) (has_id list b.0) (eq-eqb b.0 b.0 refl) in
-    let second = sym (is.members b.0) ∙ or_right (nat_eq a.0 b.0) (has_id (b ∷ list) b.0) later in
-    let same = one.one a.0 b.0 first second in
-    let low = above_first a (b ∷ list) b.0 is.ascending later in
-    omega (arith, same, low)
-
--- the choice of a net with several readers is made once where its table is plainly deterministic
-pub unshared_plain : (plain : Bool) (nets : List (Option FlatNet)) (n : ℕ) (list : List NetId) → IsAscending (λ m. net_reads (slot nets m) n) list → 1 < length list
-    → MatchBool plain (IsPlainNet nets n) (IsPlainNet nets n → ⊥) → MatchBool plain (IsUnshared nets n) (IsUnshared nets n → ⊥)
-unshared_plain true nets n list is many h = inl h
-unshared_plain false nets n list is many h = none
-  where
-    none : IsUnshared nets n → ⊥
-    none (inl plain) = h plain
-    none (inr one) = many_readers nets n list is many one
-
--- a list of readers that isn't empty has one
-listed_reader : (nets : List (Option FlatNet)) (n : ℕ) (list : List NetId) → IsAscending (λ m. net_reads (slot nets m) n) list → (length list == 0) ≡ false → IsRead nets n
-listed_reader nets n [] is some = absurd (false≢true (sym some))
-listed_reader nets n (a ∷ list) is some = record { reader = a.0; reads = some_reader nets n a list is }
 
 -- ---- the checks but for the composites
 

@@ -1,15 +1,15 @@
 -- On the way to what a net is judged to be. For private functions.
-use Rattle.std.specs.Prelude.{◌≡◌, ℕ, true, is_some, min, ◌^◌, ◌-◌, Option, Some, None, List, IfSome}
-use Rattle.std.specs.List.{sum_by}
-use Rattle.mv_base.specs.declared.number.NetId.{NetId}
+use Rattle.std.specs.Prelude.{◌≡◌, ◌⊎◌, ℕ, ◌+◌, ◌<◌, ◌≤◌, true, is_some, Option, None, List, IfSome}
 use Rattle.mv_composite.specs.declared.inner.Inner.{Inner}
-use Rattle.mv_graph.specs.Nets.{has_id, IsAscending}
 use Rattle.mv_net.specs.declared.parts.FlatNet.{FlatNet}
 use Rattle.mv_net.specs.declared.parts.NetParts.{NetParts}
 use Rattle.mv_net.specs.Nets.{slot, table_in, reads_in}
 use Rattle.mv_rules.specs.Collapsing.{IsInnerOf, CanCollapse}
-use Rattle.mv_rules.specs.Composites.{composite_count}
-use Rattle.mv_saving.specs.Kept.{HasLiterals, IsWidePair}
+use Rattle.mv_saving.specs.declared.judging.Verdict.{Verdict}
+use Rattle.mv_saving.specs.declared.judging.Verdict.TheVariants.{Saves, Wide, Stays}
+use Rattle.mv_saving.specs.declared.kept.KeptComposites.{KeptComposites}
+use Rattle.mv_saving.specs.declared.row.Row.{Row}
+use Rattle.mv_saving.specs.Pairs.{kept_at, HasComing}
 
 -- the net at n has a table, and the checks hold but for the composites
 pub record CanGo (net : NetParts) (n : ℕ) : Type 0 where
@@ -25,23 +25,21 @@ pub record IsAsked (nets : List (Option FlatNet)) (n : ℕ) (inner : Inner) : Ty
 abbrev pub IsMade : List (Option FlatNet) → ℕ → Option Inner → Type 0
 IsMade nets n made = IfSome made (IsAsked nets n)
 
--- the composites of these readers aren't too wide, and have so many literals together, or more than can be counted
-pub record HaveLiterals (nets : List (Option FlatNet)) (n : ℕ) (list : List NetId) (total : ℕ) : Type 0 where
-  pub each : (m : ℕ) → has_id list m ≡ true → (count : ℕ) × HasLiterals nets n m count
-  pub total_is : (inner : Inner) → IsAsked nets n inner → total ≡ min (sum_by (λ (r : NetId). composite_count nets inner r.0) list) (2 ^ 128 - 1)
-
--- of all readers of n
-pub record AllHaveLiterals (nets : List (Option FlatNet)) (n total : ℕ) : Type 0 where
-  pub readers : List NetId
-  pub all : IsAscending (λ m. reads_in nets m n) readers
-  pub have : HaveLiterals nets n readers total
-
--- some reader's composite is too wide
-pub record HasWidePair (nets : List (Option FlatNet)) (n : ℕ) : Type 0 where
+-- some reader's composite with the net n is kept as too wide
+pub record HasWide (kept : KeptComposites) (n : ℕ) : Type 0 where
   pub reader : ℕ
-  pub wide : IsWidePair nets n reader
+  pub wide : HasComing kept n reader None
 
--- what is told of the composites of all readers: their literals, or nothing where one is too wide
-abbrev pub AreTold : List (Option FlatNet) → ℕ → Option ℕ → Type 0
-AreTold nets n None = HasWidePair nets n
-AreTold nets n (Some total) = AllHaveLiterals nets n total
+-- those of all its readers are kept
+pub record IsComplete (nets : List (Option FlatNet)) (n : ℕ) (kept : KeptComposites) : Type 0 where
+  pub each : (m : ℕ) → reads_in nets m n ≡ true → is_some (kept_at kept n m) ≡ true
+
+-- as many are kept as are needed
+abbrev pub IsFilled : List (Option FlatNet) → ℕ → KeptComposites → Type 0
+IsFilled nets n kept = HasWide kept n ⊎ IsComplete nets n kept
+
+-- what the sums of a row say, where the net itself has so many literals
+abbrev pub IsWeighed : Row → ℕ → Verdict → Type 0
+IsWeighed row own Saves = (row.wide ≡ 0) × (row.coming ≤ row.going + own)
+IsWeighed row own Wide = 0 < row.wide
+IsWeighed row own Stays = (row.wide ≡ 0) × (row.going + own < row.coming)

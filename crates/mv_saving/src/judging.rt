@@ -1,21 +1,20 @@
-ghost use Rattle.std.specs.Prelude.{◌≡◌, ◌+◌, ◌^◌, ◌-◌, ◌<◌, ◌≤◌, true, is_some, List, IsTrue, IfOk, OnOk, MatchBool};
-ghost use Rattle.std.specs.List.{sum_by};
-ghost use Rattle.mv_base.specs.declared.number.NetId.{NetId};
-ghost use Rattle.mv_graph.specs.Nets.{IsAscending};
+ghost use Rattle.std.specs.Prelude.{◌≡◌, ◌^◌, ◌≤◌, true, is_some, IsTrue, IfOk, OnOk, MatchBool};
 ghost use Rattle.mv_net.specs.Behind.{literals_at};
 ghost use Rattle.mv_net.specs.Index.{is_held};
 ghost use Rattle.mv_net.specs.Nets.{slot, table_in, reads_in};
 ghost use Rattle.mv_rules.specs.Collapsing.{IsUnshared};
-ghost use Rattle.mv_saving.specs.Judging.{CanGo, IsMade, IsAsked, AreTold};
+ghost use Rattle.mv_saving.specs.Judging.{CanGo, IsMade, IsAsked, IsFilled, IsWeighed};
 ghost use Rattle.mv_saving.specs.Kept.{IsPair, AreRight, IsJudged};
+ghost use Rattle.mv_saving.specs.Pairs.{KeepsMore, HasComing};
 
 use crate::kept::KeptComposites;
+use crate::row::{Pair, Row};
 use mv_base::{Memory, NetId};
 use mv_net::Network;
 use mv_rules::{CoverStop, Inner, composite_literals, inner_of};
 use std::alloc::Global;
 
-/// What the command `eliminate` makes of a net.
+/// Whether a net can go into its readers with no more literals than before.
 #[derive(Clone, Copy, Debug, PartialEq, Eq)]
 pub enum Verdict {
     /// It can go into its readers, and the literals are no more then.
@@ -37,33 +36,117 @@ impl KeptComposites {
         if !can_go(net, n) {
             return Ok(Verdict::Stays);
         }
-        let coming = match self.composites(alloc, net, n)? {
-            Some(coming) => coming,
-            None => return Ok(Verdict::Wide),
-        };
-        if coming > literals_around(net, n) {
-            return Ok(Verdict::Stays);
-        }
-        Ok(Verdict::Saves)
+        self.fill(alloc, net, n)?;
+        Ok(self.weigh(net, n))
     }
 
-    /// The literals of the composites of all readers with the net, or the greatest number where they are more, and None where one
-    /// of them is too wide.
-    fn composites(&mut self, alloc: Global, net: &Network, n: NetId) -> Result<Option<u128>, Memory>
+    /// What the sums say of a net, where a composite that is too wide is kept or else those of all readers are.
+    fn weigh(&self, net: &Network, n: NetId) -> Verdict
+        requires can { CanGo net.now n.0 }
+        requires right { AreRight net.now.nets self.now }
+        requires filled { IsFilled net.now.nets n.0 self.now }
+        ensures { IsJudged net.now n.0 result }
+    {
+        net.well_formed();
+        net.few();
+        let own = literals_of(net, n);
+        match self.nets.get(n.0 as usize) {
+            Some(row) => weighed(row, own),
+            None => Verdict::Stays,
+        }
+    }
+
+    /// Works out composites of the net till one is too wide or those of all readers are kept: those of the readers that are marked,
+    /// and of those that weren't looked at yet. Where some are lacking even so, all readers are looked at again.
+    fn fill(&mut self, alloc: Global, net: &Network, n: NetId) -> Result<(), Memory>
         requires tabled { is_some (table_in (slot net.now.nets n.0)) ≡ true }
         requires right { AreRight net.now.nets self.old }
         ensures right { OnOk result (AreRight net.now.nets self.new) }
-        ensures told { IfOk result (AreTold net.now.nets n.0) }
+        ensures filled { OnOk result (IsFilled net.now.nets n.0 self.new) }
     {
         let mut inner = None;
-        let mut total: u128 = 0;
-        for reader in net.readers(n) {
-            let Some(literals) = self.composite(alloc, net, n, *reader, &mut inner)? else {
-                return Ok(None);
-            };
-            total = total.saturating_add(literals);
+        self.fill_marked(alloc, net, n, &mut inner)?;
+        if self.is_filled(net, n) {
+            return Ok(());
         }
-        Ok(Some(total))
+        let next = self.next(n);
+        self.fill_from(alloc, net, n, next, &mut inner)?;
+        if self.is_filled(net, n) {
+            return Ok(());
+        }
+        self.fill_from(alloc, net, n, 0, &mut inner)?;
+        Ok(())
+    }
+
+    /// Whether a composite that is too wide is kept or those of all readers are.
+    fn is_filled(&self, net: &Network, n: NetId) -> bool
+        requires held { IsTrue (is_held net.now.nets n.0) }
+        requires right { AreRight net.now.nets self.now }
+        ensures { result ≡ true → IsFilled net.now.nets n.0 self.now }
+    {
+        match self.nets.get(n.0 as usize) {
+            Some(row) => row.wide > 0 || row.pairs.len() == net.readers(n).len(),
+            None => false,
+        }
+    }
+
+    /// Works out the composites of the readers that are marked, till one is too wide.
+    fn fill_marked(
+        &mut self,
+        alloc: Global,
+        net: &Network,
+        n: NetId,
+        inner: &mut Option<Inner>,
+    ) -> Result<(), Memory>
+        requires tabled { is_some (table_in (slot net.now.nets n.0)) ≡ true }
+        requires right { AreRight net.now.nets self.old }
+        requires made { IsMade net.now.nets n.0 inner.old }
+        ensures right { OnOk result (AreRight net.now.nets self.new) }
+        ensures made { OnOk result (IsMade net.now.nets n.0 inner.new) }
+    {
+        let mut marked = self.take_marked(alloc, n);
+        'all: while let Some(reader) = marked.pop_first() {
+            if !reads(net, NetId(reader), n) {
+                continue 'all;
+            }
+            if self
+                .composite(alloc, net, n, NetId(reader), inner)?
+                .is_none()
+            {
+                break 'all;
+            }
+        }
+        self.set_marked(n, marked);
+        Ok(())
+    }
+
+    /// Works out the composites of the readers from this number on, till one is too wide.
+    fn fill_from(
+        &mut self,
+        alloc: Global,
+        net: &Network,
+        n: NetId,
+        start: u32,
+        inner: &mut Option<Inner>,
+    ) -> Result<(), Memory>
+        requires tabled { is_some (table_in (slot net.now.nets n.0)) ≡ true }
+        requires right { AreRight net.now.nets self.old }
+        requires made { IsMade net.now.nets n.0 inner.old }
+        ensures right { OnOk result (AreRight net.now.nets self.new) }
+        ensures made { OnOk result (IsMade net.now.nets n.0 inner.new) }
+        ensures filled { OnOk result (start ≡ 0 → IsFilled net.now.nets n.0 self.new) }
+    {
+        for reader in net.readers(n) {
+            if reader.0 < start {
+                continue;
+            }
+            if self.composite(alloc, net, n, *reader, inner)?.is_none() {
+                self.set_next(n, reader.0);
+                return Ok(());
+            }
+        }
+        self.set_next(n, u32::MAX);
+        Ok(())
     }
 
     /// The literals of the composite of the reader with the net, and None where it is too wide: what is kept of it, or else what
@@ -82,17 +165,43 @@ impl KeptComposites {
         requires made { IsMade net.now.nets n.0 inner.old }
         ensures right { OnOk result (AreRight net.now.nets self.new) }
         ensures made { OnOk result (IsMade net.now.nets n.0 inner.new) }
-        ensures pair { IfOk result (IsPair net.now.nets n.0 reader.0) }
+        ensures more { OnOk result (KeepsMore self.old self.new) }
+        ensures here { IfOk result (λ coming. HasComing self.new n.0 reader.0 coming) }
     {
         if let Some(kept) = self.find(n, reader) {
-            return Ok(kept);
+            return Ok(kept.coming);
         }
         let known = asked(alloc, net, n, inner.take())?;
-        let literals = worked_out(alloc, net, &known, reader)?;
+        let pair = worked_out(alloc, net, &known, reader)?;
         *inner = Some(known);
-        self.put(n, reader, literals)?;
-        Ok(literals)
+        self.put(net, n, reader, pair)?;
+        Ok(pair.coming)
     }
+}
+
+/// What the sums of a row say, where the net itself has so many literals.
+fn weighed(row: &Row, own: u128) -> Verdict
+    requires going { row.now.going ≤ 2 ^ 126 }
+    requires own { own ≤ 2 ^ 96 }
+    ensures { IsWeighed row.now own result }
+{
+    if row.wide > 0 {
+        Verdict::Wide
+    } else if row.coming > row.going + own {
+        Verdict::Stays
+    } else {
+        Verdict::Saves
+    }
+}
+
+/// Whether the net is held and reads the other.
+fn reads(net: &Network, reader: NetId, n: NetId) -> bool
+    ensures { result ≡ reads_in net.now.nets reader.0 n.0 }
+{
+    if !net.holds(reader) {
+        return false;
+    }
+    net.fanins(reader).contains(&n)
 }
 
 /// The net as composites ask for it, if it hasn't been made yet.
@@ -107,22 +216,19 @@ fn asked(alloc: Global, net: &Network, n: NetId, made: Option<Inner>) -> Result<
     }
 }
 
-/// The literals of the composite of the reader with the net, worked out, and None where it is too wide.
-fn worked_out(
-    alloc: Global,
-    net: &Network,
-    inner: &Inner,
-    reader: NetId,
-) -> Result<Option<u128>, Memory>
+/// The composite of the reader with the net, worked out.
+fn worked_out(alloc: Global, net: &Network, inner: &Inner, reader: NetId) -> Result<Pair, Memory>
     requires known { IsAsked net.now.nets inner.now.net.0 inner.now }
     requires reads { reads_in net.now.nets reader.0 inner.now.net.0 ≡ true }
     ensures { IfOk result (IsPair net.now.nets inner.now.net.0 reader.0) }
 {
-    match composite_literals(alloc, net, inner, reader) {
-        Ok(literals) => Ok(Some(literals)),
-        Err(CoverStop::Wide) => Ok(None),
-        Err(CoverStop::Memory) => Err(Memory),
-    }
+    let coming = match composite_literals(alloc, net, inner, reader) {
+        Ok(literals) => Some(literals),
+        Err(CoverStop::Wide) => None,
+        Err(CoverStop::Memory) => return Err(Memory),
+    };
+    let going = literals_of(net, reader);
+    Ok(Pair { coming, going })
 }
 
 /// Whether there is a net of this number that has a table and can go into its readers, as far as their composites let it.
@@ -160,21 +266,6 @@ fn is_unshared(net: &Network, n: NetId) -> bool
         return net.is_plainly_deterministic(n);
     }
     true
-}
-
-/// The literals of the net and of its readers.
-fn literals_around(net: &Network, n: NetId) -> u128
-    requires { IsTrue (is_held net.now.nets n.0) }
-    ensures value { (readers : List NetId) → IsAscending (λ m. reads_in net.now.nets m n.0) readers
-        → result ≡ literals_at net.now.nets n + sum_by (literals_at net.now.nets) readers }
-    ensures few { result < 2 ^ 128 - 1 }
-{
-    net.few();
-    let mut total = literals_of(net, n);
-    for reader in net.readers(n) {
-        total += literals_of(net, *reader);
-    }
-    total
 }
 
 /// The literals of the table of the net of this number, and 0 where there is none.

@@ -1,5 +1,6 @@
 -- Each collapse leaves fewer steps, and the nets near its net wait.
 use Rattle.mv_base.proofs.Meanings.{SameMeaning-refl, SameMeaning-then}
+use Rattle.mv_saving.proofs.Behind.{right_collapsed}
 use Rattle.mv_pass.proofs.Taken.{went_none, went_then, went_part, GoesOn-none, GoesOn-then}
 use Rattle.mv_collapse.specs.Eliminates.{IsEliminateStep}
 use Rattle.mv_collapse.proofs.Eliminated.{all_wait, all_wait_behind, fewer_left}
@@ -27,7 +28,7 @@ collapsing-preserved g c =
     record {
       went = went_then IsEliminateStep _ _ _ _ _ _ c.collapsing.invariant.went c.in-Ok-step.ensures.ok;
       wait = all_wait_behind c.collapsing.net c.step.new.net c.in-Ok-Some.n.0 _ _ c.well_formed-in-collapsing.ensures next.others c.in-Ok-put_near.ensures into;
-      right = c.forget_near.ensures.each into.name c.step.new.net c.well_formed-in-collapsing.ensures into.collapses into.number;
+      right = right_collapsed c.collapsing.net c.step.new.net into.name _ c.in-Ok-Some.n.0 c.in-Ok-forget_near.ensures into.collapses into.number;
       means = SameMeaning-then _ _ _ c.in-Ok-step.ensures.means c.collapsing.invariant.means;
       goes_on = GoesOn-then _ _ _ c.collapsing.invariant.goes_on c.in-Ok-step.ensures.goes_on;
     }

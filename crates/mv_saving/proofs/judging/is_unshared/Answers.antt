@@ -1,7 +1,7 @@
 -- Of two readers or more it is shared, unless it is plainly deterministic.
 use Rattle.std.proofs.Common.{inr, arith}
 use Rattle.mv_meaning.proofs.Rewired.{one_reader}
-use Rattle.mv_saving.proofs.Going.{unshared_plain}
+use Rattle.mv_rules.proofs.Named.{unshared_plain}
 use Rattle.mv_saving.proofs.judging.is_unshared.Goals as goal
 
 pub returns-then-readers-gt1 : goal.returns-then-readers-gt1

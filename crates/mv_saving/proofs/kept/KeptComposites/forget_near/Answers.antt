@@ -2,13 +2,14 @@
 use Rattle.std.proofs.Common.{arith, subst}
 use Rattle.std.proofs.lemmas.List.{take_all}
 use Rattle.mv_saving.proofs.Behind.{right_behind}
-use Rattle.mv_saving.proofs.Forgetting.{forgets_more}
+use Rattle.mv_saving.proofs.Forgetting.{part_forgets, forgets_more}
 use Rattle.mv_saving.specs.Pairs.{ForgetsEach}
 use Rattle.mv_saving.proofs.kept.KeptComposites.forget_near.Goals as goal
 
 pub loop-reader-preserved : goal.loop-reader-preserved
 loop-reader-preserved c =
-    forgets_more _ _ _ _ (record { 0 = 0 }) _ _ _ c.loop-reader-test.true c.loop-reader.invariant c.forget_net-in-loop-reader.ensures
+    forgets_more _ _ _ _ (record { 0 = 0 }) _ _ _ c.loop-reader-test.true c.loop-reader.invariant
+    (part_forgets _ _ _ _ _ c.in_ok-forget_net-2.ensures c.in_ok-mark.ensures)
 
 pub returns : goal.returns
 returns c =
