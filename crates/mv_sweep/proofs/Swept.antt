@@ -1,18 +1,14 @@
 -- The rules of `sweep`: each applies to its net, what it leaves, and that nets far from it are swept where they were.
-use Rattle.std.proofs.Common.{◌≡◌, ◌∙◌, ℕ, ◌<◌, ◌≤◌, true, Option, Some, None, is_some, List, [], ◌∷◌, length, ◌⊎◌, ⊎_elim, inl, refl, sym, ap, subst, arith}
+use Rattle.std.proofs.Common.{◌≡◌, ◌∙◌, ℕ, ◌<◌, ◌≤◌, true, Option, Some, None, is_some, List, [], ◌∷◌, length, inl, refl, sym, ap, subst, arith}
 use Rattle.std.proofs.lemmas.Bool.{false≢true}
 use Rattle.mv_agenda.specs.Agenda.{AllWait, AllWaitBut, NoneWaits, PutsNear, TakesLeast, WaitBelow}
 use Rattle.mv_agenda.specs.Near.{IsNear}
 use Rattle.mv_agenda.proofs.Looking.{all_at_first, all_but_taken, all_with_near, all_without_taken, least_of_all, none_at_end}
 use Rattle.mv_cover.specs.declared.cover.Cover.{Cover}
-use Rattle.mv_entry.specs.declared.fault.RuleFault.{RuleFault}
-use Rattle.mv_entry.specs.declared.fault.RuleFault.TheVariants.{Memory as out_of_memory}
-use Rattle.mv_entry.specs.declared.rule.Rule.{Rule}
-use Rattle.mv_entry.specs.declared.rule.Rule.TheVariants.{Collapse as CollapseNet}
 use Rattle.mv_entry.specs.Entries.{Applied}
 use Rattle.mv_local.specs.Local.{StaysAround}
 use Rattle.mv_local.specs.Same.{KeepsPlace}
-use Rattle.mv_local.proofs.Fewer.{is_plain}
+use Rattle.mv_local.proofs.Fewer.{is_plain, collapses_no_more}
 use Rattle.mv_local.proofs.Places.{place_kept, place_back, far_stays, IsRead-same, HasComposites-same, IsUnseen-same, IsRemovable-same}
 use Rattle.mv_local.proofs.Steps.{names_itself, removes_around, wires_around, collapses_around, removes_fewer, wires_fewer, collapses_fewer}
 use Rattle.mv_local.proofs.Tables.{IsBuffer-same, IsPlainConstant-same}
@@ -24,11 +20,13 @@ use Rattle.mv_net.specs.Index.{is_held}
 use Rattle.mv_net.specs.Nets.{slot, name_in, table_in}
 use Rattle.mv_net.proofs.Known.{is_held_below}
 use Rattle.mv_pass.specs.Taking.{CanApply}
-use Rattle.mv_rules.specs.Applies.{Applies, Fails}
-use Rattle.mv_rules.proofs.OneAnswer.{not_both}
+use Rattle.mv_rules.specs.Applies.{Applies}
 use Rattle.mv_net.specs.Plain.{IsPlainBuffer, IsPlainConstant}
 use Rattle.mv_rules.specs.Checks.{IsTabled, IsUnseen, IsRead}
-use Rattle.mv_rules.specs.Collapsing.{HasComposites, collapsed}
+use Rattle.mv_rules.specs.Collapsing.{CanCollapse, Collapses, collapsed}
+use Rattle.mv_saving.specs.Savings.{IsSaving, IsWideNet}
+use Rattle.mv_saving.proofs.Behind.{right_removed, right_wired, right_collapsed}
+use Rattle.mv_saving.proofs.Going.{wide_net}
 use Rattle.mv_sweep.specs.declared.way.Way.{Way}
 use Rattle.mv_sweep.specs.declared.way.Way.TheVariants.{Remove, Wire, Collapse}
 use Rattle.mv_sweep.specs.Sweeps.{IsFoldable, IsSweptNet, IsSwept, IsSweepStep}
@@ -122,6 +120,7 @@ module _ (net : NetParts) (n : ℕ) (name : List ℕ) (formed : WellFormed net) 
         around = subst (StaysAround net.nets new.nets) same (removes_around net name new r);
         same = still_with _ new r.new_is;
         formed = formed';
+        right = λ kept behind. right_removed net new name kept n behind r same;
         fewer = removes_fewer net name new r;
       }
   way_leaves Wire is new formed' r =
@@ -130,6 +129,7 @@ module _ (net : NetParts) (n : ℕ) (name : List ℕ) (formed : WellFormed net) 
         around = subst (StaysAround net.nets new.nets) same (wires_around net name new formed r);
         same = still_with _ new r.new_is;
         formed = formed';
+        right = λ kept behind. right_wired net new name kept n behind r same;
         fewer = wires_fewer net name new formed r;
       }
   way_leaves Collapse is new formed' r =
@@ -138,6 +138,7 @@ module _ (net : NetParts) (n : ℕ) (name : List ℕ) (formed : WellFormed net) 
         around = subst (StaysAround net.nets new.nets) same (collapses_around net name new formed r);
         same = still_with _ new r.new_is;
         formed = formed';
+        right = λ kept behind. right_collapsed net new name kept n behind r same;
         fewer = collapses_fewer net name new formed r;
       }
 
@@ -196,25 +197,27 @@ wait_without net old new n wait takes swept =
 
 -- ---- what is asked of a net
 
--- the rule that collapses the net applies exactly where it may be folded
-pub folds : (net : NetParts) (n : ℕ) → WellFormed net → IsUnseen net n → IsRead net.nets n → (v : ℕ) → IsPlainConstant net.nets n v → CanApply (CollapseNet (name_in (slot net.nets n))) net → IsFoldable net n
-folds net n formed unseen read v constant can = record {
-  unseen = unseen;
-  read = read;
-  constant = record { value = v; constant = constant };
-  composites =
-      let r = can.applies in
-      let held = ap (λ (f : Option FlatNet). is_some f) (tabled_in (slot net.nets n) constant.cover constant.table).1 in
-      subst (HasComposites net.nets) (names_itself net (name_in (slot net.nets n)) n r.number formed r.net held refl) r.composites;
-}
+-- a constant that saves can be folded
+pub folds : (net : NetParts) (n : ℕ) → IsUnseen net n → IsRead net.nets n → (v : ℕ) → IsPlainConstant net.nets n v → IsSaving net n → IsFoldable net n
+folds net n unseen read v constant saving =
+    record { unseen = unseen; read = read; constant = record { value = v; constant = constant }; composites = saving.composites }
 
-pub no_fold : (net : NetParts) (n : ℕ) → WellFormed net → (CanApply (CollapseNet (name_in (slot net.nets n))) net → ⊥) → IsFoldable net n → ⊥
-no_fold net n formed cannot is = cannot (way_applies net n (name_in (slot net.nets n)) formed refl Collapse is)
+-- and one that can be folded saves, since a constant brings no literals
+fold_saves : (net : NetParts) (n : ℕ) → WellFormed net → IsFoldable net n → IsSaving net n
+fold_saves net n formed is =
+    let constant = is.constant.constant in
+    let name = name_in (slot net.nets n) in
+    let table = tabled net n name constant.cover constant.table refl in
+    let can : CanCollapse net n = record { unseen = is.unseen; read = is.read; unshared = inl (is_plain net formed n is.constant.value constant.cover constant.table constant) } in
+    let r : Collapses net name (collapsed net is.composites.inner) =
+    record { number = n; net = table; unseen = can.unseen; read = can.read; unshared = can.unshared; composites = is.composites; new_is = refl } in
+    record { tabled = table.table; can = can; composites = is.composites; no_more = collapses_no_more net name (collapsed net is.composites.inner) is.constant.value formed r constant }
 
--- a rule that fails doesn't apply
-pub fails_not : (net : NetParts) (rule other : Rule) (f : RuleFault) → WellFormed net → (f ≡ out_of_memory) ⊎ Fails rule net f → (f ≡ out_of_memory → ⊥) → rule ≡ other → CanApply other net → ⊥
-fails_not net rule other f formed answer not_memory same can =
-    ⊎_elim not_memory (λ (fails : Fails rule net f). not_both rule net can.new f formed (subst (λ r. Applies r net can.new) (sym same) can.applies) fails) answer
+pub stays_unfolded : (net : NetParts) (n : ℕ) → WellFormed net → (IsSaving net n → ⊥) → IsFoldable net n → ⊥
+stays_unfolded net n formed stays is = stays (fold_saves net n formed is)
+
+pub wide_unfolded : (net : NetParts) (n : ℕ) → WellFormed net → IsWideNet net n → IsFoldable net n → ⊥
+wide_unfolded net n formed wide is = (wide_net net n formed wide).1 is.composites
 
 -- a net that is read can't go, and one that is no buffer can't be wired
 pub read_swept : (net : NetParts) (n : ℕ) → IsRead net.nets n → ((m : ℕ) → IsPlainBuffer net.nets n m → ⊥) → (IsFoldable net n → ⊥) → IsSweptNet net n

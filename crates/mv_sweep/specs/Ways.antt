@@ -9,6 +9,8 @@ use Rattle.mv_net.specs.declared.parts.NetParts.{NetParts}
 use Rattle.mv_net.specs.Changes.{with_nets}
 use Rattle.mv_net.specs.Formed.{WellFormed}
 use Rattle.mv_net.specs.Total.{IsRemovable}
+use Rattle.mv_saving.specs.declared.kept.KeptComposites.{KeptComposites}
+use Rattle.mv_saving.specs.Kept.{AreRight, RightBehind}
 use Rattle.mv_sweep.specs.declared.way.Way.{Way}
 use Rattle.mv_sweep.specs.declared.way.Way.TheVariants.{Remove as by_removal, Wire as by_wiring, Collapse as by_collapse}
 use Rattle.mv_sweep.specs.Sweeps.{IsWirable, IsFoldable, IsSweptNet}
@@ -40,9 +42,10 @@ pub record IsNext (net : NetParts) (agenda : List ℕ) (n : ℕ) (way : Way) : T
   pub first : IsLeastWay net n way
   pub others : AllWaitBut (CanSweep net) agenda n
 
--- nothing changed but near the net at n, and fewer steps are left
+-- nothing changed but near the net at n, what was kept of composites is right, and fewer steps are left
 pub record StepsAround (old new : NetParts) (n : ℕ) : Type 0 where
   pub around : StaysAround old.nets new.nets n
   pub same : new ≡ with_nets old new.nets
   pub formed : WellFormed new
+  pub right : (kept : KeptComposites) → RightBehind old n kept → AreRight new.nets kept
   pub fewer : steps_left new.nets < steps_left old.nets

@@ -7,6 +7,7 @@ ghost use Rattle.mv_net.specs.Allowed.{of_net};
 ghost use Rattle.mv_pass.specs.Going.{Goes};
 ghost use Rattle.mv_pass.specs.Passing.{Passes};
 ghost use Rattle.mv_pass.specs.Taking.{GoesOn, Went, WentPart};
+ghost use Rattle.mv_saving.specs.Kept.{AreRight};
 ghost use Rattle.mv_sweep.specs.Sweeps.{IsSwept, IsSweepStep, EndsSweep};
 ghost use Rattle.mv_sweep.specs.Ways as spec;
 ghost use Rattle.mv_sweep.specs.Ways.{CanSweep, IsNext, IsLeastWay, StepsAround};
@@ -18,6 +19,7 @@ use mv_base::{Memory, Name, NetId};
 use mv_entry::{Command, Journal, Note, Rule};
 use mv_net::Network;
 use mv_pass::{few_literals, take};
+use mv_saving::KeptComposites;
 use std::alloc::Global;
 
 /// A net, and the rule that `sweep` applies to it.
@@ -28,15 +30,22 @@ struct Found {
 }
 
 /// The least net that waits to which a rule applies, with that rule; those before it wait no more.
-fn next_found(alloc: Global, net: &Network, agenda: &mut Agenda) -> Result<Option<Found>, Memory>
-    requires { AllWait (CanSweep net.now) agenda.old }
-    ensures { IfOk result (λ found. MatchOption found (IsSwept net.now) (λ f. IsNext net.now agenda.new f.n.0 f.way)) }
+fn next_found(
+    alloc: Global,
+    net: &Network,
+    agenda: &mut Agenda,
+    kept: &mut KeptComposites,
+) -> Result<Option<Found>, Memory>
+    requires wait { AllWait (CanSweep net.now) agenda.old }
+    requires right { AreRight net.now.nets kept.old }
+    ensures found { IfOk result (λ found. MatchOption found (IsSwept net.now) (λ f. IsNext net.now agenda.new f.n.0 f.way)) }
+    ensures right { OnOk result (AreRight net.now.nets kept.new) }
 {
     'looking: loop {
         let Some(n) = agenda.take_least() else {
             return Ok(None);
         };
-        match way_of(alloc, net, n) {
+        match way_of(alloc, net, kept, n) {
             Ok(Some(way)) => return Ok(Some(Found { n, way })),
             Ok(None) => {}
             Err(memory) => return Err(memory),
@@ -105,13 +114,21 @@ fn sweep_each<J: Journal>(alloc: Global, net: &mut Network, journal: &mut J) -> 
         Ok(agenda) => agenda,
         Err(_memory) => return Err(Stop::Memory),
     };
+    let mut kept = match KeptComposites::none(alloc, net.next_number()) {
+        Ok(kept) => kept,
+        Err(_memory) => return Err(Stop::Memory),
+    };
     'sweeping: loop {
-        let found = match next_found(alloc, net, &mut agenda) {
+        let found = match next_found(alloc, net, &mut agenda, &mut kept) {
             Ok(Some(found)) => found,
             Ok(None) => return Ok(()),
             Err(_memory) => return Err(Stop::Memory),
         };
         match put_near(&mut agenda, net, found.n) {
+            Ok(()) => {}
+            Err(_memory) => return Err(Stop::Memory),
+        }
+        match kept.forget_near(net, found.n) {
             Ok(()) => {}
             Err(_memory) => return Err(Stop::Memory),
         }

@@ -1,17 +1,13 @@
-ghost use Rattle.std.specs.Prelude.{IsTrue, IfOk, MatchBool, MatchOption};
+ghost use Rattle.std.specs.Prelude.{IsTrue, IfOk, OnOk, MatchOption};
 ghost use Rattle.mv_net.specs.Index.{is_held};
-ghost use Rattle.mv_net.specs.Nets.{slot, name_in};
-ghost use Rattle.mv_entry.specs.declared.rule.Rule.TheVariants.{Collapse as collapse};
-ghost use Rattle.mv_pass.specs.Taking.{CanApply};
 ghost use Rattle.mv_rules.specs.Checks.{IsUnseen, IsUnread, IsRead};
+ghost use Rattle.mv_saving.specs.Kept.{AreRight};
 ghost use Rattle.mv_sweep.specs.Sweeps.{IsSweptNet};
 ghost use Rattle.mv_sweep.specs.Ways.{IsWay};
 
-use crate::NO_BUDGET;
-use mv_base::{Memory, Name, NetId};
-use mv_entry::{Rule, RuleFault};
+use mv_base::{Memory, NetId};
 use mv_net::Network;
-use mv_rules::literals_after;
+use mv_saving::{KeptComposites, Verdict};
 use std::alloc::Global;
 
 /// Which of its rules `sweep` applies to a net.
@@ -23,8 +19,15 @@ pub enum Way {
 }
 
 /// Which rule `sweep` applies to the net of this number, if it does.
-pub fn way_of(alloc: Global, net: &Network, n: NetId) -> Result<Option<Way>, Memory>
-    ensures { IfOk result (λ way. MatchOption way (IsSweptNet net.now n.0) (IsWay net.now n.0)) }
+pub fn way_of(
+    alloc: Global,
+    net: &Network,
+    kept: &mut KeptComposites,
+    n: NetId,
+) -> Result<Option<Way>, Memory>
+    requires { AreRight net.now.nets kept.old }
+    ensures way { IfOk result (λ way. MatchOption way (IsSweptNet net.now n.0) (IsWay net.now n.0)) }
+    ensures right { OnOk result (AreRight net.now.nets kept.new) }
 {
     if !net.holds(n) {
         return Ok(None);
@@ -35,7 +38,7 @@ pub fn way_of(alloc: Global, net: &Network, n: NetId) -> Result<Option<Way>, Mem
     if net.readers(n).is_empty() {
         return way_of_unread(alloc, net, n);
     }
-    way_of_read(alloc, net, n)
+    way_of_read(alloc, net, kept, n)
 }
 
 /// Which rule `sweep` applies to a net that nobody sees or reads.
@@ -51,12 +54,20 @@ fn way_of_unread(alloc: Global, net: &Network, n: NetId) -> Result<Option<Way>, 
     Ok(None)
 }
 
-/// Which rule `sweep` applies to a net that other nets alone read.
-fn way_of_read(alloc: Global, net: &Network, n: NetId) -> Result<Option<Way>, Memory>
+/// Which rule `sweep` applies to a net that other nets alone read. A constant goes into its readers with no more literals than before,
+/// so it can go exactly where it saves.
+fn way_of_read(
+    alloc: Global,
+    net: &Network,
+    kept: &mut KeptComposites,
+    n: NetId,
+) -> Result<Option<Way>, Memory>
     requires held { IsTrue (is_held net.now.nets n.0) }
     requires unseen { IsUnseen net.now n.0 }
     requires read { IsRead net.now.nets n.0 }
-    ensures { IfOk result (λ way. MatchOption way (IsSweptNet net.now n.0) (IsWay net.now n.0)) }
+    requires right { AreRight net.now.nets kept.old }
+    ensures way { IfOk result (λ way. MatchOption way (IsSweptNet net.now n.0) (IsWay net.now n.0)) }
+    ensures right { OnOk result (AreRight net.now.nets kept.new) }
 {
     net.well_formed();
     if let Some(_source) = net.plain_buffer(n) {
@@ -65,28 +76,10 @@ fn way_of_read(alloc: Global, net: &Network, n: NetId) -> Result<Option<Way>, Me
     let Some(_value) = net.plain_constant(n) else {
         return Ok(None);
     };
-    if can_collapse(alloc, net, n)? {
-        return Ok(Some(Way::Collapse));
-    }
-    Ok(None)
-}
-
-/// Whether a held net can go into its readers.
-fn can_collapse(alloc: Global, net: &Network, n: NetId) -> Result<bool, Memory>
-    requires { IsTrue (is_held net.now.nets n.0) }
-    ensures { IfOk result (λ can. MatchBool can
-        (CanApply (collapse (name_in (slot net.now.nets n.0))) net.now)
-        (CanApply (collapse (name_in (slot net.now.nets n.0))) net.now → ⊥)) }
-{
-    net.well_formed();
-    let name = Name::new(alloc, net.name(n))?;
-    match literals_after(alloc, net, &Rule::Collapse { net: name }, NO_BUDGET) {
-        Ok(_literals) => Ok(true),
-        Err(fault) => {
-            if fault == RuleFault::Memory {
-                return Err(Memory);
-            }
-            Ok(false)
-        }
+    match kept.judge(alloc, net, n) {
+        Ok(Verdict::Saves) => Ok(Some(Way::Collapse)),
+        Ok(Verdict::Wide) => Ok(None),
+        Ok(Verdict::Stays) => Ok(None),
+        Err(memory) => Err(memory),
     }
 }

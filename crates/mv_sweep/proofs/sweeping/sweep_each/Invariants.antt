@@ -1,9 +1,10 @@
--- Each net to which a rule applies waits, and each step leaves fewer.
+-- Each net to which a rule applies waits, what is kept is right, and each step leaves fewer.
 use Rattle.mv_agenda.specs.Agenda.{AllWait}
 use Rattle.mv_base.specs.Meaning.{SameMeaning}
 use Rattle.mv_local.proofs.Steps.{steps_left}
 use Rattle.mv_net.specs.Allowed.{of_net}
 use Rattle.mv_pass.specs.Taking.{GoesOn, Went}
+use Rattle.mv_saving.specs.Kept.{AreRight}
 use Rattle.mv_sweep.specs.Sweeps.{IsSweepStep}
 use Rattle.mv_sweep.specs.Ways.{CanSweep}
 use Rattle.mv_sweep.proofs.sweeping.sweep_each.Given as goal
@@ -12,6 +13,7 @@ abbrev pub invariant-sweeping : goal.invariant-sweeping
 invariant-sweeping g l = record {
   went : Went IsSweepStep l.fn.net l.net (g.J.Journal.state l.fn.journal) (g.J.Journal.state l.journal);
   wait : AllWait (CanSweep l.net) l.agenda;
+  right : AreRight l.net.nets l.kept;
   means : SameMeaning (of_net l.net) (of_net l.fn.net);
   goes_on : GoesOn (g.J.Journal.state l.fn.journal) (g.J.Journal.state l.journal);
 }
