@@ -39,10 +39,6 @@ few_readers nets n (r ∷ rs) up reads = omega (arith, short_from r rs (length n
 
 -- ---- ascending lists
 
--- what is in the rest is past the first
-rest_past : (n : NetId) (ns : List NetId) (m : ℕ) → ids_ascend (n ∷ ns) ≡ true → has_id ns m ≡ true → n.0 < m
-rest_past n ns m up h = above_first n ns m up h
-
 rest_ascends : (n : NetId) (ns : List NetId) → ids_ascend (n ∷ ns) ≡ true → ids_ascend ns ≡ true
 rest_ascends n [] up = refl
 rest_ascends n (k ∷ ks) up = (and_parts (nat_lt n.0 k.0) (ids_ascend (k ∷ ks)) up).1
@@ -74,7 +70,7 @@ first_not_below : (x : NetId) (xs : List NetId) (y : NetId) (ys : List NetId) �
 first_not_below x xs y ys up within =
     ⊎_elim
     (λ (e : y.0 ≡ x.0). omega (arith, e))
-    (λ (rest : has_id ys x.0 ≡ true). let low = rest_past y ys x.0 up rest in omega (arith, low))
+    (λ (rest : has_id ys x.0 ≡ true). let low = above_first y ys x.0 up rest in omega (arith, low))
     (in_first_or_rest y ys x.0 (within x.0 (first_in x xs)))
 
 -- so it is no longer
@@ -83,7 +79,7 @@ no_longer [] ys up over within = omega arith
 no_longer (x ∷ xs) [] up over within = absurd (false≢true (within x.0 (first_in x xs)))
 no_longer (x ∷ xs) (y ∷ ys) up over within =
     let low = first_not_below x xs y ys over within in
-    let past : (m : ℕ) → has_id xs m ≡ true → y.0 < m = λ m h. let above = rest_past x xs m up h in omega (arith, low, above) in
+    let past : (m : ℕ) → has_id xs m ≡ true → y.0 < m = λ m h. let above = above_first x xs m up h in omega (arith, low, above) in
     let rest = no_longer xs ys (rest_ascends x xs up) (rest_ascends y ys over) (within_rest xs y ys (λ m h. within m (or_right (nat_eq x.0 m) (has_id xs m) h)) past) in
     omega (arith, rest)
 
@@ -94,7 +90,7 @@ as_long_all [] (y ∷ ys) up over within same m h = absurd (omega (arith, same))
 as_long_all (x ∷ xs) [] up over within same m h = absurd (false≢true h)
 as_long_all (x ∷ xs) (y ∷ ys) up over within same m h =
     let low = first_not_below x xs y ys over within in
-    let past : (m : ℕ) → has_id xs m ≡ true → y.0 < m = λ k i. let above = rest_past x xs k up i in omega (arith, low, above) in
+    let past : (m : ℕ) → has_id xs m ≡ true → y.0 < m = λ k i. let above = above_first x xs k up i in omega (arith, low, above) in
     let rest = within_rest xs y ys (λ k i. within k (or_right (nat_eq x.0 k) (has_id xs k) i)) past in
     ⊎_elim
     (λ (e : y.0 ≡ m).
@@ -109,5 +105,5 @@ as_long_all (x ∷ xs) (y ∷ ys) up over within same m h =
     not_before x xs y less up k i =
         ⊎_elim
         (λ (e : x.0 ≡ k). omega (arith, less, e))
-        (λ (in_rest : has_id xs k ≡ true). let above = rest_past x xs k up in_rest in omega (arith, less, above))
+        (λ (in_rest : has_id xs k ≡ true). let above = above_first x xs k up in_rest in omega (arith, less, above))
         (in_first_or_rest x xs k i)

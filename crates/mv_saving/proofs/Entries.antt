@@ -1,8 +1,9 @@
 -- The pairs of a row as a list: their readers, and their sums.
-use Rattle.std.proofs.Common.{◌≡◌, ◌∙◌, ◌⊎◌, ℕ, ◌+◌, ◌*◌, ◌<◌, ◌≤◌, Bool, true, false, cond, nat_eq, nat_lt, nat_cmp, Option, Some, None, List, [], ◌∷◌, length, suc, is_some, All, if◌then◌else◌, inl, inr, refl, sym, ap, subst, ⊎_elim, arith}
+use Rattle.std.proofs.Common.{◌≡◌, ◌∙◌, ℕ, ◌+◌, ◌*◌, ◌<◌, ◌≤◌, Bool, true, false, cond, nat_eq, nat_lt, nat_cmp, Option, Some, None, List, [], ◌∷◌, length, suc, is_some}
+use Rattle.std.proofs.Common.{All, if◌then◌else◌, refl, sym, ap, arith}
 use Rattle.std.specs.Prelude.{slice_get, ◌&&◌, ◌||◌}
-use Rattle.std.specs.BTreeMap.{BTreeMap, is_at, get, values, IsOrdered}
-use Rattle.std.specs.List.{sum_by, AllByRecursion}
+use Rattle.std.specs.BTreeMap.{is_at}
+use Rattle.std.specs.List.{sum_by}
 use Rattle.std.specs.List.Sorted.{IsStrictlySortedBy}
 use Rattle.std.specs.Map.{lookup, keys_of, values_of}
 use Rattle.std.specs.Option.{option_map, unwrap_or}

@@ -1,5 +1,5 @@
 -- What the literals of a net's composites say of it.
-use Rattle.std.proofs.Common.{◌≡◌, ◌∙◌, ◌⊎◌, ℕ, ◌+◌, ◌<◌, ◌≤◌, Bool, true, false, nat_cmp, Option, Some, None, List, length, is_some, refl, sym, ap, subst, ⊎_elim, arith}
+use Rattle.std.proofs.Common.{◌≡◌, ◌∙◌, ℕ, ◌+◌, ◌<◌, ◌≤◌, Bool, true, false, nat_cmp, Option, Some, None, List, length, is_some, refl, sym, ap, subst, ⊎_elim, arith}
 use Rattle.std.specs.Prelude.{slice_get, unwrap_or}
 use Rattle.std.specs.BTreeMap.{get}
 use Rattle.std.specs.List.{sum_by}
@@ -22,7 +22,7 @@ use Rattle.mv_saving.specs.declared.kept.KeptComposites.{KeptComposites}
 use Rattle.mv_saving.specs.declared.row.Pair.{Pair}
 use Rattle.mv_saving.specs.declared.row.Row.{Row}
 use Rattle.mv_saving.specs.Judging.{CanGo, IsAsked, HasWide, IsComplete, IsFilled, IsWeighed}
-use Rattle.mv_saving.specs.Kept.{HasLiterals, IsWidePair, IsComposite, IsPair, AreRight, IsJudged}
+use Rattle.mv_saving.specs.Kept.{HasLiterals, IsWidePair, IsComposite, AreRight, IsJudged}
 use Rattle.mv_saving.specs.Savings.{IsSaving, IsWideNet}
 use Rattle.mv_saving.specs.Sums.{coming_of}
 use Rattle.mv_saving.proofs.Around.{tabled_below}

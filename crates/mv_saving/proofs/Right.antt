@@ -1,5 +1,5 @@
 -- What is right of the pairs that are kept, and where it stays so.
-use Rattle.std.proofs.Common.{◌≡◌, ◌∙◌, ◌⊎◌, ℕ, ◌+◌, ◌*◌, ◌^◌, ◌<◌, ◌≤◌, true, nat_cmp, Option, Some, None, List, length, take, get_or, is_some, inl, inr, refl, sym, ap, subst, ⊎_elim, arith}
+use Rattle.std.proofs.Common.{◌≡◌, ◌∙◌, ℕ, ◌+◌, ◌*◌, ◌^◌, ◌<◌, ◌≤◌, true, nat_cmp, Option, Some, None, List, length, take, get_or, is_some, inl, inr, refl, sym, ap, subst, ⊎_elim, arith}
 use Rattle.std.specs.Prelude.{slice_get}
 use Rattle.std.specs.BTreeMap.{get, values, Updates}
 use Rattle.std.specs.List.{sum_by}
@@ -13,7 +13,7 @@ use Rattle.mv_net.specs.Nets.{reads_in}
 use Rattle.mv_saving.specs.declared.kept.KeptComposites.{KeptComposites}
 use Rattle.mv_saving.specs.declared.row.Pair.{Pair}
 use Rattle.mv_saving.specs.declared.row.Row.{Row}
-use Rattle.mv_saving.specs.Judging.{HasWide, IsFilled}
+use Rattle.mv_saving.specs.Judging.{IsFilled}
 use Rattle.mv_saving.specs.Kept.{IsComposite, IsPair, AreRight}
 use Rattle.mv_saving.specs.Pairs.{in_row, kept_at, IsPart, KeepsMore, HasComing, AreKept}
 use Rattle.mv_saving.specs.Sums.{coming_of, wide_of, IsSummed, IsSmall}
@@ -31,12 +31,6 @@ part_right nets old new part right = record {
   summed = part.summed right.summed;
   long = omega (arith, part.long, right.long);
 }
-
-coming_more : (old new : KeptComposites) (n m : ℕ) (coming : Option ℕ) → KeepsMore old new → HasComing old n m coming → HasComing new n m coming
-coming_more old new n m coming more has = record { pair = has.pair; has = more.each n m has.pair has.has; coming_is = has.coming_is }
-
-pub wide_more : (old new : KeptComposites) (n : ℕ) → KeepsMore old new → HasWide old n → HasWide new n
-wide_more old new n more wide = record { reader = wide.reader; wide = coming_more old new n wide.reader None more wide.wide }
 
 is_some_more : (old new : KeptComposites) (n m : ℕ) → KeepsMore old new → is_some (kept_at old n m) ≡ true → is_some (kept_at new n m) ≡ true
 is_some_more old new n m more h = by (kept_at old n m) refl h
@@ -122,8 +116,8 @@ no_pair_past nets kept n m it right past pair = omega (arith, right.long, past, 
 
 -- ---- a pair more
 
-pub put_right : (nets : List (Option FlatNet)) (old new : KeptComposites) (n m : ℕ) (it : Pair) (was now : Row) → WritesRow old new n was now → Updates nat_cmp was.pairs now.pairs m (Some it) → IsSummed now
-    → IsPair nets n m it → AreRight nets old → AreRight nets new
+pub put_right : (nets : List (Option FlatNet)) (old new : KeptComposites) (n m : ℕ) (it : Pair) (was now : Row) → WritesRow old new n was now
+    → Updates nat_cmp was.pairs now.pairs m (Some it) → IsSummed now → IsPair nets n m it → AreRight nets old → AreRight nets new
 put_right nets old new n m it was now w u sum pair right = record {
   each = λ j k x h.
       ⊎_elim

@@ -1,5 +1,6 @@
 -- What is kept of pairs where a row of them changes.
-use Rattle.std.proofs.Common.{◌≡◌, ◌∙◌, ◌⊎◌, ℕ, zero, suc, ◌<◌, ◌≤◌, true, false, cond, nat_eq, nat_cmp, Option, Some, None, List, [], ◌∷◌, length, get_or, set, is_some, ◌+◌, ◌++◌, All, inl, inr, refl, sym, ap, subst, ⊎_elim, eqb-true, eq-eqb, arith}
+use Rattle.std.proofs.Common.{◌≡◌, ◌∙◌, ◌⊎◌, ℕ, zero, suc, ◌<◌, ◌≤◌, true, false, cond, nat_eq, nat_cmp, Option, Some, None, List, [], ◌∷◌, length, get_or, set, is_some}
+use Rattle.std.proofs.Common.{◌+◌, ◌++◌, All, inl, inr, refl, sym, ap, subst, ⊎_elim, eqb-true, eq-eqb, arith}
 use Rattle.std.specs.Prelude.{slice_get}
 use Rattle.std.specs.BTreeMap.{BTreeMap, is_at, get, Updates}
 use Rattle.std.specs.Map.{lookup}
@@ -181,13 +182,6 @@ row_at kept rows n row same low is = ap (λ l. slice_get l n) (sym same) ∙ sli
 -- is summed
 pub summed_at : (kept : KeptComposites) (rows : List Row) (n : ℕ) (row : Row) → rows ≡ kept.nets.items → n < length rows → row ≡ get_or rows n row → AreSummed kept → IsSummed row
 summed_at kept rows n row same low is all = all.each n row (row_at kept rows n row same low is)
-
--- nobody changes anything
-pub part_refl : (kept : KeptComposites) → IsPart kept kept
-part_refl kept = record { each = λ j k x h. h; summed = λ all. all; long = refl }
-
-pub stays_refl : (kept : KeptComposites) → Stays kept kept
-stays_refl kept = record { part = part_refl kept; more = record { each = λ j k x h. h } }
 
 -- nothing is kept of a number past the last row
 pub past_rows : (kept : KeptComposites) (n m : ℕ) → length kept.nets.items ≤ n → kept_at kept n m ≡ None

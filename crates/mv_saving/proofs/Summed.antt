@@ -1,8 +1,8 @@
 -- Sums over the pairs of a row, where one comes or goes.
-use Rattle.std.proofs.Common.{◌≡◌, ◌∙◌, ℕ, ◌+◌, ◌≤◌, nat_cmp, Option, Some, None, List, [], sym, ap, subst, arith}
+use Rattle.std.proofs.Common.{◌≡◌, ◌∙◌, ℕ, ◌+◌, ◌≤◌, nat_cmp, Some, None, sym, ap, subst, arith}
 use Rattle.std.specs.BTreeMap.{BTreeMap, is_at, get, values, insert_entry, IsOrdered}
 use Rattle.std.specs.List.{sum_by}
-use Rattle.std.specs.Map.{lookup, values_of, remove_entry}
+use Rattle.std.specs.Map.{values_of, remove_entry}
 use Rattle.std.specs.Option.{option_map, unwrap_or}
 use Rattle.std.proofs.lemmas.Cmp.{nat_cmp_total}
 use Rattle.std.proofs.lemmas.Map.Entries.{sum_by-insert_entry, sum_by-remove_entry}
@@ -75,13 +75,4 @@ within_sums row new k pair sum is some = record {
   coming = omega (arith, sum.coming, sum_gone coming_of row.pairs new k pair is some);
   going = omega (arith, sum.going, sum_gone (λ (p : Pair). p.going) row.pairs new k pair is some);
   wide = omega (arith, sum.wide, sum_gone wide_of row.pairs new k pair is some);
-}
-
--- the sums of no pairs
-pub none_summed : (row : Row) → IsOrdered nat_cmp row.pairs → row.pairs.entries ≡ [] → row.coming ≡ 0 → row.going ≡ 0 → row.wide ≡ 0 → IsSummed row
-none_summed row ordered empty coming going wide = record {
-  coming = coming ∙ sym (ap (λ es. sum_by coming_of (values_of es)) empty);
-  going = going ∙ sym (ap (λ es. sum_by (λ (p : Pair). p.going) (values_of es)) empty);
-  wide = wide ∙ sym (ap (λ es. sum_by wide_of (values_of es)) empty);
-  ordered = ordered;
 }

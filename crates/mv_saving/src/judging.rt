@@ -64,6 +64,9 @@ impl KeptComposites {
         ensures right { OnOk result (AreRight net.now.nets self.new) }
         ensures filled { OnOk result (IsFilled net.now.nets n.0 self.new) }
     {
+        if self.is_filled(net, n) {
+            return Ok(());
+        }
         let mut inner = None;
         self.fill_marked(alloc, net, n, &mut inner)?;
         if self.is_filled(net, n) {

@@ -1,6 +1,6 @@
 -- One reader more, or all of them.
-use Rattle.std.proofs.Common.{inl, arith}
-use Rattle.mv_saving.proofs.Right.{part_right, wide_more, kept_more, kept_all}
+use Rattle.std.proofs.Common.{arith}
+use Rattle.mv_saving.proofs.Right.{part_right, kept_more, kept_all}
 use Rattle.mv_saving.proofs.kept.KeptComposites.fill_from.Goals as goal
 
 pub returns-then-is_none-clause-right : goal.returns-then-is_none-clause-right
