@@ -1,6 +1,6 @@
 # The toolchain's command is `rt`; README.md says where it comes from, and how long a first build takes.
 PROGRAM = crates/mvopt/out/mvopt
-EXAMPLE = arbiter
+EXAMPLE = register
 
 # The crates that the program stands on, each behind those under it, and the program last.
 CRATES := $(shell awk -F '[: ]+' '!/^(#|$$)/ { uses[$$1] = $$0 } \
