@@ -1,7 +1,3 @@
-mod Rows
-mod Forgetting
-mod Behind
-mod Going
-mod Around
-mod Judged
-pub mod Reasons
+mod Reasons
+mod WideNotes
+mod Eliminated

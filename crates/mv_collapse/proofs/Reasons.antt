@@ -1,5 +1,5 @@
 -- The one step of `collapse NET`: a check of the rule that fails has its note, and a step is all.
-use Rattle.std.proofs.Common.{◌≡◌, ◌⊎◌, ⊎_elim, ◌<◌, ◌≤◌, ℕ, List, [], ◌∷◌, Option, Some, None, inl, inr, Result, Ok, refl, sym, ap, subst, arith}
+use Rattle.std.proofs.Common.{◌≡◌, ◌⊎◌, ⊎_elim, ◌<◌, ◌≤◌, ℕ, List, [], ◌∷◌, inl, inr, Result, Ok, refl, sym, ap, subst, arith}
 use Rattle.std.specs.Prelude.{MatchOption}
 use Rattle.mv_entry.specs.declared.fault.RuleFault.{RuleFault}
 use Rattle.mv_entry.specs.declared.fault.RuleFault.TheVariants.{Memory as out_of_memory}
@@ -10,7 +10,7 @@ use Rattle.mv_entry.specs.declared.note.Why.{Why}
 use Rattle.mv_entry.specs.declared.note.Why.TheVariants.{Literals}
 use Rattle.mv_entry.specs.declared.rule.Rule.{Rule}
 use Rattle.mv_entry.specs.declared.rule.Rule.TheVariants.{Collapse}
-use Rattle.mv_entry.specs.Entries.{Applied, Noted, is_visible_name, HasVisibleNames}
+use Rattle.mv_entry.specs.Entries.{Applied, Noted}
 use Rattle.mv_entry.specs.Tallies.{Journaled, Takes}
 use Rattle.mv_entry.proofs.Printing.{print-one}
 use Rattle.mv_base.specs.Outside.{Gained}

@@ -3,8 +3,7 @@
 
 mod collapsing;
 mod eliminating;
-mod judging;
-mod kept;
+mod noting;
 
 pub use collapsing::collapse;
 pub use eliminating::eliminate;

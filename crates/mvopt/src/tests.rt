@@ -1,5 +1,6 @@
 //! Whole runs over files and sinks in memory.
 mod checks;
+mod commands;
 mod examples;
 mod faults;
 mod refusals;

@@ -180,6 +180,25 @@ fn each_put_of_the_notes_fails_while_drop_runs(rt: HostRuntime) -> Result<(), Fa
     Ok(())
 }
 
+/// A buffer before two inverters.
+const BUFFERED: &[u8] =
+    b".model b\n.inputs a\n.outputs z\n.table a -> p\n0 0\n1 1\n.table p -> q\n0 1\n1 0\n.table q -> z\n0 1\n1 0\n.end\n";
+
+/// What a script of the other commands notes of it.
+const COMMANDED: &[u8] =
+    b"# begin sweep\nwire p\nremove p\n# end 4\n# begin eliminate\ncollapse q\n# end 2\n# begin collapse z\n# note seen z\n# end 2\n# done 6 2\n";
+
+#[test]
+fn each_put_of_the_notes_fails_while_commands_run(rt: HostRuntime) -> Result<(), Fail> {
+    let end = End {
+        status: 5,
+        out: Text::Whole(b""),
+        notes: Text::Front(COMMANDED),
+    };
+    let given = opt(BUFFERED, b"sweep; eliminate; collapse z").failing(Fault::Notes(0, 1));
+    each_ends(&rt, rt.alloc(), 11, given, end)
+}
+
 #[test]
 fn the_line_of_a_fault_is_cut_where_the_notes_fail(rt: HostRuntime) -> Result<(), Fail> {
     let end = End {

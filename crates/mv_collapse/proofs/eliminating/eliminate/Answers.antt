@@ -1,7 +1,31 @@
+-- The beginning, the steps and the end, as far as they came.
+use Rattle.mv_base.proofs.Meanings.{Refines-from_same}
 use Rattle.mv_entry.specs.declared.note.Command.TheVariants.{Eliminate}
-use Rattle.mv_pass.proofs.Passed.{unstarted}
+use Rattle.mv_pass.proofs.Passed.{unbegun, halted, ended, unended}
 use Rattle.mv_collapse.specs.Eliminates.{Eliminates, EndsEliminate}
+use Rattle.mv_collapse.proofs.Eliminated.{not_begun}
 use Rattle.mv_collapse.proofs.eliminating.eliminate.Goals as goal
 
+pub returns-in-Err : goal.returns-in-Err
+returns-in-Err g c = record { passes = unbegun Eliminates EndsEliminate Eliminate _ _ _ _ (not_begun _) c.in-Err.ensures }
+
+pub returns-in-Err-collapse_and_note : goal.returns-in-Err-collapse_and_note
+returns-in-Err-collapse_and_note g c = record {
+  passes =
+      let r = c.in-Err-collapse_and_note.ensures in
+      halted Eliminates EndsEliminate Eliminate _ _ _ c.in-Ok.ensures _ _ (Refines-from_same _ _ r.means) r.goes_on _ tt r.memory r.note r.cause;
+}
+
+pub returns-in-Ok-note : goal.returns-in-Ok-note
+returns-in-Ok-note g c = record {
+  passes =
+      let r = c.in-Ok-collapse_and_note.ensures in
+      ended Eliminates EndsEliminate Eliminate _ _ _ c.in-Ok.ensures _ _ (Refines-from_same _ _ r.means) r.goes_on _ r.ok _ c.literals.ensures c.few_literals.ensures c.in-Ok-note.ensures;
+}
+
 pub returns : goal.returns
-returns g c = record { passes = unstarted Eliminates EndsEliminate Eliminate _ (g.J.Journal.state c.args.journal.now) (g.J.Journal.state c.args.journal.now) }
+returns g c = record {
+  passes =
+      let r = c.in-Ok-collapse_and_note.ensures in
+      unended Eliminates EndsEliminate Eliminate _ _ _ c.in-Ok.ensures _ _ (Refines-from_same _ _ r.means) r.goes_on _ r.ok _ c.literals.ensures c.few_literals.ensures _ c.in-Err-note.ensures;
+}
