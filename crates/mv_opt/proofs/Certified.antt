@@ -1,5 +1,5 @@
 -- What the commands put to the notes is a certificate of what they did.
-use Rattle.std.proofs.Common.{◌≡◌, ◌∙◌, ℕ, ◌<◌, ◌≤◌, ◌+◌, suc, Bool, true, nat_eq, is_some, List, [], ◌∷◌, ◌++◌, length, map, get_or, All, Option, Some, None, refl, sym, ap, subst, arith, ⊎_elim}
+use Rattle.std.proofs.Common.{◌≡◌, ◌∙◌, ℕ, ◌≤◌, true, nat_eq, is_some, List, [], ◌∷◌, ◌++◌, length, map, All, Option, Some, None, refl, sym, ap, subst, ⊎_elim}
 use Rattle.std.proofs.lemmas.Bool.{and_parts, eq-eqb, false≢true, or_left, or_right}
 use Rattle.std.proofs.lemmas.List.{append-nil}
 use Rattle.std.proofs.lemmas.List.Elements.{All-nil, All-cons, All-head, All-tail, All-append}
@@ -27,7 +27,6 @@ use Rattle.mv_pass.proofs.Going.{rules_of-append}
 use Rattle.mv_printed.specs.Names.{HasWordNames}
 use Rattle.mv_printed.specs.Notes.{notes_of}
 use Rattle.mv_rules.specs.Replaying.{Replays}
-use Rattle.mv_rules.proofs.Kept.{kept_formed}
 use Rattle.mv_rules.proofs.Replayed.{replayed_formed}
 use Rattle.mv_rules.proofs.Spoken.{held_visible}
 use Rattle.mv_script.specs.Scripts.{IsCommand}

@@ -123,7 +123,7 @@ module _ (words : List (List ℕ)) (old new : Stored) (commands : List Command) 
       made = made;
       net = w.net;
       replaced = replaced words old new first w.net out out' made w.gained w.back w.refines;
-      told = record { commands = commands; taken = taken; entries = w.entries; runs = w.runs; noted = w.noted; certified = w.certified };
+      told = record { commands = commands; taken = taken; entries = w.entries; runs = w.runs; noted = w.noted; certified = w.certified; no_more = w.no_more };
     };
     network = λ e. absurd (omega arith);
     behind = λ e. absurd (omega arith);

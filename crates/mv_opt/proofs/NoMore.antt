@@ -1,8 +1,8 @@
 -- No command ends with more literals than it began with.
-use Rattle.std.proofs.Common.{◌≡◌, ◌∙◌, ℕ, ◌≤◌, true, false, is_some, List, [], ◌∷◌, Option, Some, None, refl, sym, ap, subst, arith}
+use Rattle.std.proofs.Common.{◌≡◌, ◌∙◌, ℕ, ◌≤◌, true, is_some, List, [], ◌∷◌, Option, Some, None, refl, sym, ap, subst, arith}
 use Rattle.std.proofs.lemmas.Bool.{false≢true}
 use Rattle.mv_collapse.specs.Collapses.{IsCollapseStep}
-use Rattle.mv_collapse.specs.Eliminates.{IsEliminateStep, IsLeastNamed}
+use Rattle.mv_collapse.specs.Eliminates.{IsEliminateStep}
 use Rattle.mv_entry.specs.declared.note.Command.{Command}
 use Rattle.mv_entry.specs.declared.note.Command.TheVariants.{Drop, Sweep, Eliminate, Collapse, Kernel, Cube, Simplify, Merge, Default, Determinize, Encode}
 use Rattle.mv_entry.specs.declared.rule.Rule.{Rule}
@@ -11,7 +11,6 @@ use Rattle.mv_entry.specs.Entries.{Entry, Applied, rules_of}
 use Rattle.mv_net.specs.declared.parts.FlatNet.{FlatNet}
 use Rattle.mv_net.specs.declared.parts.NetParts.{NetParts}
 use Rattle.mv_net.specs.Formed.{WellFormed}
-use Rattle.mv_net.specs.Index.{is_held}
 use Rattle.mv_net.specs.Nets.{slot, name_in, table_in, literals_in}
 use Rattle.mv_net.specs.Plain.{IsPlainConstant}
 use Rattle.mv_local.proofs.Fewer.{removes_no_more, wires_no_more, collapses_no_more}
@@ -19,13 +18,13 @@ use Rattle.mv_local.proofs.Steps.{names_itself}
 use Rattle.mv_pass.proofs.Going.{goes_no_more}
 use Rattle.mv_rules.specs.Applies.{Applies}
 use Rattle.mv_rules.specs.Checks.{IsTabled}
-use Rattle.mv_rules.specs.Collapsing.{Collapses, collapsed}
+use Rattle.mv_rules.specs.Collapsing.{Collapses}
 use Rattle.mv_rules.proofs.CompositeLiterals.{collapse_leaves}
 use Rattle.mv_rules.proofs.OneAnswer.{one_network}
 use Rattle.mv_rules.proofs.Replayed.{replayed_formed}
 use Rattle.mv_sweep.specs.Drops.{IsDropStep}
-use Rattle.mv_sweep.specs.Sweeps.{IsSweepStep, SweepsLeast}
-use Rattle.mv_opt.specs.Runs.{CourseOf, DoesCommand, Runs}
+use Rattle.mv_sweep.specs.Sweeps.{IsSweepStep}
+use Rattle.mv_opt.specs.Runs.{CourseOf, Runs}
 use Rattle.mv_opt.proofs.CommandRuns.{does_replays}
 
 -- a network has at most as many literals as another

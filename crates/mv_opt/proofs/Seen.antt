@@ -1,6 +1,6 @@
 -- The text of entries whose rules can be printed and whose notes can be seen: as a certificate it lists the rules. A note is a comment
 -- line, which has no words to who reads it: its names may be as long as they like, and any words that can be seen.
-use Rattle.std.proofs.Common.{◌≡◌, ◌∙◌, ℕ, zero, suc, ◌+◌, ◌/◌, ◌%◌, ◌<◌, ◌≤◌, true, false, not, ◌&&◌, ◌==◌, None, List, [], ◌∷◌, ◌++◌, length, decimal, codes, All, refl, sym, ap, subst, arith}
+use Rattle.std.proofs.Common.{◌≡◌, ◌∙◌, ℕ, zero, suc, ◌+◌, ◌/◌, ◌%◌, ◌<◌, ◌≤◌, true, false, not, ◌==◌, None, List, [], ◌∷◌, ◌++◌, length, decimal, codes, All, refl, sym, ap, subst, arith}
 use Rattle.std.specs.Fmt.{digit_glyph, digits, digits_onto}
 use Rattle.std.specs.List.{flat_map, list_all, list_any, AllByRecursion}
 use Rattle.std.specs.Prelude.{nat_le, nat_lt, if◌then◌else◌}
@@ -17,7 +17,8 @@ use Rattle.mv_entry.specs.declared.note.Note.TheVariants.{Begin, Dropped, End, D
 use Rattle.mv_entry.specs.declared.note.Why.{Why}
 use Rattle.mv_entry.specs.declared.note.Why.TheVariants.{Literals, Lines, Nodes, Window, Kernels, Shared, Seen, Partial, Absent, Varied, Unread, Nets}
 use Rattle.mv_entry.specs.declared.rule.Rule.{Rule}
-use Rattle.mv_entry.specs.Entries.{Entry, Applied, Noted, command_names, command_word, operands, why_word, why_numbers, note_words, rule_lines, entry_lines, entry_text, print, rules_of, is_visible_name, HasVisibleNames}
+use Rattle.mv_entry.specs.Entries.{Entry, Applied, Noted, command_names, command_word, operands, why_word, why_numbers, note_words}
+use Rattle.mv_entry.specs.Entries.{rule_lines, entry_lines, entry_text, print, rules_of, is_visible_name, HasVisibleNames}
 use Rattle.mv_lex.specs.Lines.{lines_of, lex_fault, has_long_word, is_clean, is_within}
 use Rattle.mv_lex.specs.Text.{line_text}
 use Rattle.mv_lex.proofs.Facts.{no_fault_is_clean}
@@ -207,7 +208,8 @@ module _ (es : List Entry) (printable : All Printable (quiet es)) (seen : All Is
       subst (λ ls. Replays (rules_in (steps_of ls)) a b) (sym same_lines) (replayed_from_print (quiet es) a b printable quiet_replays)
 
 -- where the rules apply in turn, and the notes can be seen, the text is a certificate if it isn't too long
-pub seen_certifies : (es : List Entry) (a b : NetParts) → WellFormed a → HasWordNames a.nets → All IsSeenNote (notes_of es) → Replays (rules_of es) a b → length (print es) ≤ MAX_CERTIFICATE_BYTES → Certifies (print es) a b
+pub seen_certifies : (es : List Entry) (a b : NetParts) → WellFormed a → HasWordNames a.nets → All IsSeenNote (notes_of es) → Replays (rules_of es) a b
+    → length (print es) ≤ MAX_CERTIFICATE_BYTES → Certifies (print es) a b
 seen_certifies es a b formed names seen p fits =
     let printable = replayed_printable (quiet es) a b formed names (quiet_notes es) (subst (λ rs. Replays rs a b) (sym (quiet_rules es)) p) in
     record {

@@ -9,6 +9,7 @@ use Rattle.mv_net.specs.Allowed.{of_net}
 use Rattle.mv_net.specs.Formed.{WellFormed}
 use Rattle.mv_printed.specs.Names.{HasWordNames}
 use Rattle.mv_opt.proofs.Certified.{certified}
+use Rattle.mv_opt.proofs.NoMore.{runs_no_more}
 use Rattle.mv_net.specs.Nets.{literals_in}
 use Rattle.mv_write.specs.Text.{text_of}
 use Rattle.mv_back.specs.Back.{ReadsBack}
@@ -52,6 +53,7 @@ work_done commands first net before out out' notes mid notes' e ran refines back
       runs = ran.runs;
       noted = Gained-then notes mid notes' _ _ ran.gained (subst P (same_line first net before e) line);
       certified = certified commands first net ran.entries lawful formed names ran.runs;
+      no_more = runs_no_more commands first net ran.entries formed ran.runs;
       gained = text;
       back = back;
       refines = refines;

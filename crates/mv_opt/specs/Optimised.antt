@@ -3,6 +3,7 @@ use Rattle.std.specs.Prelude.{◌≡◌, ◌⊎◌, ℕ, ◌≤◌, IfSome, List
 use Rattle.mv_base.specs.Outside.{Stored, Written, Gained, Rose}
 use Rattle.mv_entry.specs.Entries.{Entry}
 use Rattle.mv_net.specs.declared.parts.NetParts.{NetParts}
+use Rattle.mv_net.specs.Nets.{literals_in}
 use Rattle.mv_entry.specs.declared.note.Command.{Command}
 use Rattle.mv_task.specs.Exact.{LacksFile, IsExact, IsComplete}
 use Rattle.mv_task.specs.Faults.{TellsFault}
@@ -24,6 +25,8 @@ pub record Told (words : List (List ℕ)) (files : Stored) (first net : NetParts
   pub runs : Runs commands first entries net
   pub noted : Gained notes notes' (all_notes entries first net)
   pub certified : IsCertified entries first net
+  -- no command ends with more literals than it began with
+  pub no_more : literals_in net.nets ≤ literals_in first.nets
 
 -- the work is done: the network of the named file was read; the commands led from it to another one, and told what they did; and
 -- that one was written, and takes its place

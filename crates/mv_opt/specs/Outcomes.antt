@@ -1,9 +1,10 @@
 -- How the work on a network ends: its commands, then the done line, then its text.
-use Rattle.std.specs.Prelude.{◌≡◌, ◌⊎◌, ℕ, IfSome, List, [], ◌++◌}
+use Rattle.std.specs.Prelude.{◌≡◌, ◌⊎◌, ℕ, ◌≤◌, IfSome, List, [], ◌++◌}
 use Rattle.mv_base.specs.Meaning.{Refines}
 use Rattle.mv_base.specs.Outside.{Stored, Written, Gained, GainedPart, Rose}
 use Rattle.mv_net.specs.declared.parts.NetParts.{NetParts}
 use Rattle.mv_net.specs.Allowed.{of_net}
+use Rattle.mv_net.specs.Nets.{literals_in}
 use Rattle.mv_entry.specs.Entries.{Entry, print}
 use Rattle.mv_write.specs.Text.{text_of}
 use Rattle.mv_back.specs.Back.{ReadsBack}
@@ -36,13 +37,15 @@ pub record IsNoteCut (commands : List Command) (old new : NetParts) (notes notes
   pub stops : StopsIn commands old entries new
   pub gained : GainedPart notes notes' (print entries)
 
--- the work is done: the network that was left may take the place of the first, and its text, which reads back, was written
+-- the work is done: the network that was left may take the place of the first, has no more literals, and its text, which reads
+-- back, was written
 pub record HasWorked (commands : List Command) (first : NetParts) (out out' notes notes' : Written) : Type 0 where
   pub entries : List Entry
   pub net : NetParts
   pub runs : Runs commands first entries net
   pub noted : Gained notes notes' (all_notes entries first net)
   pub certified : IsCertified entries first net
+  pub no_more : literals_in net.nets ≤ literals_in first.nets
   pub gained : Gained out out' (text_of net)
   pub back : ReadsBack net
   pub refines : Refines (of_net net) (of_net first)

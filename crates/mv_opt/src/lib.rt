@@ -8,5 +8,5 @@ mod stop;
 mod take;
 mod work;
 
-pub use laws::entries_replay;
+pub use laws::{entries_replay, no_more_literals};
 pub use optimising::optimise;
