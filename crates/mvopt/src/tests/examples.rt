@@ -41,6 +41,27 @@ C HELD 0;.table last lock pick _m1 -> grant;A HELD - - A;B HELD - - B;C HELD - -
 # begin drop;remove odd;remove all;# end 14;# done 24 14;
 ";
 
+/// The same of an example whose script is another one.
+const SWEPT: &str = "\
+-- A buffer, a constant and an inner net that go, and one that stays, since the literals would rise.
+# A register on a bus, put together from modules.;.model register;.inputs cmd addr lock ready;\
+.outputs load send;.mv cmd, op 3 IDLE READ WRITE;.mv addr 3 CTRL DATA NONE;;# the bus hands its command on;\
+.table cmd -> op;- =cmd;;# the test mode is tied off;.table -> test;0;;\
+# the register is meant and may be used;.table addr lock ready test -> hit;.default 0;DATA 0 1 - 1;- - - 1 1;;\
+.table op -> writing;.default 0;WRITE 1;;.table writing hit -> load;.default 0;1 1 1;;.table op hit -> send;\
+.default 0;READ 1 1;.end; | \
+.model register;.inputs cmd addr lock ready;.outputs load send;.mv cmd 3 IDLE READ WRITE;\
+.mv addr 3 CTRL DATA NONE;.table addr lock ready -> hit;.default 0;DATA 0 1 1;.table cmd hit -> load;\
+.default 0;WRITE 1 1;.table cmd hit -> send;.default 0;READ 1 1;.end; | \
+# begin sweep;wire op;remove op;collapse test;# end 8;# begin eliminate;collapse writing;# end 7;# done 12 7;
+";
+
+#[test]
+fn a_swept_example_is_written_as_worked_out(rt: HostRuntime) -> Result<(), Fail> {
+    let script = b"sweep; eliminate # what modules leave between them\n";
+    are_written(&rt, rt.alloc(), script, SWEPT)
+}
+
 #[test]
 fn the_examples_are_written_as_worked_out(rt: HostRuntime) -> Result<(), Fail> {
     are_written(
