@@ -8,7 +8,7 @@ use Rattle.mv_base.specs.declared.number.NetId.{NetId}
 use Rattle.mv_cert.specs.Certificates.{Certifies}
 use Rattle.mv_collapse.specs.Collapses.{IsCollapseStep}
 use Rattle.mv_collapse.specs.Eliminates.{IsEliminateStep, Eliminates, HasNoted, NotesWide, wide_note}
-use Rattle.mv_collapse.specs.Savings.{NoneSaves}
+use Rattle.mv_saving.specs.Savings.{NoneSaves}
 use Rattle.mv_entry.specs.declared.note.Command.{Command}
 use Rattle.mv_entry.specs.declared.note.Command.TheVariants.{Drop, Sweep, Eliminate, Collapse, Kernel, Cube, Simplify, Merge, Default, Determinize, Encode}
 use Rattle.mv_entry.specs.declared.note.Note.{Note}

@@ -4,7 +4,7 @@ use Rattle.std.proofs.lemmas.List.{append-nil, take_all, take_more, take-append-
 use Rattle.mv_base.specs.declared.number.NetId.{NetId}
 use Rattle.mv_collapse.specs.Collapses.{IsCollapseStep}
 use Rattle.mv_collapse.specs.Eliminates.{IsEliminateStep, Eliminates, HasNoted, NotesWide, wide_note}
-use Rattle.mv_collapse.specs.Savings.{NoneSaves}
+use Rattle.mv_saving.specs.Savings.{NoneSaves}
 use Rattle.mv_entry.specs.declared.note.Command.{Command}
 use Rattle.mv_entry.specs.declared.note.Command.TheVariants.{Drop, Sweep, Eliminate, Collapse, Kernel, Cube, Simplify, Merge, Default, Determinize, Encode}
 use Rattle.mv_entry.specs.Entries.{Entry, rules_of}
