@@ -9,8 +9,8 @@ ghost use Rattle.mv_pass.specs.Passing.{Passes};
 ghost use Rattle.mv_pass.specs.Taking.{GoesOn, Went, WentPart};
 ghost use Rattle.mv_sweep.specs.Drops.{IsDropStep, IsLeastRemovable, NoneLeft, EndsDrop};
 
-use crate::{NO_BUDGET, Stop};
 use crate::removal::{copy_fanins, next_place, next_removable};
+use crate::{NO_BUDGET, Stop};
 use mv_base::{Name, NetId};
 use mv_entry::{Command, Journal, Note, Rule};
 use mv_net::Network;

@@ -114,5 +114,10 @@ fn a_complement_may_be_too_wide(rt: HostRuntime) -> Result<(), Fail> {
          # begin collapse wide;# note lines wide;# end 28;# done 28 28;",
     )?;
     let end = written(net.as_slice(), notes.as_slice());
-    ends(&rt, rt.alloc(), opt(net.as_slice(), b"eliminate; collapse wide"), end)
+    ends(
+        &rt,
+        rt.alloc(),
+        opt(net.as_slice(), b"eliminate; collapse wide"),
+        end,
+    )
 }

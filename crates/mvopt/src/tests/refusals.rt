@@ -49,9 +49,28 @@ fn script_is_refused(rt: &impl Abort, alloc: Global, script: &[u8]) -> Result<()
 #[test]
 fn a_script_that_says_more_is_refused(rt: HostRuntime) -> Result<(), Fail> {
     for script in [
-        "x# ", "# x\ny", "drop x", "dropx", "Drop", "drop{", "dro p", "{", "\\", "\u{b}", "\u{80}",
-        "collapse", "collapse ;a", "collapse # a", "collapse {", "collapse a\u{80}", "collapse a b", "sweep 1",
-        "eliminate }", "kernel", "simplify 1 1", "repeat 2 { sweep }",
+        "x# ",
+        "# x\ny",
+        "drop x",
+        "dropx",
+        "Drop",
+        "drop{",
+        "dro p",
+        "{",
+        "\\",
+        "\u{b}",
+        "\u{80}",
+        "collapse",
+        "collapse ;a",
+        "collapse # a",
+        "collapse {",
+        "collapse a\u{80}",
+        "collapse a b",
+        "sweep 1",
+        "eliminate }",
+        "kernel",
+        "simplify 1 1",
+        "repeat 2 { sweep }",
     ] {
         script_is_refused(&rt, rt.alloc(), script.as_bytes())?;
     }
