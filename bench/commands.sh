@@ -89,7 +89,7 @@ network() {
     }
     function wide(    i, k, row) {
         print ".inputs" names("i", 0, 16) "\n.outputs big" names("z", 0, n / 2)
-        print ".table -> one\n1\n.table i0 i1 -> hub\n.default 0\n1 1 1"
+        print ".table -> one\n1\n.table i14 i15 -> hub\n.default 0\n1 1 1"
         for (i = 0; i < n / 2; i++) {
             gate("i" draw(16), "hub", "own" i)
             gate("one", "own" i, "z" i)
