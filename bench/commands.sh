@@ -126,7 +126,9 @@ script() {
 # PROGRAM NAME: the user seconds of a run on the network and the script that stand in the folder, the least of three means of five
 seconds() {
     for _ in 1 2 3; do
-        { TIMEFORMAT=%U; time for _ in 1 2 3 4 5; do "$1" opt "$folder/net" "$folder/script" > "$folder/out.$2" 2> "$folder/notes.$2"; done; } 2>> "$folder/took" || true
+        { TIMEFORMAT=%U; time for _ in 1 2 3 4 5; do
+            "$1" opt "$folder/net" "$folder/script" > "$folder/out.$2" 2> "$folder/notes.$2"
+        done; } 2>> "$folder/took" || true
     done
     grep -q '^# done ' "$folder/notes.$2" || { echo "$2: $(tail -n 1 "$folder/notes.$2")" >&2; exit 1; }
     sort -n "$folder/took" | awk 'NR == 1 { printf "%.3f\n", $1 / 5 }'
