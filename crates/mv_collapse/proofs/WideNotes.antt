@@ -32,10 +32,6 @@ table_held (Some g) e = (g, refl)
 pub wide_held : (net : NetParts) (n : ℕ) → IsWideNet net n → is_held net.nets n ≡ true
 wide_held net n wide = ap (λ (f : Option FlatNet). is_some f) (table_held (slot net.nets n) wide.tabled).1
 
--- a net that saves isn't too wide
-pub saving_narrow : (net : NetParts) (n : ℕ) → WellFormed net → IsSaving net n → IsWideNet net n → ⊥
-saving_narrow net n formed saving wide = (wide_net net n formed wide).1 saving.composites
-
 -- the name of its note can be seen
 pub note_visible : (net : NetParts) (n : ℕ) (name : List ℕ) → WellFormed net → IsWideNet net n → name ≡ name_in (slot net.nets n) → HasVisibleNames (Noted (Dropped Lines name))
 note_visible net n name formed wide named =
