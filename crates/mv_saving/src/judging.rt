@@ -46,8 +46,8 @@ impl KeptComposites {
         Ok(self.weigh(net, n))
     }
 
-    /// Whether the net of this number saves. No more composites are worked out where those that are kept have more literals than the
-    /// net and its readers.
+    /// Whether the net of this number saves. Where its readers are few no more composites are worked out once those that are kept have
+    /// more literals than the net and its readers.
     pub fn saves(&mut self, alloc: Global, net: &Network, n: NetId) -> Result<bool, Memory>
         requires { AreRight net.now.nets self.old }
         ensures right { OnOk result (AreRight net.now.nets self.new) }
