@@ -18,8 +18,7 @@ use Rattle.mv_net.specs.Nets.{slot, name_in, table_in}
 use Rattle.mv_pass.specs.Taking.{Took, TookPart}
 use Rattle.mv_pass.proofs.Taken.{Took-none, Took-as, TookPart-as, Took-then, TookPart-then}
 use Rattle.mv_rules.proofs.Spoken.{held_visible}
-use Rattle.mv_saving.specs.Savings.{IsSaving, IsWideNet}
-use Rattle.mv_saving.proofs.Going.{wide_net}
+use Rattle.mv_saving.specs.Savings.{IsWideNet}
 use Rattle.mv_collapse.specs.Eliminates.{NotesWide, wide_note}
 use Rattle.mv_collapse.specs.Eliminating.{NotesFirst, NotesOne, IsNoteOf}
 
@@ -31,10 +30,6 @@ table_held (Some g) e = (g, refl)
 
 pub wide_held : (net : NetParts) (n : ℕ) → IsWideNet net n → is_held net.nets n ≡ true
 wide_held net n wide = ap (λ (f : Option FlatNet). is_some f) (table_held (slot net.nets n) wide.tabled).1
-
--- a net that saves isn't too wide
-pub saving_narrow : (net : NetParts) (n : ℕ) → WellFormed net → IsSaving net n → IsWideNet net n → ⊥
-saving_narrow net n formed saving wide = (wide_net net n formed wide).1 saving.composites
 
 -- the name of its note can be seen
 pub note_visible : (net : NetParts) (n : ℕ) (name : List ℕ) → WellFormed net → IsWideNet net n → name ≡ name_in (slot net.nets n) → HasVisibleNames (Noted (Dropped Lines name))

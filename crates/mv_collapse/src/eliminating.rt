@@ -1,4 +1,4 @@
-ghost use Rattle.std.specs.Prelude.{◌≡◌, Err, IfOk, OnOk, MatchBool, MatchOption};
+ghost use Rattle.std.specs.Prelude.{◌≡◌, Err, IfOk, OnOk, MatchOption};
 ghost use Rattle.mv_agenda.specs.Agenda.{AllWait};
 ghost use Rattle.mv_base.specs.Meaning.{SameMeaning};
 ghost use Rattle.mv_base.specs.Outside.{Rose};
@@ -18,23 +18,8 @@ use mv_base::{Memory, Name, NetId};
 use mv_entry::{Command, Journal, Note, Rule};
 use mv_net::Network;
 use mv_pass::{few_literals, take};
-use mv_saving::{KeptComposites, Verdict};
+use mv_saving::KeptComposites;
 use std::alloc::Global;
-
-/// Whether the net of this number saves.
-fn saves(alloc: Global, net: &Network, kept: &mut KeptComposites, n: NetId) -> Result<bool, Memory>
-    requires { AreRight net.now.nets kept.old }
-    ensures right { OnOk result (AreRight net.now.nets kept.new) }
-    ensures saves { IfOk result (λ saves. MatchBool saves (IsSaving net.now n.0) (IsSaving net.now n.0 → ⊥)) }
-{
-    net.well_formed();
-    match kept.judge(alloc, net, n) {
-        Ok(Verdict::Saves) => Ok(true),
-        Ok(Verdict::Wide) => Ok(false),
-        Ok(Verdict::Stays) => Ok(false),
-        Err(memory) => Err(memory),
-    }
-}
 
 /// The least net that waits and saves, if one does; those before it wait no more.
 fn next_saving(
@@ -53,7 +38,7 @@ fn next_saving(
         let Some(n) = agenda.take_least() else {
             return Ok(None);
         };
-        match saves(alloc, net, kept, n) {
+        match kept.saves(alloc, net, n) {
             Ok(true) => return Ok(Some(n)),
             Ok(false) => {}
             Err(memory) => return Err(memory),

@@ -1,7 +1,9 @@
--- A net has no more readers than there are nets, and a list of as many as it has is that of all.
+-- A net has no more readers than there are nets, a list of as many as it has is that of all, and a sum over fewer is no more.
 use Rattle.std.proofs.Common.{◌≡◌, ◌∙◌, ◌⊎◌, ℕ, ◌+◌, ◌<◌, ◌≤◌, true, nat_eq, nat_lt, Option, None, List, [], ◌∷◌, length, is_some, inl, inr, refl, sym, ap, ⊎_elim, eq-eqb, eqb-true, arith}
+use Rattle.std.specs.List.{sum_by}
 use Rattle.std.proofs.lemmas.Bool.{and_parts, cases_lt, false≢true, ltb-true, or_cases, or_left, or_right}
 use Rattle.std.proofs.lemmas.List.{get_or_past}
+use Rattle.std.proofs.lemmas.List.Sums.{sum_by-cons}
 use Rattle.mv_base.specs.declared.number.NetId.{NetId}
 use Rattle.mv_graph.specs.Nets.{has_id, ids_ascend}
 use Rattle.mv_graph.proofs.Nets.{above_first}
@@ -83,6 +85,14 @@ no_longer (x ∷ xs) (y ∷ ys) up over within =
     let rest = no_longer xs ys (rest_ascends x xs up) (rest_ascends y ys over) (within_rest xs y ys (λ m h. within m (or_right (nat_eq x.0 m) (has_id xs m) h)) past) in
     omega (arith, rest)
 
+-- what comes before the first of an ascending list comes before all
+not_before : (x : NetId) (xs : List NetId) (y : NetId) → y.0 < x.0 → ids_ascend (x ∷ xs) ≡ true → (k : ℕ) → has_id (x ∷ xs) k ≡ true → y.0 < k
+not_before x xs y less up k i =
+    ⊎_elim
+    (λ (e : x.0 ≡ k). omega (arith, less, e))
+    (λ (in_rest : has_id xs k ≡ true). let above = above_first x xs k up in_rest in omega (arith, less, above))
+    (in_first_or_rest x xs k i)
+
 -- and where it is as long, it has all
 pub as_long_all : (xs ys : List NetId) → ids_ascend xs ≡ true → ids_ascend ys ≡ true → Within xs ys → length xs ≡ length ys → Within ys xs
 as_long_all [] [] up over within same m h = h
@@ -100,10 +110,25 @@ as_long_all (x ∷ xs) (y ∷ ys) up over within same m h =
     (cases_lt y.0 x.0))
     (λ (later : has_id ys m ≡ true). or_right (nat_eq x.0 m) (has_id xs m) (as_long_all xs ys (rest_ascends x xs up) (rest_ascends y ys over) rest (omega (arith, same)) m later))
     (in_first_or_rest y ys m h)
-  where
-    not_before : (x : NetId) (xs : List NetId) (y : NetId) → y.0 < x.0 → ids_ascend (x ∷ xs) ≡ true → (k : ℕ) → has_id (x ∷ xs) k ≡ true → y.0 < k
-    not_before x xs y less up k i =
-        ⊎_elim
-        (λ (e : x.0 ≡ k). omega (arith, less, e))
-        (λ (in_rest : has_id xs k ≡ true). let above = above_first x xs k up in_rest in omega (arith, less, above))
-        (in_first_or_rest x xs k i)
+
+-- ---- sums
+
+-- a sum over a list within another is no more than that over the other
+pub sum_within : (g : ℕ → ℕ) (xs ys : List NetId) → ids_ascend xs ≡ true → ids_ascend ys ≡ true → ((m : ℕ) → has_id xs m ≡ true → has_id ys m ≡ true)
+    → sum_by (λ (r : NetId). g r.0) xs ≤ sum_by (λ (r : NetId). g r.0) ys
+sum_within g [] ys up over within = omega arith
+sum_within g (x ∷ xs) [] up over within = absurd (false≢true (within x.0 (first_in x xs)))
+sum_within g (x ∷ xs) (y ∷ ys) up over within =
+    let f : NetId → ℕ = λ r. g r.0 in
+    let low = first_not_below x xs y ys over within in
+    let past : (m : ℕ) → has_id xs m ≡ true → y.0 < m = λ k i. let above = above_first x xs k up i in omega (arith, low, above) in
+    ⊎_elim
+    (λ (less : y.0 < x.0).
+    let rest = sum_within g (x ∷ xs) ys up (rest_ascends y ys over) (within_rest (x ∷ xs) y ys within (λ k i. not_before x xs y less up k i)) in
+    omega (arith, rest, sum_by-cons f y ys))
+    (λ (more : x.0 ≤ y.0).
+    let rest =
+    sum_within g xs ys (rest_ascends x xs up) (rest_ascends y ys over) (within_rest xs y ys (λ k i. within k (or_right (nat_eq x.0 k) (has_id xs k) i)) past) in
+    let same : x.0 ≡ y.0 = omega (arith, low, more) in
+    omega (arith, rest, ap g same, sum_by-cons f x xs, sum_by-cons f y ys))
+    (cases_lt y.0 x.0)

@@ -78,6 +78,14 @@ sum_same f g (e ∷ es) all =
     ∙ (ap (λ k. k + sum_by f (values_of es)) (All-head P e es all)
     ∙ (ap (λ k. g e.0 + k) (sum_same f g es (All-tail P e es all)) ∙ sym (sum_by-cons (λ (r : NetId). g r.0) (record { 0 = e.0 }) (readers_of es))))
 
+-- and no more than one over their readers, where each pair has no more
+pub sum_below : (f : Pair → ℕ) (g : ℕ → ℕ) (es : List (ℕ × Pair)) → All (λ (e : ℕ × Pair). f e.1 ≤ g e.0) es → sum_by f (values_of es) ≤ sum_by (λ (r : NetId). g r.0) (readers_of es)
+sum_below f g [] all = omega arith
+sum_below f g (e ∷ es) all =
+    let P : ℕ × Pair → Type 0 = λ d. f d.1 ≤ g d.0 in
+    let rest = sum_below f g es (All-tail P e es all) in
+    omega (arith, All-head P e es all, rest, sum_by-cons f e.1 (values_of es), sum_by-cons (λ (r : NetId). g r.0) (record { 0 = e.0 }) (readers_of es))
+
 pub sum_few : (f : Pair → ℕ) (top : ℕ) (es : List (ℕ × Pair)) → All (λ (e : ℕ × Pair). f e.1 ≤ top) es → sum_by f (values_of es) ≤ length es * top
 sum_few f top [] all = omega arith
 sum_few f top (e ∷ es) all =

@@ -36,7 +36,7 @@ use Rattle.mv_saving.proofs.Right.{RightRow, row_right, row_reads, has_at}
 asked_same : (nets : List (Option FlatNet)) (n : ℕ) (i j : Inner) → IsAsked nets n i → IsAsked nets n j → i ≡ j
 asked_same nets n i j p q = inner_same nets i j p.known q.known (λ t. record { 0 = (p.of_net ∙ sym q.of_net) t })
 
-pair_counted : (nets : List (Option FlatNet)) (n m count : ℕ) (inner : Inner) → IsAsked nets n inner → HasLiterals nets n m count → HasCompositeLiterals nets inner m count
+pub pair_counted : (nets : List (Option FlatNet)) (n m count : ℕ) (inner : Inner) → IsAsked nets n inner → HasLiterals nets n m count → HasCompositeLiterals nets inner m count
 pair_counted nets n m count inner asked has =
     subst (λ i. HasCompositeLiterals nets i m count) (asked_same nets n has.inner inner (record { of_net = has.of_net; known = has.known }) asked) has.counted
 

@@ -7,3 +7,4 @@ mod Right
 pub mod Going
 mod Around
 mod Judged
+mod Over

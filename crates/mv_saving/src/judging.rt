@@ -1,11 +1,13 @@
-ghost use Rattle.std.specs.Prelude.{◌≡◌, ◌^◌, ◌≤◌, true, is_some, IsTrue, IfOk, OnOk, MatchBool};
+ghost use Rattle.std.specs.Prelude.{◌≡◌, ◌^◌, ◌≤◌, true, length, is_some, IsTrue, IfOk, IfSome, OnOk, MatchBool};
+ghost use Rattle.std.specs.List.{sum_by};
 ghost use Rattle.mv_net.specs.Behind.{literals_at};
 ghost use Rattle.mv_net.specs.Index.{is_held};
 ghost use Rattle.mv_net.specs.Nets.{slot, table_in, reads_in};
 ghost use Rattle.mv_rules.specs.Collapsing.{IsUnshared};
-ghost use Rattle.mv_saving.specs.Judging.{CanGo, IsMade, IsAsked, IsFilled, IsWeighed};
+ghost use Rattle.mv_saving.specs.Judging.{CanGo, IsMade, IsAsked, IsFilled, IsMost, IsOver, IsEnough, IsWeighed};
 ghost use Rattle.mv_saving.specs.Kept.{IsPair, AreRight, IsJudged};
 ghost use Rattle.mv_saving.specs.Pairs.{KeepsMore, HasComing};
+ghost use Rattle.mv_saving.specs.Savings.{IsSaving};
 
 use crate::kept::KeptComposites;
 use crate::row::{Pair, Row};
@@ -13,6 +15,10 @@ use mv_base::{Memory, NetId};
 use mv_net::Network;
 use mv_rules::{CoverStop, Inner, composite_literals, inner_of};
 use std::alloc::Global;
+
+/// The literals of the readers of a net are counted before their composites are worked out where there are no more readers than this:
+/// a net of very many readers is looked at whenever one of them changes.
+const FEW_READERS: usize = 64;
 
 /// Whether a net can go into its readers with no more literals than before.
 #[derive(Clone, Copy, Debug, PartialEq, Eq)]
@@ -36,8 +42,61 @@ impl KeptComposites {
         if !can_go(net, n) {
             return Ok(Verdict::Stays);
         }
-        self.fill(alloc, net, n)?;
+        self.fill(alloc, net, n, None)?;
         Ok(self.weigh(net, n))
+    }
+
+    /// Whether the net of this number saves. Where its readers are few no more composites are worked out once those that are kept have
+    /// more literals than the net and its readers.
+    pub fn saves(&mut self, alloc: Global, net: &Network, n: NetId) -> Result<bool, Memory>
+        requires { AreRight net.now.nets self.old }
+        ensures right { OnOk result (AreRight net.now.nets self.new) }
+        ensures saves { IfOk result (λ saves. MatchBool saves (IsSaving net.now n.0) (IsSaving net.now n.0 → ⊥)) }
+    {
+        net.well_formed();
+        if !can_go(net, n) {
+            return Ok(false);
+        }
+        let most = self.most_to_come(net, n);
+        self.fill(alloc, net, n, most)?;
+        if self.is_over(n, most) {
+            return Ok(false);
+        }
+        match self.weigh(net, n) {
+            Verdict::Saves => Ok(true),
+            Verdict::Wide => Ok(false),
+            Verdict::Stays => Ok(false),
+        }
+    }
+
+    /// The literals of the net and of its readers, than which no more come where it saves. They aren't counted where enough is kept to
+    /// know, nor where there are many readers.
+    fn most_to_come(&self, net: &Network, n: NetId) -> Option<u128>
+        requires held { IsTrue (is_held net.now.nets n.0) }
+        requires right { AreRight net.now.nets self.now }
+        ensures { IfSome result (IsMost net.now.nets n) }
+    {
+        if self.is_filled(net, n) {
+            return None;
+        }
+        let readers = net.readers(n);
+        if readers.len() > FEW_READERS {
+            return None;
+        }
+        Some(literals_of(net, n) + literals_of_each(net, readers))
+    }
+
+    /// Whether the composites of the net that are kept have more literals than the limit, if there is one.
+    fn is_over(&self, n: NetId, most: Option<u128>) -> bool
+        ensures { MatchBool result (IsOver self.now n.0 most) (IsOver self.now n.0 most → ⊥) }
+    {
+        let Some(limit) = most else {
+            return false;
+        };
+        match self.nets.get(n.0 as usize) {
+            Some(row) => row.coming > limit,
+            None => false,
+        }
     }
 
     /// What the sums say of a net, where a composite that is too wide is kept or else those of all readers are.
@@ -56,29 +115,48 @@ impl KeptComposites {
         }
     }
 
-    /// Works out composites of the net till one is too wide or those of all readers are kept: those of the readers that are marked,
-    /// and of those that weren't looked at yet. Where some are lacking even so, all readers are looked at again.
-    fn fill(&mut self, alloc: Global, net: &Network, n: NetId) -> Result<(), Memory>
+    /// Works out composites of the net till one is too wide, or they have more literals than the limit, or those of all readers are
+    /// kept: those of the readers that are marked, and of those that weren't looked at yet. Where some are lacking even so, all readers
+    /// are looked at again.
+    fn fill(
+        &mut self,
+        alloc: Global,
+        net: &Network,
+        n: NetId,
+        most: Option<u128>,
+    ) -> Result<(), Memory>
         requires tabled { is_some (table_in (slot net.now.nets n.0)) ≡ true }
         requires right { AreRight net.now.nets self.old }
         ensures right { OnOk result (AreRight net.now.nets self.new) }
-        ensures filled { OnOk result (IsFilled net.now.nets n.0 self.new) }
+        ensures enough { OnOk result (IsEnough net.now.nets n.0 most self.new) }
     {
-        if self.is_filled(net, n) {
+        if self.is_enough(net, n, most) {
             return Ok(());
         }
         let mut inner = None;
-        self.fill_marked(alloc, net, n, &mut inner)?;
-        if self.is_filled(net, n) {
+        self.fill_marked(alloc, net, n, most, &mut inner)?;
+        if self.is_enough(net, n, most) {
             return Ok(());
         }
         let next = self.next(n);
-        self.fill_from(alloc, net, n, next, &mut inner)?;
-        if self.is_filled(net, n) {
+        self.fill_from(alloc, net, n, next, most, &mut inner)?;
+        if self.is_enough(net, n, most) {
             return Ok(());
         }
-        self.fill_from(alloc, net, n, 0, &mut inner)?;
+        self.fill_from(alloc, net, n, 0, most, &mut inner)?;
         Ok(())
+    }
+
+    /// Whether as many composites are kept as it takes to know.
+    fn is_enough(&self, net: &Network, n: NetId, most: Option<u128>) -> bool
+        requires held { IsTrue (is_held net.now.nets n.0) }
+        requires right { AreRight net.now.nets self.now }
+        ensures { result ≡ true → IsEnough net.now.nets n.0 most self.now }
+    {
+        if self.is_over(n, most) {
+            return true;
+        }
+        self.is_filled(net, n)
     }
 
     /// Whether a composite that is too wide is kept or those of all readers are.
@@ -93,12 +171,13 @@ impl KeptComposites {
         }
     }
 
-    /// Works out the composites of the readers that are marked, till one is too wide.
+    /// Works out the composites of the readers that are marked, till one is too wide or they have more literals than the limit.
     fn fill_marked(
         &mut self,
         alloc: Global,
         net: &Network,
         n: NetId,
+        most: Option<u128>,
         inner: &mut Option<Inner>,
     ) -> Result<(), Memory>
         requires tabled { is_some (table_in (slot net.now.nets n.0)) ≡ true }
@@ -118,18 +197,23 @@ impl KeptComposites {
             {
                 break 'all;
             }
+            if self.is_over(n, most) {
+                break 'all;
+            }
         }
         self.set_marked(n, marked);
         Ok(())
     }
 
-    /// Works out the composites of the readers from this number on, till one is too wide.
+    /// Works out the composites of the readers from this number on, till one is too wide or they have more literals than the limit.
+    /// Where the limit is passed the readers are few, and are all looked at again.
     fn fill_from(
         &mut self,
         alloc: Global,
         net: &Network,
         n: NetId,
         start: u32,
+        most: Option<u128>,
         inner: &mut Option<Inner>,
     ) -> Result<(), Memory>
         requires tabled { is_some (table_in (slot net.now.nets n.0)) ≡ true }
@@ -137,7 +221,7 @@ impl KeptComposites {
         requires made { IsMade net.now.nets n.0 inner.old }
         ensures right { OnOk result (AreRight net.now.nets self.new) }
         ensures made { OnOk result (IsMade net.now.nets n.0 inner.new) }
-        ensures filled { OnOk result (start ≡ 0 → IsFilled net.now.nets n.0 self.new) }
+        ensures enough { OnOk result (start ≡ 0 → IsEnough net.now.nets n.0 most self.new) }
     {
         for reader in net.readers(n) {
             if reader.0 < start {
@@ -145,6 +229,9 @@ impl KeptComposites {
             }
             if self.composite(alloc, net, n, *reader, inner)?.is_none() {
                 self.set_next(n, reader.0);
+                return Ok(());
+            }
+            if self.is_over(n, most) {
                 return Ok(());
             }
         }
@@ -283,4 +370,17 @@ fn literals_of(net: &Network, n: NetId) -> u128
         Some(table) => table.literals(),
         None => 0,
     }
+}
+
+/// The literals of the tables of these nets, which are few.
+fn literals_of_each(net: &Network, nets: &[NetId]) -> u128
+    requires { length nets.now ≤ FEW_READERS }
+    ensures value { result ≡ sum_by (literals_at net.now.nets) nets.now }
+    ensures few { result ≤ 2 ^ 102 }
+{
+    let mut literals = 0;
+    for n in nets {
+        literals += literals_of(net, *n);
+    }
+    literals
 }

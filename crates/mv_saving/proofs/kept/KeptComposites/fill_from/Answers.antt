@@ -1,5 +1,5 @@
 -- One reader more, or all of them.
-use Rattle.std.proofs.Common.{arith}
+use Rattle.std.proofs.Common.{inr, arith}
 use Rattle.mv_saving.proofs.Right.{part_right, kept_more, kept_all}
 use Rattle.mv_saving.proofs.kept.KeptComposites.fill_from.Goals as goal
 
@@ -16,6 +16,6 @@ loop-reader-preserved c = record {
 pub returns-clause-right : goal.returns-clause-right
 returns-clause-right c = part_right _ _ _ c.set_next-2.ensures.part c.loop-reader.invariant.right
 
-pub returns-clause-filled : goal.returns-clause-filled
-returns-clause-filled c = λ all.
-    kept_all c.args.net.now.nets _ _ _ _ _ (omega (arith, c.loop-reader-test.false)) c.readers-reader-items.ensures c.set_next-2.ensures.more (c.loop-reader.invariant.kept all)
+pub returns-clause-enough : goal.returns-clause-enough
+returns-clause-enough c = λ all.
+    inr (kept_all c.args.net.now.nets _ _ _ _ _ (omega (arith, c.loop-reader-test.false)) c.readers-reader-items.ensures c.set_next-2.ensures.more (c.loop-reader.invariant.kept all))
