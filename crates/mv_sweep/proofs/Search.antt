@@ -1,22 +1,23 @@
--- The search for the least net that can go.
-use Rattle.std.proofs.Common.{◌≡◌, ◌∙◌, ℕ, ◌+◌, ◌<◌, ◌≤◌, Bool, true, false, List, [], ◌∷◌, Option, Some, None, MatchBool, Result, Ok, Err, IfOk, set, refl, sym, ap, subst, arith, ⊎_elim, length, drop, get_or, nat_eq, eqb-true, eq-eqb}
-use Rattle.std.specs.Prelude.{sum_by}
-use Rattle.std.proofs.lemmas.Bool.{false≢true, cases_lt, or_cases, or_left}
-use Rattle.std.proofs.lemmas.List.{drop_more}
-use Rattle.std.proofs.lemmas.List.Sums.{sum_by-set}
+-- The nets that can go wait, so the least that waits and can go is the least of all.
+use Rattle.std.proofs.Common.{◌≡◌, ◌∙◌, ◌||◌, ℕ, ◌<◌, ◌≤◌, Bool, true, false, List, [], ◌∷◌, MatchBool, Result, Ok, Err, IfOk, None, set, refl, sym, subst, arith, length, nat_eq, eqb-true, eq-eqb}
+use Rattle.std.proofs.lemmas.Bool.{false≢true, or_left, or_right}
+use Rattle.mv_agenda.specs.Agenda.{waits, AllWait, AllWaitBut, NoneWaits, PutsAll, TakesLeast, WaitBelow}
+use Rattle.mv_agenda.proofs.Looking.{all_at_first, all_but_taken, all_without_taken, least_of_all, none_at_end}
 use Rattle.mv_base.specs.declared.number.NetId.{NetId}
-use Rattle.mv_net.specs.declared.parts.FlatNet.{FlatNet}
+use Rattle.mv_graph.specs.Nets.{IsAscending, has_id}
+use Rattle.mv_local.proofs.Steps.{steps_left, removes_fewer}
 use Rattle.mv_net.specs.declared.parts.NetParts.{NetParts}
-use Rattle.mv_net.specs.Nets.{slot, net_reads}
-use Rattle.mv_graph.specs.Nets.{IsAscending, ids_ascend, has_id}
-use Rattle.mv_net.specs.Index.{is_seen}
 use Rattle.mv_net.specs.Changes.{without, with_nets}
+use Rattle.mv_net.specs.Index.{is_seen}
+use Rattle.mv_net.specs.Nets.{slot, name_in, net_reads}
 use Rattle.mv_net.specs.Total.{IsTotalNet, IsRemovable}
 use Rattle.mv_net.proofs.Named.{held_below}
-use Rattle.mv_graph.proofs.Nets.{above_first}
-use Rattle.mv_sweep.specs.Drops.{NoneLeft, NoneBelow, IsLeastRemovable}
-use Rattle.mv_sweep.specs.Search.{NoneFrom, IsFirstFrom, OnlyTheseBelow, IsNextPlace}
+use Rattle.mv_net.proofs.Patches.{IsWritten-gone}
 use Rattle.mv_net.proofs.Removal.{removable-later}
+use Rattle.mv_net.proofs.Stays.{held_other}
+use Rattle.mv_sweep.specs.Drops.{NoneLeft}
+use Rattle.mv_sweep.specs.Search.{IsNextRemovable}
+use Rattle.mv_sweep.proofs.Stepping.{removes}
 
 -- ---- one net
 
@@ -39,104 +40,52 @@ pub goes_as_total : {E : Type 0} (net : NetParts) (n : ℕ) (ms : List NetId) (r
 goes_as_total net n ms (Ok total) unseen a none t = total_goes net n ms total unseen a none t
 goes_as_total net n ms (Err e) unseen a none t = tt
 
--- ---- the numbers one after the other
+-- ---- the nets that wait
 
--- no net from one number up to another can go
-pub record NoneBetween (net : NetParts) (from to : ℕ) : Type 0 where
-  pub none : (m : ℕ) → from ≤ m → m < to → IsRemovable net m → ⊥
+-- at the beginning all nets wait
+pub all_can_wait : (net : NetParts) (agenda : List ℕ) (end : ℕ) → end ≡ length net.nets → WaitBelow agenda end → AllWait (IsRemovable net) agenda
+all_can_wait net agenda end is below =
+    all_at_first (IsRemovable net) agenda end below (λ n can. subst (λ k. n < k) (sym is) (held_below net.nets n can.total.net can.total.held))
 
-pub between_none : (net : NetParts) (from : ℕ) → NoneBetween net from from
-between_none net from = record { none = λ m above below r. omega arith }
+-- where nothing waits no net can go
+pub none_left : (net : NetParts) (agenda : List ℕ) → AllWait (IsRemovable net) agenda → NoneWaits agenda → NoneLeft net
+none_left net agenda wait none = record { none = none_at_end (IsRemovable net) agenda wait none }
 
-pub between_more : (net : NetParts) (from to : ℕ) → NoneBetween net from to → (IsRemovable net to → ⊥) → NoneBetween net from (to + 1)
-between_more net from to h stays = record {
-  none = λ m above below r.
-      ⊎_elim
-      (λ (l : m < to). h.none m above l r)
-      (λ (g : to ≤ m). let e : m ≡ to = omega arith in stays (subst (IsRemovable net) e r))
-      (cases_lt m to);
-}
-
-pub between_first : (net : NetParts) (from to : ℕ) → from ≤ to → NoneBetween net from to → IsRemovable net to → IsFirstFrom net from to
-between_first net from to above h r = record { removable = r; above = above; least = h.none }
-
--- past the last number there is no net
-pub between_end : (net : NetParts) (from to : ℕ) → NoneBetween net from to → length net.nets ≤ to → NoneFrom net from
-between_end net from to h past = record {
-  none = λ n above r.
-      ⊎_elim
-      (λ (l : n < to). h.none n above l r)
-      (λ (g : to ≤ n). let low = held_below net.nets n r.total.net r.total.held in omega arith)
-      (cases_lt n to);
-}
-
--- ---- where the search goes on
-
-pub first_of_all : (net : NetParts) (from n : ℕ) → NoneBelow net from → IsFirstFrom net from n → IsLeastRemovable net n
-first_of_all net from n below first = record {
-  removable = first.removable;
-  least = record {
-    none = λ m low r. ⊎_elim (λ (l : m < from). below.none m l r) (λ (g : from ≤ m). first.least m g low r) (cases_lt m from);
+-- the least that waits and can go is the least of all that can
+pub next_of : (net : NetParts) (old new : List ℕ) (n : ℕ) → AllWait (IsRemovable net) old → TakesLeast old new n → IsRemovable net n → IsNextRemovable net new n
+next_of net old new n wait takes can = record {
+  first = record {
+    removable = can;
+    least = record { none = λ m low r. let up : n ≤ m = least_of_all (IsRemovable net) old new n wait takes m r in omega (arith, low, up) };
   };
+  others = all_but_taken (IsRemovable net) old new n wait takes;
 }
 
-pub none_left : (net : NetParts) (from : ℕ) → NoneBelow net from → NoneFrom net from → NoneLeft net
-none_left net from below above = record {
-  none = λ n r. ⊎_elim (λ (l : n < from). below.none n l r) (λ (g : from ≤ n). above.none n g r) (cases_lt n from);
-}
+pub wait_without : (net : NetParts) (old new : List ℕ) (n : ℕ) → AllWait (IsRemovable net) old → TakesLeast old new n → (IsRemovable net n → ⊥) → AllWait (IsRemovable net) new
+wait_without net old new n wait takes stays = all_without_taken (IsRemovable net) new n (all_but_taken (IsRemovable net) old new n wait takes) stays
 
--- once the least net that can go has gone, of the nets below it only its fanins can go
-pub fanins_listed : (net new : NetParts) (n : ℕ) (fs : List NetId) → IsLeastRemovable net n → new ≡ without net n → IsAscending (λ m. net_reads (slot net.nets n) m) fs → OnlyTheseBelow new fs n
-fanins_listed net new n fs first e a =
-    record { ascending = a.ascending; listed = λ m low r. a.members m ∙ read m low r (net_reads (slot net.nets n) m) refl }
+-- ---- behind a net that went
+
+-- which can't go again
+gone_stays : (net : NetParts) (n m : ℕ) → IsRemovable (without net n) m → m ≡ n → ⊥
+unfolding with_nets
+gone_stays net n m r = held_other net.nets n (set net.nets n None) (IsWritten-gone net.nets n) m r.total.net r.total.held
+
+-- only those that it read can have come to be such
+pub wait_behind_gone : (net new : NetParts) (n : ℕ) (before agenda : List ℕ) (fs : List NetId) → AllWaitBut (IsRemovable net) before n
+    → IsAscending (λ m. net_reads (slot net.nets n) m) fs → PutsAll before agenda fs → new ≡ without net n → AllWait (IsRemovable new) agenda
+wait_behind_gone net new n before agenda fs others a put e = record { each = λ m r. put.each m ∙ waiting m r (net_reads (slot net.nets n) m) refl }
   where
-    read : (m : ℕ) → m < n → IsRemovable new m → (b : Bool) → net_reads (slot net.nets n) m ≡ b → b ≡ true
-    read m low r true h = refl
-    read m low r false h =
-        absurd (first.least.none m low (removable-later net n m (let P : NetParts → Type 0 = λ p. IsRemovable p m in subst P e r) h))
+    waiting : (m : ℕ) → IsRemovable new m → (b : Bool) → net_reads (slot net.nets n) m ≡ b → (waits before m || has_id fs m) ≡ true
+    waiting m r true h = or_right (waits before m) (has_id fs m) (a.members m ∙ h)
+    waiting m r false h =
+        let later = let P : NetParts → Type 0 = λ p. IsRemovable p m in subst P e r in
+        or_left (waits before m) (has_id fs m) (others.each m (removable-later net n m later h) (λ (same : n ≡ m). gone_stays net n m later (sym same)))
 
-from_first : (f : NetId) (fs : List NetId) (m : ℕ) → ids_ascend (f ∷ fs) ≡ true → has_id (f ∷ fs) m ≡ true → f.0 ≤ m
-from_first f fs m up h =
-    ⊎_elim
-    (λ (y : nat_eq f.0 m ≡ true). let same : f.0 ≡ m = eqb-true f.0 m y in omega arith)
-    (λ (o : has_id fs m ≡ true). let above : f.0 < m = above_first f fs m up o in omega arith)
-    (or_cases (nat_eq f.0 m) (has_id fs m) h)
-
--- the rest of the list from a place on, as its first and those behind it
-pub at_first : (net : NetParts) (n : ℕ) (fs : List NetId) (i : ℕ) (d : NetId) → i < length fs → OnlyTheseBelow net (drop i fs) n → OnlyTheseBelow net (get_or fs i d ∷ drop (i + 1) fs) n
-at_first net n fs i d low h = subst (λ (l : List NetId). OnlyTheseBelow net l n) (drop_more fs i d low) h
-
--- the first of them isn't below n
-pub next_past : (net : NetParts) (n : ℕ) (f : NetId) (fs : List NetId) → OnlyTheseBelow net (f ∷ fs) n → n ≤ f.0 → IsNextPlace net n n
-next_past net n f fs h past = record {
-  low = omega arith;
-  none_below = record { none = λ m low r. let above : f.0 ≤ m = from_first f fs m h.ascending (h.listed m low r) in omega arith };
-  removable = λ low. absurd (omega arith);
-}
-
--- the first of them can go
-pub next_first : (net : NetParts) (n : ℕ) (f : NetId) (fs : List NetId) → OnlyTheseBelow net (f ∷ fs) n → f.0 < n → IsRemovable net f.0 → IsNextPlace net n f.0
-next_first net n f fs h low r = record {
-  low = omega arith;
-  none_below = record { none = λ m less can. let above : f.0 ≤ m = from_first f fs m h.ascending (h.listed m (omega arith) can) in omega arith };
-  removable = λ _. r;
-}
-
--- ---- each net that goes is one less
-
-one_held : Option FlatNet → ℕ
-one_held None = 0
-one_held (Some f) = 1
-
--- how many nets are held
-pub held_count : NetParts → ℕ
-held_count net = sum_by one_held net.nets
-
-pub fewer_held : (net new : NetParts) (n : ℕ) → IsRemovable net n → new ≡ without net n → held_count new < held_count net
-unfolding held_count one_held with_nets
-fewer_held net new n r e =
-    let low = held_below net.nets n r.total.net r.total.held in
-    let count : sum_by one_held (set net.nets n None) + one_held (slot net.nets n) ≡ sum_by one_held net.nets + one_held None = sum_by-set one_held net.nets n None None low in
-    let here : one_held (slot net.nets n) ≡ 1 = ap one_held r.total.held in
-    let gone : held_count new ≡ held_count (without net n) = ap held_count e in
-    omega (arith, count, here, gone)
+-- fewer steps are left
+pub gone_fewer : (net new : NetParts) (n : ℕ) → IsRemovable net n → new ≡ without net n → steps_left new.nets < steps_left net.nets
+gone_fewer net new n can e =
+    let name = name_in (slot net.nets n) in
+    let less = removes_fewer net name (without net n) (removes net n name can refl) in
+    let P : NetParts → Type 0 = λ p. steps_left p.nets < steps_left net.nets in
+    subst P (sym e) less

@@ -2,7 +2,6 @@
 //! readers of buffers read their fanins, and constants go into their readers.
 #![tactic(auto)]
 
-mod removal;
 mod sweeping;
 mod unread;
 mod way;

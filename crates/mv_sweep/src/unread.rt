@@ -1,21 +1,61 @@
-ghost use Rattle.std.specs.Prelude.{◌≡◌, Err, OnOk};
+ghost use Rattle.std.specs.Prelude.{◌≡◌, Err, IfOk, OnOk, MatchBool, MatchOption};
+ghost use Rattle.mv_agenda.specs.Agenda.{AllWait};
 ghost use Rattle.mv_base.specs.Meaning.{SameMeaning};
 ghost use Rattle.mv_base.specs.Outside.{Rose};
 ghost use Rattle.mv_entry.specs.declared.note.Command.TheVariants.{Drop as drop};
 ghost use Rattle.mv_net.specs.Allowed.{of_net};
 ghost use Rattle.mv_net.specs.Changes.{without};
+ghost use Rattle.mv_net.specs.Total.{IsRemovable};
 ghost use Rattle.mv_pass.specs.Going.{Goes};
 ghost use Rattle.mv_pass.specs.Passing.{Passes};
 ghost use Rattle.mv_pass.specs.Taking.{GoesOn, Went, WentPart};
 ghost use Rattle.mv_sweep.specs.Drops.{IsDropStep, IsLeastRemovable, NoneLeft, EndsDrop};
+ghost use Rattle.mv_sweep.specs.Search.{IsNextRemovable};
 
-use crate::removal::{copy_fanins, next_place, next_removable};
 use crate::{NO_BUDGET, Stop};
-use mv_base::{Name, NetId};
+use mv_agenda::Agenda;
+use mv_base::{Memory, Name, NetId};
 use mv_entry::{Command, Journal, Note, Rule};
 use mv_net::Network;
 use mv_pass::{few_literals, take};
 use std::alloc::Global;
+
+/// Whether the net of this number can go.
+fn is_removable(alloc: Global, net: &Network, n: NetId) -> Result<bool, Memory>
+    ensures { IfOk result (λ goes. MatchBool goes (IsRemovable net.now n.0) (IsRemovable net.now n.0 → ⊥)) }
+{
+    if !net.holds(n) {
+        return Ok(false);
+    }
+    if net.is_seen(n) {
+        return Ok(false);
+    }
+    if !net.readers(n).is_empty() {
+        return Ok(false);
+    }
+    net.is_total(alloc, n)
+}
+
+/// The least net that waits and can go, if one does; those before it wait no more.
+fn next_removable(
+    alloc: Global,
+    net: &Network,
+    agenda: &mut Agenda,
+) -> Result<Option<NetId>, Memory>
+    requires { AllWait (IsRemovable net.now) agenda.old }
+    ensures { IfOk result (λ found. MatchOption found (NoneLeft net.now) (λ n. IsNextRemovable net.now agenda.new n.0)) }
+{
+    'looking: loop {
+        let Some(n) = agenda.take_least() else {
+            return Ok(None);
+        };
+        match is_removable(alloc, net, n) {
+            Ok(true) => return Ok(Some(n)),
+            Ok(false) => {}
+            Err(memory) => return Err(memory),
+        }
+    }
+}
 
 /// Takes away the net, which is the least that can go, and notes it.
 fn step<J: Journal>(alloc: Global, net: &mut Network, n: NetId, journal: &mut J) -> Result<(), Stop>
@@ -41,8 +81,8 @@ fn step<J: Journal>(alloc: Global, net: &mut Network, n: NetId, journal: &mut J)
     }
 }
 
-/// Takes away the least net that can go, until there is none. Of the nets below one that went only its fanins can have
-/// become nets that can go: the search goes on at the least of those that can, else behind the net.
+/// Takes away the least net that can go, until there is none. Where a net goes only those that it read can have come to be such, so
+/// they wait again, and the least that waits and can go is the least of all.
 fn remove_each<J: Journal>(alloc: Global, net: &mut Network, journal: &mut J) -> Result<(), Stop>
     ensures ok { OnOk result (Went IsDropStep net.old net.new (J.state journal.old) (J.state journal.new)) }
     ensures none_left { OnOk result (NoneLeft net.new) }
@@ -54,25 +94,24 @@ fn remove_each<J: Journal>(alloc: Global, net: &mut Network, journal: &mut J) ->
     ensures means { SameMeaning (of_net net.new) (of_net net.old) }
     ensures goes_on { GoesOn (J.state journal.old) (J.state journal.new) }
 {
-    let mut from = 0;
+    let mut agenda = match Agenda::of_all(alloc, net.next_number()) {
+        Ok(agenda) => agenda,
+        Err(_memory) => return Err(Stop::Memory),
+    };
     'removing: loop {
-        let n = match next_removable(alloc, net, from) {
+        let n = match next_removable(alloc, net, &mut agenda) {
             Ok(Some(n)) => n,
             Ok(None) => return Ok(()),
             Err(_memory) => return Err(Stop::Memory),
         };
-        let fanins = match copy_fanins(alloc, net, n) {
-            Ok(fanins) => fanins,
+        match agenda.put_all(net.fanins(n)) {
+            Ok(()) => {}
             Err(_memory) => return Err(Stop::Memory),
-        };
+        }
         match step(alloc, net, n, journal) {
             Ok(()) => {}
             Err(stop) => return Err(stop),
         }
-        from = match next_place(alloc, net, fanins.as_slice(), n) {
-            Ok(place) => place,
-            Err(_memory) => return Err(Stop::Memory),
-        };
     }
 }
 

@@ -1,7 +1,7 @@
 -- A net with readers stays; one without goes where its table is total.
 use Rattle.std.proofs.Common.{sym, ◌∙◌}
 use Rattle.mv_sweep.proofs.Search.{read_stays, goes_as_total}
-use Rattle.mv_sweep.proofs.removal.is_removable.Goals as goal
+use Rattle.mv_sweep.proofs.unread.is_removable.Goals as goal
 
 pub returns-then-not-is_empty : goal.returns-then-not-is_empty
 returns-then-not-is_empty c =
