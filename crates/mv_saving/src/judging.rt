@@ -70,7 +70,7 @@ impl KeptComposites {
     }
 
     /// The literals of the net and of its readers, than which no more come where it saves. They aren't counted where enough is kept to
-    /// know, nor where there are many readers.
+    /// know, nor where there is one reader, whose composite is needed anyway, nor where there are many.
     fn most_to_come(&self, net: &Network, n: NetId) -> Option<u128>
         requires held { IsTrue (is_held net.now.nets n.0) }
         requires right { AreRight net.now.nets self.now }
@@ -80,7 +80,7 @@ impl KeptComposites {
             return None;
         }
         let readers = net.readers(n);
-        if readers.len() > FEW_READERS {
+        if readers.len() == 1 || readers.len() > FEW_READERS {
             return None;
         }
         Some(literals_of(net, n) + literals_of_each(net, readers))
