@@ -7,3 +7,6 @@ pub mod Formed
 pub mod Reading
 pub mod Widths
 pub mod Wires
+pub mod Weights
+pub mod Among
+pub mod Sifting

@@ -1,5 +1,5 @@
--- Lines put one by one to those that are left of others.
-use Rattle.std.proofs.Common.{Option, is_none, ◌&&◌, if◌then◌else◌, ◌≡◌, ◌∙◌, ℕ, ◌+◌, ◌<◌, ◌≤◌, Bool, true, false, List, [], ◌∷◌, ◌++◌, length, filter, get_or, take, refl, sym, ap, subst, inl, inr, append_assoc, append-nil}
+-- Lines put one by one: what is known of lines that were taken holds along lists of what gives them.
+use Rattle.std.proofs.Common.{Option, is_none, ◌&&◌, if◌then◌else◌, ◌≡◌, ◌∙◌, ℕ, ◌+◌, ◌<◌, ◌≤◌, Bool, true, false, List, [], ◌∷◌, ◌++◌, length, filter, get_or, take, refl, sym, ap, subst, inl, inr, append-nil}
 use Rattle.std.specs.List.{flat_map}
 use Rattle.std.proofs.lemmas.Bool.{cases_Bool}
 use Rattle.std.proofs.lemmas.Grind.{flat_map-append}
@@ -17,23 +17,10 @@ use Rattle.mv_composite.specs.declared.inner.Inner.{Inner}
 use Rattle.mv_composite.specs.Composite.{set_meets, default_meets, cubes_giving, line_given}
 use Rattle.mv_composite.specs.Puts.{Puts}
 
-pub puts_none : (a : List Line) → Puts a a []
-puts_none a = record { left = λ ls is. subst (λ (x : List Line). IsLeftOf x a) (sym (append-nil ls)) is }
-
-pub puts_more : (a b c xs ys : List Line) → Puts a b xs → Puts b c ys → Puts a c (xs ++ ys)
-puts_more a b c xs ys p q = record { left = λ ls is. subst (λ (x : List Line). IsLeftOf x c) (append_assoc ls xs ys) (q.left (ls ++ xs) (p.left ls is)) }
-
 -- of no lines none are left
 pub left_none : (left : List Line) → left ≡ [] → IsLeftOf [] left
 unfolding left_of
 left_none left e = record { formed = All-nil (λ (l : Line). IsCube l.cube); lines = e }
-
--- where two cubes don't meet nothing is put, and else a line of their meet
-pub puts_apart : (a : List Line) (x y : List Lit) (out : ℕ) → met x y ≡ [] → Puts a a (lines_for out (met x y))
-puts_apart a x y out e = subst (λ (cs : List (List Lit)). Puts a a (lines_for out cs)) (sym e) (puts_none a)
-
-pub puts_met : (a b : List Line) (x y cube : List Lit) (out : ℕ) → met x y ≡ cube ∷ [] → Puts a b (record { cube = cube; out = out } ∷ []) → Puts a b (lines_for out (met x y))
-puts_met a b x y cube out e p = subst (λ (cs : List (List Lit)). Puts a b (lines_for out cs)) (sym e) p
 
 -- ---- along a list
 
@@ -49,13 +36,13 @@ lines_for-flat out g [] = refl
 lines_for-flat out g (x ∷ xs) =
     map-append (λ (c : List Lit). record { cube = c; out = out }) (g x) (flat_map g xs) ∙ ap (λ (zs : List Line). lines_for out (g x) ++ zs) (lines_for-flat out g xs)
 
--- one element more has been put
-pub puts_next : {X : Type 0} (g : X → List Line) (xs : List X) (i : ℕ) (x : X) (a b c : List Line) → i < length xs → x ≡ get_or xs i x → Puts a b (flat_map g (take i xs)) → Puts b c (g x) → Puts a c (flat_map g (take (i + 1) xs))
-puts_next g xs i x a b c low e p q = subst (λ (ls : List Line). Puts a c ls) (sym (given_more g xs i x low e)) (puts_more a b c (flat_map g (take i xs)) (g x) p q)
+-- one element more has been put, where R is known of lines one after the other
+pub puts_next : {S X : Type 0} (R : S → S → List Line → Type 0) → ((a b c : S) (ls ms : List Line) → R a b ls → R b c ms → R a c (ls ++ ms)) → (g : X → List Line) (xs : List X) (i : ℕ) (x : X) (a b c : S) → i < length xs → x ≡ get_or xs i x → R a b (flat_map g (take i xs)) → R b c (g x) → R a c (flat_map g (take (i + 1) xs))
+puts_next R more g xs i x a b c low e p q = subst (R a c) (sym (given_more g xs i x low e)) (more a b c (flat_map g (take i xs)) (g x) p q)
 
 -- all have
-pub puts_all : {X : Type 0} (g : X → List Line) (xs : List X) (i : ℕ) (a b : List Line) → length xs ≤ i → Puts a b (flat_map g (take i xs)) → Puts a b (flat_map g xs)
-puts_all g xs i a b end p = subst (λ zs. Puts a b (flat_map g zs)) (take_all i xs end) p
+pub puts_all : {X : Type 0} (P : List Line → Type 0) (g : X → List Line) (xs : List X) (i : ℕ) → length xs ≤ i → P (flat_map g (take i xs)) → P (flat_map g xs)
+puts_all P g xs i end p = subst (λ zs. P (flat_map g zs)) (take_all i xs end) p
 
 -- the same of the lines that are left of all of them
 pub left_next : {X : Type 0} (g : X → List Line) (xs : List X) (i : ℕ) (x : X) (b c : List Line) → i < length xs → x ≡ get_or xs i x → IsLeftOf (flat_map g (take i xs)) b → Puts b c (g x) → IsLeftOf (flat_map g (take (i + 1) xs)) c
@@ -92,27 +79,25 @@ meets_giving outside c asked rest out =
     let more = if default_meets c.default asked then outside else [] in
     ap (lines_for out) (flat_map-append (met rest) own more) ∙ map-append (λ (x : List Lit). record { cube = x; out = out }) (flat_map (met rest) own) (flat_map (met rest) more)
 
-pub puts_giving : (a b : List Line) (outside : List (List Lit)) (c : Cover) (asked : Option ℕ) (rest : List Lit) (out : ℕ) → default_meets c.default asked ≡ false → Puts a b (lines_for out (flat_map (met rest) (cubes_of (filter (λ (l : Line). set_meets asked l.out) c.lines)))) → Puts a b (lines_for out (flat_map (met rest) (cubes_giving outside c asked)))
-puts_giving a b outside c asked rest out f p =
-    subst (λ (ls : List Line). Puts a b ls)
-    (sym (meets_giving outside c asked rest out ∙ (ap (λ t. lines_for out (flat_map (met rest) (cubes_of (filter (λ (l : Line). set_meets asked l.out) c.lines))) ++ lines_for out (flat_map (met rest) (if t then outside else []))) f ∙ append-nil (lines_for out (flat_map (met rest) (cubes_of (filter (λ (l : Line). set_meets asked l.out) c.lines))))))) p
-
-pub puts_where : (a b d : List Line) (outside : List (List Lit)) (c : Cover) (asked : Option ℕ) (rest : List Lit) (out : ℕ) → default_meets c.default asked ≡ true → Puts a b (lines_for out (flat_map (met rest) (cubes_of (filter (λ (l : Line). set_meets asked l.out) c.lines)))) → Puts b d (lines_for out (flat_map (met rest) outside)) → Puts a d (lines_for out (flat_map (met rest) (cubes_giving outside c asked)))
-puts_where a b d outside c asked rest out t p q =
+pub puts_giving : (P : List Line → Type 0) (outside : List (List Lit)) (c : Cover) (asked : Option ℕ) (rest : List Lit) (out : ℕ) → default_meets c.default asked ≡ false → P (lines_for out (flat_map (met rest) (cubes_of (filter (λ (l : Line). set_meets asked l.out) c.lines)))) → P (lines_for out (flat_map (met rest) (cubes_giving outside c asked)))
+puts_giving P outside c asked rest out f p =
     let own = lines_for out (flat_map (met rest) (cubes_of (filter (λ (l : Line). set_meets asked l.out) c.lines))) in
-    subst (λ (ls : List Line). Puts a d ls)
-    (sym (meets_giving outside c asked rest out ∙ ap (λ t. own ++ lines_for out (flat_map (met rest) (if t then outside else []))) t))
-    (puts_more a b d own (lines_for out (flat_map (met rest) outside)) p q)
+    subst P (sym (meets_giving outside c asked rest out ∙ (ap (λ t. own ++ lines_for out (flat_map (met rest) (if t then outside else []))) f ∙ append-nil own))) p
+
+pub puts_where : (P : List Line → Type 0) (outside : List (List Lit)) (c : Cover) (asked : Option ℕ) (rest : List Lit) (out : ℕ) → default_meets c.default asked ≡ true → P (lines_for out (flat_map (met rest) (cubes_of (filter (λ (l : Line). set_meets asked l.out) c.lines))) ++ lines_for out (flat_map (met rest) outside)) → P (lines_for out (flat_map (met rest) (cubes_giving outside c asked)))
+puts_where P outside c asked rest out t p =
+    let own = lines_for out (flat_map (met rest) (cubes_of (filter (λ (l : Line). set_meets asked l.out) c.lines))) in
+    subst P (sym (meets_giving outside c asked rest out ∙ ap (λ t. own ++ lines_for out (flat_map (met rest) (if t then outside else []))) t)) p
 
 -- the line itself, where it asks nothing of a total net
-pub puts_whole : (a b : List Line) (outside : List (List Lit)) (inner : Inner) (l copy : Line) (asked : Option ℕ) → asked ≡ literal_at l.cube inner.net.0 → (inner.total && is_none asked) ≡ true → copy ≡ l → Puts a b (copy ∷ []) → Puts a b (line_given outside inner l)
+pub puts_whole : (P : List Line → Type 0) (outside : List (List Lit)) (inner : Inner) (l copy : Line) (asked : Option ℕ) → asked ≡ literal_at l.cube inner.net.0 → (inner.total && is_none asked) ≡ true → copy ≡ l → P (copy ∷ []) → P (line_given outside inner l)
 unfolding line_given
-puts_whole a b outside inner l copy asked e t c p =
+puts_whole P outside inner l copy asked e t c p =
     let whole : (inner.total && is_none (literal_at l.cube inner.net.0)) ≡ true = ap (λ o. inner.total && is_none o) (sym e) ∙ t in
-    rw whole (subst (λ (x : Line). Puts a b (x ∷ [])) c p)
+    rw whole (subst (λ (x : Line). P (x ∷ [])) c p)
 
-pub puts_split : (a b : List Line) (outside : List (List Lit)) (inner : Inner) (l : Line) (asked : Option ℕ) (rest : List Lit) → asked ≡ literal_at l.cube inner.net.0 → (inner.total && is_none asked) ≡ false → rest ≡ cube_without inner.net.0 l.cube → Puts a b (lines_for l.out (flat_map (met rest) (cubes_giving outside inner.cover asked))) → Puts a b (line_given outside inner l)
+pub puts_split : (P : List Line → Type 0) (outside : List (List Lit)) (inner : Inner) (l : Line) (asked : Option ℕ) (rest : List Lit) → asked ≡ literal_at l.cube inner.net.0 → (inner.total && is_none asked) ≡ false → rest ≡ cube_without inner.net.0 l.cube → P (lines_for l.out (flat_map (met rest) (cubes_giving outside inner.cover asked))) → P (line_given outside inner l)
 unfolding line_given
-puts_split a b outside inner l asked rest e f r p =
+puts_split P outside inner l asked rest e f r p =
     let split : (inner.total && is_none (literal_at l.cube inner.net.0)) ≡ false = ap (λ o. inner.total && is_none o) (sym e) ∙ f in
-    rw split (subst (λ (ls : List Line). Puts a b ls) (λ i. lines_for l.out (flat_map (met (r i)) (cubes_giving outside inner.cover (e i)))) p)
+    rw split (subst P (λ i. lines_for l.out (flat_map (met (r i)) (cubes_giving outside inner.cover (e i)))) p)

@@ -58,6 +58,17 @@ composed_from counts inner reader t cover outside used seen lines left e s o u l
 
 -- ---- too wide or not
 
+-- more lines are left than a composite may have
+given_left : (counts : List ℕ) (inner : Inner) (reader t : Cover) (outside used : List (List Lit)) (seen lines : List Line) → t ≡ spelled counts inner reader → seen ≡ t.lines → outside ≡ (if default_asked inner seen then complement_of counts inner.cover.lines else []) → used ≡ outside → lines ≡ t.lines → left_of (lines_given used inner lines) ≡ (composed counts inner reader).lines
+unfolding composed absorbed
+given_left counts inner reader t outside used seen lines e s o u l =
+    let all = complement_of counts inner.cover.lines in
+    let asked : outside ≡ (if default_asked inner t.lines then all else []) = o ∙ ap (λ (ls : List Line). if default_asked inner ls then all else []) s in
+    ap left_of ((λ i. lines_given (u i) inner (l i)) ∙ (given_by inner t.lines all outside asked ∙ (λ i. lines_given all inner (e i).lines)))
+
+pub many_left : (counts : List ℕ) (inner : Inner) (reader t : Cover) (outside used : List (List Lit)) (seen lines : List Line) → t ≡ spelled counts inner reader → seen ≡ t.lines → outside ≡ (if default_asked inner seen then complement_of counts inner.cover.lines else []) → used ≡ outside → lines ≡ t.lines → HasManyLines (left_of (lines_given used inner lines)) → IsTooWide counts inner reader
+many_left counts inner reader t outside used seen lines e s o u l many = ByLines (subst HasManyLines (given_left counts inner reader t outside used seen lines e s o u l) many)
+
 -- a cover that is the composite has as many lines and fanins
 pub many_lines : (counts : List ℕ) (inner : Inner) (reader cover : Cover) → cover ≡ composed counts inner reader → HasManyLines cover.lines → IsTooWide counts inner reader
 many_lines counts inner reader cover e many = ByLines (subst (λ (c : Cover). HasManyLines c.lines) e many)

@@ -3,3 +3,6 @@ pub mod Composite
 pub mod Wide
 pub mod Wired
 pub mod Puts
+pub mod Weights
+pub mod Takers
+pub mod TakerLaws

@@ -1,19 +1,19 @@
 ghost use Rattle.std.specs.Prelude.{◌≡◌, ℕ, IfOk, IfErr, if◌then◌else◌, [], OnOk};
-ghost use Rattle.mv_cover.specs.Absorb.{IsLeftOf};
 ghost use Rattle.mv_cover.specs.Meets.{literal_at};
 ghost use Rattle.mv_cover.specs.Complement.{LinesSuit, complement_of};
 ghost use Rattle.mv_composite.specs.Inside.{AreCubesOver, IsCoverOver, IsInner};
 ghost use Rattle.mv_composite.specs.Composite as spec;
-ghost use Rattle.mv_composite.specs.Composite.{lines_given, composed, Composes, ReadsThrough};
+ghost use Rattle.mv_composite.specs.Composite.{composed, Composes, ReadsThrough};
 ghost use Rattle.mv_composite.specs.Wide as wide;
 ghost use Rattle.mv_composite.specs.Wide.{IsReaderWide, IsInnerWide, HasManyLines, HasManyFanins, IsTooWide};
 
 use crate::Inner;
 use crate::fanins::has_many_fanins;
+use crate::given::given;
 use crate::literal::literal_on;
-use crate::put::{default_meets, put_given};
-use mv_base::{MAX_COMPOSED_LINES, Memory};
-use mv_cover::{Absorber, Cover, CoverStop, Cube, Line};
+use crate::put::default_meets;
+use mv_base::MAX_COMPOSED_LINES;
+use mv_cover::{Cover, CoverStop, Cube, Line};
 use std::alloc::Global;
 
 /// The composite of the reader's table for the net: the net's own table put in for the net. `counts` has the number of
@@ -64,7 +64,10 @@ fn composite(
         Ok(outside) => outside,
         Err(stop) => return Err(stop),
     };
-    let left = given(alloc, inner, outside.as_slice(), spelled.lines.as_slice())?;
+    let left = match given(alloc, inner, outside.as_slice(), spelled.lines.as_slice()) {
+        Ok(left) => left,
+        Err(stop) => return Err(stop),
+    };
     let cover = left.finish(spelled.default);
     if cover.lines.len() as u64 > MAX_COMPOSED_LINES {
         return Err(CoverStop::Wide);
@@ -128,15 +131,4 @@ fn line_asks_default(inner: &Inner, line: &Line) -> bool
         &inner.cover.default,
         &literal_on(line.cube.lits(), inner.net),
     )
-}
-
-/// What is left of the lines that the reader's lines give; these are the cubes outside all lines of the net.
-fn given(alloc: Global, inner: &Inner, outside: &[Cube], lines: &[Line]) -> Result<Absorber, Memory>
-    ensures { IfOk result (λ left. IsLeftOf (lines_given outside.now inner.now lines.now) left) }
-{
-    let mut left = Absorber::new(alloc);
-    for line in lines {
-        put_given(&mut left, inner, outside, line)?;
-    }
-    Ok(left)
 }

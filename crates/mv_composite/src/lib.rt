@@ -3,9 +3,14 @@
 
 mod composite;
 mod fanins;
+mod given;
 mod inner;
+mod lightest;
 mod literal;
+mod picked;
 mod put;
+mod taker;
+mod weight;
 mod wiring;
 
 pub use composite::compose;

@@ -8,7 +8,8 @@ ghost use Rattle.mv_cover.specs.Absorb.{IsLeftOf};
 ghost use Rattle.std.specs.List.{flat_map};
 
 use crate::literal::{literal_on, without};
-use crate::put::{put, put_met};
+use crate::put::put_met;
+use crate::taker::Taker;
 use mv_base::{Memory, NetId, ValueSet};
 use mv_cover::{Absorber, Cover, Cube, Line, Lit};
 use std::alloc::Global;
@@ -55,7 +56,7 @@ fn put_wired(left: &mut Absorber, net: NetId, into: NetId, line: &Line) -> Resul
     ensures formed { OnOk result (IsCube line.now.cube) }
 {
     let Some(set) = literal_on(line.cube.lits(), net) else {
-        put(left, line.copy()?)?;
+        left.take(line.copy()?)?;
         return Ok(());
     };
     let rest = without(&line.cube, net)?;
