@@ -10,9 +10,10 @@ use Rattle.mv_cover.specs.declared.cover.Cover.{Cover}
 use Rattle.mv_cover.specs.Covers.{allowed}
 use Rattle.mv_design.specs.declared.table.FileTable.{FileTable}
 use Rattle.mv_design.specs.declared.design.FileModel.{FileModel}
-use Rattle.mv_model.specs.Nets.{count_of, nets_named}
-use Rattle.mv_model.specs.Meaning.{in_values, table_holds, AllowsModel, of_model}
-use Rattle.mv_model.proofs.Names.{all_among, all_from_among}
+use Rattle.mv_design.specs.Values.{count_of}
+use Rattle.mv_design.specs.Nets.{nets_named}
+use Rattle.mv_design.specs.Meaning.{in_values, table_holds, AllowsModel, of_model}
+use Rattle.mv_unfold.proofs.Names.{all_among, all_from_among}
 use Rattle.mv_net.specs.declared.parts.FlatNet.{FlatNet}
 use Rattle.mv_net.specs.declared.parts.FlatLatch.{FlatLatch}
 use Rattle.mv_net.specs.declared.parts.NetParts.{NetParts}
@@ -20,8 +21,7 @@ use Rattle.mv_net.specs.Nets.{slot, name_in, values_in}
 use Rattle.mv_net.specs.Formed.{WellFormed}
 use Rattle.mv_net.specs.Allowed.{net_table_allows, net_allows, Agrees, Allows, of_net}
 use Rattle.mv_net.proofs.Latchless.{no_values, values_from, no_resets, resets_from}
-use Rattle.mv_write.specs.Text.{fanins_of, names_of}
-use Rattle.mv_write.specs.Walk.{numbers}
+use Rattle.mv_text.specs.Text.{fanins_of, names_of, numbers}
 use Rattle.mv_back.proofs.TextModel.{fanin_names, IsModelOf}
 use Rattle.mv_back.proofs.Numbers.{IsHeldAt, AllHeld, number_named, number_named-held}
 use Rattle.mv_back.proofs.CoverRows.{is_low}

@@ -2,16 +2,14 @@
 use Rattle.std.proofs.Common.{◌≡◌, ℕ, List, [], ◌∷◌, length, map, refl, sym, ◌∙◌, ap}
 use Rattle.mv_base.specs.Meaning.{Port, LatchPort, Interface}
 use Rattle.mv_base.specs.declared.number.NetId.{NetId}
-use Rattle.mv_decl.specs.Nets.{values_of}
+use Rattle.mv_design.specs.Values.{values_of, count_of}
 use Rattle.mv_design.specs.declared.design.FileModel.{FileModel}
-use Rattle.mv_model.specs.Nets.{count_of}
-use Rattle.mv_model.specs.Meaning.{port, of_model}
+use Rattle.mv_design.specs.Meaning.{port, of_model}
 use Rattle.mv_net.specs.declared.parts.NetParts.{NetParts}
 use Rattle.mv_net.specs.Nets.{slot, name_in, values_in, spelled_in, port_of, latch_port_of, interface_of}
 use Rattle.mv_net.specs.Formed.{WellFormed}
 use Rattle.mv_net.specs.Allowed.{of_net}
-use Rattle.mv_write.specs.Text.{names_of}
-use Rattle.mv_write.specs.Walk.{numbers}
+use Rattle.mv_text.specs.Text.{names_of, numbers}
 use Rattle.mv_back.proofs.TextModel.{IsModelOf}
 use Rattle.mv_back.proofs.Spelled.{spelled-held}
 use Rattle.mv_back.proofs.Numbers.{IsHeldAt, AllHeld}

@@ -1,24 +1,24 @@
 -- The model of a well-formed network without latches is sound.
-use Rattle.std.proofs.Common.{not, ◌||◌, ◌≡◌, ℕ, ◌<◌, Bool, true, false, cond, List, [], ◌∷◌, length, refl, sym, ◌∙◌, ap, ⊎_elim}
+use Rattle.std.proofs.Common.{not, ◌||◌, ◌≡◌, ℕ, Bool, true, false, cond, List, [], ◌∷◌, length, refl, sym, ◌∙◌, ap, ⊎_elim}
 use Rattle.std.specs.Prelude.{filter, count_by}
 use Rattle.std.proofs.lemmas.Bool.{or_parts, and_parts, not-true, cases_Bool}
 use Rattle.std.proofs.lemmas.List.Sums.{length-filter}
 use Rattle.mv_base.specs.Names.{same_word, among, names_differ}
 use Rattle.mv_base.proofs.NameLemmas.{same_word_is}
 use Rattle.mv_design.specs.declared.design.FileModel.{FileModel}
-use Rattle.mv_model.specs.Nets.{nets_of, drivers}
-use Rattle.mv_model.specs.Sound.{reads_through, reads, IsSoundModel}
+use Rattle.mv_design.specs.Nets.{nets_of, drivers}
+use Rattle.mv_unfold.specs.Sound.{reads_through, reads, IsSoundModel}
 use Rattle.mv_graph.specs.Above.{IsAcyclic}
 use Rattle.mv_graph.proofs.Paths.{acyclic_mapped}
 use Rattle.mv_net.specs.declared.parts.NetParts.{NetParts}
 use Rattle.mv_net.specs.Nets.{slot, name_in, reads_in}
 use Rattle.mv_net.specs.Formed.{WellFormed}
-use Rattle.mv_write.specs.Text.{fanins_of}
+use Rattle.mv_text.specs.Text.{fanins_of}
 use Rattle.mv_back.proofs.TextModel.{IsModelOf}
 use Rattle.mv_back.proofs.Numbers.{IsHeldAt, held_in, number_named, number_named-held}
 use Rattle.mv_back.proofs.ModelTables.{Passes, some_passes, all_of_nets}
 use Rattle.mv_back.proofs.Driven.{IsLatchless, one_name, drivers_differ, held_driver}
-use Rattle.mv_model.proofs.Named.{among-nets_of}
+use Rattle.mv_unfold.proofs.Named.{among-nets_of}
 use Rattle.mv_back.proofs.NamedNets.{named_held, name_in_list, fanin_read, fanins_held, output_is}
 
 -- ---- a word among different ones stands there once

@@ -13,11 +13,11 @@ use Rattle.mv_cover.specs.Cubes.{holds, matches, nets_ascend}
 use Rattle.mv_cover.specs.Covers.{some_matches, some_gives, default_gives, allowed, cube_reads, lines_read}
 use Rattle.mv_cover.proofs.Meeting.{above, above_tail}
 use Rattle.mv_cover.proofs.Walking.{nets_ascend-tail}
-use Rattle.mv_rows.specs.Tables.{row_matches, some_row_matches, some_row_holds, default_holds, table_allows}
+use Rattle.mv_design.specs.Tables.{row_matches, some_row_matches, some_row_holds, default_holds, table_allows}
 use Rattle.mv_net.specs.declared.parts.FlatNet.{FlatNet}
 use Rattle.mv_net.specs.Nets.{slot, values_in}
 use Rattle.mv_net.specs.Formed.{AllCubes}
-use Rattle.mv_write.specs.Text.{set_in}
+use Rattle.mv_text.specs.Text.{set_in}
 use Rattle.mv_back.proofs.TextModel.{set_entries, row_said}
 use Rattle.mv_back.proofs.Numbers.{number_in, passes-at}
 

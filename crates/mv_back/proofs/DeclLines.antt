@@ -7,13 +7,15 @@ use Rattle.std.proofs.lemmas.List.{map-append}
 use Rattle.mv_base.specs.Names.{among, names_differ}
 use Rattle.mv_lex.specs.declared.lines.LexLine.{LexLine}
 use Rattle.mv_design.specs.declared.design.Decl.{Decl}
-use Rattle.mv_decl.specs.Nets.{declared_of, with_decl, with_decls}
+use Rattle.mv_design.specs.Values.{declared_of}
+use Rattle.mv_decl.specs.Nets.{with_decl, with_decls}
 use Rattle.mv_parse.specs.declared.command.Command.TheVariants.{Mv}
 use Rattle.mv_parse.specs.Known.{decls_of, decls_at}
 use Rattle.mv_parse.specs.Grammar.{faults_at}
 use Rattle.mv_parse.proofs.Opens.{decls-push}
 use Rattle.mv_net.specs.declared.parts.FlatNet.{FlatNet}
-use Rattle.mv_write.specs.Text.{is_plain_pair, decl_words}
+use Rattle.mv_text.specs.Text.{is_plain_pair}
+use Rattle.mv_back.proofs.PlainLines.{plain_decl}
 use Rattle.mv_back.proofs.Commands.{command-mv}
 use Rattle.mv_back.proofs.Opened.{goes_on, going-push, faults-going}
 use Rattle.mv_back.proofs.Limits.{only_limits, AreFine}
@@ -58,7 +60,7 @@ one_more h front l lines d more fine e rest = record {
   decls = ap decls_of (sym (append_assoc front (l ∷ []) lines)) ∙ (rest.decls ∙ (ap (λ ds. ds ++ more) e ∙ append_assoc (decls_of front) (d ∷ []) more));
 }
 
-pub decl-lines : (h : LexLine) (front : List LexLine) (n : ℕ) (fs : List (Option FlatNet)) → list_all goes_on (h ∷ front) ≡ true → EachNet CanBeSaid fs → names_differ (declared_of (decls_of front) ++ declared_of (declared fs)) ≡ true → AreDecls h front (lines_from n (flat_map decl_words fs)) (declared fs)
+pub decl-lines : (h : LexLine) (front : List LexLine) (n : ℕ) (fs : List (Option FlatNet)) → list_all goes_on (h ∷ front) ≡ true → EachNet CanBeSaid fs → names_differ (declared_of (decls_of front) ++ declared_of (declared fs)) ≡ true → AreDecls h front (lines_from n (flat_map plain_decl fs)) (declared fs)
 decl-lines h front n [] goes each differ = record { fine = tt; decls = ap decls_of (append-nil front) ∙ sym (append-nil (decls_of front)) }
 decl-lines h front n (None ∷ fs) goes each differ = decl-lines h front n fs goes each differ
 decl-lines h front n (Some f ∷ fs) goes each differ =
@@ -69,6 +71,6 @@ decl-lines h front n (Some f ∷ fs) goes each differ =
     let new : among f.name (declared_of (decls_of front)) ≡ false = new-word (declared_of (decls_of front)) f.name (declared_of (declared fs)) apart in
     let e = pushed front n f each.0 new in
     let rest = decl-lines h (front ++ mv_line n f ∷ []) (n + 1) fs (going-push Mv (h ∷ front) (mv_line n f) goes command-mv refl) each.1 (regrouped front (decl_of f) (mv_line n f) (declared fs) e apart) in
-    rw other (one_more h front (mv_line n f) (lines_from (n + 1) (flat_map decl_words fs)) (decl_of f) (declared fs) (fine_line h front n f goes each.0 new) e rest)
+    rw other (one_more h front (mv_line n f) (lines_from (n + 1) (flat_map plain_decl fs)) (decl_of f) (declared fs) (fine_line h front n f goes each.0 new) e rest)
     ))
     (cases_Bool (is_plain_pair f))

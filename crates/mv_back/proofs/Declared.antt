@@ -6,11 +6,11 @@ use Rattle.mv_base.specs.Names.{among, is_net_name, is_value_name}
 use Rattle.mv_base.specs.declared.limits.TheConstants.{MAX_VALUES}
 use Rattle.mv_base.proofs.Lists.{all-weaker}
 use Rattle.mv_design.specs.declared.design.Decl.{Decl}
-use Rattle.mv_decl.specs.Nets.{declared_of}
+use Rattle.mv_design.specs.Values.{declared_of}
 use Rattle.mv_decl.specs.Line.{commas_apart, Front, front_said, net_name_faults, front_faults, value_names, named_values, count_faults, length_faults, is_redeclared, redeclared_faults, values_from, nets_said, values_said, decls_said, count_line_faults, decl_faults}
 use Rattle.mv_net.specs.Nets.{spelled_values}
 use Rattle.mv_net.specs.Formed.{IsNamed}
-use Rattle.mv_model.proofs.Decimals.{decimal-value_name}
+use Rattle.mv_decl.proofs.Decimals.{decimal-value_name}
 use Rattle.mv_decl.proofs.Words.{is_piece, pieces, no_word, net_piece, value_piece, names_kept}
 use Rattle.mv_back.proofs.Counts.{decimal-digits, number-decimal}
 use Rattle.mv_back.proofs.NewNames.{names-none}

@@ -7,7 +7,7 @@ use Rattle.std.proofs.lemmas.Bool.{or_left, or_right, false≢true}
 use Rattle.mv_base.specs.Names.{among, names_differ}
 use Rattle.mv_base.specs.declared.number.NetId.{NetId}
 use Rattle.mv_design.specs.declared.design.FileModel.{FileModel}
-use Rattle.mv_model.specs.Nets.{nets_driven, drivers}
+use Rattle.mv_design.specs.Nets.{nets_driven, drivers}
 use Rattle.mv_net.specs.declared.parts.Kind.{Kind}
 use Rattle.mv_net.specs.declared.parts.Kind.TheVariants.{Input, Latch, Table, Reset}
 use Rattle.mv_net.specs.declared.parts.FlatNet.{FlatNet}
@@ -16,9 +16,9 @@ use Rattle.mv_net.specs.Nets.{slot, name_in, table_in}
 use Rattle.mv_net.specs.Formed.{WellFormed, IsKind, has_table, latch_outputs}
 use Rattle.mv_graph.specs.Nets.{has_id}
 use Rattle.mv_net.proofs.Named.{held_below}
-use Rattle.mv_write.specs.Walk.{numbers}
+use Rattle.mv_text.specs.Text.{numbers}
 use Rattle.mv_back.proofs.TextModel.{IsModelOf}
-use Rattle.mv_back.proofs.NetLines.{no_reset}
+use Rattle.mv_back.proofs.PlainLines.{no_reset}
 use Rattle.mv_back.proofs.Numbers.{number_in, numbers_differ, number_in-stands, numbers_differ-all, names_at, names_at-numbers, IsHeldAt, AllHeld, OneName, among-number, names-differ, range-differs, range-passes, in-range, passes-at, number_in-append, differ-append, names_at-append, AllHeld-append, held_from}
 use Rattle.mv_back.proofs.ModelTables.{has_table_at, outputs_are}
 

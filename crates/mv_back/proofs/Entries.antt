@@ -16,7 +16,7 @@ use Rattle.mv_base.proofs.Lists.{all-weaker}
 use Rattle.mv_word.specs.Entries.{with_item, item_of, items_of, list_of, word_set}
 use Rattle.mv_word.proofs.LawfulNames.{ValueName, value_name-has}
 use Rattle.mv_word.proofs.Saying.{full-set, named-set, listed-set}
-use Rattle.mv_write.specs.Text.{value_at, names_in_set, comma_joined, one_or_list, entry_word}
+use Rattle.mv_text.specs.Text.{value_at, names_in_set, comma_joined, one_or_list, entry_word}
 use Rattle.mv_back.proofs.Spelled.{AreSpelled}
 use Rattle.mv_back.proofs.Members.{members, joined, members-below, members-joined}
 use Rattle.mv_decl.proofs.Words.{commaless, no_comma}

@@ -12,10 +12,10 @@ use Rattle.mv_net.specs.declared.parts.NetParts.{NetParts}
 use Rattle.mv_net.specs.Nets.{slot, name_in, values_in, spelled_in, spelled_values, table_reads, net_reads}
 use Rattle.mv_net.specs.Formed.{IsReadable, WellFormed}
 use Rattle.mv_net.proofs.Known.{reads_readable, are_named}
-use Rattle.mv_write.specs.Text.{fanins_of}
+use Rattle.mv_text.specs.Text.{fanins_of}
 use Rattle.mv_back.proofs.Passes.{picked-pass}
 use Rattle.mv_back.proofs.Spelled.{spelled-held}
-use Rattle.mv_back.proofs.NetLines.{no_reset}
+use Rattle.mv_back.proofs.PlainLines.{no_reset}
 use Rattle.mv_back.proofs.Lookups.{declared, values-declared}
 use Rattle.mv_back.proofs.Rows.{IsColumn, IsFanin}
 use Rattle.mv_back.proofs.TableText.{IsTableNet}

@@ -7,7 +7,7 @@ use Rattle.std.proofs.lemmas.List.Folds.{list_all-append, list_all-map}
 use Rattle.std.proofs.lemmas.List.Sums.{AllPass-from_list_all}
 use Rattle.mv_base.specs.Names.{is_bracketed, ends_with, is_net_name, is_value_name}
 use Rattle.mv_base.specs.Set.{has, full}
-use Rattle.mv_write.specs.Text.{value_at, names_in_set, with_comma, comma_joined, one_or_list, entry_word}
+use Rattle.mv_text.specs.Text.{value_at, names_in_set, with_comma, comma_joined, one_or_list, entry_word}
 use Rattle.mv_word.proofs.LawfulNames.{is_bracket, NetName, net_name-has, value_name-has}
 use Rattle.mv_back.proofs.Passes.{picked-pass}
 use Rattle.mv_written.specs.TextWords.{is_word_byte, is_written_word}

@@ -1,4 +1,5 @@
 pub mod TextModel
+pub mod PlainLines
 pub mod Spelled
 pub mod Passes
 pub mod Lawful

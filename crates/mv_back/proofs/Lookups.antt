@@ -7,12 +7,12 @@ use Rattle.std.proofs.lemmas.Fmt.{decimal_digit}
 use Rattle.mv_base.specs.Names.{same_word, among, names_differ}
 use Rattle.mv_base.proofs.NameLemmas.{same_word_is, same_word_refl, place_of-none}
 use Rattle.mv_design.specs.declared.design.Decl.{Decl}
-use Rattle.mv_decl.specs.Nets.{two_values, values_of, declared_of}
+use Rattle.mv_design.specs.Values.{two_values, values_of, declared_of}
 use Rattle.mv_decl.proofs.Kept.{not_found}
 use Rattle.mv_net.specs.declared.parts.FlatNet.{FlatNet}
 use Rattle.mv_net.specs.Nets.{slot, spelled_values}
 use Rattle.mv_net.specs.Names.{AreNamed}
-use Rattle.mv_write.specs.Text.{is_plain_pair}
+use Rattle.mv_text.specs.Text.{is_plain_pair}
 
 abbrev pub decl_of : FlatNet → Decl
 decl_of f = record { net = f.name; values = spelled_values f.values f.value_names }

@@ -9,14 +9,15 @@ use Rattle.mv_lex.specs.declared.lines.LexLine.{LexLine}
 use Rattle.mv_design.specs.declared.design.Decl.{Decl}
 use Rattle.mv_design.specs.declared.design.FileModel.{FileModel}
 use Rattle.mv_design.specs.declared.table.FileTable.{FileTable}
-use Rattle.mv_decl.specs.Nets.{declared_of}
+use Rattle.mv_design.specs.Values.{declared_of}
 use Rattle.mv_parse.specs.declared.command.Command.TheVariants.{Inputs, Outputs, End}
 use Rattle.mv_parse.specs.Known.{outputs_of, decls_of, tables_of, open_model, file_model, known}
 use Rattle.mv_parse.specs.Grammar.{model_faults, port_faults, end_faults, tables_faults, line_faults, faults_at, file_faults, faults_of, design_of, IsDesign}
 use Rattle.mv_net.specs.declared.parts.NetParts.{NetParts}
 use Rattle.mv_net.specs.Formed.{WellFormed}
 use Rattle.mv_net.proofs.Known.{are_named}
-use Rattle.mv_write.specs.Text.{names_of, net_lines}
+use Rattle.mv_text.specs.Text.{names_of}
+use Rattle.mv_back.proofs.PlainLines.{plain_lines}
 use Rattle.mv_back.proofs.TextModel.{AreTablesOf, IsModelOf, design_with}
 use Rattle.mv_back.proofs.Commands.{command-model, command-inputs, command-outputs, command-end}
 use Rattle.mv_back.proofs.Opened.{goes_on, known-closed, faults-going}
@@ -35,7 +36,7 @@ use Rattle.mv_written.specs.TextWords.{lines_from}
 -- the lines of the network say this model, and it is the network's
 pub record IsReadModel (net : NetParts) : Type 0 where
   pub model : FileModel
-  pub design : IsDesign (lines_from 1 (net_lines net)) (design_with model)
+  pub design : IsDesign (lines_from 1 (plain_lines net)) (design_with model)
   pub is_model : IsModelOf net model
 
 module _ (net : NetParts) (formed : WellFormed net) (none : net.latches ≡ []) where

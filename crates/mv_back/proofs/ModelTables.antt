@@ -6,7 +6,7 @@ use Rattle.std.proofs.lemmas.Bool.{and_parts, or_cases}
 use Rattle.std.proofs.lemmas.Option.{same_Some}
 use Rattle.mv_cover.specs.declared.cover.Cover.{Cover}
 use Rattle.mv_design.specs.declared.table.FileTable.{FileTable}
-use Rattle.mv_model.specs.Nets.{nets_driven}
+use Rattle.mv_design.specs.Nets.{nets_driven}
 use Rattle.mv_net.specs.declared.parts.FlatNet.{FlatNet}
 use Rattle.mv_net.specs.Nets.{slot, name_in, table_in}
 use Rattle.mv_back.proofs.TextModel.{IsTableOf, TableOrNot, AreTablesOf}

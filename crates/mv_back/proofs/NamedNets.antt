@@ -8,16 +8,15 @@ use Rattle.mv_cover.specs.declared.cover.Cover.{Cover}
 use Rattle.mv_cover.specs.Covers.{cover_reads}
 use Rattle.mv_design.specs.declared.table.FileTable.{FileTable}
 use Rattle.mv_design.specs.declared.design.FileModel.{FileModel}
-use Rattle.mv_model.specs.Nets.{columns_of, nets_named, nets_of, drivers}
-use Rattle.mv_model.proofs.Named.{among-nets_of}
-use Rattle.mv_model.proofs.Soundness.{in_either, driver_is_net}
+use Rattle.mv_design.specs.Nets.{columns_of, nets_named, nets_of, drivers}
+use Rattle.mv_unfold.proofs.Named.{among-nets_of}
+use Rattle.mv_unfold.proofs.Soundness.{in_either, driver_is_net}
 use Rattle.mv_net.specs.declared.parts.FlatNet.{FlatNet}
 use Rattle.mv_net.specs.declared.parts.NetParts.{NetParts}
 use Rattle.mv_net.specs.Nets.{slot, name_in, net_reads}
 use Rattle.mv_net.specs.Formed.{WellFormed}
 use Rattle.mv_net.proofs.Known.{reads_readable}
-use Rattle.mv_write.specs.Text.{fanins_of}
-use Rattle.mv_write.specs.Walk.{numbers}
+use Rattle.mv_text.specs.Text.{fanins_of, numbers}
 use Rattle.mv_back.proofs.TextModel.{IsModelOf}
 use Rattle.mv_back.proofs.Numbers.{number_in, names_at, names_at-numbers, IsHeldAt, AllHeld, held_from, held_in, range-passes, passes-at}
 use Rattle.mv_back.proofs.ModelTables.{IsOfNet, AllOfNets, all_of_nets}

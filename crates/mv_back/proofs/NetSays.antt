@@ -15,7 +15,8 @@ use Rattle.mv_parse.specs.Commands.{command_at, keeps_table, is_table, is_end}
 use Rattle.mv_parse.specs.Known.{inputs_at, inputs_of, outputs_at, outputs_of, decls_at, decls_of}
 use Rattle.mv_net.specs.declared.parts.FlatNet.{FlatNet}
 use Rattle.mv_net.specs.declared.parts.NetParts.{NetParts}
-use Rattle.mv_write.specs.Text.{is_plain_pair, decl_words, net_words, names_of, inner_lines, net_lines}
+use Rattle.mv_text.specs.Text.{is_plain_pair, names_of}
+use Rattle.mv_back.proofs.PlainLines.{plain_decl, plain_table, plain_inner, plain_lines}
 use Rattle.mv_back.proofs.Commands.{command-model, command-inputs, command-outputs, command-mv}
 use Rattle.mv_back.proofs.Opened.{goes_on}
 use Rattle.mv_written.proofs.LinesFrom.{lines_from-append}
@@ -34,28 +35,28 @@ abbrev pub outputs_line : NetParts → LexLine
 outputs_line net = record { number = 3; words = codes ".outputs" ∷ names_of net.nets net.outputs }
 
 abbrev pub decl_part : NetParts → List LexLine
-decl_part net = lines_from 4 (flat_map decl_words net.nets)
+decl_part net = lines_from 4 (flat_map plain_decl net.nets)
 
 abbrev pub tables_from : NetParts → ℕ
-tables_from net = 4 + length (flat_map decl_words net.nets)
+tables_from net = 4 + length (flat_map plain_decl net.nets)
 
 abbrev pub table_part : NetParts → List LexLine
-table_part net = lines_from (tables_from net) (flat_map (net_words net.nets) net.nets)
+table_part net = lines_from (tables_from net) (flat_map (plain_table net.nets) net.nets)
 
 abbrev pub end_line : NetParts → LexLine
-end_line net = record { number = 4 + length (inner_lines net.nets); words = codes ".end" ∷ [] }
+end_line net = record { number = 4 + length (plain_inner net.nets); words = codes ".end" ∷ [] }
 
 -- those between the first and the last
 abbrev pub body : NetParts → List LexLine
 body net = inputs_line net ∷ outputs_line net ∷ decl_part net ++ table_part net
 
-pub net-split : (net : NetParts) → lines_from 1 (net_lines net) ≡ model_line net ∷ body net ++ end_line net ∷ []
-unfolding net_lines
+pub net-split : (net : NetParts) → lines_from 1 (plain_lines net) ≡ model_line net ∷ body net ++ end_line net ∷ []
+unfolding plain_lines
 net-split net =
-    let dw = flat_map decl_words net.nets in
-    let tw = flat_map (net_words net.nets) net.nets in
+    let dw = flat_map plain_decl net.nets in
+    let tw = flat_map (plain_table net.nets) net.nets in
     ap (λ ls. model_line net ∷ inputs_line net ∷ outputs_line net ∷ ls)
-    (lines_from-append 4 (inner_lines net.nets) ((codes ".end" ∷ []) ∷ []) ∙ ap (λ ls. ls ++ end_line net ∷ []) (lines_from-append 4 dw tw))
+    (lines_from-append 4 (plain_inner net.nets) ((codes ".end" ∷ []) ∷ []) ∙ ap (λ ls. ls ++ end_line net ∷ []) (lines_from-append 4 dw tw))
 
 -- ---- declarations are lines of declarations alone
 
@@ -66,7 +67,7 @@ is_mv _ = false
 abbrev pub of_decl : LexLine → Bool
 of_decl l = is_mv (command_at l)
 
-pub decls-alone : (n : ℕ) (fs : List (Option FlatNet)) → list_all of_decl (lines_from n (flat_map decl_words fs)) ≡ true
+pub decls-alone : (n : ℕ) (fs : List (Option FlatNet)) → list_all of_decl (lines_from n (flat_map plain_decl fs)) ≡ true
 decls-alone n [] = refl
 decls-alone n (None ∷ fs) = decls-alone n fs
 decls-alone n (Some f ∷ fs) =

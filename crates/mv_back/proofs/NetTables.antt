@@ -1,6 +1,6 @@
 -- The lines of all tables of a network: what they say, and that limits are their only faults.
 use Rattle.std.proofs.Common.{◌≡◌, ◌∙◌, ℕ, ◌+◌, true, List, [], ◌∷◌, ◌++◌, length, map, refl, sym, ap, subst}
-use Rattle.std.specs.Prelude.{Option, Some, None, option_map}
+use Rattle.std.specs.Prelude.{Option, Some, None, option_map, codes}
 use Rattle.std.specs.List.{list_all, flat_map}
 use Rattle.std.proofs.lemmas.Bool.{and_from, or_right}
 use Rattle.std.proofs.lemmas.List.Folds.{list_all-append}
@@ -13,7 +13,8 @@ use Rattle.mv_parse.specs.Known.{tables_of}
 use Rattle.mv_parse.specs.Grammar.{tables_faults}
 use Rattle.mv_net.specs.declared.parts.FlatNet.{FlatNet}
 use Rattle.mv_net.specs.Nets.{spelled_values}
-use Rattle.mv_write.specs.Text.{fanins_of, entry_word, default_words, line_words, table_words, net_words}
+use Rattle.mv_text.specs.Text.{fanins_of, entry_word, default_words, line_words, table_words}
+use Rattle.mv_back.proofs.PlainLines.{plain_table}
 use Rattle.mv_back.proofs.TextModel.{fanin_names, TableOrNot, AreTablesOf}
 use Rattle.mv_back.proofs.Commands.{command-table}
 use Rattle.mv_back.proofs.Opened.{goes_on}
@@ -31,7 +32,7 @@ module _ (nets : List (Option FlatNet)) (ds : List Decl) where
   CanTable f t = (c : Cover) → t ≡ Some c → IsTableNet nets ds f c
 
   abbrev words_of : FlatNet → Option Cover → List (List (List ℕ))
-  words_of f t = table_words nets t (spelled_values f.values f.value_names) f.name
+  words_of f t = table_words nets (codes ".table") t (spelled_values f.values f.value_names) f.name
 
   -- the lines of one table
   abbrev head_at : ℕ → FlatNet → Cover → LexLine
@@ -79,11 +80,11 @@ module _ (nets : List (Option FlatNet)) (ds : List Decl) where
   table_or_not n f (Some c) rest Rest can say =
       subst (λ (ls : List LexLine). SayTables (TableOrNot nets f (Some c) Rest) ls) (sym (split n f c rest)) (one_table n f c (lines_from (end_of n f c) rest) Rest (can c refl) (say (end_of n f c)))
 
-  pub tables-said : (n : ℕ) (fs : List (Option FlatNet)) → EachNet (λ f. CanTable f f.table) fs → SayTables (AreTablesOf nets fs) (lines_from n (flat_map (net_words nets) fs))
+  pub tables-said : (n : ℕ) (fs : List (Option FlatNet)) → EachNet (λ f. CanTable f f.table) fs → SayTables (AreTablesOf nets fs) (lines_from n (flat_map (plain_table nets) fs))
   tables-said n [] each = record { tables = refl; faults = refl; fresh = refl; inside = refl }
   tables-said n (None ∷ fs) each = tables-said n fs each
   tables-said n (Some f ∷ fs) each =
-      table_or_not n f f.table (flat_map (net_words nets) fs) (AreTablesOf nets fs) each.0 (λ k. tables-said k fs each.1)
+      table_or_not n f f.table (flat_map (plain_table nets) fs) (AreTablesOf nets fs) each.0 (λ k. tables-said k fs each.1)
 
   -- ---- that they have no fault
 
@@ -116,8 +117,8 @@ module _ (nets : List (Option FlatNet)) (ds : List Decl) where
       subst (λ (ls : List LexLine). AreFine (h ∷ front) ls) (sym (split n f c rest))
       (AreFine-append (h ∷ front) block (lines_from (end_of n f c) rest) (table_fine h f c is front n goes) (fine (front ++ block) (end_of n f c) (goes_behind h front n f c is goes)))
 
-  pub tables-fine : (h : LexLine) (fs : List (Option FlatNet)) → EachNet (λ f. CanTable f f.table) fs → FineFrom h (flat_map (net_words nets) fs)
+  pub tables-fine : (h : LexLine) (fs : List (Option FlatNet)) → EachNet (λ f. CanTable f f.table) fs → FineFrom h (flat_map (plain_table nets) fs)
   tables-fine h [] each front n goes = tt
   tables-fine h (None ∷ fs) each front n goes = tables-fine h fs each front n goes
   tables-fine h (Some f ∷ fs) each front n goes =
-      fine_or_not h f f.table (flat_map (net_words nets) fs) each.0 (tables-fine h fs each.1) front n goes
+      fine_or_not h f f.table (flat_map (plain_table nets) fs) each.0 (tables-fine h fs each.1) front n goes

@@ -5,7 +5,7 @@ use Rattle.mv_net.specs.declared.parts.FlatNet.{FlatNet}
 use Rattle.mv_net.specs.declared.parts.NetParts.{NetParts}
 use Rattle.mv_net.specs.Nets.{slot}
 use Rattle.mv_net.specs.Formed.{WellFormed}
-use Rattle.mv_back.proofs.NetLines.{no_reset}
+use Rattle.mv_back.proofs.PlainLines.{no_reset}
 use Rattle.mv_back.proofs.Declared.{IsSaid}
 
 abbrev pub EachNet : (FlatNet → Type 0) → List (Option FlatNet) → Type 0

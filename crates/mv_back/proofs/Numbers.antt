@@ -10,7 +10,7 @@ use Rattle.mv_base.specs.declared.number.NetId.{NetId}
 use Rattle.mv_net.specs.declared.parts.FlatNet.{FlatNet}
 use Rattle.mv_net.specs.Nets.{slot, name_in}
 use Rattle.mv_graph.specs.Nets.{all_differ, has_id}
-use Rattle.mv_write.specs.Walk.{numbers}
+use Rattle.mv_text.specs.Text.{numbers}
 
 -- ---- lists of numbers
 

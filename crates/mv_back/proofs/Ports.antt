@@ -9,8 +9,7 @@ use Rattle.mv_net.specs.declared.parts.NetParts.{NetParts}
 use Rattle.mv_net.specs.Nets.{slot, name_in}
 use Rattle.mv_graph.specs.Nets.{all_differ, has_id}
 use Rattle.mv_net.specs.Formed.{IsReadable, WellFormed}
-use Rattle.mv_write.specs.Text.{names_of}
-use Rattle.mv_write.specs.Walk.{numbers}
+use Rattle.mv_text.specs.Text.{names_of, numbers}
 use Rattle.mv_back.proofs.Numbers.{number_in-stands, numbers_differ-all, names_at-numbers, AllHeld, held_from, names-differ as names-apart}
 use Rattle.mv_back.proofs.Passes.{stands-pass}
 

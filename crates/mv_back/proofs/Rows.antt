@@ -11,14 +11,14 @@ use Rattle.mv_cover.specs.declared.cube.Lit.{Lit}
 use Rattle.mv_cover.specs.declared.line.Line.{Line}
 use Rattle.mv_cover.specs.Lines.{IsOutput}
 use Rattle.mv_word.specs.Entries.{word_set}
-use Rattle.mv_decl.specs.Nets.{values_of}
+use Rattle.mv_design.specs.Values.{values_of}
 use Rattle.mv_table.specs.Entries.{in_said, out_word, out_said, set_entry, ins_faults, ins_said, outs_faults, outs_said}
 use Rattle.mv_table.specs.Tables.{row_of_words, entries_faults}
 use Rattle.mv_net.specs.declared.parts.FlatNet.{FlatNet}
 use Rattle.mv_net.specs.Nets.{slot, name_in, values_in, spelled_in}
 use Rattle.mv_net.specs.Formed.{AllLiterals}
-use Rattle.mv_write.specs.Text.{entry_word, set_in, fanin_word, line_words}
-use Rattle.mv_write.proofs.Literals.{full_output}
+use Rattle.mv_text.specs.Text.{entry_word, set_in, fanin_word, line_words}
+use Rattle.mv_text.proofs.Outputs.{full_output}
 use Rattle.mv_back.proofs.TextModel.{set_entries, row_said}
 use Rattle.mv_back.proofs.Spelled.{AreSpelled}
 use Rattle.mv_back.proofs.Entries.{entry-set, entry-equal}

@@ -8,7 +8,7 @@ use Rattle.mv_net.specs.declared.parts.FlatNet.{FlatNet}
 use Rattle.mv_net.specs.declared.parts.NetParts.{NetParts}
 use Rattle.mv_net.specs.Nets.{slot, spelled_values}
 use Rattle.mv_net.specs.Formed.{IsNamed, WellFormed}
-use Rattle.mv_model.proofs.Decimals.{numbers-lawful, numbers-differ}
+use Rattle.mv_decl.proofs.Decimals.{numbers-lawful, numbers-differ}
 
 -- as many names as values, all lawful and all different
 pub record AreSpelled (values : ℕ) (names : List (List ℕ)) : Type 0 where

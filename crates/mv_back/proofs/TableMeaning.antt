@@ -5,14 +5,14 @@ use Rattle.std.specs.List.{list_all}
 use Rattle.mv_cover.specs.declared.cover.Cover.{Cover}
 use Rattle.mv_cover.specs.Covers.{cover_reads, lines_read, allowed}
 use Rattle.mv_design.specs.declared.table.FileTable.{FileTable}
-use Rattle.mv_rows.specs.Tables.{table_allows}
-use Rattle.mv_model.specs.Meaning.{table_holds}
+use Rattle.mv_design.specs.Tables.{table_allows}
+use Rattle.mv_design.specs.Meaning.{table_holds}
 use Rattle.mv_net.specs.declared.parts.FlatNet.{FlatNet}
 use Rattle.mv_net.specs.declared.parts.NetParts.{NetParts}
 use Rattle.mv_net.specs.Nets.{slot, name_in}
 use Rattle.mv_net.specs.Formed.{WellFormed}
 use Rattle.mv_net.proofs.Known.{readable_below, reads_readable}
-use Rattle.mv_write.specs.Text.{fanins_of}
+use Rattle.mv_text.specs.Text.{fanins_of}
 use Rattle.mv_back.proofs.TextModel.{set_entries, row_said, fanin_names, IsTableOf}
 use Rattle.mv_back.proofs.Numbers.{number_in, names_at, in-range}
 use Rattle.mv_back.proofs.CoverRows.{is_low, rows_allow}

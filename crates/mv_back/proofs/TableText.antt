@@ -20,7 +20,7 @@ use Rattle.mv_parse.specs.Commands.{first_of}
 use Rattle.mv_net.specs.declared.parts.FlatNet.{FlatNet}
 use Rattle.mv_net.specs.Nets.{slot, spelled_in, spelled_values}
 use Rattle.mv_net.specs.Formed.{AllLines}
-use Rattle.mv_write.specs.Text.{fanins_of, fanin_word, set_in, entry_word, line_words, default_words}
+use Rattle.mv_text.specs.Text.{fanins_of, fanin_word, set_in, entry_word, line_words, default_words}
 use Rattle.mv_back.proofs.TextModel.{set_entries, row_said, fanin_names, IsTableOf}
 use Rattle.mv_back.proofs.Entries.{entry-stop}
 use Rattle.mv_back.proofs.Commands.{command-default, command-row}

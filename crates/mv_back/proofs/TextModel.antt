@@ -8,11 +8,11 @@ use Rattle.mv_design.specs.declared.table.Row.{Row}
 use Rattle.mv_design.specs.declared.table.FileTable.{FileTable}
 use Rattle.mv_design.specs.declared.design.FileModel.{FileModel}
 use Rattle.mv_design.specs.declared.design.Design.{Design}
-use Rattle.mv_decl.specs.Nets.{values_of}
+use Rattle.mv_design.specs.Values.{values_of}
 use Rattle.mv_net.specs.declared.parts.FlatNet.{FlatNet}
 use Rattle.mv_net.specs.declared.parts.NetParts.{NetParts}
 use Rattle.mv_net.specs.Nets.{slot, name_in, spelled_values}
-use Rattle.mv_write.specs.Text.{fanins_of, set_in, names_of}
+use Rattle.mv_text.specs.Text.{fanins_of, set_in, names_of}
 
 -- an output entry that says these values
 abbrev pub set_entries : ℕ → List Entry

@@ -2,11 +2,11 @@
 use Rattle.std.proofs.Common.{◌≡◌, List, [], sym, subst}
 use Rattle.mv_lex.specs.declared.lines.LexLine.{LexLine}
 use Rattle.mv_parse.specs.Grammar.{IsDesign}
-use Rattle.mv_model.specs.Nets.{root_of}
-use Rattle.mv_model.specs.Meaning.{of_design}
+use Rattle.mv_design.specs.Nets.{root_of}
+use Rattle.mv_design.specs.Meaning.{of_design}
 use Rattle.mv_net.specs.declared.parts.NetParts.{NetParts}
 use Rattle.mv_net.specs.Formed.{WellFormed}
-use Rattle.mv_write.specs.Text.{text_of}
+use Rattle.mv_text.specs.Text.{text_of}
 use Rattle.mv_back.specs.Back.{ReadsAs, ReadsBack}
 use Rattle.mv_back.proofs.TextModel.{design_with}
 use Rattle.mv_back.proofs.NetLines.{lines-back, clean-back}

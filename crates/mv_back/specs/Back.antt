@@ -4,11 +4,11 @@ use Rattle.mv_base.specs.Meaning.{SameMeaning}
 use Rattle.mv_lex.specs.Lines.{lines_of, is_clean}
 use Rattle.mv_design.specs.declared.design.Design.{Design}
 use Rattle.mv_parse.specs.Grammar.{IsDesign}
-use Rattle.mv_model.specs.Sound.{IsSound}
-use Rattle.mv_model.specs.Meaning.{of_design}
+use Rattle.mv_unfold.specs.Sound.{IsSound}
+use Rattle.mv_design.specs.Meaning.{of_design}
 use Rattle.mv_net.specs.declared.parts.NetParts.{NetParts}
 use Rattle.mv_net.specs.Allowed.{of_net}
-use Rattle.mv_write.specs.Text.{text_of}
+use Rattle.mv_text.specs.Text.{text_of}
 
 -- the bytes read as this design: they have no fault, the grammar relates their lines to the design, and it is sound. No
 -- limit of the program is asked for

@@ -1,3 +1,6 @@
+ghost use Rattle.std.specs.Prelude.{IfOk};
+ghost use Rattle.mv_proper.specs.Lines.{AreOfFile};
+
 use crate::stop::Stop;
 use mv_base::{Files, HostFiles};
 use mv_lex::{Lexer, Lines};
@@ -35,7 +38,9 @@ fn counted(lines: &Lines) -> Counts {
 }
 
 /// Lexes standard input piece by piece and keeps all lines.
-pub fn lines_of_input(rt: &HostRuntime) -> Result<Lines, Stop> {
+pub fn lines_of_input(rt: &HostRuntime) -> Result<Lines, Stop>
+    ensures { IfOk result AreOfFile }
+{
     let mut files = HostFiles::new(rt);
     let mut lines = Lines::new(rt.alloc());
     let mut lexer = Lexer::new(rt.alloc(), MOST);

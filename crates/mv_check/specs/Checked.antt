@@ -6,7 +6,7 @@ use Rattle.mv_entry.specs.declared.fault.RuleFault.{RuleFault}
 use Rattle.mv_net.specs.declared.parts.NetParts.{NetParts}
 use Rattle.mv_net.specs.Nets.{literals_in}
 use Rattle.mv_read.specs.Reads.{IsNetOf}
-use Rattle.mv_write.specs.Text.{text_of}
+use Rattle.mv_text.specs.Text.{text_of}
 use Rattle.mv_cert.specs.Certificates.{IsCertificate, Certifies, steps_in}
 use Rattle.mv_cert.specs.Replay.{FailsAt}
 use Rattle.mv_task.specs.Ending.{IsEndCut, done_line}

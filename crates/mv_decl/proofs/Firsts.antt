@@ -9,7 +9,8 @@ use Rattle.indexmap.specs.IndexMap.{IndexMap, get, Updates}
 use Rattle.mv_base.specs.Names.{same_word, among, place_of}
 use Rattle.mv_base.proofs.NameLemmas.{same_word_is, same_word_sym, is_some-place_of, place_of-none, place_of-append, place_of-cons}
 use Rattle.mv_design.specs.declared.design.Decl.{Decl}
-use Rattle.mv_decl.specs.Nets.{declared_of, AreFirst}
+use Rattle.mv_design.specs.Values.{declared_of}
+use Rattle.mv_decl.specs.Nets.{AreFirst}
 
 -- among no declarations none is found
 pub first-none : {S : Type 0} (places : IndexMap (List ℕ) ℕ S) → places.entries ≡ [] → AreFirst places []

@@ -11,7 +11,8 @@ use Rattle.mv_base.proofs.NameLemmas.{place_of-cons}
 use Rattle.mv_base.specs.declared.limits.TheConstants.{MAX_VALUES}
 use Rattle.mv_base.specs.declared.memory.Memory.{Memory}
 use Rattle.mv_design.specs.declared.design.Decl.{Decl}
-use Rattle.mv_decl.specs.Nets.{values_of, declared_of, two_values, with_decl, HasValues}
+use Rattle.mv_design.specs.Values.{values_of, declared_of, two_values}
+use Rattle.mv_decl.specs.Nets.{with_decl, HasValues}
 
 -- the declaration at the place is the net's
 pub record IsFound (ds : List Decl) (net : List ℕ) (k : ℕ) : Type 0 where

@@ -6,3 +6,4 @@ pub mod Said
 pub mod Words
 pub mod Plain
 pub mod Fronts
+pub mod Decimals

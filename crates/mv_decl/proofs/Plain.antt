@@ -11,7 +11,7 @@ use Rattle.mv_fault.specs.declared.fault.ParseFault.{ParseFault}
 use Rattle.mv_fault.specs.declared.fault.ParseFault.TheVariants.{Missing}
 use Rattle.mv_design.specs.declared.design.Decl.{Decl}
 use Rattle.mv_decl.specs.Line.{is_comma, is_digits, Front, lacking, with_net, front_of, behind_name, net_name_faults, lacking_faults, front_faults, number_said, numbers_below, value_names, named_values, count_faults, name_faults, length_faults, is_redeclared, redeclared_faults, pieces_of, commas_apart, values_from, front_said, nets_said, values_said, count_line_faults, decl_faults}
-use Rattle.mv_decl.specs.Nets.{declared_of}
+use Rattle.mv_design.specs.Values.{declared_of}
 use Rattle.mv_decl.proofs.Fronts.{front_left}
 use Rattle.mv_decl.specs.Plain.{IsPlainLine, SayTheSame}
 use Rattle.mv_decl.proofs.Words.{is_piece, commaless, one_piece, two_pieces, word_alone, pieces, no_word, net_piece, value_piece, names_kept}

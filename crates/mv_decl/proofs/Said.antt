@@ -11,7 +11,8 @@ use Rattle.mv_design.specs.declared.design.Decl.{Decl}
 use Rattle.mv_fault.specs.declared.fault.ParseFault.TheVariants.{Redeclared}
 use Rattle.mv_fault.specs.Tells.{when}
 use Rattle.mv_fault.proofs.Nothing.{left-nothing, right-nothing, when-nothing}
-use Rattle.mv_decl.specs.Nets.{values_of, declared_of, two_values, with_decl, with_decls}
+use Rattle.mv_design.specs.Values.{values_of, declared_of, two_values}
+use Rattle.mv_decl.specs.Nets.{with_decl, with_decls}
 use Rattle.mv_decl.specs.Line.{decls_for, same_values, is_redeclared, redeclared_faults}
 use Rattle.mv_decl.proofs.Kept.{not_found}
 

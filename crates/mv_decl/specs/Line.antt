@@ -11,7 +11,7 @@ use Rattle.mv_fault.specs.declared.fault.Which.TheVariants.{Values}
 use Rattle.mv_fault.specs.declared.fault.ParseFault.{ParseFault}
 use Rattle.mv_fault.specs.declared.fault.ParseFault.TheVariants.{Missing, BadCount, ValueNames, Redeclared, Repeated, Limit, BadName}
 use Rattle.mv_fault.specs.Tells.{when}
-use Rattle.mv_decl.specs.Nets.{declared_of, values_of}
+use Rattle.mv_design.specs.Values.{declared_of, values_of}
 
 -- ---- commas: each is a word of its own
 

@@ -1,24 +1,12 @@
--- Declared nets and the names of their values.
-use Rattle.std.specs.Prelude.{◌≡◌, ℕ, ◌<◌, ◌≤◌, nat_eq, List, [], ◌∷◌, ◌++◌, length, map, codes, if◌then◌else◌}
+-- Declarations as they are gathered, line by line.
+use Rattle.std.specs.Prelude.{◌≡◌, ℕ, ◌<◌, ◌≤◌, nat_eq, List, [], ◌∷◌, ◌++◌, length, if◌then◌else◌}
 use Rattle.std.specs.List.{AllByRecursion}
 use Rattle.std.specs.Cmp.Lexicographic.{pointwise}
 use Rattle.indexmap.specs.IndexMap.{IndexMap, get}
-use Rattle.mv_base.specs.Names.{same_word, among, place_of}
+use Rattle.mv_base.specs.Names.{among, place_of}
 use Rattle.mv_base.specs.declared.limits.TheConstants.{MAX_VALUES}
 use Rattle.mv_design.specs.declared.design.Decl.{Decl}
-
--- the values of a net without a declaration
-abbrev pub two_values : List (List ℕ)
-two_values = codes "0" ∷ codes "1" ∷ []
-
--- the names of a net's values, in declared order
-abbrev pub values_of : List Decl → List ℕ → List (List ℕ)
-values_of [] net = two_values
-values_of (d ∷ ds) net = if same_word net d.net then d.values else values_of ds net
-
--- the nets that are declared
-abbrev pub declared_of : List Decl → List (List ℕ)
-declared_of ds = map (λ d. d.net) ds
+use Rattle.mv_design.specs.Values.{two_values, declared_of}
 
 -- the declarations with one more, unless its net is declared already
 unfoldable pub with_decl : List Decl → Decl → List Decl

@@ -1,7 +1,8 @@
 ghost use Rattle.std.specs.Prelude.{◌≡◌, ◌<◌, ◌≤◌, ℕ, List, [], ◌∷◌, ◌++◌, false, length, take, IfOk, OnOk, OnErr};
 ghost use Rattle.mv_base.specs.declared.limits.TheConstants.{MAX_VALUES as most_values};
 ghost use Rattle.mv_base.specs.Names.{among, place_of};
-ghost use Rattle.mv_decl.specs.Nets.{values_of, with_decl, declared_of, two_values, HasValues};
+ghost use Rattle.mv_design.specs.Values.{values_of, declared_of, two_values};
+ghost use Rattle.mv_decl.specs.Nets.{with_decl, HasValues};
 ghost use Rattle.mv_decl.specs.Line.{same_values, is_redeclared};
 ghost use Rattle.mv_design.specs.declared.design.Decl.{Decl};
 

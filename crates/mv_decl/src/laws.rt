@@ -3,7 +3,7 @@ ghost use Rattle.mv_base.specs.Names.{among, is_net_name};
 ghost use Rattle.mv_design.specs.declared.design.Decl.{Decl};
 ghost use Rattle.mv_decl.specs.Line.{number_said, numbers_below, named_values, count_faults, name_faults, length_faults, redeclared_faults};
 ghost use Rattle.mv_decl.specs.Line.{nets_said, values_said, decl_faults};
-ghost use Rattle.mv_decl.specs.Nets.{declared_of};
+ghost use Rattle.mv_design.specs.Values.{declared_of};
 ghost use Rattle.mv_decl.specs.Plain.{IsPlainLine, SayTwoNames};
 
 use mv_fault::ParseFault;

@@ -3,7 +3,8 @@ ghost use Rattle.mv_base.specs.declared.limits.TheConstants.{MAX_VALUES as most_
 ghost use Rattle.mv_base.specs.Names.{among};
 ghost use Rattle.mv_fault.specs.declared.fault.ParseFault.{ParseFault};
 ghost use Rattle.mv_fault.specs.Tells.{Tells};
-ghost use Rattle.mv_decl.specs.Nets.{values_of, declared_of, with_decls};
+ghost use Rattle.mv_design.specs.Values.{values_of, declared_of};
+ghost use Rattle.mv_decl.specs.Nets.{with_decls};
 ghost use Rattle.mv_decl.specs.Line.{net_name_faults, front_of, front_faults, redeclared_faults, decls_for, decl_faults, decls_said, nets_said, values_said};
 
 use crate::Decls;

@@ -2,7 +2,8 @@
 ghost use Rattle.std.specs.Prelude.{◌≡◌, ◌<◌, ◌≤◌, ◌++◌, ◌∷◌, [], length, slice_get, IfOk, IfSome, OnOk, All};
 ghost use Rattle.mv_base.specs.Names.{place_of};
 ghost use Rattle.mv_base.specs.declared.limits.TheConstants.{MAX_VALUES as most_values};
-ghost use Rattle.mv_decl.specs.Nets.{values_of, declared_of, HasValues, AreFirst};
+ghost use Rattle.mv_design.specs.Values.{values_of, declared_of};
+ghost use Rattle.mv_decl.specs.Nets.{HasValues, AreFirst};
 
 use crate::decls::zero_and_one;
 use indexmap::IndexMap;

@@ -1,9 +1,13 @@
--- The line that tells a fault.
+-- The line that tells a fault: of lines, with the number of the line, or of a design, which names no line.
 use Rattle.std.specs.Prelude.{ℕ, List, [], ◌∷◌, ◌++◌, codes, decimal}
 use Rattle.mv_fault.specs.declared.fault.Which.{Which}
 use Rattle.mv_fault.specs.declared.fault.Which.TheVariants.{Values, Columns as TooManyColumns, TableLines, Models, Depth}
 use Rattle.mv_fault.specs.declared.fault.Which.TheVariants.{Instances, Nets, NetName, FlatLines, FlatEntries}
 use Rattle.mv_fault.specs.declared.fault.ParseFault.{ParseFault}
+use Rattle.mv_fault.specs.declared.flat.FlatFault.{FlatFault}
+use Rattle.mv_fault.specs.declared.flat.FlatFault.TheVariants.{NoSuchModel, Recursive, NoFormal, PortValues, PortOpen, NameClash}
+use Rattle.mv_fault.specs.declared.flat.FlatFault.TheVariants.{DrivenTwice, Undriven, Cycle, ResetReadsLatch, ResetTwice, NoLatch}
+use Rattle.mv_fault.specs.declared.flat.FlatFault.TheVariants.{JointWide, Limit as FlatLimit, Memory as NoFlatMemory}
 use Rattle.mv_fault.specs.declared.fault.ParseFault.TheVariants.{UnknownCommand, OutsideModel, NoEnd, Missing, Extra}
 use Rattle.mv_fault.specs.declared.fault.ParseFault.TheVariants.{BadCount, ValueNames, Redeclared, Columns, UnknownValue, BadEqual}
 use Rattle.mv_fault.specs.declared.fault.ParseFault.TheVariants.{DefaultTwice, ModelTwice, RootFault, Repeated, NoModel}
@@ -63,3 +67,27 @@ parse_line (NoTable line) = told (codes "37 NoTable") line []
 parse_line (LatchValues line input output) = told (codes "38 LatchValues") line (input ∷ output ∷ [])
 parse_line (NotBuilt line) = told (codes "39 NotBuilt") line []
 parse_line Memory = codes "# fault memory\n"
+
+-- ---- faults of a design
+
+-- a fault of this number and name, with these words
+unfoldable pub flat_told : List ℕ → List (List ℕ) → List ℕ
+flat_told name words = fault_name name ++ tail words
+
+-- the line of each fault of a design. (Want of memory is none: no design has it.)
+abbrev pub flat_line : FlatFault → List ℕ
+flat_line (NoSuchModel model) = flat_told (codes "22 NoSuchModel") (model ∷ [])
+flat_line (Recursive model) = flat_told (codes "23 Recursive") (model ∷ [])
+flat_line (NoFormal formal) = flat_told (codes "24 NoFormal") (formal ∷ [])
+flat_line (PortValues formal actual) = flat_told (codes "25 PortValues") (formal ∷ actual ∷ [])
+flat_line (PortOpen formal) = flat_told (codes "26 PortOpen") (formal ∷ [])
+flat_line (NameClash net) = flat_told (codes "27 NameClash") (net ∷ [])
+flat_line (DrivenTwice net) = flat_told (codes "28 DrivenTwice") (net ∷ [])
+flat_line (Undriven net) = flat_told (codes "29 Undriven") (net ∷ [])
+flat_line (Cycle net) = flat_told (codes "30 Cycle") (net ∷ [])
+flat_line (ResetReadsLatch latch reached) = flat_told (codes "31 ResetReadsLatch") (latch ∷ reached ∷ [])
+flat_line (ResetTwice latch) = flat_told (codes "32 ResetTwice") (latch ∷ [])
+flat_line (NoLatch net) = flat_told (codes "33 NoLatch") (net ∷ [])
+flat_line (JointWide number) = flat_told (codes "34 JointWide") (decimal number ∷ [])
+flat_line (FlatLimit which number) = flat_told (codes "35 Limit") (which_name which ∷ decimal number ∷ [])
+flat_line NoFlatMemory = codes "# fault memory\n"

@@ -1,8 +1,12 @@
-//! Faults of a network file's lines, and the line that tells each.
+//! The faults of a network file, of its lines and of the design that they say, and the line that tells each.
 #![tactic(auto)]
 
 mod fault;
+mod flat;
 mod tell;
+mod tell_flat;
 
 pub use fault::{ParseFault, Which};
-pub use tell::{put_fault_name, put_parse_fault, which_name};
+pub use flat::FlatFault;
+pub use tell::put_parse_fault;
+pub use tell_flat::put_flat_fault;

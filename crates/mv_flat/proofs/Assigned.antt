@@ -14,18 +14,20 @@ use Rattle.mv_rows.specs.Covers.{mark_value, MarkHas}
 use Rattle.mv_net.specs.declared.parts.NetParts.{NetParts}
 use Rattle.mv_net.specs.Nets.{slot}
 use Rattle.mv_net.specs.Allowed.{net_allows, Agrees}
-use Rattle.mv_model.specs.Nets.{count_of, drivers, nets_named, nets_driven}
-use Rattle.mv_model.specs.Numbers.{places, may_mark, mark_name, number_in}
-use Rattle.mv_model.specs.Meaning.{in_values, table_holds}
-use Rattle.mv_flat.specs.Numbers.{output_of, mark_at}
-use Rattle.mv_model.proofs.Listed.{name_at}
-use Rattle.mv_model.proofs.Distinct.{is_dotted, lawful_undotted}
-use Rattle.mv_model.proofs.Names.{all_among}
+use Rattle.mv_design.specs.Values.{count_of}
+use Rattle.mv_design.specs.Nets.{drivers, nets_named, nets_driven}
+use Rattle.mv_flat.specs.Places.{places, has_mark}
+use Rattle.mv_unfold.specs.Numbers.{number_in}
+use Rattle.mv_design.specs.Meaning.{in_values, table_holds}
+use Rattle.mv_flat.specs.Numbers.{mark_name, output_of, mark_at}
+use Rattle.mv_unfold.proofs.Listed.{name_at}
+use Rattle.mv_flat.proofs.Distinct.{is_spaced, lawful_unspaced}
+use Rattle.mv_unfold.proofs.Names.{all_among}
 use Rattle.mv_flat.proofs.Numbered.{mark_number}
 use Rattle.mv_flat.proofs.Slots.{IsTableAt, mark_net}
 use Rattle.mv_flat.proofs.Places.{IsModelNet, table_of, single_tables, input_slot, InputPlace, OutputPlace, MarkPlace, place_at, no_slot, named_file}
 use Rattle.mv_flat.proofs.Naming.{in_tables, input_named, lawful_named, output_of_among}
-use Rattle.mv_flat.proofs.Valuations.{Follows, values_follow, range_follows, mark_at_columns, output_allows, marked_may, mark_up}
+use Rattle.mv_flat.proofs.Valuations.{Follows, values_follow, range_follows, mark_at_columns, output_allows, marked_has, mark_up}
 
 -- the value of the mark of the table with this output
 abbrev marked_in : (List ℕ → ℕ) → List FileTable → List ℕ → ℕ
@@ -35,14 +37,14 @@ marked_in value (t ∷ ts) w = if among w t.outputs then mark_value t.rows (map 
 -- the value of a name among the names by number
 abbrev named_value : FileModel → (List ℕ → ℕ) → List ℕ → ℕ
 named_value m value [] = value []
-named_value m value (b ∷ bs) = if b == 46 then marked_in value m.tables bs else value (b ∷ bs)
+named_value m value (b ∷ bs) = if b == 32 then marked_in value m.tables bs else value (b ∷ bs)
 
 abbrev pub by_number : FileModel → (List ℕ → ℕ) → ℕ → ℕ
 by_number m value n = named_value m value (get_or (places m) n [])
 
-undotted_value : (m : FileModel) (value : List ℕ → ℕ) (w : List ℕ) → is_dotted w ≡ false → named_value m value w ≡ value w
-undotted_value m value [] h = refl
-undotted_value m value (b ∷ bs) h = cond-false (b == 46) _ _ h
+unspaced_value : (m : FileModel) (value : List ℕ → ℕ) (w : List ℕ) → is_spaced w ≡ false → named_value m value w ≡ value w
+unspaced_value m value [] h = refl
+unspaced_value m value (b ∷ bs) h = cond-false (b == 32) _ _ h
 
 -- ---- outputs are apart
 
@@ -76,7 +78,7 @@ found_mark value (u ∷ us) (suc k) t w a e h =
 
 number_value : (m : FileModel) (net : NetParts) → IsModelNet m net → (value : List ℕ → ℕ) (w : List ℕ) → among w (nets_named m) ≡ true → value w ≡ by_number m value (number_in (places m) w)
 number_value m net is value w h =
-    sym (ap (named_value m value) (name_at (places m) w (named_file m net is w h).listed) ∙ undotted_value m value w (lawful_undotted w (lawful_named m net is w h)))
+    sym (ap (named_value m value) (name_at (places m) w (named_file m net is w h).listed) ∙ unspaced_value m value w (lawful_unspaced w (lawful_named m net is w h)))
 
 pub number_follows : (m : FileModel) (net : NetParts) → IsModelNet m net → (value : List ℕ → ℕ) → in_values m.decls value (nets_named m) ≡ true → Follows m (by_number m value) value
 number_follows m net is value range = record {
@@ -84,7 +86,7 @@ number_follows m net is value range = record {
   range = λ w h. ap (λ v. nat_lt v (count_of m.decls w)) (sym (number_value m net is value w h)) ∙ all_among (λ u. nat_lt (value u) (count_of m.decls u)) (nets_named m) w range h;
 }
 
-mark_value_is : (m : FileModel) (net : NetParts) → IsModelNet m net → (value : List ℕ → ℕ) → Follows m (by_number m value) value → (k : ℕ) (t : FileTable) → slice_get m.tables k ≡ Some t → may_mark t ≡ true → by_number m value (mark_at (places m) t).0 ≡ mark_at_columns m (by_number m value) t
+mark_value_is : (m : FileModel) (net : NetParts) → IsModelNet m net → (value : List ℕ → ℕ) → Follows m (by_number m value) value → (k : ℕ) (t : FileTable) → slice_get m.tables k ≡ Some t → has_mark m.decls t ≡ true → by_number m value (mark_at (places m) t).0 ≡ mark_at_columns m (by_number m value) t
 mark_value_is m net is value f k t e may =
     let here = table_of m net is k t e in
     let listed = here.marked may in
@@ -98,7 +100,7 @@ mark_has m net is value f k t e = by_mark (table_of m net is k t e).flat.mark re
   where
     by_mark : (o : Option Cover) → (table_of m net is k t e).flat.mark ≡ o → MarkHas o (mark_at (places m) t) (by_number m value) (mark_at_columns m (by_number m value) t)
     by_mark None x = tt
-    by_mark (Some c) x = mark_value_is m net is value f k t e (marked_may m.decls (places m) net.nets t (table_of m net is k t e) c x)
+    by_mark (Some c) x = mark_value_is m net is value f k t e (marked_has m.decls (places m) net.nets t (table_of m net is k t e) c x)
 
 -- ---- it agrees with each net
 

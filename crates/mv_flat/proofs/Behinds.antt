@@ -1,33 +1,31 @@
 -- The nets of tables, one table after the other behind the nets of the inputs.
-use Rattle.std.proofs.Common.{◌≡◌, ℕ, ◌+◌, ◌*◌, ◌<◌, ◌≤◌, ◌^◌, Bool, true, false, ◌||◌, List, [], ◌∷◌, ◌++◌, length, drop, get_or, map, Option, Some, refl, sym, ◌∙◌, ap, subst, arith, append_assoc, All}
+use Rattle.std.proofs.Common.{◌≡◌, ℕ, ◌+◌, ◌*◌, ◌<◌, ◌≤◌, ◌^◌, Bool, true, false, ◌||◌, List, [], ◌∷◌, ◌++◌, length, drop, get_or, Option, Some, refl, sym, ◌∙◌, ap, subst, arith, append_assoc, All}
 use Rattle.std.specs.Prelude.{if◌then◌else◌}
 use Rattle.std.specs.List.{flat_map}
-use Rattle.std.proofs.lemmas.Bool.{and_from, or_left, or_right}
 use Rattle.std.proofs.lemmas.List.{append-nil, length-append, drop_more, drop_all}
-use Rattle.std.proofs.lemmas.List.Elements.{All-nil, All-cons, All-head, All-tail, All-get_or}
-use Rattle.mv_base.specs.Names.{same_word, among}
+use Rattle.std.proofs.lemmas.List.Elements.{All-head, All-tail, All-get_or}
+use Rattle.mv_base.specs.Names.{among}
 use Rattle.mv_base.specs.declared.limits.TheConstants.{MAX_NETS}
-use Rattle.mv_base.proofs.NameLemmas.{same_word_refl, among-append}
+use Rattle.mv_base.proofs.NameLemmas.{among-append}
 use Rattle.mv_cover.specs.declared.cover.Cover.{Cover}
 use Rattle.mv_design.specs.declared.design.Decl.{Decl}
 use Rattle.mv_design.specs.declared.design.FileModel.{FileModel}
 use Rattle.mv_design.specs.declared.table.FileTable.{FileTable}
 use Rattle.mv_rows.specs.declared.table.FlatTable.{FlatTable}
 use Rattle.mv_rows.specs.Flat.{IsMade}
-use Rattle.mv_rows.specs.Covers.{IsFlatTable}
 use Rattle.mv_net.specs.declared.parts.FlatNet.{FlatNet}
 use Rattle.mv_net.specs.declared.parts.Kind.TheVariants.{Table}
-use Rattle.mv_model.specs.Nets.{nets_driven, columns_of, nets_named, drivers}
-use Rattle.mv_model.specs.Numbers.{may_mark, mark_name, table_places, places}
-use Rattle.mv_model.specs.Proper.{IsFileTable, IsProperModel}
-use Rattle.mv_model.specs.Sound.{IsDrivenOnce, IsSoundModel}
-use Rattle.mv_model.proofs.Distinct.{net_is_place}
-use Rattle.mv_model.proofs.Named.{among-nets_of}
-use Rattle.mv_model.proofs.Soundness.{in_left, in_right}
-use Rattle.mv_flat.specs.Numbers.{columns_at, mark_at, made_name}
+use Rattle.mv_design.specs.Nets.{nets_driven, columns_of, drivers}
+use Rattle.mv_flat.specs.Places.{has_mark, table_places, places}
+use Rattle.mv_design.specs.Proper.{IsFileTable, IsProperModel}
+use Rattle.mv_unfold.specs.Sound.{IsDrivenOnce, IsSoundModel}
+use Rattle.mv_flat.proofs.Distinct.{net_is_place}
+use Rattle.mv_unfold.proofs.Named.{among-nets_of}
+use Rattle.mv_flat.specs.Numbers.{columns_at, mark_name, output_of, mark_at, made_name}
 use Rattle.mv_flat.specs.Built.{file_net, IsMark, AreTables}
 use Rattle.mv_flat.specs.Marks.{IsLast, AddsNets, MarkNets, TableNets}
-use Rattle.mv_flat.specs.Placed.{are_known, IsPlacedTable, ArePlaced, AddsTables}
+use Rattle.mv_flat.specs.Placed.{IsPlacedTable, ArePlaced, AddsTables}
+use Rattle.mv_flat.proofs.Known.{tables_known, column_named}
 use Rattle.mv_flat.proofs.MadeNames.{last_few}
 
 -- ---- one table
@@ -37,19 +35,18 @@ first_is : (os ws : List (List ℕ)) (out : List ℕ) → ws ≡ os → length o
 first_is [] ws out e single is = absurd (omega (arith, single))
 first_is (o ∷ os) ws out e single is = is ∙ ap (λ x. get_or x 0 out) e
 
-pub adds_table : (ds : List Decl) (names : List (List ℕ)) (t : FileTable) (flat : FlatTable) (cover : Cover) (mark : Option Cover) (outs : List (List ℕ)) (out : List ℕ) (before last : ℕ) (old mid new : List (Option FlatNet)) (net : FlatNet) → IsMade (columns_at ds names t) t (mark_at names t) flat → IsFlatTable (columns_at ds names t) t (mark_at names t) flat → cover ≡ flat.cover → mark ≡ flat.mark → AddsNets (MarkNets (may_mark t) mark) names before last old mid → outs ≡ t.outputs → length t.outputs ≡ 1 → out ≡ get_or outs 0 out → Some net ≡ file_net ds Table (Some cover) out → new ≡ mid ++ Some net ∷ [] → AddsNets (TableNets ds names t) names before last old new
-adds_table ds names t flat cover mark outs out before last old mid new net made relation cover_is mark_is marks outs_are single first is e = record {
+pub adds_table : (ds : List Decl) (names : List (List ℕ)) (t : FileTable) (flat : FlatTable) (cover : Cover) (mark : Option Cover) (outs : List (List ℕ)) (out : List ℕ) (before last : ℕ) (old mid new : List (Option FlatNet)) (net : FlatNet) → IsMade (columns_at ds names t) t (mark_at names t) flat → cover ≡ flat.cover → mark ≡ flat.mark → AddsNets (MarkNets mark) names before last old mid → outs ≡ t.outputs → length t.outputs ≡ 1 → out ≡ get_or outs 0 out → Some net ≡ file_net ds Table (Some cover) out → new ≡ mid ++ Some net ∷ [] → AddsNets (TableNets ds names t) names before last old new
+adds_table ds names t flat cover mark outs out before last old mid new net made cover_is mark_is marks outs_are single first is e = record {
   here = marks.here ++ Some net ∷ [];
   joined = e ∙ (ap (λ ns. ns ++ Some net ∷ []) marks.joined ∙ append_assoc old marks.here (Some net ∷ []));
   behind = λ held h.
       let b = marks.behind held h in
-      let P : Option Cover → Type 0 = λ o. IsMark held (may_mark t) o marks.here b.after in
+      let P : Option Cover → Type 0 = λ o. IsMark held o marks.here b.after in
       record {
         after = b.after;
         are = record {
           flat = flat;
           made = made;
-          relation = relation;
           mark = marks.here;
           marked = subst P mark_is b.are;
           nets_are = ap (λ f. marks.here ++ f ∷ []) (is ∙ (ap (λ x. file_net ds Table (Some x) out) cover_is ∙ ap (file_net ds Table (Some flat.cover)) (first_is t.outputs outs out outs_are single first)));
@@ -71,26 +68,22 @@ pub record TablesMade (m : FileModel) (names : List (List ℕ)) (i last : ℕ) (
   pub few : length held ≤ length (drivers m) + i
 
 -- a made name is a driver's exactly where it has a place, as no mark's name is made
-made_places : (k : ℕ) (os : List (List ℕ)) (b : Bool) → among (made_name k) os ≡ among (made_name k) (if b then map mark_name os ++ os else os)
-made_places k os false = refl
-made_places k os true = sym (among-append (made_name k) (map mark_name os) os ∙ ap (λ b. b || among (made_name k) os) (unmarked os))
-  where
-    unmarked : (ws : List (List ℕ)) → among (made_name k) (map mark_name ws) ≡ false
-    unmarked [] = refl
-    unmarked (w ∷ ws) = unmarked ws
+made_places : (k : ℕ) (out : List ℕ) (os : List (List ℕ)) (b : Bool) → among (made_name k) os ≡ among (made_name k) (if b then mark_name out ∷ os else os)
+made_places k out os false = refl
+made_places k out os true = refl
 
-made_in_tables : (k : ℕ) (ts : List FileTable) → among (made_name k) (flat_map nets_driven ts) ≡ among (made_name k) (flat_map table_places ts)
-made_in_tables k [] = refl
-made_in_tables k (t ∷ ts) =
+made_in_tables : (ds : List Decl) (k : ℕ) (ts : List FileTable) → among (made_name k) (flat_map nets_driven ts) ≡ among (made_name k) (flat_map (table_places ds) ts)
+made_in_tables ds k [] = refl
+made_in_tables ds k (t ∷ ts) =
     among-append (made_name k) t.outputs (flat_map nets_driven ts)
-    ∙ (ap (λ b. b || among (made_name k) (flat_map nets_driven ts)) (made_places k t.outputs (may_mark t))
-    ∙ (ap (λ b. among (made_name k) (table_places t) || b) (made_in_tables k ts) ∙ sym (among-append (made_name k) (table_places t) (flat_map table_places ts))))
+    ∙ (ap (λ b. b || among (made_name k) (flat_map nets_driven ts)) (made_places k (output_of t) t.outputs (has_mark ds t))
+    ∙ (ap (λ b. among (made_name k) (table_places ds t) || b) (made_in_tables ds k ts) ∙ sym (among-append (made_name k) (table_places ds t) (flat_map (table_places ds) ts))))
 
 made_held : (m : FileModel) (k : ℕ) → among (made_name k) (drivers m) ≡ among (made_name k) (places m)
 unfolding drivers places
 made_held m k =
     among-append (made_name k) m.inputs (flat_map nets_driven m.tables)
-    ∙ (ap (λ b. among (made_name k) m.inputs || b) (made_in_tables k m.tables) ∙ sym (among-append (made_name k) m.inputs (flat_map table_places m.tables)))
+    ∙ (ap (λ b. among (made_name k) m.inputs || b) (made_in_tables m.decls k m.tables) ∙ sym (among-append (made_name k) m.inputs (flat_map (table_places m.decls) m.tables)))
 
 pub tables_first : (m : FileModel) (names : List (List ℕ)) (nets : List (Option FlatNet)) → ArePlaced m names → TablesMade m names 0 0 nets nets
 tables_first m names nets p = record {
@@ -154,36 +147,19 @@ pub ruleset tabled = (tables_first, tables_more, tables_last, tables_room, table
 -- ---- a sound model's nets have numbers
 
 column_known : (m : FileModel) (w : List ℕ) → IsDrivenOnce m → among w (flat_map columns_of m.tables) ≡ true → among w (places m) ≡ true
-unfolding nets_named
-column_known m w once h =
-    net_is_place m w once (among-nets_of w m ∙ in_right w m.inputs _ (in_right w m.outputs _ h))
+column_known m w once h = net_is_place m w once (among-nets_of w m ∙ column_named m w h)
 
-known : (names ws : List (List ℕ)) → ((w : List ℕ) → among w ws ≡ true → among w names ≡ true) → are_known names ws ≡ true
-known names [] h = refl
-known names (w ∷ ws) h =
-    and_from _ _ (h w (or_left _ _ (same_word_refl w))) (known names ws (λ v y. h v (or_right (same_word v w) _ y)))
+outputs_few : (out : List ℕ) (os : List (List ℕ)) (b : Bool) → length os ≤ length (if b then mark_name out ∷ os else os)
+outputs_few out os false = omega arith
+outputs_few out os true = omega arith
 
-tables_known : (ds : List Decl) (names : List (List ℕ)) (ts : List FileTable) → All (IsFileTable ds) ts → ((w : List ℕ) → among w (flat_map columns_of ts) ≡ true → among w names ≡ true) → All (IsPlacedTable ds names) ts
-tables_known ds names [] all h = All-nil _
-tables_known ds names (t ∷ ts) all h =
-    All-cons (IsPlacedTable ds names) t ts
-    (record {
-      fits = All-head (IsFileTable ds) t ts all;
-      known = known names t.inputs (λ w y. h w (in_left w (columns_of t) _ (in_left w t.inputs t.outputs y)));
-    })
-    (tables_known ds names ts (All-tail (IsFileTable ds) t ts all) (λ w y. h w (in_right w (columns_of t) _ y)))
-
-outputs_few : (os : List (List ℕ)) (b : Bool) → length os ≤ length (if b then map mark_name os ++ os else os)
-outputs_few os false = omega arith
-outputs_few os true = let l = length-append (map mark_name os) os in omega arith
-
-drivers_few : (ts : List FileTable) → length (flat_map nets_driven ts) ≤ length (flat_map table_places ts)
-drivers_few [] = omega arith
-drivers_few (t ∷ ts) =
+drivers_few : (ds : List Decl) (ts : List FileTable) → length (flat_map nets_driven ts) ≤ length (flat_map (table_places ds) ts)
+drivers_few ds [] = omega arith
+drivers_few ds (t ∷ ts) =
     let a = length-append t.outputs (flat_map nets_driven ts) in
-    let b = length-append (table_places t) (flat_map table_places ts) in
-    let c = outputs_few t.outputs (may_mark t) in
-    let r = drivers_few ts in
+    let b = length-append (table_places ds t) (flat_map (table_places ds) ts) in
+    let c = outputs_few (output_of t) t.outputs (has_mark ds t) in
+    let r = drivers_few ds ts in
     omega arith
 
 tables_few : (ds : List Decl) (ts : List FileTable) → All (IsFileTable ds) ts → length ts ≤ length (flat_map nets_driven ts)
@@ -198,8 +174,8 @@ driven_few : (m : FileModel) → IsProperModel m → length (places m) ≤ MAX_N
 unfolding drivers places
 driven_few m p few =
     let a = length-append m.inputs (flat_map nets_driven m.tables) in
-    let b = length-append m.inputs (flat_map table_places m.tables) in
-    let c = drivers_few m.tables in
+    let b = length-append m.inputs (flat_map (table_places m.decls) m.tables) in
+    let c = drivers_few m.decls m.tables in
     let d = tables_few m.decls m.tables p.tables in
     omega arith
 

@@ -8,8 +8,8 @@ use Rattle.std.proofs.lemmas.List.Elements.{All-head, All-tail}
 use Rattle.mv_base.specs.Names.{same_word}
 use Rattle.mv_base.specs.declared.limits.TheConstants.{MAX_VALUES}
 use Rattle.mv_design.specs.declared.design.Decl.{Decl}
-use Rattle.mv_decl.specs.Nets.{values_of}
-use Rattle.mv_model.specs.Proper.{IsFileDecl}
+use Rattle.mv_design.specs.Values.{values_of}
+use Rattle.mv_design.specs.Proper.{IsFileDecl}
 use Rattle.mv_flat.specs.Numbers.{are_numbers}
 use Rattle.mv_flat.specs.Values.{numbers_from}
 

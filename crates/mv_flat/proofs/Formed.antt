@@ -1,5 +1,5 @@
 -- The network of a sound model is well formed.
-use Rattle.std.proofs.Common.{false, List, [], refl, sym, ◌∙◌, ap, subst}
+use Rattle.std.proofs.Common.{List, [], refl, sym, ◌∙◌, ap, subst}
 use Rattle.std.proofs.lemmas.Bool.{false≢true}
 use Rattle.mv_base.specs.Names.{is_model_name}
 use Rattle.mv_design.specs.declared.design.FileModel.{FileModel}
@@ -7,7 +7,7 @@ use Rattle.mv_net.specs.declared.parts.FlatLatch.{FlatLatch}
 use Rattle.mv_net.specs.declared.parts.NetParts.{NetParts}
 use Rattle.mv_net.specs.declared.parts.Kind.TheVariants.{Latch, Reset}
 use Rattle.mv_net.specs.Formed.{AllLatches, latch_outputs, latch_resets, ResetsStandAlone, WellFormed}
-use Rattle.mv_model.specs.Sound.{IsSoundModel}
+use Rattle.mv_unfold.specs.Sound.{IsSoundModel}
 use Rattle.mv_flat.proofs.Places.{IsModelNet}
 use Rattle.mv_flat.proofs.FormedNames.{nets_differ}
 use Rattle.mv_flat.proofs.FormedNets.{nets_formed}

@@ -12,8 +12,9 @@ use Rattle.mv_net.specs.declared.parts.Kind.TheVariants.{Input, Table}
 use Rattle.mv_net.specs.Nets.{slot}
 use Rattle.mv_graph.specs.Nets.{all_differ, has_id}
 use Rattle.mv_net.specs.Formed.{IsKind, IsReadable, AreKind}
-use Rattle.mv_model.specs.Nets.{nets_named}
-use Rattle.mv_model.specs.Numbers.{places, net_in, number_in}
+use Rattle.mv_design.specs.Nets.{nets_named}
+use Rattle.mv_flat.specs.Places.{places}
+use Rattle.mv_unfold.specs.Numbers.{net_in, number_in}
 use Rattle.mv_flat.proofs.Numbered.{same_number}
 use Rattle.mv_flat.proofs.Slots.{mark_net}
 use Rattle.mv_flat.proofs.Places.{IsModelNet, table_of, input_slot, InputPlace, OutputPlace, MarkPlace, place_at, no_slot, named_file}

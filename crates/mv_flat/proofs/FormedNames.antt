@@ -1,5 +1,5 @@
 -- No two nets of a model's network have one name: the drivers are apart, and each mark's name is new.
-use Rattle.std.proofs.Common.{◌≡◌, ◌⊎◌, ℕ, zero, suc, Bool, true, false, List, [], ◌∷◌, ◌++◌, map, Option, Some, None, refl, sym, ◌∙◌, ap, subst, ⊎_elim, inl, inr}
+use Rattle.std.proofs.Common.{◌≡◌, ◌⊎◌, ℕ, zero, suc, true, false, List, [], ◌∷◌, ◌++◌, map, Option, Some, None, refl, sym, ◌∙◌, ap, subst, ⊎_elim, inl, inr}
 use Rattle.std.specs.List.{flat_map}
 use Rattle.std.proofs.lemmas.Bool.{false≢true, or_parts}
 use Rattle.std.proofs.lemmas.Option.{none-some, same_Some}
@@ -13,12 +13,11 @@ use Rattle.mv_net.specs.declared.parts.FlatNet.{FlatNet}
 use Rattle.mv_net.specs.declared.parts.NetParts.{NetParts}
 use Rattle.mv_net.specs.declared.parts.Kind.TheVariants.{Input}
 use Rattle.mv_net.specs.Nets.{slot}
-use Rattle.mv_model.specs.Nets.{drivers, nets_driven}
-use Rattle.mv_model.specs.Numbers.{places, may_mark}
+use Rattle.mv_design.specs.Nets.{drivers, nets_driven}
+use Rattle.mv_flat.specs.Places.{places}
 use Rattle.mv_flat.specs.Built.{file_net, IsMark, AreTables}
-use Rattle.mv_flat.proofs.Blocks.{AreSingle}
-use Rattle.mv_flat.proofs.Places.{IsModelNet, single_tables, outputs_are}
-use Rattle.mv_model.proofs.Soundness.{in_left, in_right}
+use Rattle.mv_flat.proofs.Places.{IsModelNet, AreSingle, single_tables, outputs_are}
+use Rattle.mv_unfold.proofs.Soundness.{in_left, in_right}
 use Rattle.mv_flat.proofs.Naming.{among_first, among_later}
 
 -- ---- nets whose names are those of drivers in order, or new
@@ -108,17 +107,12 @@ differ left held (Some x ∷ fs) (suc n) (suc k) f g named lies apart e h same =
 
 -- ---- the nets of a model are such
 
-mark_named : (left held : List (List ℕ)) (may : Bool) (o : Option Cover) (mark : List (Option FlatNet)) (after : List (List ℕ)) (f : FlatNet) (fs : List (Option FlatNet)) → IsMark held may o mark after → IsNext (λ rest. AreNamed rest after fs) left f.name → AreNamed left held ((mark ++ Some f ∷ []) ++ fs)
-mark_named left held true (Some c) mark after f fs h next =
+mark_named : (left held : List (List ℕ)) (o : Option Cover) (mark : List (Option FlatNet)) (after : List (List ℕ)) (f : FlatNet) (fs : List (Option FlatNet)) → IsMark held o mark after → IsNext (λ rest. AreNamed rest after fs) left f.name → AreNamed left held ((mark ++ Some f ∷ []) ++ fs)
+mark_named left held (Some c) mark after f fs h next =
     let P : List (Option FlatNet) → Type 0 = λ ms. AreNamed left held ((ms ++ Some f ∷ []) ++ fs) in
     let Q : List (List ℕ) → Type 0 = λ ws. IsNext (λ rest. AreNamed rest ws fs) left f.name in
     subst P (sym h.nets_are) (inr (h.fresh.fresh, inl (subst Q h.after_is next)))
-mark_named left held true None mark after f fs h next =
-    let P : List (Option FlatNet) → Type 0 = λ ms. AreNamed left held ((ms ++ Some f ∷ []) ++ fs) in
-    let Q : List (List ℕ) → Type 0 = λ ws. IsNext (λ rest. AreNamed rest ws fs) left f.name in
-    subst P (sym h.nets_are) (inl (subst Q h.after_is next))
-mark_named left held false (Some c) mark after f fs h next = absurd h
-mark_named left held false None mark after f fs h next =
+mark_named left held None mark after f fs h next =
     let P : List (Option FlatNet) → Type 0 = λ ms. AreNamed left held ((ms ++ Some f ∷ []) ++ fs) in
     let Q : List (List ℕ) → Type 0 = λ ws. IsNext (λ rest. AreNamed rest ws fs) left f.name in
     subst P (sym h.nets_are) (inl (subst Q h.after_is next))
@@ -130,7 +124,7 @@ tables_named ds names [] held fs single a =
 tables_named ds names (t ∷ ts) held fs single a =
     let P : List (Option FlatNet) → Type 0 = AreNamed (flat_map nets_driven (t ∷ ts)) held in
     subst P (sym (a.joined ∙ ap (λ x. x ++ a.rest) a.are_here.nets_are))
-    (mark_named (flat_map nets_driven (t ∷ ts)) held (may_mark t) a.are_here.flat.mark a.are_here.mark a.after _ a.rest a.are_here.marked
+    (mark_named (flat_map nets_driven (t ∷ ts)) held a.are_here.flat.mark a.are_here.mark a.after _ a.rest a.are_here.marked
     (record {
       rest = flat_map nets_driven ts;
       is = ap (λ os. os ++ flat_map nets_driven ts) (outputs_are t (single 0 t refl));

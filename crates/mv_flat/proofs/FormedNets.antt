@@ -5,7 +5,7 @@ use Rattle.std.proofs.lemmas.Bool.{cases_lt}
 use Rattle.std.proofs.lemmas.Option.{none-some, same_Some}
 use Rattle.mv_base.specs.Names.{among, is_net_name}
 use Rattle.mv_cover.specs.declared.cover.Cover.{Cover}
-use Rattle.mv_decl.specs.Nets.{values_of}
+use Rattle.mv_design.specs.Values.{values_of, count_of}
 use Rattle.mv_design.specs.declared.design.FileModel.{FileModel}
 use Rattle.mv_net.specs.declared.parts.FlatNet.{FlatNet}
 use Rattle.mv_net.specs.declared.parts.NetParts.{NetParts}
@@ -13,11 +13,11 @@ use Rattle.mv_net.specs.declared.parts.Kind.{Kind}
 use Rattle.mv_net.specs.declared.parts.Kind.TheVariants.{Input, Table}
 use Rattle.mv_net.specs.Nets.{slot}
 use Rattle.mv_net.specs.Formed.{has_table, IsCover, IsNet}
-use Rattle.mv_model.specs.Nets.{count_of, nets_named}
-use Rattle.mv_model.specs.Numbers.{places}
+use Rattle.mv_design.specs.Nets.{nets_named}
+use Rattle.mv_flat.specs.Places.{places}
 use Rattle.mv_flat.specs.Numbers.{output_of, made_name}
 use Rattle.mv_flat.specs.Built.{file_net, fresh_net}
-use Rattle.mv_model.proofs.Decimals.{numbered-net_name}
+use Rattle.mv_decl.proofs.Decimals.{numbered-net_name}
 use Rattle.mv_flat.proofs.Slots.{IsTableAt, mark_net}
 use Rattle.mv_flat.proofs.Places.{IsModelNet, table_of, single_tables, input_slot, InputPlace, OutputPlace, MarkPlace, place_at, no_slot}
 use Rattle.mv_flat.proofs.Naming.{input_named, lawful_named, output_of_among, table_output_named}

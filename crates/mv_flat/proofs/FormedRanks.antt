@@ -13,40 +13,41 @@ use Rattle.mv_net.specs.declared.parts.NetParts.{NetParts}
 use Rattle.mv_net.specs.Nets.{slot, net_reads, reads_in}
 use Rattle.mv_graph.specs.Above.{IsAcyclic}
 use Rattle.mv_graph.proofs.Ranks.{IsRanked, ranked_acyclic}
-use Rattle.mv_model.proofs.Turns.{not_unranked_model}
-use Rattle.mv_model.specs.Nets.{nets_named}
-use Rattle.mv_model.specs.Numbers.{places, may_mark, mark_name, number_in}
-use Rattle.mv_model.specs.Sound.{reads_through, reads, IsSoundModel}
-use Rattle.mv_flat.specs.Numbers.{output_of, mark_at}
-use Rattle.mv_model.proofs.Listed.{name_at}
-use Rattle.mv_model.proofs.Distinct.{is_dotted, lawful_undotted}
+use Rattle.mv_unfold.proofs.Turns.{not_unranked_model}
+use Rattle.mv_design.specs.Nets.{nets_named}
+use Rattle.mv_flat.specs.Places.{places, has_mark}
+use Rattle.mv_unfold.specs.Numbers.{number_in}
+use Rattle.mv_unfold.specs.Sound.{reads_through, reads, IsSoundModel}
+use Rattle.mv_flat.specs.Numbers.{mark_name, output_of, mark_at}
+use Rattle.mv_unfold.proofs.Listed.{name_at}
+use Rattle.mv_flat.proofs.Distinct.{is_spaced, lawful_unspaced}
 use Rattle.mv_flat.proofs.Numbered.{mark_number}
 use Rattle.mv_flat.proofs.Slots.{IsTableAt, mark_net}
 use Rattle.mv_flat.proofs.Places.{IsModelNet, table_of, single_tables, input_slot, InputPlace, OutputPlace, MarkPlace, place_at, no_slot, named_file}
 use Rattle.mv_flat.proofs.Naming.{IsNumberOf, lawful_named, output_of_among, table_input_named, table_output_named}
-use Rattle.mv_flat.proofs.Valuations.{marked_may}
+use Rattle.mv_flat.proofs.Valuations.{marked_has}
 use Rattle.mv_flat.proofs.FormedTables.{IsMarkOf, output_above, mark_above}
 
 -- the rank of a name among the names by number
 abbrev named_rank : (List ℕ → ℕ) → List ℕ → ℕ
 named_rank rank [] = 2 * rank [] + 1
-named_rank rank (b ∷ bs) = if b == 46 then 2 * rank bs else 2 * rank (b ∷ bs) + 1
+named_rank rank (b ∷ bs) = if b == 32 then 2 * rank bs else 2 * rank (b ∷ bs) + 1
 
 abbrev rank_by_number : FileModel → (List ℕ → ℕ) → ℕ → ℕ
 rank_by_number m rank n = named_rank rank (get_or (places m) n [])
 
-undotted_rank : (rank : List ℕ → ℕ) (w : List ℕ) → is_dotted w ≡ false → named_rank rank w ≡ 2 * rank w + 1
-undotted_rank rank [] h = refl
-undotted_rank rank (b ∷ bs) h = cond-false (b == 46) _ _ h
+unspaced_rank : (rank : List ℕ → ℕ) (w : List ℕ) → is_spaced w ≡ false → named_rank rank w ≡ 2 * rank w + 1
+unspaced_rank rank [] h = refl
+unspaced_rank rank (b ∷ bs) h = cond-false (b == 32) _ _ h
 
 net_rank : (m : FileModel) (net : NetParts) → IsModelNet m net → (rank : List ℕ → ℕ) (w : List ℕ) → among w (nets_named m) ≡ true → rank_by_number m rank (number_in (places m) w) ≡ 2 * rank w + 1
 net_rank m net is rank w h =
-    ap (named_rank rank) (name_at (places m) w (named_file m net is w h).listed) ∙ undotted_rank rank w (lawful_undotted w (lawful_named m net is w h))
+    ap (named_rank rank) (name_at (places m) w (named_file m net is w h).listed) ∙ unspaced_rank rank w (lawful_unspaced w (lawful_named m net is w h))
 
 output_rank : (m : FileModel) (net : NetParts) → IsModelNet m net → (rank : List ℕ → ℕ) (k : ℕ) (t : FileTable) → slice_get m.tables k ≡ Some t → rank_by_number m rank (number_in (places m) (output_of t)) ≡ 2 * rank (output_of t) + 1
 output_rank m net is rank k t e = net_rank m net is rank (output_of t) (table_output_named m k t (output_of t) e (output_of_among t (single_tables m net is k t e)))
 
-mark_rank : (m : FileModel) (net : NetParts) → IsModelNet m net → (rank : List ℕ → ℕ) (k : ℕ) (t : FileTable) → slice_get m.tables k ≡ Some t → may_mark t ≡ true → rank_by_number m rank (mark_at (places m) t).0 ≡ 2 * rank (output_of t)
+mark_rank : (m : FileModel) (net : NetParts) → IsModelNet m net → (rank : List ℕ → ℕ) (k : ℕ) (t : FileTable) → slice_get m.tables k ≡ Some t → has_mark m.decls t ≡ true → rank_by_number m rank (mark_at (places m) t).0 ≡ 2 * rank (output_of t)
 mark_rank m net is rank k t e may =
     let listed = (table_of m net is k t e).marked may in
     ap (rank_by_number m rank) (mark_number (places m) t listed) ∙ ap (named_rank rank) (name_at (places m) (mark_name (output_of t)) listed)
@@ -87,7 +88,7 @@ output_falls m net is r n p k h =
     omega arith)
     (λ (c : IsMarkOf here.flat.mark (mark_at (places m) p.table) k).
     let e =
-    ap (rank_by_number m r.rank) (sym c.number) ∙ mark_rank m net is r.rank p.place p.table p.listed (marked_may m.decls (places m) net.nets p.table here c.cover c.there) in
+    ap (rank_by_number m r.rank) (sym c.number) ∙ mark_rank m net is r.rank p.place p.table p.listed (marked_has m.decls (places m) net.nets p.table here c.cover c.there) in
     omega arith)
     (output_above m net is p.place p.table p.listed k (sym (ap (λ s. net_reads s k) (ap (slot net.nets) p.number ∙ here.output)) ∙ h))
 
@@ -120,7 +121,7 @@ falls_at m net is r n =
     (cases_lt n (length (places m)))
 
 pub acyclic_nets : (m : FileModel) (net : NetParts) → IsModelNet m net → IsSoundModel m → IsAcyclic (reads_in net.nets)
-acyclic_nets m net is sound = record { none = λ n a. not_unranked_model m is.proper sound.driven sound.acyclic (λ r. (ranked_acyclic (reads_in net.nets) (ranks r)).none n a) }
+acyclic_nets m net is sound = record { none = λ n a. not_unranked_model m sound.driven sound.acyclic (λ r. (ranked_acyclic (reads_in net.nets) (ranks r)).none n a) }
   where
     ranks : IsRanked (reads m) → IsRanked (reads_in net.nets)
     ranks r = record { rank = rank_by_number m r.rank; falls = λ n k h. falls_at m net is r n k h }

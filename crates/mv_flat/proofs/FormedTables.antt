@@ -25,9 +25,10 @@ use Rattle.mv_net.specs.declared.parts.FlatNet.{FlatNet}
 use Rattle.mv_net.specs.declared.parts.NetParts.{NetParts}
 use Rattle.mv_net.specs.Nets.{slot, values_in}
 use Rattle.mv_net.specs.Formed.{IsReadable, IsCover}
-use Rattle.mv_model.specs.Nets.{count_of}
-use Rattle.mv_model.specs.Numbers.{places, number_in}
-use Rattle.mv_model.specs.Proper.{IsFileRow, IsFileTable, FitOutputs as FitEntries}
+use Rattle.mv_design.specs.Values.{count_of}
+use Rattle.mv_flat.specs.Places.{places}
+use Rattle.mv_unfold.specs.Numbers.{number_in}
+use Rattle.mv_design.specs.Proper.{IsFileRow, IsFileTable, FitOutputs as FitEntries}
 use Rattle.mv_flat.specs.Numbers.{column_of, columns_at, output_of, mark_at}
 use Rattle.mv_flat.proofs.Slots.{IsTableAt}
 use Rattle.mv_flat.proofs.Places.{IsModelNet, IsFileNet, table_of, file_table, named_file}

@@ -8,10 +8,10 @@ use Rattle.std.proofs.lemmas.List.Elements.{All-head, All-tail}
 use Rattle.std.proofs.lemmas.Slice.Eq.{bytes_eq-Decides, slice_eq-Decides}
 use Rattle.mv_base.specs.Names.{same_word, is_net_name, is_value_name, is_word, names_differ}
 use Rattle.mv_base.specs.declared.limits.TheConstants.{MAX_VALUES}
-use Rattle.mv_decl.specs.Nets.{two_values, values_of}
+use Rattle.mv_design.specs.Values.{two_values, values_of}
 use Rattle.mv_design.specs.declared.design.Decl.{Decl}
 use Rattle.mv_net.specs.Formed.{IsNamed}
-use Rattle.mv_model.specs.Proper.{IsFileDecl}
+use Rattle.mv_design.specs.Proper.{IsFileDecl}
 use Rattle.mv_flat.specs.Numbers.{are_numbers, kept_names}
 
 -- some values, and no more than a net may have, with lawful names, all different

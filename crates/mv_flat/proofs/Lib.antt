@@ -1,9 +1,13 @@
+pub mod Names
+pub mod Distinct
+pub mod Known
 pub mod Counts
 pub mod MadeNames
+pub mod Numbered
 pub mod Shapes
+pub mod HasMark
 pub mod Needs
 pub mod Behinds
-pub mod Numbered
 pub mod Blocks
 pub mod Slots
 pub mod Places

@@ -1,5 +1,5 @@
 -- Names of made nets: different numbers give different names, and the least number whose name is free is found.
-use Rattle.std.proofs.Common.{◌≡◌, ℕ, zero, suc, ◌+◌, ◌-◌, ◌<◌, ◌≤◌, ◌^◌, Bool, true, false, ◌||◌, List, [], ◌∷◌, ◌++◌, length, drop, map, Option, Some, None, is_some, is_none, refl, sym, ◌∙◌, ap, subst, arith, ⊎_elim}
+use Rattle.std.proofs.Common.{◌≡◌, ℕ, zero, suc, ◌+◌, ◌-◌, ◌<◌, ◌≤◌, ◌^◌, true, false, ◌||◌, List, [], ◌∷◌, ◌++◌, length, drop, map, Option, Some, None, is_some, is_none, refl, sym, ◌∙◌, ap, subst, arith, ⊎_elim}
 use Rattle.std.specs.List.{range_with_len}
 use Rattle.std.proofs.Math.Bool.{or-false}
 use Rattle.std.proofs.lemmas.Bool.{false≢true, cases_lt, or_from, or_cases, or_left, false_from_ne_true}
@@ -10,8 +10,8 @@ use Rattle.mv_base.specs.Names.{same_word, among, place_of, AreApart}
 use Rattle.mv_base.proofs.NameLemmas.{same_word_is, same_word_refl, among-append, is_some-place_of}
 use Rattle.mv_cover.specs.declared.cover.Cover.{Cover}
 use Rattle.mv_net.specs.declared.parts.FlatNet.{FlatNet}
-use Rattle.mv_model.proofs.Distinct.{apart_length}
-use Rattle.mv_model.proofs.Soundness.{in_left, in_right}
+use Rattle.mv_unfold.proofs.Distinct.{apart_length}
+use Rattle.mv_unfold.proofs.Soundness.{in_left, in_right}
 use Rattle.mv_flat.specs.Numbers.{made_name}
 use Rattle.mv_flat.specs.Built.{fresh_net}
 use Rattle.mv_flat.specs.Marks.{IsLast, IsNext, AddsNets, MarkNets}
@@ -117,8 +117,8 @@ last_more names held before number name h n = record {
         (λ (b : k ≤ before). h.before k low b)
         (cases_lt before k)
 
-mark_here : (names : List (List ℕ)) (before number : ℕ) (name : List ℕ) (cover : Cover) (net : FlatNet) (old new : List (Option FlatNet)) (may : Bool) → may ≡ true → IsNext names before number name → Some net ≡ fresh_net name cover → new ≡ old ++ Some net ∷ [] → AddsNets (MarkNets may (Some cover)) names before number old new
-mark_here names before number name cover net old new true y n is e = record {
+mark_here : (names : List (List ℕ)) (before number : ℕ) (name : List ℕ) (cover : Cover) (net : FlatNet) (old new : List (Option FlatNet)) → IsNext names before number name → Some net ≡ fresh_net name cover → new ≡ old ++ Some net ∷ [] → AddsNets (MarkNets (Some cover)) names before number old new
+mark_here names before number name cover net old new n is e = record {
   here = Some net ∷ [];
   joined = e;
   behind = λ held h. record {
@@ -143,27 +143,17 @@ mark_here names before number name cover net old new true y n is e = record {
     few = let l = length-append held (name ∷ []) in omega arith;
   };
 }
-mark_here names before number name cover net old new false y n is e = absurd (false≢true y)
 
-pub adds_mark : (names : List (List ℕ)) (before number : ℕ) (name : List ℕ) (mark : Option Cover) (cover : Cover) (net : FlatNet) (old new : List (Option FlatNet)) (may : Bool) → mark ≡ Some cover → may ≡ true → IsNext names before number name → Some net ≡ fresh_net name cover → new ≡ old ++ Some net ∷ [] → AddsNets (MarkNets may mark) names before number old new
-adds_mark names before number name mark cover net old new may m y n is e =
-    let P : Option Cover → Type 0 = λ o. AddsNets (MarkNets may o) names before number old new in
-    subst P (sym m) (mark_here names before number name cover net old new may y n is e)
+pub adds_mark : (names : List (List ℕ)) (before number : ℕ) (name : List ℕ) (mark : Option Cover) (cover : Cover) (net : FlatNet) (old new : List (Option FlatNet)) → mark ≡ Some cover → IsNext names before number name → Some net ≡ fresh_net name cover → new ≡ old ++ Some net ∷ [] → AddsNets (MarkNets mark) names before number old new
+adds_mark names before number name mark cover net old new m n is e =
+    let P : Option Cover → Type 0 = λ o. AddsNets (MarkNets o) names before number old new in
+    subst P (sym m) (mark_here names before number name cover net old new n is e)
 
-pub adds_place : (names : List (List ℕ)) (last : ℕ) (old new : List (Option FlatNet)) (may : Bool) → may ≡ true → new ≡ old ++ None ∷ [] → AddsNets (MarkNets may None) names last last old new
-adds_place names last old new true y e = record {
-  here = None ∷ [];
-  joined = e;
-  behind = λ held h. record { after = held; are = record { nets_are = refl; after_is = refl }; lasts = h; few = omega arith };
-}
-adds_place names last old new false y e = absurd (false≢true y)
-
-pub adds_nothing : (names : List (List ℕ)) (last : ℕ) (old : List (Option FlatNet)) (may : Bool) → may ≡ false → AddsNets (MarkNets may None) names last last old old
-adds_nothing names last old false n = record {
+pub adds_nothing : (names : List (List ℕ)) (last : ℕ) (old : List (Option FlatNet)) → AddsNets (MarkNets None) names last last old old
+adds_nothing names last old = record {
   here = [];
   joined = sym (append-nil old);
   behind = λ held h. record { after = held; are = record { nets_are = refl; after_is = refl }; lasts = h; few = omega arith };
 }
-adds_nothing names last old true n = absurd (false≢true (sym n))
 
-pub ruleset added = (adds_mark, adds_place, adds_nothing)
+pub ruleset added = (adds_mark, adds_nothing)

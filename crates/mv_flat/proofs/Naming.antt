@@ -9,10 +9,10 @@ use Rattle.mv_base.proofs.NameLemmas.{same_word_is, same_word_refl}
 use Rattle.mv_design.specs.declared.design.FileModel.{FileModel}
 use Rattle.mv_design.specs.declared.table.FileTable.{FileTable}
 use Rattle.mv_net.specs.declared.parts.NetParts.{NetParts}
-use Rattle.mv_model.specs.Nets.{columns_of, nets_named}
-use Rattle.mv_model.specs.Numbers.{number_in}
-use Rattle.mv_model.proofs.Names.{all_among}
-use Rattle.mv_model.proofs.Soundness.{in_left, in_right, in_either}
+use Rattle.mv_design.specs.Nets.{columns_of, nets_named}
+use Rattle.mv_unfold.specs.Numbers.{number_in}
+use Rattle.mv_unfold.proofs.Names.{all_among}
+use Rattle.mv_unfold.proofs.Soundness.{in_left, in_right, in_either}
 use Rattle.mv_flat.specs.Numbers.{output_of}
 use Rattle.mv_flat.proofs.Places.{IsModelNet, file_table, outputs_are}
 

@@ -1,83 +1,162 @@
--- A mark is made only where a table may need one.
-use Rattle.std.proofs.Common.{◌≡◌, ℕ, zero, suc, Bool, true, false, ◌||◌, cond, List, [], ◌∷◌, ◌++◌, Option, Some, None, refl, sym, ◌∙◌, ap, ⊎_elim, nat_eq}
+-- What a look at a table's rows tells of its mark.
+use Rattle.std.proofs.Common.{◌≡◌, ℕ, zero, suc, ◌<◌, ◌≤◌, Bool, true, false, ◌&&◌, ◌||◌, not, ◌⊎◌, inl, inr, List, [], ◌∷◌, map, Some, None, refl, sym, ◌∙◌, ap, subst, arith, length, drop, ⊎_elim, All}
+use Rattle.std.specs.Prelude.{nat_eq, nat_lt, min, slice_index, slice_set}
 use Rattle.std.specs.List.{list_any}
-use Rattle.std.proofs.lemmas.Bool.{false≢true, or_cases, or_left, or_right}
-use Rattle.std.proofs.lemmas.Option.{none-some}
-use Rattle.std.proofs.lemmas.List.Folds.{list_any-append}
-use Rattle.mv_base.specs.Set.{empty, one}
-use Rattle.mv_base.specs.declared.number.NetId.{NetId}
-use Rattle.mv_cover.specs.Absorb.{some_bare}
-use Rattle.mv_cover.specs.declared.line.Line.{Line}
-use Rattle.mv_cover.specs.declared.cover.Cover.{Cover}
-use Rattle.mv_cover.proofs.Points.{one_some}
+use Rattle.std.proofs.lemmas.Bool.{and_from, and_left, and_parts, and_right, cases_lt, eq-eqb, eqb-true, false≢true, false_from_ne_true, lt-ltb, ltb-true, or_cases, or_from, or_left, or_parts, or_right}
+use Rattle.std.proofs.lemmas.List.{drop_all}
+use Rattle.std.proofs.lemmas.List.Elements.{All-head, All-tail}
+use Rattle.mv_base.specs.Set.{has, full, meet, one, Within}
+use Rattle.mv_base.proofs.Sets.{has-full, has-meet, same_set}
+use Rattle.mv_base.proofs.Lists.{found}
+use Rattle.mv_design.specs.declared.design.Decl.{Decl}
 use Rattle.mv_design.specs.declared.table.Entry.{Entry}
 use Rattle.mv_design.specs.declared.table.Entry.TheVariants.{Set, Same}
 use Rattle.mv_design.specs.declared.table.Row.{Row}
 use Rattle.mv_design.specs.declared.table.FileTable.{FileTable}
+use Rattle.mv_design.specs.Proper.{IsFileDecl, IsFileTable}
+use Rattle.mv_design.specs.Tables.{row_matches}
 use Rattle.mv_rows.specs.declared.column.Column.{Column}
-use Rattle.mv_rows.specs.declared.table.FlatTable.{FlatTable}
-use Rattle.mv_rows.specs.Lines.{OneLine, EachValue, EntryLines}
-use Rattle.mv_rows.specs.Flat.{only_entry, says_nothing, RowsLines, default_left, plain_default, unmarked, FlatBy, FlatOf, IsMade}
-use Rattle.mv_model.specs.Numbers.{some_silent, default_needs, some_needs, may_mark}
+use Rattle.mv_rows.specs.Cubes.{column_values, in_range, IsColumn, AreColumns, CountBy, FitRow}
+use Rattle.mv_rows.specs.Flat.{only_entry, says_nothing, IsRow}
+use Rattle.mv_rows.specs.Lines.{narrowed}
+use Rattle.mv_rows.specs.Marked.{matches_all, is_bare, some_row_bare, is_silent, needs_mark, default_marked, is_marked}
+use Rattle.mv_rows.proofs.Matching.{matched_everywhere, alone, alone-at, alone_ranges}
+use Rattle.mv_rows.proofs.Values.{fit_narrowed}
+use Rattle.mv_flat.specs.Numbers.{column_of, columns_at}
+use Rattle.mv_flat.specs.Places.{has_mark}
+use Rattle.mv_flat.specs.Gathered.{some_silent, has_all, some_has_all}
+use Rattle.mv_flat.specs.Placed.{IsPlacedTable}
+use Rattle.mv_flat.proofs.Known.{known}
+use Rattle.mv_flat.proofs.Shapes.{table_columns, table_is}
 
--- some line has no output
-abbrev some_empty : List Line → Bool
-some_empty lines = list_any (λ (l : Line). nat_eq l.out empty) lines
+-- ---- rows that say no value
 
-line_silent : (columns : List Column) (sets : List ℕ) (out : ℕ) (lines : List Line) → OneLine columns sets out lines → some_empty lines ≡ true → nat_eq out empty ≡ true
-line_silent columns sets out [] h e = absurd (false≢true e)
-line_silent columns sets out (l ∷ []) h e = ap (λ x. nat_eq x empty) (sym h.out_is) ∙ first (nat_eq l.out empty) e
+none_silent : (columns : List Column) (rows : List Row) → some_silent rows ≡ false → list_any (is_silent columns) rows ≡ false
+none_silent columns [] h = refl
+none_silent columns (r ∷ rows) h =
+    let p = or_parts (says_nothing (only_entry r.outs)) (some_silent rows) h in
+    or_from (is_silent columns r) (list_any (is_silent columns) rows) (and_left (says_nothing (only_entry r.outs)) _ p.0) (none_silent columns rows p.1)
+
+-- ---- rows that match everything have all values of each column
+
+same_full : (s n : ℕ) → Within s (full n) → ((v : ℕ) → v < n → has s v ≡ true) → s ≡ full n
+same_full s n within each = same_set s (full n) at
   where
-    first : (b : Bool) → (b || false) ≡ true → b ≡ true
-    first true y = refl
-    first false y = y
-line_silent columns sets out (l ∷ m ∷ ls) h e = absurd h
+    at : (v : ℕ) → has s v ≡ has (full n) v
+    at v =
+        ⊎_elim (λ (low : v < n). each v low ∙ sym (has-full n v ∙ lt-ltb v n low))
+        (λ (high : n ≤ v).
+        let out : has (full n) v ≡ false = has-full n v ∙ false_from_ne_true (nat_lt v n) (λ y. omega (arith, high, ltb-true v n y)) in
+        false_from_ne_true (has s v) (λ y. false≢true (sym out ∙ within v y)) ∙ sym out)
+        (cases_lt v n)
 
-joined_empty : (before here lines : List Line) → lines ≡ before ++ here → some_empty lines ≡ true → (some_empty before || some_empty here) ≡ true
-joined_empty before here lines e y = sym (list_any-append (λ (l : Line). nat_eq l.out empty) before here) ∙ (ap some_empty (sym e) ∙ y)
+-- the row has all values of each column
+abbrev has_each : List Column → List ℕ → Bool
+has_each [] sets = true
+has_each (c ∷ cs) [] = true
+has_each (c ∷ cs) (s ∷ sets) = nat_eq s (full c.count) && has_each cs sets
 
-values_silent : (columns : List Column) (sets : List ℕ) (k n : ℕ) (lines : List Line) → EachValue columns sets k n lines → some_empty lines ≡ true → ⊥
-values_silent columns sets k zero lines h e = false≢true (sym (ap some_empty h) ∙ e)
-values_silent columns sets k (suc v) lines h e =
-    ⊎_elim
-    (λ (y : some_empty h.before ≡ true). values_silent columns sets k v h.before h.are_before y)
-    (λ (y : some_empty h.here ≡ true). false≢true (sym (one_some v) ∙ line_silent columns _ (one v) h.here h.are_here y))
-    (or_cases _ _ (joined_empty h.before h.here lines h.joined e))
+each_from_everywhere : (ds cs : List Column) (sets : List ℕ) (count : ℕ → ℕ) → All IsColumn ds → CountBy count ds → CountBy count cs → FitRow cs sets → ((at : ℕ → ℕ) → in_range at ds ≡ true → row_matches sets (column_values at cs) ≡ true) → has_each cs sets ≡ true
+each_from_everywhere ds [] sets count some counts own fit h = refl
+each_from_everywhere ds (c ∷ cs) [] count some counts own fit h = absurd fit
+each_from_everywhere ds (c ∷ cs) (s ∷ sets) count some counts own fit h =
+    let Counted : Column → Type 0 = λ d. d.count ≡ count d.net.0 in
+    let is : c.count ≡ count c.net.0 = All-head Counted c cs own in
+    and_from (nat_eq s (full c.count)) (has_each cs sets)
+    (eq-eqb s (full c.count) (same_full s c.count fit.0 (λ v low.
+    let p = and_parts (has s (alone c.net.0 v c.net.0)) _ (h (alone c.net.0 v) (alone_ranges count c.net.0 v (subst (λ (n : ℕ). v < n) is low) ds some counts)) in
+    ap (has s) (sym (alone-at c.net.0 v)) ∙ p.0)))
+    (each_from_everywhere ds cs sets count some counts (All-tail Counted c cs own) fit.1 (λ at range. (and_parts (has s (at c.net.0)) _ (h at range)).1))
 
-entry_silent : (columns : List Column) (sets : List ℕ) (entry : Entry) (lines : List Line) → EntryLines columns sets entry lines → some_empty lines ≡ true → says_nothing entry ≡ true
-entry_silent columns sets (Set s) lines h e = line_silent columns sets s lines h e
-entry_silent columns sets (Same k) lines h e = absurd (values_silent columns sets k _ lines h e)
+all_has_each : (cs : List Column) (sets : List ℕ) → AreColumns cs → FitRow cs sets → matches_all cs sets ≡ true → has_each cs sets ≡ true
+all_has_each cs sets are fit h =
+    each_from_everywhere cs cs sets are.count are.each are.counts are.counts fit (λ at range. matched_everywhere at cs sets fit range h)
 
-rows_silent : (columns : List Column) (rows : List Row) (lines : List Line) → RowsLines columns rows lines → some_empty lines ≡ true → some_silent rows ≡ true
-rows_silent columns [] lines h e = absurd (false≢true (sym (ap some_empty h) ∙ e))
-rows_silent columns (r ∷ rows) lines h e =
-    ⊎_elim
-    (λ (y : some_empty h.before ≡ true). or_left _ _ (entry_silent columns r.ins (only_entry r.outs) h.before h.are_before y))
-    (λ (y : some_empty h.here ≡ true). or_right (says_nothing (only_entry r.outs)) _ (rows_silent columns rows h.here h.are_here y))
-    (or_cases _ _ (joined_empty h.before h.here lines h.joined e))
+-- so has a row from which some value was taken alone
+each_from_narrowed : (cs : List Column) (sets : List ℕ) (k x : ℕ) → FitRow cs sets → has_each cs (slice_set sets k (meet (slice_index sets k) x)) ≡ true → has_each cs sets ≡ true
+each_from_narrowed [] sets k x fit h = refl
+each_from_narrowed (c ∷ cs) [] k x fit h = absurd fit
+each_from_narrowed (c ∷ cs) (s ∷ sets) zero x fit h =
+    let p = and_parts (nat_eq (meet s x) (full c.count)) (has_each cs sets) h in
+    and_from (nat_eq s (full c.count)) (has_each cs sets)
+    (eq-eqb s (full c.count) (same_full s c.count fit.0 (λ v low.
+    (and_parts (has s v) (has x v) (sym (has-meet s x v) ∙ (ap (λ y. has y v) (eqb-true _ _ p.0) ∙ (has-full c.count v ∙ lt-ltb v c.count low)))).0)))
+    p.1
+each_from_narrowed (c ∷ cs) (s ∷ sets) (suc k) x fit h =
+    let p = and_parts (nat_eq s (full c.count)) _ h in
+    and_from (nat_eq s (full c.count)) (has_each cs sets) p.0 (each_from_narrowed cs sets k x fit.1 p.1)
 
--- ---- the mark
+bare_has_each : (cs : List Column) (sets : List ℕ) (e : Entry) → AreColumns cs → FitRow cs sets → is_bare cs sets e ≡ true → has_each cs sets ≡ true
+bare_has_each cs sets (Set s) are fit h = all_has_each cs sets are fit h
+bare_has_each cs sets (Same k) are fit h =
+    let f = found (λ v. matches_all cs (narrowed sets k v)) _ h in
+    each_from_narrowed cs sets k (one f.item) fit (all_has_each cs (narrowed sets k f.item) are (fit_narrowed cs sets k f.item fit) f.passes)
 
-no_mark : (flat : FlatTable) (lines : List Line) (default : Option ℕ) (cover : Cover) → flat ≡ unmarked lines default → flat.mark ≡ Some cover → ⊥
-no_mark flat lines default cover e m = none-some cover (sym (ap (λ (f : FlatTable). f.mark) e) ∙ m)
+some_bare_has : (cs : List Column) (rows : List Row) → AreColumns cs → All (IsRow cs) rows → some_row_bare cs rows ≡ true → list_any (λ (r : Row). has_each cs r.ins) rows ≡ true
+some_bare_has cs [] are fit h = h
+some_bare_has cs (r ∷ rows) are fit h =
+    let here = All-head (IsRow cs) r rows fit in
+    ⊎_elim (λ (y : is_bare cs r.ins (only_entry r.outs) ≡ true). or_left _ _ (bare_has_each cs r.ins (only_entry r.outs) are here.sets y))
+    (λ (y : some_row_bare cs rows ≡ true). or_right (has_each cs r.ins) _ (some_bare_has cs rows are (All-tail (IsRow cs) r rows fit) y))
+    (or_cases _ _ h)
 
-set_needs : (columns : List Column) (mark : NetId) (rows : List Row) (lines : List Line) (s : ℕ) (flat : FlatTable) (cover : Cover) (b : Bool) → some_empty lines ≡ b → RowsLines columns rows lines → FlatBy columns mark lines (Set s) (cond b None (Some s)) flat → flat.mark ≡ Some cover → some_silent rows ≡ true
-set_needs columns mark rows lines s flat cover true e h f m = rows_silent columns rows lines h e
-set_needs columns mark rows lines s flat cover false e h f m = absurd (no_mark flat lines (Some s) cover f m)
+-- by name and by number
+all_each : (ds : List Decl) (names ws : List (List ℕ)) (sets : List ℕ) → has_each (map (column_of ds names) ws) sets ≡ has_all ds ws sets
+all_each ds names [] sets = refl
+all_each ds names (w ∷ ws) [] = refl
+all_each ds names (w ∷ ws) (s ∷ sets) = ap (λ b. nat_eq s (full (column_of ds names w).count) && b) (all_each ds names ws sets)
 
-entry_needs : (columns : List Column) (mark : NetId) (rows : List Row) (lines : List Line) (entry : Entry) (flat : FlatTable) (cover : Cover) → RowsLines columns rows lines → FlatBy columns mark lines entry (plain_default entry lines) flat → flat.mark ≡ Some cover → default_needs entry rows ≡ true
-entry_needs columns mark rows lines (Set s) flat cover h f m = set_needs columns mark rows lines s flat cover (some_empty lines) refl h f m
-entry_needs columns mark rows lines (Same k) flat cover h f m = refl
+some_each : (ds : List Decl) (names ws : List (List ℕ)) (rows : List Row) → list_any (λ (r : Row). has_each (map (column_of ds names) ws) r.ins) rows ≡ some_has_all ds ws rows
+some_each ds names ws [] = refl
+some_each ds names ws (r ∷ rows) = λ i. all_each ds names ws r.ins i || some_each ds names ws rows i
 
-left_needs : (columns : List Column) (mark : NetId) (rows : List Row) (lines : List Line) (entry : Entry) (flat : FlatTable) (cover : Cover) (b : Bool) → RowsLines columns rows lines → FlatOf columns mark lines (cond b None (Some entry)) flat → flat.mark ≡ Some cover → default_needs entry rows ≡ true
-left_needs columns mark rows lines entry flat cover true h f m = absurd (no_mark flat lines None cover f m)
-left_needs columns mark rows lines entry flat cover false h f m = entry_needs columns mark rows lines entry flat cover h f m
+none_bare : (ds : List Decl) (t : FileTable) → All IsFileDecl ds → IsPlacedTable ds t.inputs t → some_has_all ds t.inputs t.rows ≡ false → some_row_bare (columns_at ds t.inputs t) t.rows ≡ false
+none_bare ds t all p h =
+    let cs = columns_at ds t.inputs t in
+    false_from_ne_true (some_row_bare cs t.rows) (λ y.
+    false≢true (sym h ∙ (sym (some_each ds t.inputs t.inputs t.rows) ∙ some_bare_has cs t.rows (table_columns ds t.inputs t all p) (table_is ds t.inputs t p).rows y)))
 
-default_needed : (columns : List Column) (mark : NetId) (rows : List Row) (lines : List Line) (default : Option (List Entry)) (flat : FlatTable) (cover : Cover) → RowsLines columns rows lines → FlatOf columns mark lines (default_left default lines) flat → flat.mark ≡ Some cover → some_needs default rows ≡ true
-default_needed columns mark rows lines None flat cover h f m = absurd (no_mark flat lines None cover f m)
-default_needed columns mark rows lines (Some entries) flat cover h f m =
-    left_needs columns mark rows lines (only_entry entries) flat cover (says_nothing (only_entry entries) || some_bare lines) h f m
+-- behind the nets or the sets there is nothing to look at
+none_left : (ds : List Decl) (ws : List (List ℕ)) → has_all ds ws [] ≡ true
+none_left ds [] = refl
+none_left ds (w ∷ ws) = refl
 
-pub mark_needed : (columns : List Column) (t : FileTable) (mark : NetId) (flat : FlatTable) (cover : Cover) → IsMade columns t mark flat → flat.mark ≡ Some cover → may_mark t ≡ true
-unfolding may_mark
-mark_needed columns t mark flat cover made m = default_needed columns mark t.rows made.lines t.default flat cover made.are made.covers m
+pub all_at_end : (ds : List Decl) (ws : List (List ℕ)) (sets : List ℕ) (n : ℕ) → min (length ws) (length sets) ≤ n → true ≡ has_all ds (drop n ws) (drop n sets)
+all_at_end ds ws sets n high =
+    ⊎_elim (λ (l : length ws ≤ n). sym (ap (λ us. has_all ds us (drop n sets)) (drop_all n ws l)))
+    (λ (l : length sets ≤ n). sym (ap (has_all ds (drop n ws)) (drop_all n sets l) ∙ none_left ds (drop n ws)))
+    (either (length ws) (length sets) high)
+  where
+    either : (a b : ℕ) → min a b ≤ n → (a ≤ n) ⊎ (b ≤ n)
+    either a b h = ⊎_elim (λ (g : n < a). inr (omega (arith, h, g))) (λ (l : a ≤ n). inl l) (cases_lt n a)
+
+-- ---- what is told
+
+own_placed : (ds : List Decl) (t : FileTable) → IsFileTable ds t → IsPlacedTable ds t.inputs t
+own_placed ds t f = record { fits = f; known = known t.inputs t.inputs (λ w h. h) }
+
+pub none_told : (ds : List Decl) (t : FileTable) → t.default ≡ None → false ≡ has_mark ds t
+unfolding has_mark is_marked
+none_told ds t e = sym (ap (default_marked (columns_at ds t.inputs t) t.rows) e)
+
+set_marked : (cs : List Column) (rows : List Row) (entries : List Entry) (s : ℕ) → only_entry entries ≡ Set s → some_silent rows ≡ false → default_marked cs rows (Some entries) ≡ false
+set_marked cs rows entries s e h =
+    and_right _ _ (ap (needs_mark cs rows) e ∙ none_silent cs rows h)
+
+pub set_told : (ds : List Decl) (t : FileTable) (entries : List Entry) (s : ℕ) → t.default ≡ Some entries → only_entry entries ≡ Set s → some_silent t.rows ≡ false → false ≡ has_mark ds t
+unfolding has_mark is_marked
+set_told ds t entries s e o h =
+    let cs = columns_at ds t.inputs t in
+    sym (ap (default_marked cs t.rows) e ∙ set_marked cs t.rows entries s o h)
+
+same_marked : (cs : List Column) (rows : List Row) (entries : List Entry) (k : ℕ) → only_entry entries ≡ Same k → some_row_bare cs rows ≡ false → default_marked cs rows (Some entries) ≡ true
+same_marked cs rows entries k e h =
+    and_from _ _ (and_from _ _ (ap (λ x. not (says_nothing x)) e) (ap not h)) (ap (needs_mark cs rows) e)
+
+pub same_told : (ds : List Decl) (t : FileTable) (entries : List Entry) (k : ℕ) → All IsFileDecl ds → IsFileTable ds t → t.default ≡ Some entries → only_entry entries ≡ Same k → some_has_all ds t.inputs t.rows ≡ false → true ≡ has_mark ds t
+unfolding has_mark is_marked
+same_told ds t entries k all f e o h =
+    let cs = columns_at ds t.inputs t in
+    sym (ap (default_marked cs t.rows) e ∙ same_marked cs t.rows entries k o (none_bare ds t all (own_placed ds t f) h))
+
+pub ruleset told = (none_told, set_told, same_told)

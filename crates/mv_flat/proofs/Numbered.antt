@@ -5,9 +5,9 @@ use Rattle.std.proofs.lemmas.Option.{slice_get-get_or}
 use Rattle.mv_base.specs.Names.{among, IsDistinct}
 use Rattle.mv_base.proofs.NameLemmas.{IsPlace-from_among}
 use Rattle.mv_design.specs.declared.table.FileTable.{FileTable}
-use Rattle.mv_model.specs.Numbers.{number_in, mark_name}
-use Rattle.mv_model.proofs.Listed.{number_at, name_at}
-use Rattle.mv_flat.specs.Numbers.{output_of, mark_at}
+use Rattle.mv_unfold.specs.Numbers.{number_in}
+use Rattle.mv_unfold.proofs.Listed.{number_at, name_at}
+use Rattle.mv_flat.specs.Numbers.{mark_name, output_of, mark_at}
 
 -- names with one number are one name
 pub same_number : (names : List (List ℕ)) (u w : List ℕ) → among u names ≡ true → among w names ≡ true → number_in names u ≡ number_in names w → u ≡ w

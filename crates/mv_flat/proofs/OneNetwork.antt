@@ -1,5 +1,5 @@
 -- A design has at most one network: the rules say its nets one by one, and the name of each that is made.
-use Rattle.std.proofs.Common.{◌≡◌, ℕ, ◌<◌, ◌≤◌, Bool, true, false, List, [], ◌∷◌, ◌++◌, map, Option, Some, None, refl, sym, ◌∙◌, ap, subst, arith, All, ⊎_elim}
+use Rattle.std.proofs.Common.{◌≡◌, ℕ, ◌<◌, ◌≤◌, List, [], ◌∷◌, ◌++◌, map, Option, Some, None, refl, sym, ◌∙◌, ap, subst, arith, All, ⊎_elim}
 use Rattle.std.proofs.lemmas.Bool.{false≢true, cases_lt}
 use Rattle.std.proofs.lemmas.List.Elements.{All-head, All-tail}
 use Rattle.mv_base.specs.Names.{among}
@@ -13,10 +13,10 @@ use Rattle.mv_rows.proofs.OneTable.{one_made}
 use Rattle.mv_net.specs.declared.parts.FlatNet.{FlatNet}
 use Rattle.mv_net.specs.declared.parts.NetParts.{NetParts}
 use Rattle.mv_net.specs.declared.parts.Kind.TheVariants.{Input, Table}
-use Rattle.mv_model.specs.Nets.{root_of, drivers}
-use Rattle.mv_model.specs.Numbers.{places, may_mark}
-use Rattle.mv_model.specs.Proper.{IsProper, IsFileDecl}
-use Rattle.mv_model.proofs.Distinct.{few_places}
+use Rattle.mv_design.specs.Nets.{root_of, drivers}
+use Rattle.mv_flat.specs.Places.{places}
+use Rattle.mv_design.specs.Proper.{IsProper, IsFileDecl}
+use Rattle.mv_flat.proofs.Distinct.{few_places}
 use Rattle.mv_flat.specs.Numbers.{columns_at, mark_at, output_of, made_name}
 use Rattle.mv_flat.specs.Built.{file_net, fresh_net, IsFreshName, IsMark, AreTableNets, AreTables, IsBuilt}
 use Rattle.mv_flat.specs.Flat.{IsFlat}
@@ -48,16 +48,14 @@ record AreSame (nets others : List (Option FlatNet)) (after behind : List (List 
   nets_are : nets ≡ others
   after_is : after ≡ behind
 
-one_mark : (held : List (List ℕ)) (may : Bool) (o : Option Cover) (nets others : List (Option FlatNet)) (after behind : List (List ℕ)) → IsMark held may o nets after → IsMark held may o others behind → AreSame nets others after behind
-one_mark held true (Some c) nets others after behind p q =
+one_mark : (held : List (List ℕ)) (o : Option Cover) (nets others : List (Option FlatNet)) (after behind : List (List ℕ)) → IsMark held o nets after → IsMark held o others behind → AreSame nets others after behind
+one_mark held (Some c) nets others after behind p q =
     let name = one_name held p.name q.name p.fresh q.fresh in
     record {
       nets_are = p.nets_are ∙ (ap (λ w. fresh_net w c ∷ []) name ∙ sym q.nets_are);
       after_is = p.after_is ∙ (ap (λ w. held ++ w ∷ []) name ∙ sym q.after_is);
     }
-one_mark held true None nets others after behind p q = record { nets_are = p.nets_are ∙ sym q.nets_are; after_is = p.after_is ∙ sym q.after_is }
-one_mark held false (Some c) nets others after behind p q = absurd p
-one_mark held false None nets others after behind p q = record { nets_are = p.nets_are ∙ sym q.nets_are; after_is = p.after_is ∙ sym q.after_is }
+one_mark held None nets others after behind p q = record { nets_are = p.nets_are ∙ sym q.nets_are; after_is = p.after_is ∙ sym q.after_is }
 
 module _ (ds : List Decl) (names : List (List ℕ)) (proper : All IsFileDecl ds) where
   one_table : (held : List (List ℕ)) (t : FileTable) (nets others : List (Option FlatNet)) (after behind : List (List ℕ)) → IsPlacedTable ds names t → AreTableNets ds names held t nets after → AreTableNets ds names held t others behind → AreSame nets others after behind
@@ -65,8 +63,8 @@ module _ (ds : List Decl) (names : List (List ℕ)) (proper : All IsFileDecl ds)
       let flat : p.flat ≡ q.flat =
       one_made (columns_at ds names t) t (mark_at names t) p.flat q.flat (table_columns ds names t proper known) (marked_columns ds names t proper known) p.made q.made
       in
-      let P : FlatTable → Type 0 = λ f. IsMark held (may_mark t) f.mark q.mark behind in
-      let marks = one_mark held (may_mark t) p.flat.mark p.mark q.mark after behind p.marked (subst P (sym flat) q.marked) in
+      let P : FlatTable → Type 0 = λ f. IsMark held f.mark q.mark behind in
+      let marks = one_mark held p.flat.mark p.mark q.mark after behind p.marked (subst P (sym flat) q.marked) in
       record {
         nets_are =
             p.nets_are
@@ -98,7 +96,7 @@ one_built m a b proper known p q =
 pub one_network : (d : Design) (one other : NetParts) → IsProper d → IsFlat one d → IsFlat other d → one ≡ other
 one_network d one other proper p q =
     let m = root_of d in
-    let twice = few_places m p.sound.root.driven in
+    let twice = few_places m proper.root p.sound.root.driven in
     let few = p.limits.few in
     let known = placed m (places m) proper.root p.sound.root refl (omega (arith, twice, few)) in
     one_built m one other proper.root.decls known p.built q.built

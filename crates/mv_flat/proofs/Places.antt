@@ -1,5 +1,5 @@
--- What stands at each number of a model's network: an input, the output of a table, or the mark that a table may need.
-use Rattle.std.proofs.Common.{◌≡◌, ◌⊎◌, ℕ, zero, suc, ◌+◌, ◌<◌, ◌≤◌, Bool, true, false, List, [], ◌∷◌, ◌++◌, length, map, get_or, Option, Some, None, refl, sym, ◌∙◌, ap, subst, arith, ⊎_elim, inl, inr}
+-- What stands at each number of a model's network: an input, the output of a table, or the mark of a table.
+use Rattle.std.proofs.Common.{◌≡◌, ◌⊎◌, ℕ, zero, suc, ◌+◌, ◌<◌, ◌≤◌, Bool, true, false, List, [], ◌∷◌, ◌++◌, length, map, get_or, Option, Some, None, refl, sym, ◌∙◌, ap, subst, arith, ⊎_elim, inl, inr, All}
 use Rattle.std.specs.Prelude.{if◌then◌else◌, slice_index_or}
 use Rattle.std.specs.List.{flat_map, slice_get}
 use Rattle.std.proofs.lemmas.Bool.{false≢true, or_cases, or_left}
@@ -9,6 +9,7 @@ use Rattle.std.proofs.lemmas.Option.{none-some, same_Some, slice_get_within, sli
 use Rattle.mv_base.specs.Names.{same_word, among, IsDistinct}
 use Rattle.mv_base.proofs.NameLemmas.{same_word_is, among-append, among-at, IsPlace-from_among}
 use Rattle.mv_cover.specs.declared.cover.Cover.{Cover}
+use Rattle.mv_design.specs.declared.design.Decl.{Decl}
 use Rattle.mv_design.specs.declared.design.FileModel.{FileModel}
 use Rattle.mv_design.specs.declared.table.FileTable.{FileTable}
 use Rattle.mv_net.specs.declared.parts.FlatNet.{FlatNet}
@@ -16,15 +17,19 @@ use Rattle.mv_net.specs.declared.parts.NetParts.{NetParts}
 use Rattle.mv_net.specs.declared.parts.Kind.{Kind}
 use Rattle.mv_net.specs.declared.parts.Kind.TheVariants.{Input, Table, Reset}
 use Rattle.mv_net.specs.Nets.{slot}
-use Rattle.mv_model.specs.Nets.{drivers, nets_driven, nets_named}
-use Rattle.mv_model.specs.Numbers.{places, table_places, may_mark, mark_name, number_in}
-use Rattle.mv_model.specs.Proper.{IsProperModel, IsFileTable}
-use Rattle.mv_flat.specs.Numbers.{output_of, mark_at}
+use Rattle.mv_design.specs.Nets.{drivers, nets_driven, nets_named}
+use Rattle.mv_flat.specs.Places.{places, table_places, has_mark}
+use Rattle.mv_unfold.specs.Numbers.{number_in}
+use Rattle.mv_design.specs.Proper.{IsProperModel, IsFileTable}
+use Rattle.mv_flat.specs.Numbers.{mark_name, output_of, mark_at}
 use Rattle.mv_flat.specs.Built.{file_net, IsBuilt}
 use Rattle.mv_base.proofs.Lists.{get_front}
-use Rattle.mv_model.proofs.Listed.{number_at}
+use Rattle.mv_unfold.proofs.Listed.{number_at}
 use Rattle.mv_flat.proofs.Numbered.{number_of_name, mark_number}
-use Rattle.mv_flat.proofs.Blocks.{AreSingle, marks_of, places_of, blocks_size, block_at}
+use Rattle.mv_flat.specs.Placed.{IsPlacedTable}
+use Rattle.mv_flat.proofs.Distinct.{driver_is_place}
+use Rattle.mv_flat.proofs.Known.{tables_known, column_named}
+use Rattle.mv_flat.proofs.Blocks.{marks_of, places_of, blocks_size, block_at}
 use Rattle.mv_flat.proofs.Slots.{IsTableAt, table_at}
 
 -- a proper model with its network, whose names by number are distinct, as its drivers are, and each of whose nets is driven
@@ -42,15 +47,23 @@ file_table m net is k t e =
     let P : FileTable → Type 0 = IsFileTable m.decls in
     subst P (get_or_from_slice_get m.tables k t t e) (All-get_or P m.tables k t (slice_get_within m.tables k t e) is.proper.tables)
 
+-- each table has one output
+abbrev pub AreSingle : List FileTable → Type 0
+AreSingle ts = (k : ℕ) (t : FileTable) → slice_get ts k ≡ Some t → length t.outputs ≡ 1
+
 pub single_tables : (m : FileModel) (net : NetParts) → IsModelNet m net → AreSingle m.tables
 single_tables m net is k t e = (file_table m net is k t e).single
+
+-- the columns of each table have numbers
+placed_tables : (m : FileModel) (net : NetParts) → IsModelNet m net → All (IsPlacedTable m.decls (places m)) m.tables
+placed_tables m net is = tables_known m.decls (places m) m.tables is.proper.tables (λ w h. driver_is_place m w (is.driven w (column_named m w h)))
 
 -- what stands at the numbers of each table
 pub table_of : (m : FileModel) (net : NetParts) → IsModelNet m net → (k : ℕ) (t : FileTable) → slice_get m.tables k ≡ Some t → IsTableAt m.decls (places m) net.nets t
 unfolding places
 table_of m net is k t e =
-    table_at m.decls (places m) net.nets t (single_tables m net is k t e) is.distinct
-    (block_at m.decls (places m) net.nets m.inputs (map (file_net m.decls Input None) m.inputs) m.tables (drivers m) is.built.of_tables (single_tables m net is) is.built.are_tables refl is.built.nets_are
+    table_at m.decls (places m) net.nets t is.proper.decls is.distinct
+    (block_at m.decls (places m) is.proper.decls net.nets m.inputs (map (file_net m.decls Input None) m.inputs) m.tables (drivers m) is.built.of_tables (placed_tables m net is) is.built.are_tables refl is.built.nets_are
     (length-map m.inputs (file_net m.decls Input None)) k t e)
 
 -- as many nets as names
@@ -59,8 +72,8 @@ unfolding places
 nets_size m net is =
     ap length is.built.nets_are
     ∙ (length-append (map (file_net m.decls Input None) m.inputs) is.built.of_tables
-    ∙ ((λ i. length-map m.inputs (file_net m.decls Input None) i + blocks_size m.decls (places m) (drivers m) m.tables is.built.of_tables (single_tables m net is) is.built.are_tables i)
-    ∙ sym (length-append m.inputs (flat_map table_places m.tables))))
+    ∙ ((λ i. length-map m.inputs (file_net m.decls Input None) i + blocks_size m.decls (places m) is.proper.decls (drivers m) m.tables is.built.of_tables (placed_tables m net is) is.built.are_tables i)
+    ∙ sym (length-append m.inputs (flat_map (table_places m.decls) m.tables))))
 
 -- ---- the inputs
 
@@ -73,7 +86,7 @@ pub input_slot : (m : FileModel) (net : NetParts) → IsModelNet m net → (w : 
 unfolding places
 input_slot m net is w h =
     let p = IsPlace-from_among w m.inputs h in
-    ap (slot net.nets) (number_at (places m) p.0 w is.distinct (get_front m.inputs (flat_map table_places m.tables) p.0 p.1.within ∙ p.1.found))
+    ap (slot net.nets) (number_at (places m) p.0 w is.distinct (get_front m.inputs (flat_map (table_places m.decls) m.tables) p.0 p.1.within ∙ p.1.found))
     ∙ (ap (λ ns. slot ns p.0) is.built.nets_are ∙ slot_left (file_net m.decls Input None) m.inputs is.built.of_tables p.0 w p.1.found)
 
 -- ---- names of tables' nets
@@ -85,19 +98,19 @@ pub record IsTableOutput (ts : List FileTable) (w : List ℕ) : Type 0 where
   pub listed : slice_get ts place ≡ Some table
   pub is : w ≡ output_of table
 
--- or of the mark that the table may need
-pub record IsMarked (ts : List FileTable) (w : List ℕ) : Type 0 where
+-- or of the mark that the table gets
+pub record IsMarked (ds : List Decl) (ts : List FileTable) (w : List ℕ) : Type 0 where
   pub place : ℕ
   pub table : FileTable
   pub listed : slice_get ts place ≡ Some table
-  pub may : may_mark table ≡ true
+  pub may : has_mark ds table ≡ true
   pub is : w ≡ mark_name (output_of table)
 
 output_later : (t : FileTable) (ts : List FileTable) (w : List ℕ) → IsTableOutput ts w → IsTableOutput (t ∷ ts) w
 output_later t ts w o = record { place = suc o.place; table = o.table; listed = o.listed; is = o.is }
 
-mark_later : (t : FileTable) (ts : List FileTable) (w : List ℕ) → IsMarked ts w → IsMarked (t ∷ ts) w
-mark_later t ts w o = record { place = suc o.place; table = o.table; listed = o.listed; may = o.may; is = o.is }
+mark_later : (ds : List Decl) (t : FileTable) (ts : List FileTable) (w : List ℕ) → IsMarked ds ts w → IsMarked ds (t ∷ ts) w
+mark_later ds t ts w o = record { place = suc o.place; table = o.table; listed = o.listed; may = o.may; is = o.is }
 
 only_one : (w u : List ℕ) → among w (u ∷ []) ≡ true → w ≡ u
 only_one w u e = ⊎_elim (λ (y : same_word w u ≡ true). same_word_is w u y) (λ (n : false ≡ true). absurd (false≢true n)) (or_cases (same_word w u) false e)
@@ -126,23 +139,23 @@ marks_in : (b : Bool) (w u : List ℕ) → among w (if b then u ∷ [] else []) 
 marks_in true w u h = (refl, only_one w u h)
 marks_in false w u h = absurd (false≢true h)
 
-places_in : (ts : List FileTable) (w : List ℕ) → AreSingle ts → among w (flat_map table_places ts) ≡ true → IsTableOutput ts w ⊎ IsMarked ts w
-places_in [] w single h = absurd (false≢true h)
-places_in (t ∷ ts) w single h =
+places_in : (ds : List Decl) (ts : List FileTable) (w : List ℕ) → AreSingle ts → among w (flat_map (table_places ds) ts) ≡ true → IsTableOutput ts w ⊎ IsMarked ds ts w
+places_in ds [] w single h = absurd (false≢true h)
+places_in ds (t ∷ ts) w single h =
     ⊎_elim
-    (λ (y : among w (table_places t) ≡ true).
+    (λ (y : among w (table_places ds t) ≡ true).
     ⊎_elim
-    (λ (z : among w (marks_of t) ≡ true).
-    let q = marks_in (may_mark t) w (mark_name (output_of t)) z in
-    let o : IsMarked (t ∷ ts) w = record { place = 0; table = t; listed = refl; may = q.0; is = q.1 } in
+    (λ (z : among w (marks_of ds t) ≡ true).
+    let q = marks_in (has_mark ds t) w (mark_name (output_of t)) z in
+    let o : IsMarked ds (t ∷ ts) w = record { place = 0; table = t; listed = refl; may = q.0; is = q.1 } in
     inr o)
     (λ (z : among w (output_of t ∷ []) ≡ true).
     let o : IsTableOutput (t ∷ ts) w = record { place = 0; table = t; listed = refl; is = only_one w (output_of t) z } in
     inl o)
-    (or_cases (among w (marks_of t)) (among w (output_of t ∷ [])) (sym (among-append w (marks_of t) (output_of t ∷ [])) ∙ (ap (among w) (sym (places_of t (single 0 t refl))) ∙ y))))
-    (λ (y : among w (flat_map table_places ts) ≡ true).
-    ⊎_elim (λ (o : IsTableOutput ts w). inl (output_later t ts w o)) (λ (o : IsMarked ts w). inr (mark_later t ts w o)) (places_in ts w (λ k. single (suc k)) y))
-    (or_cases (among w (table_places t)) (among w (flat_map table_places ts)) (sym (among-append w (table_places t) (flat_map table_places ts)) ∙ h))
+    (or_cases (among w (marks_of ds t)) (among w (output_of t ∷ [])) (sym (among-append w (marks_of ds t) (output_of t ∷ [])) ∙ (ap (among w) (sym (places_of ds t (single 0 t refl))) ∙ y))))
+    (λ (y : among w (flat_map (table_places ds) ts) ≡ true).
+    ⊎_elim (λ (o : IsTableOutput ts w). inl (output_later t ts w o)) (λ (o : IsMarked ds ts w). inr (mark_later ds t ts w o)) (places_in ds ts w (λ k. single (suc k)) y))
+    (or_cases (among w (table_places ds t)) (among w (flat_map (table_places ds) ts)) (sym (among-append w (table_places ds t) (flat_map (table_places ds) ts)) ∙ h))
 
 -- ---- what stands at a number
 
@@ -161,13 +174,13 @@ pub record MarkPlace (m : FileModel) (n : ℕ) : Type 0 where
   pub place : ℕ
   pub table : FileTable
   pub listed : slice_get m.tables place ≡ Some table
-  pub may : may_mark table ≡ true
+  pub may : has_mark m.decls table ≡ true
   pub number : n ≡ (mark_at (places m) table).0
 
 output_place : (m : FileModel) (w : List ℕ) → IsTableOutput m.tables w → OutputPlace m (number_in (places m) w)
 output_place m w o = record { place = o.place; table = o.table; listed = o.listed; number = ap (number_in (places m)) o.is }
 
-mark_place : (m : FileModel) (net : NetParts) → IsModelNet m net → (w : List ℕ) → IsMarked m.tables w → MarkPlace m (number_in (places m) w)
+mark_place : (m : FileModel) (net : NetParts) → IsModelNet m net → (w : List ℕ) → IsMarked m.decls m.tables w → MarkPlace m (number_in (places m) w)
 mark_place m net is w o = record {
   place = o.place;
   table = o.table;
@@ -183,10 +196,10 @@ named_place m net is w h =
     (λ (y : among w m.inputs ≡ true).
     let p : InputPlace m (number_in (places m) w) = record { name = w; listed = y; number = refl } in
     inl p)
-    (λ (y : among w (flat_map table_places m.tables) ≡ true).
-    ⊎_elim (λ (o : IsTableOutput m.tables w). inr (inl (output_place m w o))) (λ (o : IsMarked m.tables w). inr (inr (mark_place m net is w o)))
-    (places_in m.tables w (single_tables m net is) y))
-    (or_cases (among w m.inputs) (among w (flat_map table_places m.tables)) (sym (among-append w m.inputs (flat_map table_places m.tables)) ∙ h))
+    (λ (y : among w (flat_map (table_places m.decls) m.tables) ≡ true).
+    ⊎_elim (λ (o : IsTableOutput m.tables w). inr (inl (output_place m w o))) (λ (o : IsMarked m.decls m.tables w). inr (inr (mark_place m net is w o)))
+    (places_in m.decls m.tables w (single_tables m net is) y))
+    (or_cases (among w m.inputs) (among w (flat_map (table_places m.decls) m.tables)) (sym (among-append w m.inputs (flat_map (table_places m.decls) m.tables)) ∙ h))
 
 -- each number within the names is that of an input, an output or a mark
 pub place_at : (m : FileModel) (net : NetParts) → IsModelNet m net → (n : ℕ) → n < length (places m) → InputPlace m n ⊎ (OutputPlace m n ⊎ MarkPlace m n)
@@ -218,7 +231,7 @@ pub record IsFileNet (m : FileModel) (nets : List (Option FlatNet)) (w : List �
 
 input_listed : (m : FileModel) (w : List ℕ) → among w m.inputs ≡ true → among w (places m) ≡ true
 unfolding places
-input_listed m w h = among-append w m.inputs (flat_map table_places m.tables) ∙ or_left (among w m.inputs) (among w (flat_map table_places m.tables)) h
+input_listed m w h = among-append w m.inputs (flat_map (table_places m.decls) m.tables) ∙ or_left (among w m.inputs) (among w (flat_map (table_places m.decls) m.tables)) h
 
 pub input_file : (m : FileModel) (net : NetParts) → IsModelNet m net → (w : List ℕ) → among w m.inputs ≡ true → IsFileNet m net.nets w
 input_file m net is w h = record { kind = Input; table = None; listed = input_listed m w h; held = input_slot m net is w h; plain = λ e. cc }

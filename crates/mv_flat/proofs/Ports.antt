@@ -7,14 +7,15 @@ use Rattle.std.proofs.lemmas.Slice.Eq.{bytes_eq-Decides, slice_eq-Decides}
 use Rattle.mv_base.specs.Meaning.{Port}
 use Rattle.mv_base.specs.Names.{among}
 use Rattle.mv_base.specs.declared.number.NetId.{NetId}
-use Rattle.mv_decl.specs.Nets.{values_of}
+use Rattle.mv_design.specs.Values.{values_of}
 use Rattle.mv_design.specs.declared.design.FileModel.{FileModel}
 use Rattle.mv_net.specs.declared.parts.FlatNet.{FlatNet}
 use Rattle.mv_net.specs.declared.parts.NetParts.{NetParts}
 use Rattle.mv_net.specs.Nets.{name_in, spelled_values, spelled_in, port_of, latch_port_of, interface_of}
-use Rattle.mv_model.specs.Nets.{nets_named}
-use Rattle.mv_model.specs.Numbers.{places, net_in}
-use Rattle.mv_model.specs.Meaning.{port}
+use Rattle.mv_design.specs.Nets.{nets_named}
+use Rattle.mv_flat.specs.Places.{places}
+use Rattle.mv_unfold.specs.Numbers.{net_in}
+use Rattle.mv_design.specs.Meaning.{port}
 use Rattle.mv_flat.specs.Numbers.{are_numbers, kept_names}
 use Rattle.mv_flat.proofs.Places.{IsModelNet, named_file}
 use Rattle.mv_flat.proofs.Naming.{map_same, input_named, output_named}

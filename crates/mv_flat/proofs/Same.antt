@@ -12,11 +12,13 @@ use Rattle.mv_design.specs.declared.table.FileTable.{FileTable}
 use Rattle.mv_net.specs.declared.parts.NetParts.{NetParts}
 use Rattle.mv_net.specs.Allowed.{net_allows, Agrees, Allows, of_net}
 use Rattle.mv_net.proofs.Latchless.{no_values, values_from, no_resets, resets_from}
-use Rattle.mv_model.specs.Nets.{count_of, nets_named}
-use Rattle.mv_model.specs.Numbers.{places, net_in, number_in}
-use Rattle.mv_model.specs.Meaning.{table_holds, AllowsModel, of_model}
+use Rattle.mv_design.specs.Values.{count_of}
+use Rattle.mv_design.specs.Nets.{nets_named}
+use Rattle.mv_flat.specs.Places.{places}
+use Rattle.mv_unfold.specs.Numbers.{net_in, number_in}
+use Rattle.mv_design.specs.Meaning.{table_holds, AllowsModel, of_model}
 use Rattle.mv_base.proofs.Lists.{all_from}
-use Rattle.mv_model.proofs.Names.{all_from_among}
+use Rattle.mv_unfold.proofs.Names.{all_from_among}
 use Rattle.mv_flat.specs.Numbers.{output_of}
 use Rattle.mv_flat.proofs.Places.{IsModelNet, table_of, named_file}
 use Rattle.mv_flat.proofs.Naming.{map_same, input_named, output_named}

@@ -16,12 +16,12 @@ use Rattle.mv_rows.specs.declared.column.Column.{Column}
 use Rattle.mv_rows.specs.Cubes.{IsColumn, AreColumns, CountBy, FitRow}
 use Rattle.mv_rows.specs.Lines.{FitEntry}
 use Rattle.mv_rows.specs.Flat.{only_entry, with_mark, IsRow, IsTable}
-use Rattle.mv_model.specs.Nets.{count_of}
-use Rattle.mv_model.specs.Numbers.{number_in}
-use Rattle.mv_model.specs.Proper.{FitSets, FitOutput, FitOutputs, IsFileDecl, IsFileRow, IsFileTable}
-use Rattle.mv_model.proofs.Listed.{IsNumber-among, name_at}
-use Rattle.mv_model.proofs.Distinct.{lawful_undotted}
-use Rattle.mv_flat.specs.Numbers.{column_of, columns_at, output_of, mark_at}
+use Rattle.mv_design.specs.Values.{count_of}
+use Rattle.mv_unfold.specs.Numbers.{number_in}
+use Rattle.mv_design.specs.Proper.{FitSets, FitOutput, FitOutputs, IsFileDecl, IsFileRow, IsFileTable}
+use Rattle.mv_unfold.proofs.Listed.{IsNumber-among, name_at}
+use Rattle.mv_flat.proofs.Distinct.{lawful_unspaced}
+use Rattle.mv_flat.specs.Numbers.{column_of, columns_at, mark_name, output_of, mark_at}
 use Rattle.mv_flat.specs.Placed.{are_known, IsPlacedTable}
 use Rattle.mv_flat.proofs.Counts.{values_few}
 
@@ -32,17 +32,17 @@ abbrev count_by : List Decl → List (List ℕ) → ℕ → ℕ → ℕ
 count_by ds names mark n = cond (n == mark) 2 (count_of ds (get_or names n []))
 
 -- the number of a lawful name isn't the mark's
-place_other : (names : List (List ℕ)) (w out : List ℕ) (o : Option ℕ) → place_of (46 ∷ out) names ≡ o → among w names ≡ true → is_net_name w ≡ true → number_in names w ≡ unwrap_or o (length names) → ⊥
+place_other : (names : List (List ℕ)) (w out : List ℕ) (o : Option ℕ) → place_of (mark_name out) names ≡ o → among w names ≡ true → is_net_name w ≡ true → number_in names w ≡ unwrap_or o (length names) → ⊥
 place_other names w out None e known lawful same = let l = (IsNumber-among names w known).within in omega (arith, same)
 place_other names w out (Some k) e known lawful same =
-    let p = IsPlace-from_place (46 ∷ out) names k e in
-    let there : Some w ≡ Some (46 ∷ out) = sym (IsNumber-among names w known).listed ∙ (ap (slice_get names) same ∙ p.found) in
-    let is : w ≡ 46 ∷ out = cc in
+    let p = IsPlace-from_place (mark_name out) names k e in
+    let there : Some w ≡ Some (mark_name out) = sym (IsNumber-among names w known).listed ∙ (ap (slice_get names) same ∙ p.found) in
+    let is : w ≡ mark_name out = cc in
     let P : List ℕ → Type 0 = λ x. is_net_name x ≡ true in
-    false≢true (sym (lawful_undotted (46 ∷ out) (subst P is lawful)))
+    false≢true (sym (lawful_unspaced (mark_name out) (subst P is lawful)))
 
 mark_other : (names : List (List ℕ)) (t : FileTable) (w : List ℕ) → among w names ≡ true → is_net_name w ≡ true → number_in names w ≡ (mark_at names t).0 → ⊥
-mark_other names t w known lawful same = place_other names w (output_of t) (place_of (46 ∷ output_of t) names) refl known lawful same
+mark_other names t w known lawful same = place_other names w (output_of t) (place_of (mark_name (output_of t)) names) refl known lawful same
 
 column_counts : (ds : List Decl) (names : List (List ℕ)) (t : FileTable) (w : List ℕ) → among w names ≡ true → is_net_name w ≡ true → count_of ds w ≡ count_by ds names (mark_at names t).0 (number_in names w)
 column_counts ds names t w known lawful =

@@ -1,5 +1,5 @@
 -- No name of a model's network is too long: its nets have the model's names, and a made one has a number.
-use Rattle.std.proofs.Common.{◌≡◌, ℕ, ◌<◌, ◌≤◌, ◌^◌, Bool, true, false, List, [], ◌∷◌, ◌++◌, length, map, codes, decimal, Option, Some, None, sym, subst, arith}
+use Rattle.std.proofs.Common.{◌≡◌, ℕ, ◌<◌, ◌≤◌, ◌^◌, true, List, [], ◌∷◌, ◌++◌, length, map, codes, decimal, Option, Some, None, sym, subst, arith}
 use Rattle.std.specs.Prelude.{IfSome, slice_index_or}
 use Rattle.std.specs.List.{flat_map}
 use Rattle.std.proofs.lemmas.Bool.{or_left}
@@ -16,10 +16,10 @@ use Rattle.mv_design.specs.declared.table.FileTable.{FileTable}
 use Rattle.mv_net.specs.declared.parts.FlatNet.{FlatNet}
 use Rattle.mv_net.specs.declared.parts.NetParts.{NetParts}
 use Rattle.mv_net.specs.declared.parts.Kind.TheVariants.{Input, Table}
-use Rattle.mv_model.specs.Nets.{drivers, nets_driven}
-use Rattle.mv_model.specs.Numbers.{places, may_mark}
-use Rattle.mv_model.specs.Sound.{IsWithinLimits}
-use Rattle.mv_model.proofs.Soundness.{in_left, in_right, driver_is_net}
+use Rattle.mv_design.specs.Nets.{drivers, nets_driven}
+use Rattle.mv_flat.specs.Places.{places}
+use Rattle.mv_unfold.specs.Sound.{IsWithinLimits}
+use Rattle.mv_unfold.proofs.Soundness.{in_left, in_right, driver_is_net}
 use Rattle.mv_flat.specs.Numbers.{output_of, made_name}
 use Rattle.mv_flat.specs.Built.{file_net, fresh_net, IsMark, AreTables, IsBuilt}
 use Rattle.mv_flat.specs.Flat.{AreShort}
@@ -40,13 +40,11 @@ short_made n small =
     let size = length-append (codes "_m") (decimal n) in
     omega (arith, digits, size)
 
-mark_short : (held : List (List ℕ)) (may : Bool) (o : Option Cover) (nets : List (Option FlatNet)) (after : List (List ℕ)) → IsMark held may o nets after → AreShort nets
-mark_short held true (Some c) nets after h =
+mark_short : (held : List (List ℕ)) (o : Option Cover) (nets : List (Option FlatNet)) (after : List (List ℕ)) → IsMark held o nets after → AreShort nets
+mark_short held (Some c) nets after h =
     let name : length h.name ≤ MAX_FLAT_NAME_BYTES = subst (λ (w : List ℕ). length w ≤ MAX_FLAT_NAME_BYTES) (sym h.fresh.is) (short_made h.fresh.number h.fresh.small) in
     subst AreShort (sym h.nets_are) (All-cons IsShort (fresh_net h.name c) [] name (All-nil IsShort))
-mark_short held true None nets after h = subst AreShort (sym h.nets_are) (All-cons IsShort None [] tt (All-nil IsShort))
-mark_short held false (Some c) nets after h = absurd h
-mark_short held false None nets after h = subst AreShort (sym h.nets_are) (All-nil IsShort)
+mark_short held None nets after h = subst AreShort (sym h.nets_are) (All-nil IsShort)
 
 -- ---- the nets of the file
 
@@ -62,7 +60,7 @@ tables_short ds names (t ∷ ts) held nets all a =
     let named = first_short t.outputs (λ w h. all w (in_left w t.outputs (flat_map nets_driven ts) h)) in
     let rest = tables_short ds names ts a.after a.rest (λ w h. all w (in_right w t.outputs (flat_map nets_driven ts) h)) a.are_rest in
     let table : AreShort (here.mark ++ output ∷ []) =
-    All-append IsShort here.mark (output ∷ []) (mark_short held (may_mark t) here.flat.mark here.mark a.after here.marked) (All-cons IsShort output [] named (All-nil IsShort)) in
+    All-append IsShort here.mark (output ∷ []) (mark_short held here.flat.mark here.mark a.after here.marked) (All-cons IsShort output [] named (All-nil IsShort)) in
     subst AreShort (sym a.joined) (All-append IsShort a.here a.rest (subst AreShort (sym here.nets_are) table) rest)
 
 inputs_short : (ds : List Decl) (ws : List (List ℕ)) → AllShort ws → AreShort (map (file_net ds Input None) ws)

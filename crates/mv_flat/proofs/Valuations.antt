@@ -14,14 +14,16 @@ use Rattle.mv_design.specs.declared.table.FileTable.{FileTable}
 use Rattle.mv_rows.specs.declared.column.Column.{Column}
 use Rattle.mv_rows.specs.Cubes.{column_values, in_range}
 use Rattle.mv_rows.specs.Covers.{mark_value, MarkHas}
-use Rattle.mv_rows.specs.Tables.{some_row_matches, table_allows}
+use Rattle.mv_design.specs.Tables.{some_row_matches, table_allows}
 use Rattle.mv_net.specs.declared.parts.FlatNet.{FlatNet}
 use Rattle.mv_net.specs.declared.parts.NetParts.{NetParts}
 use Rattle.mv_net.specs.Nets.{slot}
 use Rattle.mv_net.specs.Allowed.{net_allows, Agrees}
-use Rattle.mv_model.specs.Nets.{count_of, nets_named}
-use Rattle.mv_model.specs.Numbers.{places, may_mark, number_in}
-use Rattle.mv_model.specs.Meaning.{table_holds}
+use Rattle.mv_design.specs.Values.{count_of}
+use Rattle.mv_design.specs.Nets.{nets_named}
+use Rattle.mv_flat.specs.Places.{places, has_mark}
+use Rattle.mv_unfold.specs.Numbers.{number_in}
+use Rattle.mv_design.specs.Meaning.{table_holds}
 use Rattle.mv_flat.specs.Numbers.{column_of, columns_at, output_of, mark_at}
 use Rattle.mv_flat.specs.Built.{fresh_net}
 use Rattle.mv_flat.proofs.Slots.{IsTableAt, mark_net}
@@ -68,14 +70,14 @@ mark_below : (b : Bool) → cond b 0 1 < 2
 mark_below true = omega arith
 mark_below false = omega arith
 
--- where the cover reads a mark, the table may need one
-pub marked_may : (ds : List Decl) (names : List (List ℕ)) (nets : List (Option FlatNet)) (t : FileTable) (here : IsTableAt ds names nets t) (c : Cover) → here.flat.mark ≡ Some c → may_mark t ≡ true
-marked_may ds names nets t here c e =
-    ⊎_elim (λ (y : may_mark t ≡ true). y) (λ (n : may_mark t ≡ false). absurd (none-some c (sym (here.unmarked n) ∙ e))) (cases_Bool (may_mark t))
+-- where the cover reads a mark, the table gets one
+pub marked_has : (ds : List Decl) (names : List (List ℕ)) (nets : List (Option FlatNet)) (t : FileTable) (here : IsTableAt ds names nets t) (c : Cover) → here.flat.mark ≡ Some c → has_mark ds t ≡ true
+marked_has ds names nets t here c e =
+    ⊎_elim (λ (y : has_mark ds t ≡ true). y) (λ (n : has_mark ds t ≡ false). absurd (none-some c (sym (here.unmarked n) ∙ e))) (cases_Bool (has_mark ds t))
 
 -- and the mark's net stands at its number
 pub mark_slot : (ds : List Decl) (names : List (List ℕ)) (nets : List (Option FlatNet)) (t : FileTable) (here : IsTableAt ds names nets t) (c : Cover) → here.flat.mark ≡ Some c → slot nets (mark_at names t).0 ≡ fresh_net here.name c
-mark_slot ds names nets t here c e = here.mark (marked_may ds names nets t here c e) ∙ ap (mark_net here.name) e
+mark_slot ds names nets t here c e = here.mark (marked_has ds names nets t here c e) ∙ ap (mark_net here.name) e
 
 mark_allows : (ds : List Decl) (names : List (List ℕ)) (nets : List (Option FlatNet)) (t : FileTable) (here : IsTableAt ds names nets t) (c : Cover) → here.flat.mark ≡ Some c → (at : ℕ → ℕ) → in_range at (columns_at ds names t) ≡ true → net_allows (slot nets (mark_at names t).0) at (at (mark_at names t).0) ≡ (nat_lt (at (mark_at names t).0) 2 && nat_eq (at (mark_at names t).0) (mark_value t.rows (column_values at (columns_at ds names t))))
 mark_allows ds names nets t here c e at range =

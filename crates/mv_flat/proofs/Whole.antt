@@ -10,13 +10,14 @@ use Rattle.mv_design.specs.declared.design.FileModel.{FileModel}
 use Rattle.mv_net.specs.Allowed.{of_net}
 use Rattle.mv_net.specs.Formed.{WellFormed}
 use Rattle.mv_net.specs.declared.parts.NetParts.{NetParts}
-use Rattle.mv_model.specs.Meaning.{of_model, of_design}
-use Rattle.mv_model.specs.Nets.{root_of, nets_named, drivers}
-use Rattle.mv_model.specs.Numbers.{places}
-use Rattle.mv_model.specs.Proper.{IsProperModel}
-use Rattle.mv_model.specs.Sound.{IsDrivenOnce, IsSoundModel, IsWithinLimits}
-use Rattle.mv_model.proofs.Distinct.{differ_counted, drivers_counted, net_is_driven, places_differ, few_places}
-use Rattle.mv_model.proofs.Named.{among-nets_of}
+use Rattle.mv_design.specs.Meaning.{of_model, of_design}
+use Rattle.mv_design.specs.Nets.{root_of, nets_named, drivers}
+use Rattle.mv_flat.specs.Places.{places}
+use Rattle.mv_design.specs.Proper.{IsProperModel}
+use Rattle.mv_unfold.specs.Sound.{IsDrivenOnce, IsSoundModel, IsWithinLimits}
+use Rattle.mv_unfold.proofs.Distinct.{differ_counted, drivers_counted, net_is_driven}
+use Rattle.mv_flat.proofs.Distinct.{places_differ, few_places}
+use Rattle.mv_unfold.proofs.Named.{among-nets_of}
 use Rattle.mv_flat.specs.Built.{IsBuilt}
 use Rattle.mv_flat.specs.Flat.{IsFlat}
 use Rattle.mv_flat.proofs.Places.{IsModelNet, nets_size}
@@ -46,7 +47,7 @@ well_formed m net proper sound built = net_formed m net (model_net m net proper 
 pub few_nets : (m : FileModel) (net : NetParts) → IsProperModel m → IsSoundModel m → IsWithinLimits m → IsBuilt m net → length net.nets ≤ MAX_NETS
 few_nets m net proper sound limits built =
     let size = nets_size m net (model_net m net proper sound built) in
-    let twice = few_places m sound.driven in
+    let twice = few_places m proper sound.driven in
     let few = limits.few in
     omega arith
 

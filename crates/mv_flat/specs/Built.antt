@@ -1,17 +1,17 @@
 -- The network of a model: a net for each input, and for each table a net for its output, and before that a net for the mark
 -- that its default may need.
-use Rattle.std.specs.Prelude.{◌≡◌, ℕ, ◌<◌, ◌^◌, Bool, true, false, Option, Some, None, List, [], ◌∷◌, ◌++◌, map}
+use Rattle.std.specs.Prelude.{◌≡◌, ℕ, ◌<◌, ◌^◌, true, false, Option, Some, None, List, [], ◌∷◌, ◌++◌, map}
 use Rattle.mv_base.specs.Names.{among}
 use Rattle.mv_cover.specs.declared.cover.Cover.{Cover}
 use Rattle.mv_design.specs.declared.design.Decl.{Decl}
 use Rattle.mv_design.specs.declared.design.FileModel.{FileModel}
 use Rattle.mv_design.specs.declared.table.FileTable.{FileTable}
-use Rattle.mv_decl.specs.Nets.{values_of}
+use Rattle.mv_design.specs.Values.{values_of, count_of}
 use Rattle.mv_rows.specs.declared.table.FlatTable.{FlatTable}
 use Rattle.mv_rows.specs.Flat.{IsMade}
-use Rattle.mv_rows.specs.Covers.{IsFlatTable}
-use Rattle.mv_model.specs.Nets.{count_of, drivers}
-use Rattle.mv_model.specs.Numbers.{places, may_mark, net_in}
+use Rattle.mv_design.specs.Nets.{drivers}
+use Rattle.mv_flat.specs.Places.{places}
+use Rattle.mv_unfold.specs.Numbers.{net_in}
 use Rattle.mv_net.specs.declared.parts.Kind.{Kind}
 use Rattle.mv_net.specs.declared.parts.Kind.TheVariants.{Input, Table}
 use Rattle.mv_net.specs.declared.parts.FlatNet.{FlatNet}
@@ -42,26 +42,22 @@ pub record IsMadeMark (held : List (List ℕ)) (cover : Cover) (nets : List (Opt
   pub nets_are : nets ≡ fresh_net name cover ∷ []
   pub after_is : after ≡ held ++ name ∷ []
 
--- no net is made: `place` stands there, and the same names are held
-pub record IsNoMark (held : List (List ℕ)) (place nets : List (Option FlatNet)) (after : List (List ℕ)) : Type 0 where
-  pub nets_are : nets ≡ place
+-- no net is made, and the same names are held
+pub record IsNoMark (held : List (List ℕ)) (nets : List (Option FlatNet)) (after : List (List ℕ)) : Type 0 where
+  pub nets_are : nets ≡ []
   pub after_is : after ≡ held
 
--- what the mark of a table becomes: a net where it has a cover, a number that isn't held where it might have been needed and
--- isn't, and otherwise nothing
-abbrev pub IsMark : List (List ℕ) → Bool → Option Cover → List (Option FlatNet) → List (List ℕ) → Type 0
-IsMark held true (Some cover) nets after = IsMadeMark held cover nets after
-IsMark held true None nets after = IsNoMark held (None ∷ []) nets after
-IsMark held false (Some cover) nets after = ⊥
-IsMark held false None nets after = IsNoMark held [] nets after
+-- what the mark of a table becomes: a net where it has a cover, and otherwise nothing
+abbrev pub IsMark : List (List ℕ) → Option Cover → List (Option FlatNet) → List (List ℕ) → Type 0
+IsMark held (Some cover) nets after = IsMadeMark held cover nets after
+IsMark held None nets after = IsNoMark held nets after
 
 -- the nets of a table, behind the names that are held
 pub record AreTableNets (ds : List Decl) (names held : List (List ℕ)) (t : FileTable) (nets : List (Option FlatNet)) (after : List (List ℕ)) : Type 0 where
   pub flat : FlatTable
   pub made : IsMade (columns_at ds names t) t (mark_at names t) flat
-  pub relation : IsFlatTable (columns_at ds names t) t (mark_at names t) flat
   pub mark : List (Option FlatNet)
-  pub marked : IsMark held (may_mark t) flat.mark mark after
+  pub marked : IsMark held flat.mark mark after
   pub nets_are : nets ≡ mark ++ file_net ds Table (Some flat.cover) (output_of t) ∷ []
 
 -- some nets, and others behind them that know of their names

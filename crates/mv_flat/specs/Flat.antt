@@ -6,9 +6,9 @@ use Rattle.mv_design.specs.declared.design.Design.{Design}
 use Rattle.mv_net.specs.declared.parts.FlatNet.{FlatNet}
 use Rattle.mv_net.specs.declared.parts.NetParts.{NetParts}
 use Rattle.mv_net.specs.Allowed.{of_net}
-use Rattle.mv_model.specs.Nets.{root_of}
-use Rattle.mv_model.specs.Sound.{IsSound, IsWithinLimits}
-use Rattle.mv_model.specs.Meaning.{of_design}
+use Rattle.mv_design.specs.Nets.{root_of}
+use Rattle.mv_unfold.specs.Sound.{IsSound, IsWithinLimits}
+use Rattle.mv_design.specs.Meaning.{of_design}
 use Rattle.mv_flat.specs.Built.{IsBuilt}
 
 -- no net has a name that is too long

@@ -1,7 +1,9 @@
+pub mod Places
 pub mod Numbers
 pub mod Built
 pub mod Flat
 -- what private functions alone cite
+pub mod Gathered
 pub mod Values
 pub mod Marks
 pub mod Placed

@@ -1,5 +1,5 @@
 -- The names of marks, in the order in which they are made. For private functions.
-use Rattle.std.specs.Prelude.{◌≡◌, ℕ, ◌+◌, ◌<◌, ◌≤◌, ◌^◌, Bool, true, false, Option, List, ◌++◌, length}
+use Rattle.std.specs.Prelude.{◌≡◌, ℕ, ◌+◌, ◌<◌, ◌≤◌, ◌^◌, true, false, Option, List, ◌++◌, length}
 use Rattle.mv_base.specs.Names.{among}
 use Rattle.mv_cover.specs.declared.cover.Cover.{Cover}
 use Rattle.mv_design.specs.declared.design.Decl.{Decl}
@@ -38,8 +38,8 @@ pub record AddsNets (Nets : List (List ℕ) → List (Option FlatNet) → List (
   pub behind : (held : List (List ℕ)) → IsLast names held before → Behind Nets names held here last
 
 -- the nets of a mark
-abbrev pub MarkNets : Bool → Option Cover → List (List ℕ) → List (Option FlatNet) → List (List ℕ) → Type 0
-MarkNets may cover held nets after = IsMark held may cover nets after
+abbrev pub MarkNets : Option Cover → List (List ℕ) → List (Option FlatNet) → List (List ℕ) → Type 0
+MarkNets cover held nets after = IsMark held cover nets after
 
 -- the nets of a table
 abbrev pub TableNets : List Decl → List (List ℕ) → FileTable → List (List ℕ) → List (Option FlatNet) → List (List ℕ) → Type 0

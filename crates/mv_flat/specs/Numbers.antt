@@ -7,8 +7,8 @@ use Rattle.mv_base.specs.declared.number.NetId.{NetId}
 use Rattle.mv_design.specs.declared.design.Decl.{Decl}
 use Rattle.mv_design.specs.declared.table.FileTable.{FileTable}
 use Rattle.mv_rows.specs.declared.column.Column.{Column}
-use Rattle.mv_model.specs.Nets.{count_of}
-use Rattle.mv_model.specs.Numbers.{net_in}
+use Rattle.mv_design.specs.Values.{count_of}
+use Rattle.mv_unfold.specs.Numbers.{net_in}
 
 -- a column's net, and how many values it has
 abbrev pub column_of : List Decl → List (List ℕ) → List ℕ → Column
@@ -22,9 +22,14 @@ columns_at ds names t = map (column_of ds names) t.inputs
 abbrev pub output_of : FileTable → List ℕ
 output_of t = slice_index_or t.outputs 0 []
 
+-- the name by which the mark of the table with this output stands among the nets by number: a space and the output's name,
+-- as no net is named
+abbrev pub mark_name : List ℕ → List ℕ
+mark_name net = 32 ∷ net
+
 -- the number of the table's mark, or a number past all others where it has none
 abbrev pub mark_at : List (List ℕ) → FileTable → NetId
-mark_at names t = record { 0 = unwrap_or (place_of (46 ∷ output_of t) names) (length names) }
+mark_at names t = record { 0 = unwrap_or (place_of (mark_name (output_of t)) names) (length names) }
 
 -- the names of a net's values are the numbers from 0
 abbrev pub are_numbers : List (List ℕ) → Bool

@@ -6,9 +6,9 @@ use Rattle.mv_base.specs.declared.limits.TheConstants.{MAX_NETS}
 use Rattle.mv_design.specs.declared.design.Decl.{Decl}
 use Rattle.mv_design.specs.declared.design.FileModel.{FileModel}
 use Rattle.mv_design.specs.declared.table.FileTable.{FileTable}
-use Rattle.mv_model.specs.Nets.{drivers}
-use Rattle.mv_model.specs.Numbers.{places}
-use Rattle.mv_model.specs.Proper.{IsFileTable}
+use Rattle.mv_design.specs.Nets.{drivers}
+use Rattle.mv_flat.specs.Places.{places}
+use Rattle.mv_design.specs.Proper.{IsFileTable}
 use Rattle.mv_net.specs.declared.parts.FlatNet.{FlatNet}
 use Rattle.mv_flat.specs.Built.{AreTables}
 

@@ -1,22 +1,24 @@
 ghost use Rattle.std.specs.Prelude.{◌≡◌, ◌≤◌, length, IfOk, IfErr};
 ghost use Rattle.mv_base.specs.declared.limits.TheConstants.{MAX_NETS};
-ghost use Rattle.mv_model.specs.Nets.{root_of};
-ghost use Rattle.mv_model.specs.Numbers.{places};
-ghost use Rattle.mv_model.specs.Proper.{IsProper, IsProperModel};
-ghost use Rattle.mv_model.specs.Sound.{IsSoundModel, IsFault};
+ghost use Rattle.mv_design.specs.Nets.{root_of};
+ghost use Rattle.mv_flat.specs.Places.{places};
+ghost use Rattle.mv_design.specs.Proper.{IsProper, IsProperModel};
+ghost use Rattle.mv_unfold.specs.Sound.{IsSoundModel, IsFault};
 ghost use Rattle.mv_flat.specs.Built.{IsBuilt};
 ghost use Rattle.mv_flat.specs.Flat.{IsFlat};
 ghost use Rattle.mv_flat.specs.Placed.{ArePlaced};
 
+use crate::numbers::numbered;
 use crate::tables::nets;
 use mv_base::{Items, Memory};
 use mv_design::{Design, FileModel};
-use mv_model::{FlatFault, Numbers, numbered};
+use mv_fault::FlatFault;
 use mv_net::{NetParts, Network};
+use mv_unfold::{Numbers, check};
 use std::alloc::Global;
 
 /// The network of a sound design: a net for each input, and for each table a net for its output, and before that one for
-/// the mark that its default may need. The fault is the first of the design's nets. It works on a copy of the design,
+/// the mark, if its default needs one. The fault is the first of the design's nets. It works on a copy of the design,
 /// which `flatten_owned` spares.
 pub fn flatten(alloc: Global, design: &Design) -> Result<Network, FlatFault>
     requires { IsProper design.now }
@@ -35,7 +37,9 @@ pub fn flatten_owned(alloc: Global, design: Design) -> Result<Network, FlatFault
     ensures fault { IfErr result (IsFault (root_of design)) }
 {
     let model = root(design);
-    let names = numbered(alloc, &model)?;
+    let driven = check(alloc, &model)?;
+    let names = numbered(alloc, &model, &driven)?;
+    drop(driven);
     let parts = built(alloc, model, &names)?;
     drop(names);
     Ok(Network::make(alloc, parts)?)

@@ -5,7 +5,7 @@ ghost use Rattle.mv_flat.specs.Marks.{IsNext};
 
 use itoa::Buffer;
 use mv_base::{Memory, Name};
-use mv_model::Numbers;
+use mv_unfold::Numbers;
 use std::alloc::Global;
 
 /// The name of a made net, and its number.

@@ -1,6 +1,6 @@
 ghost use Rattle.std.specs.Prelude.{◌≡◌};
 ghost use Rattle.mv_design.specs.declared.design.Design.{Design};
-ghost use Rattle.mv_model.specs.Proper.{IsProper};
+ghost use Rattle.mv_design.specs.Proper.{IsProper};
 ghost use Rattle.mv_net.specs.declared.parts.NetParts.{NetParts};
 ghost use Rattle.mv_flat.specs.Flat.{IsFlat};
 

@@ -5,11 +5,13 @@ mod columns;
 mod flat;
 mod fresh;
 mod laws;
+mod mark;
 mod marks;
 mod nets;
+mod numbers;
 mod tables;
 mod values;
 
 pub use flat::{flatten, flatten_owned};
 pub use laws::at_most_one_network;
-pub use mv_model::FlatFault;
+pub use mv_fault::FlatFault;

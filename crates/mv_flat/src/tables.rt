@@ -3,22 +3,19 @@ ghost use Rattle.std.specs.Prelude.{◌≡◌, ◌+◌, ◌<◌, ◌≤◌, ◌^
 ghost use Rattle.mv_net.specs.declared.parts.Kind.TheVariants.{Input};
 ghost use Rattle.mv_flat.specs.Built.{file_net};
 ghost use Rattle.mv_base.specs.declared.limits.TheConstants.{MAX_NETS};
-ghost use Rattle.mv_model.specs.Proper.{IsProperModel, IsFileDecl};
-ghost use Rattle.mv_rows.specs.Flat.{IsMade};
-ghost use Rattle.mv_rows.specs.Covers.{IsFlatTable};
-ghost use Rattle.mv_flat.specs.Numbers.{columns_at, mark_at};
+ghost use Rattle.mv_design.specs.Proper.{IsProperModel, IsFileDecl};
 ghost use Rattle.mv_flat.specs.Marks.{AddsNets, TableNets};
 ghost use Rattle.mv_flat.specs.Placed.{IsPlacedTable, ArePlaced, AddsTables};
 
-use crate::columns::{columns, mark_of};
+use crate::columns::covers;
 use crate::marks::put_mark;
 use crate::nets::{file_net, input_nets};
 use mv_base::{Items, Memory};
 use mv_decl::Declared;
 use mv_design::{FileModel, FileTable};
-use mv_model::Numbers;
 use mv_net::{FlatNet, Kind};
-use mv_rows::{FlatTable, flat_table};
+use mv_rows::FlatTable;
+use mv_unfold::Numbers;
 use std::alloc::Global;
 
 /// The nets of the model: those of its inputs, and those of its tables, table after table. A table is let go behind its nets.
@@ -48,7 +45,7 @@ pub fn nets(
 }
 
 /// Adds the nets of a table. `last` is the number of the last made name.
-#[tactic(auto, using(crate::proofs::Needs::mark_needed, crate::proofs::Behinds::adds_table))]
+#[tactic(auto, using(crate::proofs::Behinds::adds_table))]
 fn put_table(
     nets: &mut Items<Option<FlatNet>>,
     last: &mut u32,
@@ -64,27 +61,9 @@ fn put_table(
     ensures { OnOk result (AddsNets (TableNets decls.now names.now table.now) names.now last.old last.new nets.old nets.new) }
 {
     let FlatTable { cover, mark } = covers(alloc, decls, names, table)?;
-    put_mark(nets, last, alloc, names, table, mark)?;
+    put_mark(nets, last, alloc, names, mark)?;
     let output = &table.outputs.as_slice()[0];
     let net = file_net(alloc, decls, Kind::Table, Some(cover), output)?;
     nets.push(Some(net))?;
     Ok(())
-}
-
-/// The covers of the table's output and of its mark.
-fn covers(
-    alloc: Global,
-    decls: &Declared,
-    names: &Numbers,
-    table: &FileTable,
-) -> Result<FlatTable, Memory>
-    requires proper { All IsFileDecl decls.now }
-    requires placed { IsPlacedTable decls.now names.now table.now }
-    requires few { length names.now ≤ MAX_NETS }
-    ensures made { IfOk result (λ flat. IsMade (columns_at decls.now names.now table.now) table.now (mark_at names.now table.now) flat) }
-    ensures relation { IfOk result (λ flat. IsFlatTable (columns_at decls.now names.now table.now) table.now (mark_at names.now table.now) flat) }
-{
-    let columns = columns(alloc, decls, names, table)?;
-    let mark = mark_of(alloc, names, table)?;
-    flat_table(alloc, columns.as_slice(), table, mark)
 }

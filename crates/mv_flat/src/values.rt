@@ -1,6 +1,7 @@
 //! The values of nets.
-ghost use Rattle.std.specs.Prelude.{◌≡◌, IfOk};
-ghost use Rattle.mv_model.specs.Nets.{count_of};
+ghost use Rattle.std.specs.Prelude.{◌≡◌, ◌≤◌, IfOk};
+ghost use Rattle.mv_base.specs.declared.limits.TheConstants.{MAX_VALUES as most_values};
+ghost use Rattle.mv_design.specs.Values.{count_of};
 ghost use Rattle.mv_flat.specs.Numbers.{are_numbers, kept_names};
 
 use itoa::Buffer;
@@ -10,7 +11,8 @@ use std::alloc::Global;
 
 /// How many values the net has.
 pub fn count_of(decls: &Declared, net: &Name) -> u16
-    ensures { result ≡ count_of decls.now net.now }
+    ensures value { result ≡ count_of decls.now net.now }
+    ensures few { result ≤ most_values }
 {
     decls.values_of(net).len() as u16
 }

@@ -7,22 +7,23 @@ use mv_sweep::remove_unread;
 use std::alloc::Global;
 use std::test::Fail;
 
-/// The table of `z` is partial. Nobody reads `y` and `x`. The mark of `x`, which would be number 4, isn't needed.
+/// The table of `z` is partial. Nobody reads `y` and `x`. The default of `x` stands beside a row without literals, so it needs
+/// no mark, and no number is left out for one.
 const NETWORK: &str =
     ".model n;.inputs a b;.outputs z;.mv b, x 3 low mid high;.table a b -> z;0 - 1;1 {low-mid} 0;\
 .table z -> y;.default 1;0 0;.table b -> x;- low;.default =b;.end";
 
 const AS_READ: &str = "\
-4 literals, next 6, inputs 0 1, outputs 2, 0 latches; \
+4 literals, next 5, inputs 0 1, outputs 2, 0 latches; \
 0 Input of 2, 0 named, fanins, readers 2; 1 Input of 3, 3 named, fanins, readers 2; \
 2 Table of 2, 0 named, fanins 0 1, readers 3, seen; 3 Table of 2, 0 named, fanins 2, readers, total; \
-4 none; 5 Table of 3, 3 named, fanins, readers, total";
+4 Table of 3, 3 named, fanins, readers, total";
 
 /// The numbers of nets that went are not used again.
 const BEHIND_A_DROP: &str = "\
-3 literals, next 6, inputs 0 1, outputs 2, 0 latches; \
+3 literals, next 5, inputs 0 1, outputs 2, 0 latches; \
 0 Input of 2, 0 named, fanins, readers 2; 1 Input of 3, 3 named, fanins, readers 2; \
-2 Table of 2, 0 named, fanins 0 1, readers, seen; 3 none; 4 none; 5 none";
+2 Table of 2, 0 named, fanins 0 1, readers, seen; 3 none; 4 none";
 
 /// What the network answers as it is read.
 fn as_read(alloc: Global) -> Result<String, Fail> {

@@ -11,7 +11,7 @@ use Rattle.mv_printed.specs.Names.{HasWordNames}
 use Rattle.mv_opt.proofs.Certified.{certified}
 use Rattle.mv_opt.proofs.NoMore.{runs_no_more}
 use Rattle.mv_net.specs.Nets.{literals_in}
-use Rattle.mv_write.specs.Text.{text_of}
+use Rattle.mv_text.specs.Text.{text_of}
 use Rattle.mv_back.specs.Back.{ReadsBack}
 use Rattle.mv_entry.specs.declared.note.Command.{Command}
 use Rattle.mv_entry.specs.Tallies.{Journaled}

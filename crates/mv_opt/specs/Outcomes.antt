@@ -6,7 +6,7 @@ use Rattle.mv_net.specs.declared.parts.NetParts.{NetParts}
 use Rattle.mv_net.specs.Allowed.{of_net}
 use Rattle.mv_net.specs.Nets.{literals_in}
 use Rattle.mv_entry.specs.Entries.{Entry, print}
-use Rattle.mv_write.specs.Text.{text_of}
+use Rattle.mv_text.specs.Text.{text_of}
 use Rattle.mv_back.specs.Back.{ReadsBack}
 use Rattle.mv_entry.specs.declared.note.Command.{Command}
 use Rattle.mv_task.specs.Made.{Prepared}

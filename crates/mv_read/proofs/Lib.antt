@@ -1,14 +1,2 @@
-pub mod Nothing
-pub mod WordSets
-pub mod Entries
-pub mod Rows
-pub mod Names
-pub mod Decls
-pub mod Columns
-pub mod LineKinds
-pub mod Ports
-pub mod Tables
-pub mod Models
-pub mod Proper
 pub mod Refused
 pub mod OneNetwork

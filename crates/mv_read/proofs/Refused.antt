@@ -8,16 +8,16 @@ use Rattle.mv_fault.specs.declared.fault.ParseFault.TheVariants.{Memory as NoPar
 use Rattle.mv_fault.specs.Tells.{first}
 use Rattle.mv_parse.specs.Grammar.{faults_of, IsDesign, IsWithin, FirstFault}
 use Rattle.mv_net.specs.declared.parts.NetParts.{NetParts}
-use Rattle.mv_model.specs.declared.fault.FlatFault.{FlatFault}
-use Rattle.mv_model.specs.declared.fault.FlatFault.TheVariants.{Memory as NoFlatMemory}
-use Rattle.mv_model.specs.Nets.{root_of}
-use Rattle.mv_model.specs.Sound.{IsSoundModel, IsWithinLimits, IsFault}
-use Rattle.mv_model.proofs.Soundness.{fault-excludes}
+use Rattle.mv_fault.specs.declared.flat.FlatFault.{FlatFault}
+use Rattle.mv_fault.specs.declared.flat.FlatFault.TheVariants.{Memory as NoFlatMemory}
+use Rattle.mv_design.specs.Nets.{root_of}
+use Rattle.mv_unfold.specs.Sound.{IsSoundModel, IsWithinLimits, IsFault}
+use Rattle.mv_unfold.proofs.Soundness.{fault-excludes}
 use Rattle.mv_flat.specs.Flat.{IsFlat}
 use Rattle.mv_read.specs.declared.network.NetFault.{NetFault}
 use Rattle.mv_read.specs.declared.network.NetFault.TheVariants.{Parse, Flat, Memory}
 use Rattle.mv_read.specs.Reads.{IsNetOf, SaySoundDesign, IsUnsound, IsFaultOf, parse_refused, flat_refused}
-use Rattle.mv_read.proofs.Proper.{no-faults, proper}
+use Rattle.mv_proper.proofs.Proper.{no-faults, proper}
 
 -- ---- what is told
 

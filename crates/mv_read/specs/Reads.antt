@@ -6,10 +6,10 @@ use Rattle.mv_fault.specs.declared.fault.ParseFault.{ParseFault}
 use Rattle.mv_fault.specs.declared.fault.ParseFault.TheVariants.{Memory as NoParseMemory}
 use Rattle.mv_parse.specs.Grammar.{IsDesign, IsWithin, FirstFault}
 use Rattle.mv_net.specs.declared.parts.NetParts.{NetParts}
-use Rattle.mv_model.specs.declared.fault.FlatFault.{FlatFault}
-use Rattle.mv_model.specs.declared.fault.FlatFault.TheVariants.{Memory as NoFlatMemory}
-use Rattle.mv_model.specs.Nets.{root_of}
-use Rattle.mv_model.specs.Sound.{IsSound, IsWithinLimits, IsFault}
+use Rattle.mv_fault.specs.declared.flat.FlatFault.{FlatFault}
+use Rattle.mv_fault.specs.declared.flat.FlatFault.TheVariants.{Memory as NoFlatMemory}
+use Rattle.mv_design.specs.Nets.{root_of}
+use Rattle.mv_unfold.specs.Sound.{IsSound, IsWithinLimits, IsFault}
 use Rattle.mv_flat.specs.Flat.{IsFlat}
 use Rattle.mv_read.specs.declared.network.NetFault.{NetFault}
 use Rattle.mv_read.specs.declared.network.NetFault.TheVariants.{Parse, Flat, Memory}

@@ -1,8 +1,8 @@
-//! Lines of a network file to a network, and what a design that the grammar accepts is like.
+//! Lines of a network file to a network.
 #![tactic(auto)]
 
 mod laws;
 mod network;
 
-pub use laws::{at_most_one_network, designs_are_proper, one_answer};
+pub use laws::{at_most_one_network, one_answer};
 pub use network::{NetFault, network_of};

@@ -1,9 +1,11 @@
-ghost use Rattle.std.specs.Prelude.{◌≡◌, IfOk, IfErr};
+ghost use Rattle.std.specs.Prelude.{◌≡◌, true, IfOk, IfErr};
+ghost use Rattle.mv_design.specs.Proper.{numbers_ascend};
+ghost use Rattle.mv_proper.specs.Lines.{numbers_of};
 ghost use Rattle.mv_read.specs.Reads.{IsNetOf, IsFaultOf, parse_refused, flat_refused};
 
+use mv_fault::FlatFault;
 use mv_flat::flatten_owned;
 use mv_lex::Lines;
-use mv_model::FlatFault;
 use mv_net::Network;
 use mv_parse::{ParseFault, parse_owned};
 use std::alloc::Global;
@@ -36,9 +38,10 @@ fn flat_refused(fault: FlatFault) -> NetFault
     }
 }
 
-/// The network that the lines say. The lines are let go while their design is made, and its tables while the network is.
+/// The network that the lines say, where each line's number is greater than that of the line before. The lines are let go while their design is made, and its tables while the network is.
 #[tactic(auto, using(crate::proofs::Refused::networks))]
 pub fn network_of(alloc: Global, lines: Lines) -> Result<Network, NetFault>
+    requires { numbers_ascend (numbers_of lines) ≡ true }
     ensures ok { IfOk result (λ net. IsNetOf lines net) }
     ensures fault { IfErr result (IsFaultOf lines) }
 {

@@ -19,7 +19,7 @@ use Rattle.mv_cover.proofs.Members.{point_of}
 use Rattle.mv_rows.specs.declared.column.Column.{Column}
 use Rattle.mv_rows.specs.declared.column.Placed.{Placed}
 use Rattle.mv_rows.specs.declared.cube.Group.{Group}
-use Rattle.mv_rows.specs.Tables.{row_matches}
+use Rattle.mv_design.specs.Tables.{row_matches}
 use Rattle.mv_rows.specs.Columns.{rises_after, IsColumnOrder, set_at}
 use Rattle.mv_rows.specs.Cubes.{column_values, in_range, CountBy, IsColumn, AreColumns, FitRow, AreParts, HasNoPoint, IsRowCube}
 use Rattle.mv_rows.specs.Meeting.{opened, closed, literals_from, literals_of, all_possible, ArePossible}

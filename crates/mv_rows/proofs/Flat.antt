@@ -25,7 +25,7 @@ use Rattle.mv_design.specs.declared.table.Row.{Row}
 use Rattle.mv_design.specs.declared.table.FileTable.{FileTable}
 use Rattle.mv_rows.specs.declared.column.Column.{Column}
 use Rattle.mv_rows.specs.declared.table.FlatTable.{FlatTable}
-use Rattle.mv_rows.specs.Tables.{row_matches, row_holds, entry_holds, entries_hold, some_row_holds, some_row_matches, default_holds, table_allows}
+use Rattle.mv_design.specs.Tables.{row_matches, row_holds, entry_holds, entries_hold, some_row_holds, some_row_matches, default_holds, table_allows}
 use Rattle.mv_rows.specs.Cubes.{column_values, in_range, CountBy}
 use Rattle.mv_rows.specs.Lines.{FitEntry}
 use Rattle.mv_rows.specs.Flat.{only_entry, IsRow, IsTable, RowsLines, has_output, kept, says_nothing, default_left, plain_default, mark_line, mark_cover, with_mark, marked_sets, unmarked, IsMarked, FlatBy, FlatOf, IsMade}

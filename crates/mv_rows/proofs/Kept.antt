@@ -1,5 +1,5 @@
 -- Lines without equal ones: what some line does is done by one that is kept.
-use Rattle.std.proofs.Common.{◌≡◌, ℕ, Bool, true, false, not, ◌&&◌, ◌||◌, nat_eq, filter, List, [], ◌∷◌, length, map, refl, sym, ◌∙◌, ap, inl, inr, All}
+use Rattle.std.proofs.Common.{◌≡◌, ℕ, Bool, true, false, ◌&&◌, ◌||◌, nat_eq, filter, List, [], ◌∷◌, length, map, refl, sym, ◌∙◌, ap, inl, inr, All}
 use Rattle.std.specs.List.{list_any}
 use Rattle.std.proofs.Math.Bool.{and-false, and-or_distrib_right}
 use Rattle.std.proofs.lemmas.Bool.{cases_Bool, or_parts, or_cases, or_right, or_left}

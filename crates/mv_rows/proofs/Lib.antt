@@ -8,3 +8,6 @@ pub mod Over
 pub mod Flat
 pub mod OneCube
 pub mod OneTable
+pub mod Matching
+pub mod Marked
+pub mod Renumbered

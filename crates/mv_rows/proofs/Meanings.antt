@@ -13,7 +13,7 @@ use Rattle.mv_cover.proofs.Covering.{regroup, same_number}
 use Rattle.mv_design.specs.declared.table.Entry.{Entry}
 use Rattle.mv_design.specs.declared.table.Entry.TheVariants.{Set, Same}
 use Rattle.mv_rows.specs.declared.column.Column.{Column}
-use Rattle.mv_rows.specs.Tables.{row_matches, entry_holds}
+use Rattle.mv_design.specs.Tables.{row_matches, entry_holds}
 use Rattle.mv_rows.specs.Cubes.{column_values, in_range, FitRow}
 use Rattle.mv_rows.specs.Lines.{OneLine, EachValue, EntryLines, FitEntry, narrowed, count_at}
 use Rattle.mv_rows.proofs.Orders.{fit_length}

@@ -11,7 +11,7 @@ use Rattle.mv_base.specs.Set.{has, full, Within}
 use Rattle.mv_cover.proofs.Points.{list_all-none}
 use Rattle.mv_rows.specs.declared.column.Column.{Column}
 use Rattle.mv_rows.specs.declared.column.Placed.{Placed}
-use Rattle.mv_rows.specs.Tables.{row_matches}
+use Rattle.mv_design.specs.Tables.{row_matches}
 use Rattle.mv_rows.specs.Columns.{placed, rises_after, IsColumnOrder, set_at}
 use Rattle.mv_rows.specs.Cubes.{column_values, in_range, FitRow}
 

@@ -5,7 +5,7 @@ use Rattle.mv_base.specs.Set.{has, empty, one, full, meet, Within}
 use Rattle.mv_base.proofs.Sets.{has-empty, has-meet}
 use Rattle.mv_cover.specs.declared.line.Line.{Line}
 use Rattle.mv_rows.specs.declared.column.Column.{Column}
-use Rattle.mv_rows.specs.Tables.{row_matches}
+use Rattle.mv_design.specs.Tables.{row_matches}
 use Rattle.mv_rows.specs.Cubes.{column_values, FitRow, HasNoPoint}
 use Rattle.mv_rows.specs.Lines.{AddsLines, OneLine, EachValue, narrowed}
 

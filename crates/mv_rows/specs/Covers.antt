@@ -14,7 +14,7 @@ use Rattle.mv_design.specs.declared.table.Row.{Row}
 use Rattle.mv_design.specs.declared.table.FileTable.{FileTable}
 use Rattle.mv_rows.specs.declared.column.Column.{Column}
 use Rattle.mv_rows.specs.declared.table.FlatTable.{FlatTable}
-use Rattle.mv_rows.specs.Tables.{some_row_matches, table_allows}
+use Rattle.mv_design.specs.Tables.{some_row_matches, table_allows}
 use Rattle.mv_rows.specs.Cubes.{column_values, in_range, CountBy, AreParts}
 use Rattle.mv_rows.specs.Lines.{count_at}
 use Rattle.mv_rows.specs.Flat.{only_entry}

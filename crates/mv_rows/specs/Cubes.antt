@@ -8,7 +8,7 @@ use Rattle.mv_cover.specs.Cubes.{matches, IsCube}
 use Rattle.mv_cover.specs.Lines.{IsOutput}
 use Rattle.mv_rows.specs.declared.column.Column.{Column}
 use Rattle.mv_rows.specs.declared.column.Frame.{Frame}
-use Rattle.mv_rows.specs.Tables.{row_matches}
+use Rattle.mv_design.specs.Tables.{row_matches}
 use Rattle.mv_rows.specs.Columns.{IsColumnOrder}
 
 -- the values of the columns' nets

@@ -62,11 +62,8 @@ fn put_on_one_line(said: &mut String, bytes: &[u8]) -> Result<(), Fail> {
     Ok(())
 }
 
-/// Puts the text of the network, which has no latches, with `;` for a line's end.
+/// Puts the text of the network, with `;` for a line's end.
 fn put_written(said: &mut String, alloc: Global, net: &Network) -> Result<(), Fail> {
-    if !net.latches().is_empty() {
-        return Err(Fail::new("latches"));
-    }
     let mut out = MemorySink::new(alloc, 4096, Vec::new(alloc))?;
     write(net, &mut out)?;
     put_on_one_line(said, out.bytes())

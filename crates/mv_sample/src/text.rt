@@ -1,4 +1,7 @@
 //! Texts on one line, in which `;` stands for a line's end, and the networks that they say.
+ghost use Rattle.std.specs.Prelude.{IfOk};
+ghost use Rattle.mv_proper.specs.Lines.{AreOfFile};
+
 use mv_base::MAX_NETWORK_BYTES;
 use mv_cover::Cover;
 use mv_lex::{Lexer, Lines};
@@ -9,7 +12,9 @@ use std::test::Fail;
 
 /// The lines of a text, in which `;` stands for a line's end. It fails with the first fault of the text's bytes, or for want of
 /// memory.
-pub fn lines(alloc: Global, text: &str) -> Result<Lines, Fail> {
+pub fn lines(alloc: Global, text: &str) -> Result<Lines, Fail>
+    ensures { IfOk result AreOfFile }
+{
     let mut lines = Lines::new(alloc);
     let mut lexer = Lexer::new(alloc, MAX_NETWORK_BYTES);
     for line in text.split(';') {
@@ -21,6 +26,7 @@ pub fn lines(alloc: Global, text: &str) -> Result<Lines, Fail> {
 }
 
 /// The network of a text, in which `;` stands for a line's end. It fails with the fault of the text, or for want of memory.
+#[tactic(auto, using(mv_proper::proofs::FileLines::file_ascends))]
 pub fn network(alloc: Global, text: &str) -> Result<Network, Fail> {
     Ok(network_of(alloc, lines(alloc, text)?)?)
 }

@@ -10,7 +10,7 @@ use Rattle.mv_word.specs.declared.fault.EntryFault.TheVariants.{Equal}
 use Rattle.mv_word.specs.Entries.{word_set}
 use Rattle.mv_design.specs.declared.design.Decl.{Decl}
 use Rattle.mv_design.specs.declared.table.Entry.TheVariants.{Set, Same}
-use Rattle.mv_decl.specs.Nets.{values_of, declared_of}
+use Rattle.mv_design.specs.Values.{values_of, declared_of}
 use Rattle.mv_table.specs.Entries.{places_of, in_said, same_at, out_word, out_said, entry_faults, said_or, ins_faults, ins_said, outs_faults, outs_said}
 use Rattle.mv_table.proofs.Places.{drop_one}
 

@@ -8,7 +8,7 @@ use Rattle.mv_word.specs.Entries.{word_set}
 use Rattle.mv_design.specs.declared.table.Entry.{Entry}
 use Rattle.mv_design.specs.declared.table.Entry.TheVariants.{Set, Same}
 use Rattle.mv_design.specs.declared.design.Decl.{Decl}
-use Rattle.mv_decl.specs.Nets.{values_of, declared_of}
+use Rattle.mv_design.specs.Values.{values_of, declared_of}
 use Rattle.mv_fault.specs.declared.fault.ParseFault.{ParseFault}
 use Rattle.mv_table.specs.declared.entries.Columns.{Columns}
 use Rattle.mv_fault.specs.declared.fault.ParseFault.TheVariants.{UnknownValue, BadEqual}

@@ -5,7 +5,7 @@ use Rattle.mv_lex.specs.Lines.{lines_of, lex_fault}
 use Rattle.mv_lex.proofs.Facts.{no_fault_is_clean}
 use Rattle.mv_design.specs.declared.design.Design.{Design}
 use Rattle.mv_parse.specs.Grammar.{IsDesign}
-use Rattle.mv_model.specs.Sound.{IsSound}
+use Rattle.mv_unfold.specs.Sound.{IsSound}
 use Rattle.mv_back.specs.Back.{ReadsAs}
 
 -- bytes without a fault read as the design that their lines say

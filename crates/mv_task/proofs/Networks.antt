@@ -1,15 +1,18 @@
 -- The network file, read and judged.
-use Rattle.std.proofs.Common.{◌≡◌, ◌∙◌, ℕ, List, Option, Some, None, sym, ap, subst}
+use Rattle.std.proofs.Common.{◌≡◌, ◌∙◌, ℕ, true, List, Option, Some, None, sym, ap, subst}
 use Rattle.std.specs.Prelude.{IfSome}
 use Rattle.mv_base.specs.Outside.{Held, Stored, Still, file_named}
 use Rattle.mv_base.specs.declared.limits.TheConstants.{MAX_NETWORK_BYTES}
 use Rattle.mv_lex.specs.declared.fault.LexFault.{LexFault}
 use Rattle.mv_lex.specs.declared.lines.LexLine.{LexLine}
 use Rattle.mv_lex.specs.Lines.{lines_of, lex_fault}
+use Rattle.mv_design.specs.Proper.{numbers_ascend}
 use Rattle.mv_fault.specs.declared.fault.ParseFault.{ParseFault}
-use Rattle.mv_model.specs.declared.fault.FlatFault.{FlatFault}
+use Rattle.mv_fault.specs.declared.flat.FlatFault.{FlatFault}
 use Rattle.mv_net.specs.declared.parts.NetParts.{NetParts}
 use Rattle.mv_parse.specs.Grammar.{FirstFault}
+use Rattle.mv_proper.specs.Lines.{numbers_of}
+use Rattle.mv_proper.proofs.FileLines.{file_ascends}
 use Rattle.mv_read.specs.Reads.{IsNetOf, IsUnsound}
 use Rattle.mv_printed.specs.Names.{HasWordNames}
 use Rattle.mv_printed.proofs.Short.{design_short}
@@ -58,11 +61,15 @@ network_prepared words old new lines net w h =
     let P : List LexLine → Type 0 = λ l. IsNetOf l net in
     prepared_of words old.held new.held w.content net w.read w.lexed (subst P w.lines_are h)
 
+-- the numbers of its lines ascend
+pub network_ordered : (words : List (List ℕ)) (old new : Stored) (lines : List LexLine) → WasLexed old new (word_at words 1) MAX_NETWORK_BYTES lines → numbers_ascend (numbers_of lines) ≡ true
+network_ordered words old new lines w = file_ascends lines (record { bytes = w.content; are = w.lines_are })
+
 -- the network's names are no longer than words
 pub network_named : (lines : List LexLine) (net : NetParts) → IsNetOf lines net → HasWordNames net.nets
 network_named lines net n = design_short net.nets n.flat.short
 
-pub ruleset takes_network = (network_faulty, network_unread, network_unsound, network_prepared, network_named)
+pub ruleset takes_network = (network_ordered, network_faulty, network_unread, network_unsound, network_prepared, network_named)
 
 -- ---- behind another file
 

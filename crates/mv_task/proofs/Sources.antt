@@ -6,8 +6,8 @@ use Rattle.mv_base.proofs.Meanings.{Refines-from_same, Refines-then}
 use Rattle.mv_net.specs.declared.parts.NetParts.{NetParts}
 use Rattle.mv_net.specs.Allowed.{of_net}
 use Rattle.mv_design.specs.declared.design.Design.{Design}
-use Rattle.mv_model.specs.Meaning.{of_design}
-use Rattle.mv_write.specs.Text.{text_of}
+use Rattle.mv_design.specs.Meaning.{of_design}
+use Rattle.mv_text.specs.Text.{text_of}
 use Rattle.mv_back.specs.Back.{ReadsBack}
 use Rattle.mv_task.specs.Made.{WasPrepared, Prepared}
 use Rattle.mv_task.specs.Replaced.{IsSource, Replaced}

@@ -6,10 +6,9 @@ use Rattle.mv_lex.specs.declared.fault.LexFault.{LexFault}
 use Rattle.mv_lex.specs.declared.fault.LexFault.TheVariants.{BadByte, LongWord, OpenBracket, TooLarge, Memory}
 use Rattle.mv_lex.specs.Lines.{lines_of, lex_fault}
 use Rattle.mv_fault.specs.declared.fault.ParseFault.{ParseFault}
-use Rattle.mv_fault.specs.Told.{parse_line}
+use Rattle.mv_fault.specs.Told.{parse_line, flat_line}
 use Rattle.mv_parse.specs.Grammar.{FirstFault}
-use Rattle.mv_model.specs.declared.fault.FlatFault.{FlatFault}
-use Rattle.mv_model.specs.Told.{flat_line}
+use Rattle.mv_fault.specs.declared.flat.FlatFault.{FlatFault}
 use Rattle.mv_read.specs.Reads.{IsUnsound}
 use Rattle.mv_task.specs.declared.fault.FileFault.{FileFault}
 use Rattle.mv_task.specs.declared.fault.FileFault.TheVariants.{Lex, Parse, Flat}

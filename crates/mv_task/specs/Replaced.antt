@@ -4,9 +4,9 @@ use Rattle.mv_base.specs.Meaning.{Refines}
 use Rattle.mv_base.specs.Outside.{Held, Stored, Written, StillTell, file_named, Gained}
 use Rattle.mv_net.specs.declared.parts.NetParts.{NetParts}
 use Rattle.mv_design.specs.declared.design.Design.{Design}
-use Rattle.mv_model.specs.Meaning.{of_design}
+use Rattle.mv_design.specs.Meaning.{of_design}
 use Rattle.mv_flat.specs.Flat.{IsFlat}
-use Rattle.mv_write.specs.Text.{text_of}
+use Rattle.mv_text.specs.Text.{text_of}
 use Rattle.mv_back.specs.Back.{ReadsAs}
 use Rattle.mv_task.specs.Words.{word_at}
 

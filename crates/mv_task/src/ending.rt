@@ -1,7 +1,7 @@
-ghost use Rattle.std.specs.Prelude.{◌≡◌, [], OnOk, OnErr};
+ghost use Rattle.std.specs.Prelude.{OnOk, OnErr};
 ghost use Rattle.mv_base.specs.Outside.{Gained};
 ghost use Rattle.mv_net.specs.Nets.{literals_in};
-ghost use Rattle.mv_write.specs.Text.{text_of};
+ghost use Rattle.mv_text.specs.Text.{text_of};
 ghost use Rattle.mv_task.specs.Ending.{IsEndCut, done_line};
 
 use mv_base::{Failed, Sink};
@@ -16,7 +16,6 @@ pub fn finish<O: Sink, E: Sink>(
     out: &mut O,
     notes: &mut E,
 ) -> Result<(), Failed>
-    requires { net.now.latches ≡ [] }
     ensures written { OnOk result (Gained (O.state out.old) (O.state out.new) (text_of net.now)) }
     ensures noted { OnOk result (Gained (E.state notes.old) (E.state notes.new)
         (done_line before (literals_in net.now.nets))) }

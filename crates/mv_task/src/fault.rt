@@ -4,8 +4,8 @@ ghost use Rattle.mv_task.specs.Faults.{lex_line, net_line, source_line, source_s
 
 use crate::numbers::{put_number, put_numbers};
 use mv_base::{Failed, Sink};
+use mv_fault::{FlatFault, put_flat_fault};
 use mv_lex::LexFault;
-use mv_model::{FlatFault, put_flat_fault};
 use mv_parse::{ParseFault, put_parse_fault};
 
 /// Why a network file is refused: for a fault of its bytes, of its lines, or of the design that they say.

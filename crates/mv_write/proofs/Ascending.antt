@@ -7,7 +7,7 @@ use Rattle.std.proofs.lemmas.List.FromFn.{filter_of_map_range_with_len_more}
 use Rattle.mv_base.specs.declared.number.NetId.{NetId}
 use Rattle.mv_graph.specs.Nets.{IsAscending}
 use Rattle.mv_graph.proofs.Nets.{IsAscending-push, IsAscending-skip, IsAscending-same, IsAscending-none, IsAscending-unique}
-use Rattle.mv_write.specs.Walk.{numbers}
+use Rattle.mv_text.specs.Text.{numbers}
 
 abbrev id_of : ℕ → NetId
 id_of n = record { 0 = n }

@@ -1,18 +1,21 @@
 -- Nets of a well-formed network that are held, and the fanins of its tables.
-use Rattle.std.proofs.Common.{◌≡◌, ◌∙◌, ℕ, zero, suc, ◌<◌, true, nat_eq, Some, List, [], ◌∷◌, length, get_or, is_some, refl, sym, ap, subst, eq-eqb, arith}
+use Rattle.std.proofs.Common.{◌≡◌, ◌∙◌, ℕ, zero, suc, ◌<◌, true, nat_eq, Some, List, [], ◌∷◌, length, get_or, is_some, IsTrue, refl, sym, ap, subst, eq-eqb, arith}
 use Rattle.std.proofs.lemmas.Bool.{or_left, or_right}
 use Rattle.mv_base.specs.declared.number.NetId.{NetId}
 use Rattle.mv_cover.specs.declared.line.Line.{Line}
 use Rattle.mv_cover.specs.declared.cover.Cover.{Cover}
 use Rattle.mv_cover.specs.Covers.{cube_reads, lines_read, cover_reads}
+use Rattle.mv_net.specs.declared.parts.FlatLatch.{FlatLatch}
 use Rattle.mv_net.specs.declared.parts.NetParts.{NetParts}
 use Rattle.mv_net.specs.Nets.{slot, table_in, table_reads, net_reads}
-use Rattle.mv_net.specs.Formed.{WellFormed}
+use Rattle.mv_net.specs.Formed.{AllLatches, WellFormed}
+use Rattle.mv_net.specs.Index.{is_held}
 use Rattle.mv_graph.specs.Nets.{has_id, IsAscending}
 use Rattle.mv_graph.proofs.Nets.{IsAscending-same}
 use Rattle.mv_net.proofs.Known.{reads_readable, readable_below}
-use Rattle.mv_write.specs.Text.{fanins_of}
-use Rattle.mv_write.specs.Walk.{numbers, AreFaninsOf, AreHeld}
+use Rattle.mv_text.specs.Text.{fanins_of, numbers}
+use Rattle.mv_write.specs.Walk.{AreFaninsOf, AreHeld}
+use Rattle.mv_text.proofs.Resets.{latch-at}
 use Rattle.mv_write.proofs.Ascending.{numbers-ascending}
 
 -- each element of a list stands in it
@@ -36,6 +39,13 @@ pub fanins-held : (net : NetParts) (n : ℕ) (fanins : List NetId) → WellForme
 fanins-held net n fanins formed a = record {
   each = λ m h. ap is_some (reads_readable net n m formed (sym (a.members m) ∙ h)).held;
 }
+
+-- the input and the output of each latch
+pub latch-ends-held : (net : NetParts) (ls : List FlatLatch) (i : ℕ) (d : FlatLatch) → WellFormed net → ls ≡ net.latches → i < length ls → IsTrue (is_held net.nets (get_or ls i d).input.0) × IsTrue (is_held net.nets (get_or ls i d).output.0)
+latch-ends-held net ls i d formed e low =
+    let all : AllLatches net.nets ls = subst (AllLatches net.nets) (sym e) formed.latches in
+    let is = latch-at net.nets ls i d low all in
+    (ap is_some is.input.held, ap is_some is.output.held)
 
 -- the fanins of a net are those of its table
 pub fanins-table : (net : NetParts) (n : ℕ) (fanins : List NetId) (c : Cover) (lines : List Line) → table_in (slot net.nets n) ≡ Some c → lines ≡ c.lines → IsAscending (λ m. net_reads (slot net.nets n) m) fanins → IsAscending (lines_read lines) fanins

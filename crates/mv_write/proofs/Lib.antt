@@ -5,4 +5,4 @@ mod Walks
 mod Lines
 mod Parts
 mod Held
-pub mod Literals
+mod Literals

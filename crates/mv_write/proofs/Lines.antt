@@ -10,9 +10,10 @@ use Rattle.mv_cover.specs.declared.cube.Lit.{Lit}
 use Rattle.mv_cover.specs.declared.line.Line.{Line}
 use Rattle.mv_cover.specs.Cubes.{IsCube}
 use Rattle.mv_net.specs.declared.parts.FlatNet.{FlatNet}
+use Rattle.mv_net.specs.declared.parts.FlatLatch.{FlatLatch}
 use Rattle.mv_net.specs.Nets.{slot, name_in, values_in, spelled_in}
-use Rattle.mv_write.specs.Text.{entry_word, fanin_word, line_words, names_of}
-use Rattle.mv_write.specs.Walk.{first_set, literals_behind, walked, entries_text, numbers, AreFaninsOf}
+use Rattle.mv_text.specs.Text.{entry_word, fanin_word, line_words, names_of, numbers, latch_words}
+use Rattle.mv_write.specs.Walk.{first_set, literals_behind, walked, entries_text, AreFaninsOf}
 use Rattle.mv_write.proofs.Walks.{walked-is}
 
 -- ---- lines
@@ -53,11 +54,11 @@ spaced-append : (vs ws : List (List ℕ)) → spaced (vs ++ ws) ≡ spaced vs ++
 unfolding spaced
 spaced-append vs ws = flat_map-append (λ w. 32 ∷ w) vs ws
 
-pub head-text : (names : List (List ℕ)) (name : List ℕ) → line_text (codes ".table" ∷ names ++ codes "->" ∷ name ∷ []) ≡ codes ".table" ++ (spaced names ++ ((codes " -> " ++ name) ++ 10 ∷ []))
+pub head-text : (word : List ℕ) (names : List (List ℕ)) (name : List ℕ) → line_text (word ∷ names ++ codes "->" ∷ name ∷ []) ≡ word ++ (spaced names ++ ((codes " -> " ++ name) ++ 10 ∷ []))
 unfolding line_text spaced
-head-text names name =
+head-text word names name =
     let end = codes "->" ∷ name ∷ [] in
-    ap (λ t. codes ".table" ++ (t ++ 10 ∷ [])) (spaced-append names end) ∙ (ap (λ t. codes ".table" ++ t) (append_assoc (spaced names) (spaced end) (10 ∷ [])) ∙ ap (λ t. codes ".table" ++ (spaced names ++ ((codes " -> " ++ t) ++ 10 ∷ []))) (append-nil name))
+    ap (λ t. word ++ (t ++ 10 ∷ [])) (spaced-append names end) ∙ (ap (λ t. word ++ t) (append_assoc (spaced names) (spaced end) (10 ∷ [])) ∙ ap (λ t. word ++ (spaced names ++ ((codes " -> " ++ t) ++ 10 ∷ []))) (append-nil name))
 
 pub root-text : (root : List ℕ) → line_text (codes ".model" ∷ root ∷ []) ≡ (codes ".model " ++ root) ++ 10 ∷ []
 unfolding line_text spaced
@@ -78,6 +79,22 @@ pub declaration-text : (name count : List ℕ) (names : List (List ℕ)) → lin
 unfolding line_text spaced
 declaration-text name count names =
     ap (λ t. codes ".mv " ++ t) (append_assoc name ((32 ∷ count) ++ spaced names) (10 ∷ []) ∙ ap (λ t. name ++ t) (append_assoc (32 ∷ count) (spaced names) (10 ∷ [])))
+
+-- ---- latches
+
+pub latch-text : (nets : List (Option FlatNet)) (l : FlatLatch) (input output : List ℕ) → input ≡ name_in (slot nets l.input.0) → output ≡ name_in (slot nets l.output.0) → line_text (latch_words nets l) ≡ (codes ".latch " ++ input) ++ ((32 ∷ output) ++ 10 ∷ [])
+unfolding line_text spaced
+latch-text nets l input output i o =
+    let from = name_in (slot nets l.input.0) in
+    let to = name_in (slot nets l.output.0) in
+    let words : line_text (latch_words nets l) ≡ (codes ".latch " ++ from) ++ ((32 ∷ to) ++ 10 ∷ []) = ap (λ t. codes ".latch " ++ t) (append_assoc from ((32 ∷ to) ++ []) (10 ∷ []) ∙ ap (λ t. from ++ 32 ∷ (t ++ 10 ∷ [])) (append-nil to)) in
+    words ∙ (λ j. (codes ".latch " ++ sym i j) ++ ((32 ∷ sym o j) ++ 10 ∷ []))
+
+pub latches-more : (nets : List (Option FlatNet)) (ls : List FlatLatch) (i : ℕ) (d : FlatLatch) → i < length ls → flat_map line_text (map (latch_words nets) (drop i ls)) ≡ line_text (latch_words nets (get_or ls i d)) ++ flat_map line_text (map (latch_words nets) (drop (i + 1) ls))
+latches-more nets ls i d low = at_drop_more (λ ms. flat_map line_text (map (latch_words nets) ms)) ls i d low
+
+pub latches-none : (nets : List (Option FlatNet)) (ls : List FlatLatch) (i : ℕ) → length ls ≤ i → flat_map line_text (map (latch_words nets) (drop i ls)) ≡ []
+latches-none nets ls i high = at_drop_all (λ ms. flat_map line_text (map (latch_words nets) ms)) ls i high
 
 -- ---- rows
 

@@ -1,8 +1,7 @@
 -- The sets of a table's cubes and outputs: each has some of its net's values.
 use Rattle.std.proofs.Common.{◌≡◌, ◌∙◌, ℕ, zero, suc, ◌<◌, nat_eq, IsTrue, Option, Some, None, List, [], ◌∷◌, length, get_or, sym, ap, refl, subst, arith}
-use Rattle.std.proofs.lemmas.Bool.{cond_both, false≢true, eqb-true, lt-ltb}
-use Rattle.mv_base.specs.Set.{has, full}
-use Rattle.mv_base.proofs.Sets.{has-empty, has-full}
+use Rattle.std.proofs.lemmas.Bool.{cond_both, eqb-true}
+use Rattle.mv_base.specs.Set.{full}
 use Rattle.mv_cover.specs.declared.cube.Lit.{Lit}
 use Rattle.mv_cover.specs.declared.line.Line.{Line}
 use Rattle.mv_cover.specs.declared.cover.Cover.{Cover}
@@ -13,13 +12,8 @@ use Rattle.mv_net.specs.Nets.{slot, values_in, table_in}
 use Rattle.mv_net.specs.Formed.{AllLiterals, AllLines, IsCover, WellFormed}
 use Rattle.mv_net.specs.Index.{is_held}
 use Rattle.mv_net.proofs.Known.{values_some}
+use Rattle.mv_text.proofs.Outputs.{full_output}
 use Rattle.mv_write.specs.Walk.{first_set, literals_behind, IsLineOver}
-
-pub full_output : (count : ℕ) → 0 < count → IsOutput count (full count)
-full_output count low = record {
-  some = λ e. false≢true (sym (has-empty 0) ∙ (ap (λ s. has s 0) (sym e) ∙ (has-full count 0 ∙ lt-ltb 0 count low)));
-  within = λ v h. h;
-}
 
 -- the first literal's set, or all values
 pub first-output : (net : NetParts) (ls : List Lit) (m set count : ℕ) → WellFormed net → IsTrue (is_held net.nets m) → AllLiterals net.nets ls → count ≡ values_in (slot net.nets m) → set ≡ first_set count ls m → IsOutput (values_in (slot net.nets m)) set

@@ -6,7 +6,7 @@ use Rattle.std.proofs.Math.Bool.{and-true}
 use Rattle.std.proofs.lemmas.Bool.{cases_eq, ne_eqb, false_from_ne_true, and_parts, ltb-true}
 use Rattle.mv_base.specs.Set.{has, empty, one, full, minus, Within}
 use Rattle.mv_base.proofs.Sets.{has-empty, has-one, has-full, has-minus, taken_out, count-more, join-minus, IsLeast}
-use Rattle.mv_write.specs.Text.{value_at, names_in_set}
+use Rattle.mv_text.specs.Text.{value_at, names_in_set}
 
 -- ---- a set without one of its members
 

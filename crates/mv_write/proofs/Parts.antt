@@ -12,9 +12,8 @@ use Rattle.mv_cover.specs.declared.cover.Cover.{Cover}
 use Rattle.mv_net.specs.declared.parts.FlatNet.{FlatNet}
 use Rattle.mv_net.specs.declared.parts.NetParts.{NetParts}
 use Rattle.mv_net.specs.Nets.{slot, name_in, table_in, spelled_in}
-use Rattle.mv_write.specs.Text.{entry_word, fanins_of, line_words, default_words, cover_words, table_words, net_words, decl_words, names_of, inner_lines, net_lines, text_of}
+use Rattle.mv_text.specs.Text.{entry_word, fanins_of, line_words, default_words, cover_words, table_words, net_words, decl_words, names_of, inner_lines, net_lines, text_of, numbers, head_word, told_name, latch_words}
 use Rattle.mv_write.specs.Opened.{unopened}
-use Rattle.mv_write.specs.Walk.{numbers}
 use Rattle.mv_write.proofs.Lines.{root-text}
 
 -- ---- lines of all nets, by number
@@ -31,8 +30,6 @@ pub unheld-text : (each : Option FlatNet → List (List (List ℕ))) (f : Option
 unheld-text each None none h = ap (flat_map line_text) none
 unheld-text each (Some f) none h = absurd (false≢true (sym h))
 
--- ---- declarations
-
 -- ---- tables
 
 pub default-text : (values : List (List ℕ)) (default : Option ℕ) (set : ℕ) → default ≡ Some set → flat_map line_text (default_words values default) ≡ codes ".default " ++ (entry_word values set ++ 10 ∷ [])
@@ -45,35 +42,41 @@ names-numbers : (nets : List (Option FlatNet)) (ns : List NetId) → map (λ m. 
 names-numbers nets [] = refl
 names-numbers nets (n ∷ ns) = ap (λ ws. name_in (slot nets n.0) ∷ ws) (names-numbers nets ns)
 
-pub table-text : (nets : List (Option FlatNet)) (c : Cover) (values : List (List ℕ)) (fanins : List NetId) (given name : List ℕ) (lines : List Line) → numbers fanins ≡ fanins_of (length nets) c → given ≡ name → lines ≡ c.lines
-    → flat_map line_text (table_words nets (Some c) values name) ≡ line_text (codes ".table" ∷ names_of nets fanins ++ codes "->" ∷ given ∷ []) ++ (flat_map line_text (default_words values c.default) ++ flat_map (λ l. line_text (line_words nets values (numbers fanins) l)) lines)
-table-text nets c values fanins given name lines ns is same =
+pub table-text : (nets : List (Option FlatNet)) (f : Option FlatNet) (c : Cover) (fanins : List NetId) (word name : List ℕ) (lines : List Line) → table_in f ≡ Some c → numbers fanins ≡ fanins_of (length nets) c → word ≡ head_word f → name ≡ told_name f → lines ≡ c.lines
+    → flat_map line_text (net_words nets f) ≡ line_text (word ∷ names_of nets fanins ++ codes "->" ∷ name ∷ []) ++ (flat_map line_text (default_words (spelled_in f) c.default) ++ flat_map (λ l. line_text (line_words nets (spelled_in f) (numbers fanins) l)) lines)
+table-text nets f c fanins word name lines table ns begun told same =
+    let values = spelled_in f in
     let default = default_words values c.default in
     let words : Line → List (List ℕ) = line_words nets values (numbers fanins) in
     let rows : flat_map line_text (map words c.lines) ≡ flat_map (λ l. line_text (words l)) lines = flat_map-map line_text words c.lines ∙ ap (flat_map (λ l. line_text (words l))) (sym same) in
     let behind = flat_map-append line_text default (map words c.lines) ∙ ap (λ t. flat_map line_text default ++ t) rows in
-    ap (λ fs. flat_map line_text (cover_words nets values name fs c)) (sym ns) ∙ (λ j. line_text (codes ".table" ∷ names-numbers nets fanins j ++ codes "->" ∷ sym is j ∷ []) ++ behind j)
+    ap (λ t. flat_map line_text (table_words nets (head_word f) t values (told_name f))) table
+    ∙ (ap (λ fs. flat_map line_text (cover_words nets (head_word f) values (told_name f) fs c)) (sym ns)
+    ∙ (λ j. line_text (sym begun j ∷ names-numbers nets fanins j ++ codes "->" ∷ sym told j ∷ []) ++ behind j))
 
--- the lines of a net are those of its table
-pub net_words-is : (nets : List (Option FlatNet)) (f : Option FlatNet) (table : Option Cover) → table_in f ≡ table → flat_map line_text (net_words nets f) ≡ flat_map line_text (table_words nets table (spelled_in f) (name_in f))
-net_words-is nets None table e = ap (λ t. flat_map line_text (table_words nets t [] [])) e
-net_words-is nets (Some f) table e = ap (λ t. flat_map line_text (table_words nets t (spelled_in (Some f)) f.name)) e
+-- a net without a table has no lines of one
+pub no_table-text : (nets : List (Option FlatNet)) (f : Option FlatNet) → table_in f ≡ None → flat_map line_text (net_words nets f) ≡ []
+no_table-text nets f e = ap (λ t. flat_map line_text (table_words nets (head_word f) t (spelled_in f) (told_name f))) e
 
 -- ---- the whole
 
-pub inner-text : (nets : List (Option FlatNet)) → flat_map line_text (inner_lines nets) ≡ flat_map line_text (flat_map decl_words nets) ++ flat_map line_text (flat_map (net_words nets) nets)
-inner-text nets = flat_map-append line_text (flat_map decl_words nets) (flat_map (net_words nets) nets)
+pub inner-text : (net : NetParts) → flat_map line_text (inner_lines net) ≡ flat_map line_text (flat_map decl_words net.nets) ++ (flat_map line_text (map (latch_words net.nets) net.latches) ++ flat_map line_text (flat_map (net_words net.nets) net.nets))
+inner-text net =
+    let decls = flat_map decl_words net.nets in
+    let latches = map (latch_words net.nets) net.latches in
+    let tables = flat_map (net_words net.nets) net.nets in
+    flat_map-append line_text decls (latches ++ tables) ∙ ap (λ t. flat_map line_text decls ++ t) (flat_map-append line_text latches tables)
 
 -- the text behind the first word, as it is written
 pub unopened-text : (net : NetParts) (root : List ℕ) (inputs outputs : List NetId) → root ≡ net.root → inputs ≡ net.inputs → outputs ≡ net.outputs
-    → unopened net ≡ (root ++ 10 ∷ []) ++ (line_text (codes ".inputs" ∷ names_of net.nets inputs) ++ (line_text (codes ".outputs" ∷ names_of net.nets outputs) ++ (flat_map line_text (inner_lines net.nets) ++ codes ".end\n")))
+    → unopened net ≡ (root ++ 10 ∷ []) ++ (line_text (codes ".inputs" ∷ names_of net.nets inputs) ++ (line_text (codes ".outputs" ∷ names_of net.nets outputs) ++ (flat_map line_text (inner_lines net) ++ codes ".end\n")))
 unfolding unopened
 unopened-text net root inputs outputs r i o =
-    λ j. (sym r j ++ 10 ∷ []) ++ (line_text (codes ".inputs" ∷ names_of net.nets (sym i j)) ++ (line_text (codes ".outputs" ∷ names_of net.nets (sym o j)) ++ (flat_map line_text (inner_lines net.nets) ++ codes ".end\n")))
+    λ j. (sym r j ++ 10 ∷ []) ++ (line_text (codes ".inputs" ∷ names_of net.nets (sym i j)) ++ (line_text (codes ".outputs" ∷ names_of net.nets (sym o j)) ++ (flat_map line_text (inner_lines net) ++ codes ".end\n")))
 
 pub opened-text : (net : NetParts) → text_of net ≡ codes ".model " ++ unopened net
 unfolding text_of net_lines line_text spaced unopened
 opened-text net =
-    let inner = inner_lines net.nets in
+    let inner = inner_lines net in
     let before : List ℕ → List ℕ = λ t. line_text (codes ".inputs" ∷ names_of net.nets net.inputs) ++ (line_text (codes ".outputs" ∷ names_of net.nets net.outputs) ++ t) in
     ap (λ t. line_text (codes ".model" ∷ net.root ∷ []) ++ before t) (flat_map-append line_text inner ((codes ".end" ∷ []) ∷ [])) ∙ ap (λ t. t ++ before (flat_map line_text inner ++ codes ".end\n")) (root-text net.root)

@@ -11,7 +11,7 @@ use Rattle.mv_net.specs.declared.parts.NetParts.{NetParts}
 use Rattle.mv_net.specs.Nets.{slot, values_in, spelled_values, spelled_in}
 use Rattle.mv_net.specs.Formed.{WellFormed}
 use Rattle.mv_net.specs.Index.{is_held, value_names_in}
-use Rattle.mv_write.specs.Text.{value_at, names_in_set, with_comma, one_or_list, entry_word}
+use Rattle.mv_text.specs.Text.{value_at, names_in_set, with_comma, one_or_list, entry_word}
 use Rattle.mv_write.specs.Walk.{AreValues, named}
 use Rattle.mv_write.proofs.Members.{left-within, member-below, names-least, names-empty}
 

@@ -11,8 +11,8 @@ use Rattle.mv_net.specs.declared.parts.FlatNet.{FlatNet}
 use Rattle.mv_net.specs.Nets.{slot, values_in, spelled_in}
 use Rattle.mv_graph.proofs.Nets.{above_first, ascend_tail}
 use Rattle.mv_graph.specs.Nets.{has_id, ids_ascend}
-use Rattle.mv_write.specs.Text.{entry_word, set_in, fanin_word}
-use Rattle.mv_write.specs.Walk.{walked, numbers}
+use Rattle.mv_text.specs.Text.{entry_word, set_in, fanin_word, numbers}
+use Rattle.mv_write.specs.Walk.{walked}
 
 lits_above : (l : Lit) (ls : List Lit) (m : ℕ) → nets_ascend (l ∷ ls) ≡ true → cube_reads ls m ≡ true → l.net.0 < m
 lits_above l [] m up h = absurd (false≢true h)

@@ -1,4 +1,3 @@
-pub mod Text
 -- what private functions alone cite
 pub mod Opened
 pub mod Walk

@@ -1,5 +1,5 @@
 -- A cube's entries at the fanins of its table, by a walk along both, and what such a walk needs.
-use Rattle.std.specs.Prelude.{◌≡◌, ℕ, ◌<◌, ◌≤◌, true, nat_eq, IsTrue, Option, Some, List, [], ◌∷◌, ◌++◌, length, map, decimal, slice_index_or, if◌then◌else◌}
+use Rattle.std.specs.Prelude.{◌≡◌, ℕ, ◌<◌, ◌≤◌, true, nat_eq, IsTrue, Option, Some, List, [], ◌∷◌, ◌++◌, length, decimal, slice_index_or, if◌then◌else◌}
 use Rattle.std.specs.List.{flat_map}
 use Rattle.mv_base.specs.Set.{full}
 use Rattle.mv_base.specs.declared.limits.TheConstants.{MAX_VALUES}
@@ -13,7 +13,7 @@ use Rattle.mv_net.specs.Nets.{slot, values_in, spelled_in}
 use Rattle.mv_net.specs.Formed.{AllLiterals}
 use Rattle.mv_graph.specs.Nets.{has_id, ids_ascend}
 use Rattle.mv_net.specs.Index.{is_held}
-use Rattle.mv_write.specs.Text.{entry_word}
+use Rattle.mv_text.specs.Text.{entry_word}
 
 -- a name for each value, or none where the names are the numbers from 0
 pub record AreValues (count : ℕ) (names : List (List ℕ)) : Type 0 where
@@ -45,10 +45,6 @@ walked nets ls (n ∷ ns) =
 -- these entries, each with a space behind it
 abbrev pub entries_text : List (List ℕ) → List ℕ
 entries_text words = flat_map (λ w. w ++ 32 ∷ []) words
-
--- the numbers of these nets
-abbrev pub numbers : List NetId → List ℕ
-numbers ns = map (λ (n : NetId). n.0) ns
 
 -- the nets ascend, and each net of the cube is one of them
 pub record AreFaninsOf (cube : List Lit) (nets : List NetId) : Type 0 where

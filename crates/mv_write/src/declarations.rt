@@ -3,9 +3,10 @@ ghost use Rattle.std.specs.List.{flat_map};
 ghost use Rattle.mv_page.specs.Page.{AddsPiece, paged};
 ghost use Rattle.mv_lex.specs.Text.{spaced, line_text};
 ghost use Rattle.mv_net.specs.Nets.{slot};
-ghost use Rattle.mv_write.specs.Text.{decl_words};
+ghost use Rattle.mv_text.specs.Text.{decl_words};
 
 use crate::page::Page;
+use crate::resets::is_reset_net;
 use itoa::Buffer;
 use mv_base::{Failed, Name, NetId, Sink};
 use mv_net::Network;
@@ -38,11 +39,12 @@ fn put_declaration<K: Sink>(
     page.put(b"\n", out)
 }
 
-/// Appends the declaration of the net of this number, if it needs one: it is held, and has other values than 0 and 1.
+/// Appends the declaration of the net of this number, if it needs one: it is held, is no reset net, and has other values
+/// than 0 and 1.
 fn declare<K: Sink>(net: &Network, n: NetId, page: &mut Page, out: &mut K) -> Result<(), Failed>
     ensures { AddsPiece (paged (K.state out.old) page.old) (paged (K.state out.new) page.new) (flat_map line_text (decl_words (slot net.now.nets n.0))) result }
 {
-    if !net.holds(n) {
+    if !net.holds(n) || is_reset_net(net, n) {
         return Ok(());
     }
     let count = net.values(n);

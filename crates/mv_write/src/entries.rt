@@ -5,7 +5,7 @@ ghost use Rattle.mv_base.specs.Set.{Within, full};
 ghost use Rattle.mv_net.specs.Nets.{slot, values_in, spelled_values, spelled_in};
 ghost use Rattle.mv_cover.specs.Lines.{IsOutput};
 ghost use Rattle.mv_net.specs.Index.{is_held};
-ghost use Rattle.mv_write.specs.Text.{entry_word, names_in_set, with_comma};
+ghost use Rattle.mv_text.specs.Text.{entry_word, names_in_set, with_comma};
 ghost use Rattle.mv_write.specs.Walk.{AreValues, named};
 
 use crate::page::Page;

@@ -1,12 +1,13 @@
-ghost use Rattle.std.specs.Prelude.{◌≡◌, ◌∷◌, ◌++◌, []};
+ghost use Rattle.std.specs.Prelude.{◌∷◌, ◌++◌, []};
 ghost use Rattle.std.specs.List.{flat_map};
 ghost use Rattle.mv_base.specs.Outside.{Appends};
 ghost use Rattle.mv_lex.specs.Text.{line_text};
 ghost use Rattle.mv_page.specs.Page.{AddsPiece, paged};
 ghost use Rattle.mv_write.specs.Opened.{unopened};
-ghost use Rattle.mv_write.specs.Text.{inner_lines, text_of};
+ghost use Rattle.mv_text.specs.Text.{inner_lines, text_of};
 
 use crate::declarations::put_declarations;
+use crate::latches::put_latches;
 use crate::page::Page;
 use crate::pieces::put_list;
 use crate::tables::put_tables;
@@ -22,9 +23,10 @@ fn put_root<K: Sink>(root: &[u8], page: &mut Page, out: &mut K) -> Result<(), Fa
 
 /// Appends the lines between the outputs and the end.
 fn put_inner<K: Sink>(net: &Network, page: &mut Page, out: &mut K) -> Result<(), Failed>
-    ensures { AddsPiece (paged (K.state out.old) page.old) (paged (K.state out.new) page.new) (flat_map line_text (inner_lines net.now.nets)) result }
+    ensures { AddsPiece (paged (K.state out.old) page.old) (paged (K.state out.new) page.new) (flat_map line_text (inner_lines net.now)) result }
 {
     put_declarations(net, page, out)?;
+    put_latches(net, page, out)?;
     put_tables(net, page, out)
 }
 
@@ -40,10 +42,9 @@ fn put_network<K: Sink>(net: &Network, page: &mut Page, out: &mut K) -> Result<(
     page.put(b".end\n", out)
 }
 
-/// Appends the text of a network without latches to the sink, in large pieces, of which the first has at least its first
-/// word. At Failed some first part of it was taken. It takes no memory.
+/// Appends the text of a network to the sink, in large pieces, of which the first has at least its first word. At Failed
+/// some first part of it was taken. It takes no memory.
 pub fn write<K: Sink>(net: &Network, out: &mut K) -> Result<(), Failed>
-    requires { net.now.latches ≡ [] }
     ensures { Appends (K.state out.old) (K.state out.new) (text_of net.now) result }
 {
     let mut page = Page::of(b".model ");

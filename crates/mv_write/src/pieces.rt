@@ -1,6 +1,6 @@
 ghost use Rattle.std.specs.Prelude.{◌++◌, ◌∷◌, [], codes};
 ghost use Rattle.mv_lex.specs.Text.{spaced, line_text};
-ghost use Rattle.mv_write.specs.Text.{names_of};
+ghost use Rattle.mv_text.specs.Text.{names_of};
 ghost use Rattle.mv_page.specs.Page.{AddsPiece, paged};
 ghost use Rattle.mv_write.specs.Walk.{AreHeld};
 
@@ -40,8 +40,9 @@ pub fn put_list<K: Sink>(
     page.put(b"\n", out)
 }
 
-/// Appends the line that begins a table: its fanins, and the name of its output.
+/// Appends the line that begins a table: this word, its fanins, and the name of its output.
 pub fn put_head<K: Sink>(
+    word: &[u8],
     net: &Network,
     fanins: &[NetId],
     name: &[u8],
@@ -50,9 +51,9 @@ pub fn put_head<K: Sink>(
 ) -> Result<(), Failed>
     requires { AreHeld net.now.nets fanins.now }
     ensures { AddsPiece (paged (K.state out.old) page.old) (paged (K.state out.new) page.new)
-        (line_text (codes ".table" ∷ names_of net.now.nets fanins.now ++ codes "->" ∷ name.now ∷ [])) result }
+        (line_text (word.now ∷ names_of net.now.nets fanins.now ++ codes "->" ∷ name.now ∷ [])) result }
 {
-    page.put(b".table", out)?;
+    page.put(word, out)?;
     put_names(net, fanins, page, out)?;
     page.put_both(b" -> ", name, out)?;
     page.put(b"\n", out)

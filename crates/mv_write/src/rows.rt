@@ -7,8 +7,8 @@ ghost use Rattle.mv_net.specs.Nets.{slot, values_in, spelled_in};
 ghost use Rattle.mv_net.specs.Formed.{AllLiterals, AllLines};
 ghost use Rattle.mv_graph.specs.Nets.{IsAscending};
 ghost use Rattle.mv_net.specs.Index.{is_held};
-ghost use Rattle.mv_write.specs.Text.{line_words};
-ghost use Rattle.mv_write.specs.Walk.{first_set, literals_behind, walked, entries_text, numbers, AreFaninsOf, AreHeld, IsLineOver};
+ghost use Rattle.mv_text.specs.Text.{line_words, numbers};
+ghost use Rattle.mv_write.specs.Walk.{first_set, literals_behind, walked, entries_text, AreFaninsOf, AreHeld, IsLineOver};
 
 use crate::entries::put_entry;
 use crate::page::Page;

@@ -2,14 +2,15 @@ ghost use Rattle.std.specs.Prelude.{◌≡◌, Some, IsTrue};
 ghost use Rattle.std.specs.List.{flat_map};
 ghost use Rattle.mv_page.specs.Page.{AddsPiece, paged};
 ghost use Rattle.mv_lex.specs.Text.{line_text};
-ghost use Rattle.mv_net.specs.Nets.{slot, values_in, name_in, table_in, spelled_in};
+ghost use Rattle.mv_net.specs.Nets.{slot, values_in, table_in, spelled_in};
 ghost use Rattle.mv_net.specs.Index.{is_held};
-ghost use Rattle.mv_write.specs.Text.{default_words, table_words, net_words};
+ghost use Rattle.mv_text.specs.Text.{default_words, net_words};
 ghost use Rattle.mv_write.specs.Walk.{IsDefaultSet};
 
 use crate::entries::put_entry;
 use crate::page::Page;
 use crate::pieces::put_head;
+use crate::resets::{head_word, told_name};
 use crate::rows::put_rows;
 use mv_base::{Failed, NetId, Sink, ValueSet};
 use mv_cover::Cover;
@@ -48,11 +49,11 @@ fn put_table<K: Sink>(
     requires held { IsTrue (is_held net.now.nets n.0) }
     requires table { table_in (slot net.now.nets n.0) ≡ Some cover.now }
     ensures { AddsPiece (paged (K.state out.old) page.old) (paged (K.state out.new) page.new)
-        (flat_map line_text (table_words net.now.nets (Some cover.now) (spelled_in (slot net.now.nets n.0)) (name_in (slot net.now.nets n.0)))) result }
+        (flat_map line_text (net_words net.now.nets (slot net.now.nets n.0))) result }
 {
     net.well_formed();
     let fanins = net.fanins(n);
-    put_head(net, fanins, net.name(n), page, out)?;
+    put_head(head_word(net, n), net, fanins, told_name(net, n), page, out)?;
     put_default(net, n, cover.default, page, out)?;
     put_rows(net, n, cover.lines.as_slice(), fanins, page, out)
 }

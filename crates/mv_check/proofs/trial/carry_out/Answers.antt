@@ -5,9 +5,6 @@ use Rattle.mv_check.proofs.trial.carry_out.Goals as goal
 pub reads_back-requires : goal.reads_back-requires
 reads_back-requires g c = no_latches _ _ _ c.requires c.in-Ok.ensures.replays
 
-pub finish-requires : goal.finish-requires
-finish-requires g c = no_latches _ _ _ c.requires c.in-Ok.ensures.replays
-
 pub returns-in-Ok-finish-clause-ok : goal.returns-in-Ok-finish-clause-ok
 returns-in-Ok-finish-clause-ok g c =
     let replays = rw c.as_slice.ensures at c.in-Ok.ensures.replays in

@@ -1,6 +1,6 @@
 -- The line has no fault, so its nets had no other values.
 use Rattle.std.proofs.Common.{◌≡◌, ◌∙◌, [], ap, sym}
-use Rattle.mv_decl.specs.Nets.{values_of}
+use Rattle.mv_design.specs.Values.{values_of}
 use Rattle.mv_decl.specs.Line.{redeclared_faults}
 use Rattle.mv_decl.proofs.Said.{said_line, kept_line}
 use Rattle.mv_decl.proofs.line.declare_nets.Goals as goal

@@ -2,7 +2,7 @@
 use Rattle.std.proofs.Common.{◌∙◌, ◌<◌, ap, length, get_or, List, arith}
 use Rattle.std.proofs.lemmas.List.{get_or_default}
 use Rattle.mv_design.specs.declared.design.FileModel.{FileModel}
-use Rattle.mv_model.specs.Nets.{root_of, no_model}
+use Rattle.mv_design.specs.Nets.{root_of, no_model}
 use Rattle.mv_flat.proofs.flat.root.Goals as goal
 
 pub returns : goal.returns

@@ -7,9 +7,6 @@ use Rattle.mv_opt.proofs.work.carry_out.Goals as goal
 pub reads_back-requires : goal.reads_back-requires
 reads_back-requires g c = runs_latches _ _ _ _ c.requires.latches c.in-Ok.ensures.ok.runs
 
-pub finish-requires : goal.finish-requires
-finish-requires g c = runs_latches _ _ _ _ c.requires.latches c.in-Ok.ensures.ok.runs
-
 pub returns-in-Ok-finish-clause-ok : goal.returns-in-Ok-finish-clause-ok
 returns-in-Ok-finish-clause-ok g c =
     let ran = rw c.as_slice.ensures at c.in-Ok.ensures.ok in

@@ -3,7 +3,7 @@ use Rattle.std.specs.List.{flat_map}
 use Rattle.mv_base.proofs.Gains.{Going}
 use Rattle.mv_page.specs.Page.{AddsPiece, paged}
 use Rattle.mv_lex.specs.Text.{line_text}
-use Rattle.mv_write.specs.Text.{decl_words}
+use Rattle.mv_text.specs.Text.{decl_words}
 use Rattle.mv_write.proofs.declarations.put_declarations.Given as goal
 
 abbrev pub invariant-loop-n : goal.invariant-loop-n

@@ -2,7 +2,7 @@ use Rattle.std.proofs.Common.{◌≡◌, ◌∙◌, ◌++◌, sym, ap}
 use Rattle.mv_base.proofs.Gains.{start, next, last}
 use Rattle.mv_page.proofs.Adding.{adds}
 use Rattle.mv_net.specs.Nets.{slot, spelled_in, spelled_values}
-use Rattle.mv_write.specs.Text.{entry_word}
+use Rattle.mv_text.specs.Text.{entry_word}
 use Rattle.mv_write.proofs.Spelling.{spelled-is, are-values}
 use Rattle.mv_write.proofs.entries.put_entry.Goals as goal
 

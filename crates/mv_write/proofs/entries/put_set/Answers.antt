@@ -6,7 +6,7 @@ use Rattle.mv_base.proofs.Sets.{IsLeast}
 use Rattle.mv_base.proofs.Gains.{start, next, stop, last, same}
 use Rattle.mv_page.proofs.Adding.{adds}
 use Rattle.mv_net.specs.Nets.{spelled_values}
-use Rattle.mv_write.specs.Text.{names_in_set, with_comma}
+use Rattle.mv_text.specs.Text.{names_in_set, with_comma}
 use Rattle.mv_write.specs.Walk.{named}
 use Rattle.mv_write.proofs.Spelling.{IsParted, least-small, least-named, others-within, entry-all, entry-one, entry-more}
 use Rattle.mv_write.proofs.entries.put_set.Goals as goal

@@ -4,7 +4,7 @@ use Rattle.mv_base.specs.Set.{one, minus}
 use Rattle.mv_base.proofs.Gains.{start, next, stop, finish}
 use Rattle.mv_page.proofs.Adding.{adds}
 use Rattle.mv_net.specs.Nets.{spelled_values}
-use Rattle.mv_write.specs.Text.{names_in_set, with_comma}
+use Rattle.mv_text.specs.Text.{names_in_set, with_comma}
 use Rattle.mv_write.specs.Walk.{named}
 use Rattle.mv_write.proofs.Members.{fewer-left}
 use Rattle.mv_write.proofs.Spelling.{parted, least-small, least-named, others-within, values-more, values-none}

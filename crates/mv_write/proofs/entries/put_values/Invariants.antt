@@ -4,7 +4,7 @@ use Rattle.mv_base.specs.Set.{Within, full}
 use Rattle.mv_base.proofs.Gains.{Going}
 use Rattle.mv_page.specs.Page.{AddsPiece, paged}
 use Rattle.mv_net.specs.Nets.{spelled_values}
-use Rattle.mv_write.specs.Text.{names_in_set, with_comma}
+use Rattle.mv_text.specs.Text.{names_in_set, with_comma}
 use Rattle.mv_write.proofs.entries.put_values.Given as goal
 
 abbrev pub invariant-values : goal.invariant-values

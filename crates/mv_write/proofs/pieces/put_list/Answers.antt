@@ -1,6 +1,6 @@
 use Rattle.std.proofs.Common.{[], ◌∷◌, ◌++◌, refl}
 use Rattle.mv_lex.specs.Text.{spaced}
-use Rattle.mv_write.specs.Text.{names_of}
+use Rattle.mv_text.specs.Text.{names_of}
 use Rattle.mv_base.proofs.Gains.{start, next, stop, last}
 use Rattle.mv_page.proofs.Adding.{adds}
 use Rattle.mv_write.proofs.Lines.{line_text-first}

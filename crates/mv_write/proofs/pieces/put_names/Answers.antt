@@ -1,6 +1,6 @@
 use Rattle.std.proofs.Common.{◌+◌, drop}
 use Rattle.mv_lex.specs.Text.{spaced}
-use Rattle.mv_write.specs.Text.{names_of}
+use Rattle.mv_text.specs.Text.{names_of}
 use Rattle.mv_base.proofs.Gains.{next, stop, finish}
 use Rattle.mv_page.proofs.Adding.{adds}
 use Rattle.mv_write.proofs.Lines.{names-more, names-none}

@@ -2,7 +2,7 @@ use Rattle.std.proofs.Common.{[], ◌∷◌, ◌++◌}
 use Rattle.mv_base.proofs.Gains.{start, next, stop, last}
 use Rattle.mv_page.proofs.Adding.{adds}
 use Rattle.mv_net.specs.Nets.{slot, spelled_in}
-use Rattle.mv_write.specs.Text.{entry_word}
+use Rattle.mv_text.specs.Text.{entry_word}
 use Rattle.mv_write.proofs.Lines.{row-text}
 use Rattle.mv_write.proofs.rows.put_row.Goals as goal
 

@@ -7,8 +7,7 @@ use Rattle.mv_page.proofs.Items.{items-more}
 use Rattle.mv_lex.specs.Text.{line_text}
 use Rattle.mv_cover.specs.declared.line.Line.{Line}
 use Rattle.mv_net.specs.Nets.{slot, spelled_in, values_in}
-use Rattle.mv_write.specs.Text.{line_words}
-use Rattle.mv_write.specs.Walk.{numbers}
+use Rattle.mv_text.specs.Text.{line_words, numbers}
 use Rattle.mv_write.proofs.Held.{line-fanins}
 use Rattle.mv_write.proofs.Literals.{line-over}
 use Rattle.mv_write.proofs.rows.put_rows.Goals as goal

@@ -4,8 +4,7 @@ use Rattle.mv_base.proofs.Gains.{Going}
 use Rattle.mv_page.specs.Page.{AddsPiece, paged}
 use Rattle.mv_lex.specs.Text.{line_text}
 use Rattle.mv_net.specs.Nets.{slot, spelled_in}
-use Rattle.mv_write.specs.Text.{line_words}
-use Rattle.mv_write.specs.Walk.{numbers}
+use Rattle.mv_text.specs.Text.{line_words, numbers}
 use Rattle.mv_write.proofs.rows.put_rows.Given as goal
 
 abbrev pub invariant-loop-line : goal.invariant-loop-line

@@ -1,20 +1,15 @@
-use Rattle.std.proofs.Common.{Some, None, refl, sym}
+use Rattle.std.proofs.Common.{refl, sym}
 use Rattle.mv_base.proofs.Gains.{same}
 use Rattle.mv_page.proofs.Adding.{adds}
 use Rattle.mv_net.specs.Nets.{slot}
-use Rattle.mv_write.specs.Text.{net_words}
-use Rattle.mv_write.proofs.Parts.{net_words-is, unheld-text}
+use Rattle.mv_text.specs.Text.{net_words}
+use Rattle.mv_write.proofs.Parts.{no_table-text, unheld-text}
 use Rattle.mv_write.proofs.tables.put_net.Goals as goal
-
-pub returns-in-Some : goal.returns-in-Some
-returns-in-Some g c =
-    let nets = c.args.net.now.nets in
-    same adds (sym (net_words-is nets (slot nets c.args.n.0) (Some c.in-Some.cover.now) (sym c.in-Some.ensures))) c.put_table.ensures
 
 pub returns-in-None : goal.returns-in-None
 returns-in-None g c =
     let nets = c.args.net.now.nets in
-    same adds (sym (net_words-is nets (slot nets c.args.n.0) None (sym c.in-None.ensures))) (adds.nothing _)
+    same adds (sym (no_table-text nets (slot nets c.args.n.0) (sym c.in-None.ensures))) (adds.nothing _)
 
 pub returns-then-not-holds : goal.returns-then-not-holds
 returns-then-not-holds g c =

@@ -3,7 +3,7 @@ use Rattle.std.specs.List.{flat_map}
 use Rattle.mv_base.proofs.Gains.{next, stop, finish}
 use Rattle.mv_page.proofs.Adding.{adds}
 use Rattle.mv_lex.specs.Text.{line_text}
-use Rattle.mv_write.specs.Text.{net_words}
+use Rattle.mv_text.specs.Text.{net_words}
 use Rattle.mv_write.proofs.Parts.{nets-more, nets-none}
 use Rattle.mv_write.proofs.tables.put_tables.Goals as goal
 

@@ -1,6 +1,6 @@
 use Rattle.std.proofs.Common.{◌∙◌, ap, is_some}
 use Rattle.mv_base.proofs.NameLemmas.{is_some-place_of}
-use Rattle.mv_decl.specs.Nets.{declared_of}
+use Rattle.mv_design.specs.Values.{declared_of}
 use Rattle.mv_decl.proofs.decls.Decls.contains.Goals as goal
 
 pub returns : goal.returns

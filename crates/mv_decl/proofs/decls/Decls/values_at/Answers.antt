@@ -1,6 +1,6 @@
 use Rattle.std.proofs.Common.{◌≡◌, ◌∙◌, sym, ap, Some, None}
 use Rattle.mv_base.specs.Names.{place_of}
-use Rattle.mv_decl.specs.Nets.{declared_of, values_of}
+use Rattle.mv_design.specs.Values.{declared_of, values_of}
 use Rattle.mv_decl.proofs.Kept.{values_found, values_two, values_some, values_few, place_taken}
 use Rattle.mv_decl.proofs.decls.Decls.values_at.Goals as goal
 

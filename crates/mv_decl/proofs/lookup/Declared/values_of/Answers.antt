@@ -1,7 +1,7 @@
 -- The first declaration of the net stands at its place.
 use Rattle.std.proofs.Common.{◌≡◌, ◌∙◌, sym, ap, Some, None}
 use Rattle.mv_base.specs.Names.{place_of}
-use Rattle.mv_decl.specs.Nets.{declared_of, values_of}
+use Rattle.mv_design.specs.Values.{declared_of, values_of}
 use Rattle.mv_decl.proofs.Kept.{values_found, values_two}
 use Rattle.mv_decl.proofs.lookup.Declared.values_of.Goals as goal
 

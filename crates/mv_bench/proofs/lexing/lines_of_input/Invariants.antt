@@ -1,0 +1,5 @@
+use Rattle.mv_proper.proofs.Fed.{WasFed}
+use Rattle.mv_bench.proofs.lexing.lines_of_input.Given as goal
+
+abbrev pub invariant-loop-piece : goal.invariant-loop-piece
+invariant-loop-piece l = WasFed l.lexer l.lines

@@ -1,0 +1,5 @@
+pub mod Values
+pub mod Tables
+pub mod Nets
+pub mod Proper
+pub mod Meaning

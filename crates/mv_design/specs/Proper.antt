@@ -1,0 +1,130 @@
+-- What the grammar makes sure of in a design, line by line: lawful names, values that the nets have, entries that fit, and
+-- the order of lines. In this version there is one model, without latches and instances, and its tables have one output.
+use Rattle.std.specs.Prelude.{◌≡◌, ℕ, ◌<◌, ◌≤◌, Bool, true, not, ◌&&◌, nat_eq, nat_lt, Some}
+use Rattle.std.specs.Prelude.{List, [], ◌∷◌, length, map, slice_index_or, All}
+use Rattle.std.specs.List.{list_all, list_any}
+use Rattle.mv_base.specs.Names.{is_net_name, is_model_name, is_value_name, names_differ}
+use Rattle.mv_base.specs.Set.{full, Within}
+use Rattle.mv_base.specs.declared.limits.TheConstants.{MAX_VALUES}
+use Rattle.mv_design.specs.declared.table.Entry.{Entry}
+use Rattle.mv_design.specs.declared.table.Entry.TheVariants.{Set, Same}
+use Rattle.mv_design.specs.declared.table.Row.{Row}
+use Rattle.mv_design.specs.declared.table.FileTable.{FileTable}
+use Rattle.mv_design.specs.declared.design.Decl.{Decl}
+use Rattle.mv_design.specs.declared.design.FileLatch.{FileLatch}
+use Rattle.mv_design.specs.declared.design.Part.{Part}
+use Rattle.mv_design.specs.declared.design.FileModel.{FileModel}
+use Rattle.mv_design.specs.declared.design.Design.{Design}
+use Rattle.mv_design.specs.Nets.{root_of}
+use Rattle.mv_design.specs.Values.{count_of}
+
+-- a set for each column, of values that its net has
+abbrev pub FitSets : List Decl → List (List ℕ) → List ℕ → Type 0
+FitSets ds [] [] = Unit {0}
+FitSets ds [] (_ ∷ _) = ⊥
+FitSets ds (_ ∷ _) [] = ⊥
+FitSets ds (net ∷ nets) (s ∷ sets) = Within s (full (count_of ds net)) × FitSets ds nets sets
+
+-- an entry `=` of an output: the place of an input column of a net with as many values
+pub record IsSame (ds : List Decl) (ins : List (List ℕ)) (net : List ℕ) (k : ℕ) : Type 0 where
+  pub within : k < length ins
+  pub counts : count_of ds (slice_index_or ins k []) ≡ count_of ds net
+
+-- an entry fits its output: values that the net has, or the place of an input column of a net with as many values
+abbrev pub FitOutput : List Decl → List (List ℕ) → List ℕ → Entry → Type 0
+FitOutput ds ins net (Set s) = Within s (full (count_of ds net))
+FitOutput ds ins net (Same k) = IsSame ds ins net k
+
+-- an entry for each output, which fits it
+abbrev pub FitOutputs : List Decl → List (List ℕ) → List (List ℕ) → List Entry → Type 0
+FitOutputs ds ins [] [] = Unit {0}
+FitOutputs ds ins [] (_ ∷ _) = ⊥
+FitOutputs ds ins (_ ∷ _) [] = ⊥
+FitOutputs ds ins (net ∷ nets) (e ∷ entries) = FitOutput ds ins net e × FitOutputs ds ins nets entries
+
+-- a row fits its table: a set for each input, and an entry for each output
+pub record IsFileRow (ds : List Decl) (t : FileTable) (r : Row) : Type 0 where
+  pub sets : FitSets ds t.inputs r.ins
+  pub outs : FitOutputs ds t.inputs t.outputs r.outs
+
+-- a table has lawful names and one output, and its rows and its default fit it
+pub record IsFileTable (ds : List Decl) (t : FileTable) : Type 0 where
+  pub inputs : list_all is_net_name t.inputs ≡ true
+  pub outputs : list_all is_net_name t.outputs ≡ true
+  pub single : length t.outputs ≡ 1
+  pub rows : All (IsFileRow ds t) t.rows
+  pub default : (entries : List Entry) → t.default ≡ Some entries → FitOutputs ds t.inputs t.outputs entries
+
+-- a declared net: it has some values, and no more than a net may have, with lawful names, all different
+pub record IsFileDecl (d : Decl) : Type 0 where
+  pub net : is_net_name d.net ≡ true
+  pub some : 0 < length d.values
+  pub few : length d.values ≤ MAX_VALUES
+  pub lawful : list_all is_value_name d.values ≡ true
+  pub differ : names_differ d.values ≡ true
+
+-- ---- the order of lines
+
+-- numbers that ascend: each is less than the next
+abbrev pub numbers_ascend : List ℕ → Bool
+numbers_ascend [] = true
+numbers_ascend (_ ∷ []) = true
+numbers_ascend (m ∷ n ∷ ns) = nat_lt m n && numbers_ascend (n ∷ ns)
+
+-- no number stands in both lists
+abbrev pub none_in_both : List ℕ → List ℕ → Bool
+none_in_both ms ns = list_all (λ m. not (list_any (nat_eq m) ns)) ms
+
+-- the lines of these tables, in order
+abbrev pub table_lines : List FileTable → List ℕ
+table_lines tables = map (λ t. t.line) tables
+
+-- the lines of these latches, in order
+abbrev pub latch_lines : List FileLatch → List ℕ
+latch_lines latches = map (λ l. l.line) latches
+
+-- the lines of these instances, in order
+abbrev pub part_lines : List Part → List ℕ
+part_lines parts = map (λ p. p.line) parts
+
+-- a reset table has the line of a latch only where this is its own, the latch whose output it drives. It comes right behind
+-- that latch in file order then
+pub record SharesOwnOnly (reset : FileTable) (latch : FileLatch) : Type 0 where
+  pub own : reset.line ≡ latch.line → reset.outputs ≡ latch.output ∷ []
+
+-- a model stands by line: its tables by ascending line, and so its latches, its reset tables and its instances, each kind
+-- for itself; and no two of all these have one line, but that a reset table may have the line of its own latch
+pub record StandsByLine (m : FileModel) : Type 0 where
+  pub tables : numbers_ascend (table_lines m.tables) ≡ true
+  pub latches : numbers_ascend (latch_lines m.latches) ≡ true
+  pub resets : numbers_ascend (table_lines m.resets) ≡ true
+  pub parts : numbers_ascend (part_lines m.parts) ≡ true
+  pub latches_tables : none_in_both (latch_lines m.latches) (table_lines m.tables) ≡ true
+  pub resets_tables : none_in_both (table_lines m.resets) (table_lines m.tables) ≡ true
+  pub parts_tables : none_in_both (part_lines m.parts) (table_lines m.tables) ≡ true
+  pub latches_parts : none_in_both (latch_lines m.latches) (part_lines m.parts) ≡ true
+  pub resets_parts : none_in_both (table_lines m.resets) (part_lines m.parts) ≡ true
+  pub resets_latches : All (λ reset. All (SharesOwnOnly reset) m.latches) m.resets
+
+-- ---- models and designs
+
+-- a model: its names are lawful, no input and no output stands twice, its declarations and tables are such as above, and it
+-- stands by line. It has no latches, resets and instances
+pub record IsProperModel (m : FileModel) : Type 0 where
+  pub name : is_model_name m.name ≡ true
+  pub inputs : list_all is_net_name m.inputs ≡ true
+  pub inputs_differ : names_differ m.inputs ≡ true
+  pub outputs : list_all is_net_name m.outputs ≡ true
+  pub outputs_differ : names_differ m.outputs ≡ true
+  pub decls : All IsFileDecl m.decls
+  pub tables : All (IsFileTable m.decls) m.tables
+  pub order : StandsByLine m
+  pub latches : m.latches ≡ []
+  pub resets : m.resets ≡ []
+  pub parts : m.parts ≡ []
+
+-- a design whose root is its only model
+pub record IsProper (d : Design) : Type 0 where
+  pub single : length d.models ≡ 1
+  pub root_is : d.root ≡ 0
+  pub root : IsProperModel (root_of d)

@@ -1,0 +1,36 @@
+-- How the nets of a model are gathered by number, table by table, and what a look at the rows tells of its mark.
+-- For private functions.
+use Rattle.std.specs.Prelude.{ℕ, Bool, true, ◌&&◌, nat_eq, List, [], ◌∷◌, if◌then◌else◌}
+use Rattle.std.specs.List.{list_any}
+use Rattle.mv_design.specs.declared.design.Decl.{Decl}
+use Rattle.mv_design.specs.declared.table.Row.{Row}
+use Rattle.mv_design.specs.declared.table.FileTable.{FileTable}
+use Rattle.mv_base.specs.Set.{full}
+use Rattle.mv_design.specs.Values.{count_of}
+use Rattle.mv_rows.specs.Flat.{only_entry, says_nothing}
+use Rattle.mv_unfold.specs.Driving.{with_name, with_names}
+use Rattle.mv_flat.specs.Numbers.{mark_name, output_of}
+use Rattle.mv_flat.specs.Places.{has_mark}
+
+-- names with that of a table's mark, if it gets one
+abbrev pub with_mark : List Decl → List (List ℕ) → FileTable → List (List ℕ)
+with_mark ds names t = if has_mark ds t then with_name names (mark_name (output_of t)) else names
+
+-- names with those of the nets of tables, and of their marks
+abbrev pub with_places : List Decl → List (List ℕ) → List FileTable → List (List ℕ)
+with_places ds names [] = names
+with_places ds names (t ∷ ts) = with_places ds (with_names (with_mark ds names t) t.outputs) ts
+
+-- some row says no value of its output
+abbrev pub some_silent : List Row → Bool
+some_silent rows = list_any (λ (r : Row). says_nothing (only_entry r.outs)) rows
+
+-- a row has all values of each of these nets
+abbrev pub has_all : List Decl → List (List ℕ) → List ℕ → Bool
+has_all ds [] sets = true
+has_all ds (w ∷ ws) [] = true
+has_all ds (w ∷ ws) (s ∷ sets) = nat_eq s (full (count_of ds w)) && has_all ds ws sets
+
+-- some row has all values of each of these nets
+abbrev pub some_has_all : List Decl → List (List ℕ) → List Row → Bool
+some_has_all ds ins rows = list_any (λ (r : Row). has_all ds ins r.ins) rows

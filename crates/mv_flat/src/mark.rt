@@ -1,0 +1,122 @@
+//! Which tables get a mark, and the name by which it stands among the nets.
+ghost use Rattle.std.specs.Prelude.{◌≡◌, ◌≤◌, length, IfOk, IfSome, All};
+ghost use Rattle.mv_base.specs.declared.limits.TheConstants.{MAX_NETS};
+ghost use Rattle.mv_design.specs.Proper.{IsFileDecl, IsFileTable};
+ghost use Rattle.mv_rows.specs.Flat.{only_entry, says_nothing};
+ghost use Rattle.mv_flat.specs.Numbers.{mark_name};
+ghost use Rattle.mv_flat.specs.Places.{has_mark};
+ghost use Rattle.mv_flat.specs.Placed.{IsPlacedTable};
+ghost use Rattle.mv_flat.specs.Gathered.{has_all, some_has_all, some_silent};
+
+use crate::columns::covers;
+use crate::values::count_of;
+use mv_base::{Items, Memory, Name, ValueSet};
+use mv_decl::Declared;
+use mv_design::{Entry, FileTable, Row};
+use mv_unfold::Numbers;
+use std::alloc::Global;
+
+/// The name by which the mark of the table with this output stands among the nets.
+pub fn mark_name(alloc: Global, net: &Name) -> Result<Name, Memory>
+    ensures { IfOk result (λ n. n ≡ mark_name net.now) }
+{
+    let mut bytes = vec![in alloc; b' ']?;
+    bytes.extend_from_slice(net.bytes())?;
+    Name::new(alloc, bytes.as_slice())
+}
+
+/// Whether the table gets a mark. For most tables a look at the rows tells it; of the others the covers are made over nets
+/// that have numbers already.
+#[tactic(auto, using(crate::proofs::HasMark::mark_is))]
+pub fn has_mark(
+    alloc: Global,
+    decls: &Declared,
+    names: &Numbers,
+    table: &FileTable,
+) -> Result<bool, Memory>
+    requires proper { All IsFileDecl decls.now }
+    requires placed { IsPlacedTable decls.now names.now table.now }
+    requires few { length names.now ≤ MAX_NETS }
+    ensures { IfOk result (λ b. b ≡ has_mark decls.now table.now) }
+{
+    if let Some(told) = told_mark(decls, table) {
+        return Ok(told);
+    }
+    let flat = covers(alloc, decls, names, table)?;
+    Ok(flat.mark.is_some())
+}
+
+/// Whether the table gets a mark, where a look at its rows tells it: not without a default, nor beside a set where each row
+/// says a value; but beside a column's value where no row has all values.
+#[tactic(auto, using(crate::proofs::Needs::told))]
+fn told_mark(decls: &Declared, table: &FileTable) -> Option<bool>
+    requires proper { All IsFileDecl decls.now }
+    requires fits { IsFileTable decls.now table.now }
+    ensures { IfSome result (λ b. b ≡ has_mark decls.now table.now) }
+{
+    let Some(entries) = &table.default else {
+        return Some(false);
+    };
+    let rows = table.rows.as_slice();
+    match first_entry(entries) {
+        Entry::Set(_) if !some_row_is_silent(rows) => Some(false),
+        Entry::Same(_) if !some_row_has_all(decls, table.inputs.as_slice(), rows) => Some(true),
+        _ => None,
+    }
+}
+
+/// Whether some row has all values of each of these nets.
+fn some_row_has_all(decls: &Declared, inputs: &[Name], rows: &[Row]) -> bool
+    ensures { result ≡ some_has_all decls.now inputs.now rows.now }
+{
+    for row in rows {
+        if has_all(decls, inputs, row.ins.as_slice()) {
+            return true;
+        }
+    }
+    false
+}
+
+/// Whether the sets have all values of each of these nets.
+fn has_all(decls: &Declared, inputs: &[Name], sets: &[ValueSet]) -> bool
+    ensures { result ≡ has_all decls.now inputs.now sets.now }
+{
+    for place in 0..inputs.len().min(sets.len()) {
+        if sets[place] != ValueSet::full(count_of(decls, &inputs[place])) {
+            return false;
+        }
+    }
+    true
+}
+
+/// Whether some row says no value.
+fn some_row_is_silent(rows: &[Row]) -> bool
+    ensures { result ≡ some_silent rows.now }
+{
+    for row in rows {
+        if is_silent(&first_entry(&row.outs)) {
+            return true;
+        }
+    }
+    false
+}
+
+/// Whether no value lies in the entry.
+fn is_silent(entry: &Entry) -> bool
+    ensures { result ≡ says_nothing entry.now }
+{
+    match entry {
+        Entry::Set(out) => *out == ValueSet::empty(),
+        Entry::Same(_) => false,
+    }
+}
+
+/// The first entry, and the empty set where there is none.
+fn first_entry(entries: &Items<Entry>) -> Entry
+    ensures { result ≡ only_entry entries.now }
+{
+    match entries.get(0) {
+        Some(entry) => *entry,
+        None => Entry::Set(ValueSet::empty()),
+    }
+}

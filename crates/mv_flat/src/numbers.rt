@@ -1,0 +1,71 @@
+//! The nets of a model by number.
+ghost use Rattle.std.specs.Prelude.{◌≡◌, ◌≤◌, length, true, IfOk, OnOk, All};
+ghost use Rattle.mv_base.specs.Names.{names_differ};
+ghost use Rattle.mv_base.specs.declared.limits.TheConstants.{MAX_NETS};
+ghost use Rattle.mv_design.specs.Proper.{IsFileDecl, IsProperModel};
+ghost use Rattle.mv_flat.specs.Placed.{IsPlacedTable};
+ghost use Rattle.mv_flat.specs.Places.{places};
+ghost use Rattle.mv_flat.specs.Gathered.{with_mark, with_places};
+
+use crate::mark::{has_mark, mark_name};
+use mv_base::{Memory, NameSet};
+use mv_decl::Declared;
+use mv_design::{FileModel, FileTable};
+use mv_unfold::{Numbers, add_net, add_nets};
+use std::alloc::Global;
+
+/// The nets of the model by number: the inputs, then the outputs of the tables in order. Before the output of a table that
+/// gets a mark there is the mark, which stands here by a space and the output's name. `driven` are the driven nets.
+#[tactic(auto, using(crate::proofs::Names::with_places_of), unfolding(crate::specs::Places::places))]
+pub fn numbered(alloc: Global, model: &FileModel, driven: &Numbers) -> Result<Numbers, Memory>
+    requires proper { IsProperModel model.now }
+    requires placed { All (IsPlacedTable model.now.decls driven.now) model.now.tables }
+    requires few { length driven.now ≤ MAX_NETS }
+    requires differ { names_differ (places model.now) ≡ true }
+    ensures { IfOk result (λ n. n ≡ places model.now) }
+{
+    let decls = Declared::of(alloc, model.decls.as_slice())?;
+    let mut names = NameSet::new(alloc);
+    add_nets(&mut names, model.inputs.as_slice())?;
+    add_places(alloc, &mut names, &decls, driven, model.tables.as_slice())?;
+    Ok(Numbers::of_names(names))
+}
+
+/// Adds the nets of tables: their outputs, and their marks.
+fn add_places(
+    alloc: Global,
+    names: &mut NameSet,
+    decls: &Declared,
+    driven: &Numbers,
+    tables: &[FileTable],
+) -> Result<(), Memory>
+    requires proper { All IsFileDecl decls.now }
+    requires placed { All (IsPlacedTable decls.now driven.now) tables.now }
+    requires few { length driven.now ≤ MAX_NETS }
+    ensures { OnOk result (names.new ≡ with_places decls.now names.old tables.now) }
+{
+    for table in tables {
+        add_mark(alloc, names, decls, driven, table)?;
+        add_nets(names, table.outputs.as_slice())?;
+    }
+    Ok(())
+}
+
+/// Adds the mark of the table, if it gets one.
+fn add_mark(
+    alloc: Global,
+    names: &mut NameSet,
+    decls: &Declared,
+    driven: &Numbers,
+    table: &FileTable,
+) -> Result<(), Memory>
+    requires proper { All IsFileDecl decls.now }
+    requires placed { IsPlacedTable decls.now driven.now table.now }
+    requires few { length driven.now ≤ MAX_NETS }
+    ensures { OnOk result (names.new ≡ with_mark decls.now names.old table.now) }
+{
+    if has_mark(alloc, decls, driven, table)? {
+        add_net(names, &mark_name(alloc, &table.outputs.as_slice()[0])?)?;
+    }
+    Ok(())
+}

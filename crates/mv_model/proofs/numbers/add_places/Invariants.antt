@@ -1,6 +1,0 @@
-use Rattle.std.proofs.Common.{◌≡◌, drop}
-use Rattle.mv_model.specs.Columns.{with_places}
-use Rattle.mv_model.proofs.numbers.add_places.Given as goal
-
-abbrev pub invariant-loop-table : goal.invariant-loop-table
-invariant-loop-table l = with_places l.names (drop l.table-index l.tables) ≡ with_places l.fn.names l.tables

@@ -1,0 +1,16 @@
+pub mod Ascending
+pub mod FileLines
+pub mod Fed
+pub mod Nothing
+pub mod WordSets
+pub mod Entries
+pub mod Rows
+pub mod Names
+pub mod Decls
+pub mod Columns
+pub mod LineKinds
+pub mod Ports
+pub mod Tables
+pub mod Order
+pub mod Models
+pub mod Proper

@@ -1,0 +1,5 @@
+use Rattle.mv_proper.proofs.Fed.{WasFed}
+use Rattle.mv_sample.proofs.text.lines.Given as goal
+
+abbrev pub invariant-loop-line : goal.invariant-loop-line
+invariant-loop-line l = WasFed l.lexer l.lines

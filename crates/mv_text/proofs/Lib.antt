@@ -1,0 +1,3 @@
+pub mod Outputs
+mod Opening
+pub mod Resets

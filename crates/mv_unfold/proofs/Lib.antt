@@ -1,0 +1,10 @@
+pub mod Names
+pub mod Driven
+pub mod Faults
+pub mod Entries
+pub mod Listed
+pub mod Ranking
+pub mod Soundness
+pub mod Distinct
+pub mod Turns
+pub mod Named
