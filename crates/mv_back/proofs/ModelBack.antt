@@ -27,10 +27,11 @@ use Rattle.mv_back.proofs.Nets.{EachNet, EachNet-from, CanBeSaid, held-said}
 use Rattle.mv_back.proofs.Lookups.{declared, declared-differ, values-declared}
 use Rattle.mv_back.proofs.Ports.{names-lawful, names-differ, read-inputs}
 use Rattle.mv_back.proofs.DeclLines.{AreDecls, decl-lines}
+use Rattle.mv_parse.proofs.Plain.{are_plain, no-latches, no-resets}
 use Rattle.mv_back.proofs.Kept.{tables-behind, values-behind}
 use Rattle.mv_back.proofs.NetTables.{CanTable, SayTables, tables-said, tables-fine}
 use Rattle.mv_back.proofs.HeldTables.{table-net}
-use Rattle.mv_back.proofs.NetSays.{model_line, inputs_line, outputs_line, decl_part, tables_from, table_part, end_line, body, net-split, decls-alone, decls-begin_none, net-goes, net-inputs, net-outputs, decls-tables}
+use Rattle.mv_back.proofs.NetSays.{model_line, inputs_line, outputs_line, decl_part, tables_from, table_part, end_line, body, net-split, decls-alone, decls-begin_none, net-goes, net-plain, net-inputs, net-outputs, decls-tables}
 use Rattle.mv_written.specs.TextWords.{lines_from}
 
 -- the lines of the network say this model, and it is the network's
@@ -56,6 +57,9 @@ module _ (net : NetParts) (formed : WellFormed net) (none : net.latches ≡ []) 
 
   goes : list_all goes_on (first ∷ body net) ≡ true
   goes = net-goes net say.inside
+
+  plain : are_plain (body net) ≡ true
+  plain = net-plain net say.inside
 
   ports_go : list_all goes_on (first ∷ ports) ≡ true
   ports_go = rw (command-model, command-inputs, command-outputs) refl
@@ -89,8 +93,8 @@ module _ (net : NetParts) (formed : WellFormed net) (none : net.latches ≡ []) 
     outputs = net-outputs net say.inside;
     values = λ n f held. rw decls_are (values-declared net.nets n f (are_named net formed) held);
     tables = subst (λ (ts : List FileTable). AreTablesOf net.nets net.nets ts) (sym (ap (λ ds. tables_of ds (body net)) decls_are ∙ tables_are (declared net.nets))) say.tables;
-    latches = refl;
-    resets = refl;
+    latches = no-latches (body net) plain;
+    resets = no-resets _ (body net) plain;
     parts = refl;
   }
 

@@ -11,7 +11,7 @@ use Rattle.mv_decl.specs.Nets.{with_decls}
 use Rattle.mv_table.specs.Tables.{behind_first}
 use Rattle.mv_parse.specs.declared.command.Command.{Command}
 use Rattle.mv_parse.specs.declared.command.Command.TheVariants.{Mv, Table, Default, Row}
-use Rattle.mv_parse.specs.Commands.{command_at, keeps_table, is_table, is_end}
+use Rattle.mv_parse.specs.Commands.{command_at, is_end}
 use Rattle.mv_parse.specs.Known.{inputs_at, inputs_of, outputs_at, outputs_of, decls_at, decls_of}
 use Rattle.mv_net.specs.declared.parts.FlatNet.{FlatNet}
 use Rattle.mv_net.specs.declared.parts.NetParts.{NetParts}
@@ -20,7 +20,8 @@ use Rattle.mv_back.proofs.PlainLines.{plain_decl, plain_table, plain_inner, plai
 use Rattle.mv_back.proofs.Commands.{command-model, command-inputs, command-outputs, command-mv}
 use Rattle.mv_back.proofs.Opened.{goes_on}
 use Rattle.mv_written.proofs.LinesFrom.{lines_from-append}
-use Rattle.mv_back.proofs.Kept.{begins_none, of_table, table-goes}
+use Rattle.mv_parse.proofs.Plain.{is_plain, are_plain}
+use Rattle.mv_back.proofs.Kept.{says_none, begins_none, is_of_table, of_table, table-goes, table-plain}
 use Rattle.mv_written.specs.TextWords.{lines_from}
 
 -- ---- the lines
@@ -80,7 +81,7 @@ goes_by : (c : Command) → is_mv c ≡ true → not (is_end c) ≡ true
 goes_by Mv e = refl
 goes_by _ e = cc
 
-none_by : (c : Command) → is_mv c ≡ true → not (is_table c) ≡ true
+none_by : (c : Command) → is_mv c ≡ true → says_none c ≡ true
 none_by Mv e = refl
 none_by _ e = cc
 
@@ -94,6 +95,18 @@ net-goes net tables =
     let rest : list_all goes_on (decl_part net ++ table_part net) ≡ true = list_all-append goes_on (decl_part net) (table_part net) ∙ and_from _ _ decls (table-goes (table_part net) tables) in
     rw (command-model, command-inputs, command-outputs) rest
 
+-- none of them says a latch or a reset table
+mv_plain : (c : Command) → is_mv c ≡ true → is_plain c ≡ true
+mv_plain Mv e = refl
+mv_plain _ e = cc
+
+pub net-plain : (net : NetParts) → list_all of_table (table_part net) ≡ true → are_plain (body net) ≡ true
+net-plain net tables =
+    let plain = λ (l : LexLine). is_plain (command_at l) in
+    let decls = all-weaker of_decl plain (λ l y. mv_plain (command_at l) y) (decl_part net) (decls-alone 4 net.nets) in
+    let rest : list_all plain (decl_part net ++ table_part net) ≡ true = list_all-append plain (decl_part net) (table_part net) ∙ and_from _ _ decls (table-plain (table_part net) tables) in
+    rw (command-inputs, command-outputs) rest
+
 -- ---- what they say
 
 -- lines that declare nets, or belong to tables
@@ -105,14 +118,14 @@ inner_all ds ts d t =
     list_all-append is_inner ds ts
     ∙ and_from _ _ (all-weaker of_decl is_inner (λ l y. or_left (of_decl l) (of_table l) y) ds d) (all-weaker of_table is_inner (λ l y. or_right (of_decl l) (of_table l) y) ts t)
 
-no_inputs : (c : Command) (words : List (List ℕ)) → (is_mv c || (is_table c || keeps_table c)) ≡ true → inputs_at c words ≡ []
+no_inputs : (c : Command) (words : List (List ℕ)) → (is_mv c || is_of_table c) ≡ true → inputs_at c words ≡ []
 no_inputs Mv words e = refl
 no_inputs Table words e = refl
 no_inputs Default words e = refl
 no_inputs Row words e = refl
 no_inputs _ words e = cc
 
-no_outputs : (c : Command) (words : List (List ℕ)) → (is_mv c || (is_table c || keeps_table c)) ≡ true → outputs_at c words ≡ []
+no_outputs : (c : Command) (words : List (List ℕ)) → (is_mv c || is_of_table c) ≡ true → outputs_at c words ≡ []
 no_outputs Mv words e = refl
 no_outputs Table words e = refl
 no_outputs Default words e = refl
@@ -131,7 +144,7 @@ net-outputs net tables =
     let none = flat_map-nothing (λ l. outputs_at (command_at l) (behind_first l)) is_inner (λ l y. no_outputs (command_at l) (behind_first l) y) (decl_part net ++ table_part net) inner in
     rw (command-inputs, command-outputs, none) (append-nil (names_of net.nets net.outputs))
 
-no_decls : (c : Command) (l : LexLine) → (is_table c || keeps_table c) ≡ true → decls_at c (behind_first l) ≡ []
+no_decls : (c : Command) (l : LexLine) → is_of_table c ≡ true → decls_at c (behind_first l) ≡ []
 no_decls Table l e = refl
 no_decls Default l e = refl
 no_decls Row l e = refl

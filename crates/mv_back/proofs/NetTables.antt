@@ -2,7 +2,7 @@
 use Rattle.std.proofs.Common.{◌≡◌, ◌∙◌, ℕ, ◌+◌, true, List, [], ◌∷◌, ◌++◌, length, map, refl, sym, ap, subst}
 use Rattle.std.specs.Prelude.{Option, Some, None, option_map, codes}
 use Rattle.std.specs.List.{list_all, flat_map}
-use Rattle.std.proofs.lemmas.Bool.{and_from, or_right}
+use Rattle.std.proofs.lemmas.Bool.{and_from}
 use Rattle.std.proofs.lemmas.List.Folds.{list_all-append}
 use Rattle.mv_base.proofs.Lists.{all-weaker}
 use Rattle.mv_lex.specs.declared.lines.LexLine.{LexLine}
@@ -22,7 +22,7 @@ use Rattle.mv_back.proofs.Limits.{AreFine, AreFine-append}
 use Rattle.mv_back.proofs.Nets.{EachNet}
 use Rattle.mv_back.proofs.TableLines.{head_line, one_default, table_lines, table-fine}
 use Rattle.mv_written.proofs.LinesFrom.{lines_from-append}
-use Rattle.mv_back.proofs.Kept.{keeps, is_fresh, of_table, tables-table, values-table, table-goes}
+use Rattle.mv_back.proofs.Kept.{keeps, is_fresh, of_table, keeps-of_table, tables-table, values-table, table-goes}
 use Rattle.mv_back.proofs.TableText.{IsTableNet, are_rows, kept_words, SayTable, table-said}
 use Rattle.mv_written.specs.TextWords.{lines_from}
 
@@ -52,7 +52,7 @@ module _ (nets : List (Option FlatNet)) (ds : List Decl) where
 
   inside_table : (n : ℕ) (f : FlatNet) (c : Cover) → IsTableNet nets ds f c → list_all of_table (head_at n f c ∷ kept_at n f c) ≡ true
   inside_table n f c is =
-      and_from (of_table (head_at n f c)) _ (rw command-table refl) (all-weaker keeps of_table (λ l y. or_right _ _ y) (kept_at n f c) (said_at n f c is).keep)
+      and_from (of_table (head_at n f c)) _ (rw command-table refl) (all-weaker keeps of_table keeps-of_table (kept_at n f c) (said_at n f c is).keep)
 
   -- ---- what they say
 

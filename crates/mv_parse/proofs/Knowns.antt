@@ -10,13 +10,13 @@ use Rattle.mv_lex.proofs.Cuts.{closed-end, closed-more, open_piece-end, open_pie
 use Rattle.mv_design.specs.declared.design.FileModel.{FileModel}
 use Rattle.mv_fault.proofs.Nothing.{right-nothing}
 use Rattle.mv_parse.specs.declared.command.Command.{Command}
-use Rattle.mv_parse.specs.declared.command.Command.TheVariants.{Model, Inputs, Outputs, Mv, Table, Default, Row, End, Unbuilt, Unknown}
+use Rattle.mv_parse.specs.declared.command.Command.TheVariants.{Model, Inputs, Outputs, Mv, Table, Latch, Reset, Default, Row, End, Unbuilt, Unknown}
 use Rattle.mv_parse.specs.declared.known.Known.{Known}
 use Rattle.mv_parse.specs.Commands.{command_at, is_end}
 use Rattle.mv_parse.specs.Known.{ends_part, ended_parts, open_part, open_model, open_of, model_of, known, inputs_of, outputs_of}
 use Rattle.mv_parse.specs.Grammar.{unread_faults, outside_faults, inside_faults, placed_faults, line_faults, behind_model}
 use Rattle.mv_parse.specs.Steps.{inside_step, placed_step, line_step}
-use Rattle.mv_parse.proofs.Opens.{inputs-push, outputs-push, decls-push, open_table-row, open_table-default, open_table-table, open_table-other}
+use Rattle.mv_parse.proofs.Opens.{inputs-push, outputs-push, decls-push, open_table-row, open_table-default, open_table-table, open_table-reset, open_table-other}
 
 -- a line within a model
 model-inputs : (m : LexLine) (ls : List LexLine) (l : LexLine) → command_at l ≡ Inputs → open_model m (ls ++ l ∷ []) ≡ inside_step Inputs l (open_model m ls)
@@ -34,6 +34,14 @@ model-mv m ls l e =
 model-table : (m : LexLine) (ls : List LexLine) (l : LexLine) → command_at l ≡ Table → open_model m (ls ++ l ∷ []) ≡ inside_step Table l (open_model m ls)
 model-table m ls l e =
     rw (inputs-push ls l, outputs-push ls l, decls-push ls l, open_table-table ls l e, e, append-nil (inputs_of ls), append-nil (outputs_of ls)) refl
+
+model-latch : (m : LexLine) (ls : List LexLine) (l : LexLine) → command_at l ≡ Latch → open_model m (ls ++ l ∷ []) ≡ inside_step Latch l (open_model m ls)
+model-latch m ls l e =
+    rw (inputs-push ls l, outputs-push ls l, decls-push ls l, open_table-other ls l Latch e refl refl, e, append-nil (inputs_of ls), append-nil (outputs_of ls)) refl
+
+model-reset : (m : LexLine) (ls : List LexLine) (l : LexLine) → command_at l ≡ Reset → open_model m (ls ++ l ∷ []) ≡ inside_step Reset l (open_model m ls)
+model-reset m ls l e =
+    rw (inputs-push ls l, outputs-push ls l, decls-push ls l, open_table-reset ls l e, e, append-nil (inputs_of ls), append-nil (outputs_of ls)) refl
 
 model-default : (m : LexLine) (ls : List LexLine) (l : LexLine) → command_at l ≡ Default → open_model m (ls ++ l ∷ []) ≡ inside_step Default l (open_model m ls)
 model-default m ls l e =
@@ -61,6 +69,8 @@ inside-said Inputs models m ls l e n h = ap (λ o. record { models = models; ins
 inside-said Outputs models m ls l e n h = ap (λ o. record { models = models; inside = Some o }) (model-outputs m ls l e)
 inside-said Mv models m ls l e n h = ap (λ o. record { models = models; inside = Some o }) (model-mv m ls l e)
 inside-said Table models m ls l e n h = ap (λ o. record { models = models; inside = Some o }) (model-table m ls l e)
+inside-said Latch models m ls l e n h = ap (λ o. record { models = models; inside = Some o }) (model-latch m ls l e)
+inside-said Reset models m ls l e n h = ap (λ o. record { models = models; inside = Some o }) (model-reset m ls l e)
 inside-said Default models m ls l e n h = ap (λ o. record { models = models; inside = Some o }) (model-default m ls l e)
 inside-said Row models m ls l e n h = ap (λ o. record { models = models; inside = Some o }) (model-row m ls l e)
 inside-said End models m ls l e n h = cc

@@ -3,3 +3,4 @@ pub mod Narrows
 pub mod Knowns
 pub mod Walks
 pub mod Values
+pub mod Plain

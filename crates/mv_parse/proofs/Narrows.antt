@@ -1,20 +1,20 @@
 -- A table whose first line has no fault has no more columns than a table may have.
-use Rattle.std.proofs.Common.{◌≡◌, ℕ, ◌+◌, ◌≤◌, true, false, List, [], ◌∷◌, ◌++◌, length, ◌&&◌, refl, subst, ⊎_elim, arith}
-use Rattle.std.specs.Prelude.{Option, Some, None, nat_le, not, All}
+use Rattle.std.proofs.Common.{◌≡◌, ℕ, ◌+◌, ◌≤◌, true, false, List, [], ◌∷◌, ◌++◌, length, ◌&&◌, subst, ⊎_elim, arith}
+use Rattle.std.specs.Prelude.{Option, Some, None, nat_le, nat_lt, not, All}
 use Rattle.std.specs.List.{list_all}
-use Rattle.std.proofs.lemmas.Bool.{cases_Bool, and_parts}
+use Rattle.std.proofs.lemmas.Bool.{cases_Bool, and_parts, ltb-false}
 use Rattle.std.proofs.lemmas.List.Elements.{All-head, All-tail}
 use Rattle.mv_base.specs.Names.{is_net_name}
 use Rattle.mv_base.specs.declared.limits.TheConstants.{MAX_COLUMNS}
 use Rattle.mv_lex.specs.declared.lines.LexLine.{LexLine}
 use Rattle.mv_fault.specs.declared.fault.Which.TheVariants.{Columns}
-use Rattle.mv_fault.specs.declared.fault.ParseFault.TheVariants.{Limit, BadName}
+use Rattle.mv_fault.specs.declared.fault.ParseFault.TheVariants.{Limit, BadName, Extra}
 use Rattle.mv_fault.specs.Tells.{when}
 use Rattle.mv_fault.proofs.Nothing.{left-nothing, right-nothing, when-nothing}
-use Rattle.mv_table.specs.Columns.{ins_of, outs_of, names_faults, columns_faults}
+use Rattle.mv_table.specs.Columns.{ins_of, outs_of, names_faults, columns_faults, output_faults, reset_faults}
 use Rattle.mv_table.specs.Tables.{behind_first}
 use Rattle.mv_parse.specs.declared.command.Command.{Command}
-use Rattle.mv_parse.specs.declared.command.Command.TheVariants.{Table}
+use Rattle.mv_parse.specs.declared.command.Command.TheVariants.{Table, Reset}
 use Rattle.mv_parse.specs.declared.known.OpenTable.{OpenTable}
 use Rattle.mv_parse.specs.declared.known.OpenModel.{OpenModel}
 use Rattle.mv_parse.specs.declared.known.Known.{Known}
@@ -42,14 +42,27 @@ columns-few n word words none =
     let ins : 0 + length (ins_of words) ≤ MAX_COLUMNS = names-few n 0 (ins_of words) (omega arith) (left-nothing _ _ (left-nothing _ _ none)) in
     names-few n (length (ins_of words)) (outs_of words) (omega arith) (right-nothing _ _ (left-nothing _ _ none))
 
--- a line without a fault is narrow
-table-only : (c : Command) → is_table c ≡ true → c ≡ Table
-table-only Table e = refl
-table-only _ e = cc
+-- and a reset table's
+output-few : (n : ℕ) (word : List ℕ) (at : ℕ) (ws : List (List ℕ)) → at ≤ MAX_COLUMNS → output_faults n word at ws ≡ [] → at + length ws ≤ MAX_COLUMNS
+output-few n word at [] within none = cc
+output-few n word at (w ∷ []) within none = names-few n at (w ∷ []) within (left-nothing (names_faults n at (w ∷ [])) [] none)
+output-few n word at (w ∷ v ∷ ws) within none =
+    let extra = when (nat_lt 0 (length (v ∷ ws))) (Extra n word) in
+    let no_more : length (v ∷ ws) ≤ 0 = ltb-false 0 (length (v ∷ ws)) (when-nothing _ _ (right-nothing (names_faults n at (w ∷ [])) extra none)) in
+    omega arith
 
-pub placed-narrow : (c : Command) (o : Option OpenModel) (ls : List LexLine) (l : LexLine) → c ≡ Table → placed_faults c o ls l ≡ [] → length (ins_of (behind_first l)) + length (outs_of (behind_first l)) ≤ MAX_COLUMNS
+pub reset-few : (n : ℕ) (word : List ℕ) (words : List (List ℕ)) → reset_faults n word words ≡ [] → length (ins_of words) + length (outs_of words) ≤ MAX_COLUMNS
+unfolding reset_faults
+reset-few n word words none =
+    let ins : 0 + length (ins_of words) ≤ MAX_COLUMNS = names-few n 0 (ins_of words) (omega arith) (left-nothing _ _ none) in
+    output-few n word (length (ins_of words)) (outs_of words) (omega arith) (right-nothing (names_faults n 0 (ins_of words)) _ none)
+
+-- a line without a fault is narrow
+pub placed-narrow : (c : Command) (o : Option OpenModel) (ls : List LexLine) (l : LexLine) → is_table c ≡ true → placed_faults c o ls l ≡ [] → length (ins_of (behind_first l)) + length (outs_of (behind_first l)) ≤ MAX_COLUMNS
 placed-narrow Table None ls l e none = cc
 placed-narrow Table (Some m) ls l e none = columns-few l.number (first_word l) (behind_first l) none
+placed-narrow Reset None ls l e none = cc
+placed-narrow Reset (Some m) ls l e none = reset-few l.number (first_word l) (behind_first l) none
 placed-narrow _ o ls l e none = cc
 
 pub line-narrow : (k : Known) (ls : List LexLine) (l : LexLine) → line_faults (command_at l) k ls l ≡ [] → HasFewColumns l
@@ -65,7 +78,7 @@ open-small (x ∷ ls) t narrow e =
     let is : Some (table_state x ls) ≡ Some t = rw y at e in
     let same : table_state x ls ≡ t = cc in
     let P : OpenTable → Type 0 = λ u. u.ins + u.outs ≤ MAX_COLUMNS in
-    subst P same (All-head (λ (l : LexLine). HasFewColumns l) x ls narrow (table-only (command_at x) (and_parts (is_table (command_at x)) (list_all (λ r. keeps_table (command_at r)) ls) y).0)))
+    subst P same (All-head (λ (l : LexLine). HasFewColumns l) x ls narrow (and_parts (is_table (command_at x)) (list_all (λ r. keeps_table (command_at r)) ls) y).0))
     (λ (n : (is_table (command_at x) && list_all (λ r. keeps_table (command_at r)) ls) ≡ false).
     open-small ls t (All-tail (λ (l : LexLine). HasFewColumns l) x ls narrow) (rw n at e))
     (cases_Bool (is_table (command_at x) && list_all (λ r. keeps_table (command_at r)) ls))

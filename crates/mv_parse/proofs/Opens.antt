@@ -13,7 +13,7 @@ use Rattle.mv_design.specs.declared.design.Decl.{Decl}
 use Rattle.mv_decl.specs.Nets.{with_decl, with_decls}
 use Rattle.mv_table.specs.Tables.{behind_first}
 use Rattle.mv_parse.specs.declared.command.Command.{Command}
-use Rattle.mv_parse.specs.declared.command.Command.TheVariants.{Table, Default, Row}
+use Rattle.mv_parse.specs.declared.command.Command.TheVariants.{Table, Reset, Default, Row}
 use Rattle.mv_parse.specs.declared.known.OpenTable.{OpenTable}
 use Rattle.mv_parse.specs.Commands.{command_at, keeps_table, is_row, is_default, is_table}
 use Rattle.mv_parse.specs.Known.{inputs_at, inputs_of, outputs_at, outputs_of, decls_at, decls_of, table_state, open_table}
@@ -86,10 +86,16 @@ open_table-default (x ∷ ls) l e =
 shut-test : (x : LexLine) (ls : List LexLine) (l : LexLine) (c : Command) → command_at l ≡ c → keeps_table c ≡ false → (is_table (command_at x) && list_all (λ r. keeps_table (command_at r)) (ls ++ l ∷ [])) ≡ false
 shut-test x ls l c e k = ap (λ b. is_table (command_at x) && b) (keeps-push ls l c e ∙ (ap (λ b. list_all (λ r. keeps_table (command_at r)) ls && b) k ∙ and-false (list_all (λ r. keeps_table (command_at r)) ls))) ∙ and-false (is_table (command_at x))
 
+open_table-first : (ls : List LexLine) (l : LexLine) (c : Command) → command_at l ≡ c → keeps_table c ≡ false → is_table c ≡ true → open_table (ls ++ l ∷ []) ≡ Some (new_table (behind_first l))
+open_table-first [] l c e k t = rw (e, t) refl
+open_table-first (x ∷ ls) l c e k t =
+    ap (λ b. if b then Some (table_state x (ls ++ l ∷ [])) else open_table (ls ++ l ∷ [])) (shut-test x ls l c e k) ∙ open_table-first ls l c e k t
+
 pub open_table-table : (ls : List LexLine) (l : LexLine) → command_at l ≡ Table → open_table (ls ++ l ∷ []) ≡ Some (new_table (behind_first l))
-open_table-table [] l e = rw e refl
-open_table-table (x ∷ ls) l e =
-    ap (λ b. if b then Some (table_state x (ls ++ l ∷ [])) else open_table (ls ++ l ∷ [])) (shut-test x ls l Table e refl) ∙ open_table-table ls l e
+open_table-table ls l e = open_table-first ls l Table e refl refl
+
+pub open_table-reset : (ls : List LexLine) (l : LexLine) → command_at l ≡ Reset → open_table (ls ++ l ∷ []) ≡ Some (new_table (behind_first l))
+open_table-reset ls l e = open_table-first ls l Reset e refl refl
 
 pub open_table-other : (ls : List LexLine) (l : LexLine) (c : Command) → command_at l ≡ c → keeps_table c ≡ false → is_table c ≡ false → open_table (ls ++ l ∷ []) ≡ None
 open_table-other [] l c e k t = rw (e, t) refl

@@ -4,7 +4,7 @@ use Rattle.mv_base.specs.Names.{same_word, begins_with}
 use Rattle.mv_lex.specs.declared.lines.LexLine.{LexLine}
 use Rattle.mv_table.specs.Tables.{is_default_word}
 use Rattle.mv_parse.specs.declared.command.Command.{Command}
-use Rattle.mv_parse.specs.declared.command.Command.TheVariants.{Model, Inputs, Outputs, Mv, Table, Default, Row, End, Unbuilt, Unknown}
+use Rattle.mv_parse.specs.declared.command.Command.TheVariants.{Model, Inputs, Outputs, Mv, Table, Latch, Reset, Default, Row, End, Unbuilt, Unknown}
 
 -- the first of these words, or no bytes where there is none
 abbrev pub first_of : List (List ℕ) → List ℕ
@@ -15,14 +15,17 @@ first_of (w ∷ words) = w
 abbrev pub first_word : LexLine → List ℕ
 first_word l = first_of l.words
 
--- the commands that this version doesn't read: latches, resets, instances, and the root's name
+-- the commands that this version doesn't read: instances, and the root's name
 abbrev pub is_unbuilt : List ℕ → Bool
-is_unbuilt w =
-    same_word w (codes ".latch") || same_word w (codes ".reset") || same_word w (codes ".r") || same_word w (codes ".subckt") || same_word w (codes ".root")
+is_unbuilt w = same_word w (codes ".subckt") || same_word w (codes ".root")
 
 -- the words that say that a line begins a table
 abbrev pub is_table_word : List ℕ → Bool
 is_table_word w = same_word w (codes ".table") || same_word w (codes ".names")
+
+-- the words that say that a line begins a reset table
+abbrev pub is_reset_word : List ℕ → Bool
+is_reset_word w = same_word w (codes ".reset") || same_word w (codes ".r")
 
 -- what a line is, by its first word: one that doesn't begin with a full stop begins a row
 unfoldable pub command_of : List ℕ → Command
@@ -35,6 +38,8 @@ command_of w =
     else if is_table_word w then Table
     else if is_default_word w then Default
     else if same_word w (codes ".end") then End
+    else if same_word w (codes ".latch") then Latch
+    else if is_reset_word w then Reset
     else if is_unbuilt w then Unbuilt
     else Unknown
 
@@ -58,9 +63,10 @@ abbrev pub is_default : Command → Bool
 is_default Default = true
 is_default _ = false
 
--- the line begins a table
+-- the line begins a table or a reset table
 abbrev pub is_table : Command → Bool
 is_table Table = true
+is_table Reset = true
 is_table _ = false
 
 -- the line ends its model

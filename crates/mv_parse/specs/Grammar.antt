@@ -6,22 +6,24 @@ use Rattle.mv_base.specs.Names.{among, is_net_name, is_model_name}
 use Rattle.mv_base.specs.declared.limits.TheConstants.{MAX_TABLE_LINES}
 use Rattle.mv_lex.specs.declared.lines.LexLine.{LexLine}
 use Rattle.mv_design.specs.declared.design.Decl.{Decl}
+use Rattle.mv_design.specs.declared.design.FileLatch.{FileLatch}
 use Rattle.mv_design.specs.declared.design.Design.{Design}
+use Rattle.mv_design.specs.Values.{count_of}
 use Rattle.mv_fault.specs.declared.fault.Which.TheVariants.{TableLines}
 use Rattle.mv_fault.specs.declared.fault.ParseFault.{ParseFault}
 use Rattle.mv_fault.specs.declared.fault.ParseFault.TheVariants.{UnknownCommand, OutsideModel, NoEnd, Missing, Extra, Columns, DefaultTwice}
-use Rattle.mv_fault.specs.declared.fault.ParseFault.TheVariants.{Repeated, NoModel, Limit, BadName, NoTable, NotBuilt}
+use Rattle.mv_fault.specs.declared.fault.ParseFault.TheVariants.{Repeated, NoModel, Limit, BadName, NoTable, LatchValues, NotBuilt}
 use Rattle.mv_fault.specs.Tells.{when, first}
-use Rattle.mv_decl.specs.Line.{decl_faults}
-use Rattle.mv_table.specs.Columns.{has_several_outputs, columns_faults}
+use Rattle.mv_decl.specs.Line.{net_name_faults, decl_faults}
+use Rattle.mv_table.specs.Columns.{has_several_outputs, columns_faults, reset_faults}
 use Rattle.mv_table.specs.Tables.{behind_first, table_faults}
 use Rattle.mv_parse.specs.declared.command.Command.{Command}
-use Rattle.mv_parse.specs.declared.command.Command.TheVariants.{Model, Inputs, Outputs, Mv, Table, Default, Row, End, Unbuilt, Unknown}
+use Rattle.mv_parse.specs.declared.command.Command.TheVariants.{Model, Inputs, Outputs, Mv, Table, Latch, Reset, Default, Row, End, Unbuilt, Unknown}
 use Rattle.mv_parse.specs.declared.known.OpenTable.{OpenTable}
 use Rattle.mv_parse.specs.declared.known.OpenModel.{OpenModel}
 use Rattle.mv_parse.specs.declared.known.Known.{Known}
 use Rattle.mv_parse.specs.Commands.{first_word, command_at, is_end}
-use Rattle.mv_parse.specs.Known.{front_rows, open_part, known}
+use Rattle.mv_parse.specs.Known.{front_rows, latch_of, open_part, known}
 
 -- `.model NAME`: exactly one word
 unfoldable pub model_faults : ℕ → List ℕ → List (List ℕ) → List ParseFault
@@ -34,6 +36,13 @@ port_faults n earlier [] = []
 port_faults n earlier (w ∷ words) =
     when (not (is_net_name w)) (BadName n w) ++ when (among w earlier) (Repeated n w) ++ port_faults n (earlier ++ w ∷ []) words
 
+-- `.latch IN OUT`: exactly two words
+unfoldable pub latch_faults : ℕ → List ℕ → List (List ℕ) → List ParseFault
+latch_faults n word [] = Missing n word ∷ []
+latch_faults n word (input ∷ []) = net_name_faults n input ++ Missing n word ∷ []
+latch_faults n word (input ∷ output ∷ words) =
+    net_name_faults n input ++ net_name_faults n output ++ when (nat_lt 0 (length words)) (Extra n word)
+
 -- a row of the open table: one entry a column
 unfoldable pub row_faults : ℕ → OpenTable → List (List ℕ) → List ParseFault
 row_faults n t words =
@@ -45,12 +54,18 @@ unfoldable pub default_faults : ℕ → List ℕ → OpenTable → List (List �
 default_faults n word t words =
     when t.has_default (DefaultTwice n) ++ when (nat_lt (length words) t.outs) (Missing n word) ++ when (nat_lt t.outs (length words)) (Extra n word)
 
--- the faults of the values of a table, if the line begins one and these lines stand behind it
+-- the input and the output of a latch have as many values
+unfoldable pub latch_value_faults : List Decl → FileLatch → List ParseFault
+latch_value_faults ds h = when (not (count_of ds h.input == count_of ds h.output)) (LatchValues h.line h.input h.output)
+
+-- the faults of the values of a table or a reset table, if the line begins one and these lines stand behind it, or of a latch
 abbrev pub table_value_faults : Command → List Decl → LexLine → List LexLine → List ParseFault
 table_value_faults Table ds l ls = table_faults ds l (front_rows ls)
+table_value_faults Latch ds l ls = latch_value_faults ds (latch_of l)
+table_value_faults Reset ds l ls = table_faults ds l (front_rows ls)
 table_value_faults _ ds l ls = []
 
--- the faults of the values of a model's rows and defaults, table by table, where these are its lines
+-- the faults of the values of a model's rows, defaults and latches, line by line, where these are its lines
 abbrev pub tables_faults : List Decl → List LexLine → List ParseFault
 tables_faults ds [] = []
 tables_faults ds (l ∷ ls) = table_value_faults (command_at l) ds l ls ++ tables_faults ds ls
@@ -64,10 +79,12 @@ abbrev pub at_table : ℕ → Option OpenTable → (OpenTable → List ParseFaul
 at_table n None faults = NoTable n ∷ []
 at_table n (Some t) faults = faults t
 
--- the fault of a line that this version doesn't read: a second model, and a table with several outputs
+-- the fault of a line that this version doesn't read: a second model, a table with several outputs, a latch and a reset
 abbrev pub unread_faults : Command → Known → LexLine → List ParseFault
 unread_faults Model k l = when (nat_lt 0 (length k.models)) (NotBuilt l.number)
 unread_faults Table k l = when (has_several_outputs (behind_first l)) (NotBuilt l.number)
+unread_faults Latch k l = NotBuilt l.number ∷ []
+unread_faults Reset k l = NotBuilt l.number ∷ []
 unread_faults _ k l = []
 
 -- the faults of a line outside a model
@@ -84,6 +101,8 @@ inside_faults Inputs m l = port_faults l.number m.inputs (behind_first l)
 inside_faults Outputs m l = port_faults l.number m.outputs (behind_first l)
 inside_faults Mv m l = decl_faults l.number (first_word l) m.decls (behind_first l)
 inside_faults Table m l = columns_faults l.number (first_word l) (behind_first l)
+inside_faults Latch m l = latch_faults l.number (first_word l) (behind_first l)
+inside_faults Reset m l = reset_faults l.number (first_word l) (behind_first l)
 inside_faults Default m l = at_table l.number m.table (λ t. default_faults l.number (first_word l) t (behind_first l))
 inside_faults Row m l = at_table l.number m.table (λ t. row_faults l.number t l.words)
 inside_faults End m l = []

@@ -4,6 +4,7 @@ use Rattle.std.specs.List.{flat_map, list_all, list_any}
 use Rattle.mv_lex.specs.declared.lines.LexLine.{LexLine}
 use Rattle.mv_lex.specs.Cuts.{closed, open_piece}
 use Rattle.mv_design.specs.declared.design.Decl.{Decl}
+use Rattle.mv_design.specs.declared.design.FileLatch.{FileLatch}
 use Rattle.mv_design.specs.declared.design.FileModel.{FileModel}
 use Rattle.mv_design.specs.declared.table.FileTable.{FileTable}
 use Rattle.mv_decl.specs.Nets.{with_decls}
@@ -11,7 +12,7 @@ use Rattle.mv_decl.specs.Line.{decls_said}
 use Rattle.mv_table.specs.Columns.{ins_of, outs_of}
 use Rattle.mv_table.specs.Tables.{behind_first, table_of}
 use Rattle.mv_parse.specs.declared.command.Command.{Command}
-use Rattle.mv_parse.specs.declared.command.Command.TheVariants.{Inputs, Outputs, Mv, Table}
+use Rattle.mv_parse.specs.declared.command.Command.TheVariants.{Inputs, Outputs, Mv, Table, Latch, Reset}
 use Rattle.mv_parse.specs.declared.known.OpenTable.{OpenTable}
 use Rattle.mv_parse.specs.declared.known.OpenModel.{OpenModel}
 use Rattle.mv_parse.specs.declared.known.Known.{Known}
@@ -61,6 +62,29 @@ abbrev pub tables_of : List Decl → List LexLine → List FileTable
 tables_of ds [] = []
 tables_of ds (l ∷ ls) = table_at (command_at l) ds l ls ++ tables_of ds ls
 
+-- the latch that a line says: its input and its output
+abbrev pub latch_of : LexLine → FileLatch
+latch_of l = record { line = l.number; input = first_of (behind_first l); output = first_of (drop 1 (behind_first l)) }
+
+-- the latch of a line, if it says one
+abbrev pub latch_at : Command → LexLine → List FileLatch
+latch_at Latch l = latch_of l ∷ []
+latch_at _ l = []
+
+-- the latches of a model with these lines
+abbrev pub latches_of : List LexLine → List FileLatch
+latches_of ls = flat_map (λ l. latch_at (command_at l) l) ls
+
+-- the reset table that a line begins, if it begins one
+abbrev pub reset_at : Command → List Decl → LexLine → List LexLine → List FileTable
+reset_at Reset ds l ls = table_of ds l (front_rows ls) ∷ []
+reset_at _ ds l ls = []
+
+-- the reset tables of a model with these lines
+abbrev pub resets_of : List Decl → List LexLine → List FileTable
+resets_of ds [] = []
+resets_of ds (l ∷ ls) = reset_at (command_at l) ds l ls ++ resets_of ds ls
+
 -- the table that is open behind these lines: the last one, where only rows and defaults stand behind its first line
 abbrev pub table_state : LexLine → List LexLine → OpenTable
 table_state l ls = record {
@@ -70,7 +94,7 @@ table_state l ls = record {
   has_default = list_any (λ r. is_default (command_at r)) ls;
 }
 
--- the table that is open behind these lines, if one is
+-- the table, or reset table, that is open behind these lines, if one is
 abbrev pub open_table : List LexLine → Option OpenTable
 open_table [] = None
 open_table (l ∷ ls) =
@@ -114,8 +138,8 @@ file_model m ls = record {
   outputs = m.outputs;
   decls = m.decls;
   tables = tables_of m.decls ls;
-  latches = [];
-  resets = [];
+  latches = latches_of ls;
+  resets = resets_of m.decls ls;
   parts = [];
 }
 

@@ -2,19 +2,21 @@
 -- list of lines says is proved of it.
 use Rattle.std.specs.Prelude.{◌≡◌, ℕ, ◌+◌, ◌≤◌, List, [], ◌∷◌, ◌++◌, length, true, false, Option, Some, None, option_map, if◌then◌else◌}
 use Rattle.mv_lex.specs.declared.lines.LexLine.{LexLine}
+use Rattle.mv_design.specs.declared.design.Decl.{Decl}
 use Rattle.mv_design.specs.declared.design.FileModel.{FileModel}
 use Rattle.mv_decl.specs.Nets.{with_decls}
 use Rattle.mv_decl.specs.Line.{decls_said}
 use Rattle.mv_table.specs.Columns.{ins_of, outs_of}
-use Rattle.mv_table.specs.Tables.{behind_first}
+use Rattle.mv_table.specs.Tables.{behind_first, table_of}
 use Rattle.mv_parse.specs.declared.command.Command.{Command}
-use Rattle.mv_parse.specs.declared.command.Command.TheVariants.{Inputs, Outputs, Mv, Table, Default, Row}
+use Rattle.mv_parse.specs.declared.command.Command.TheVariants.{Inputs, Outputs, Mv, Table, Latch, Reset, Default, Row}
 use Rattle.mv_parse.specs.declared.known.OpenTable.{OpenTable}
 use Rattle.mv_parse.specs.declared.known.OpenModel.{OpenModel}
+use Rattle.mv_parse.specs.declared.known.Contents.{Contents}
 use Rattle.mv_parse.specs.declared.known.Known.{Known}
 use Rattle.mv_base.specs.declared.limits.TheConstants.{MAX_COLUMNS}
-use Rattle.mv_parse.specs.Commands.{first_of, command_at, is_end}
-use Rattle.mv_parse.specs.Known.{file_model}
+use Rattle.mv_parse.specs.Commands.{first_of, command_at, is_table, is_end}
+use Rattle.mv_parse.specs.Known.{front_rows, tables_of, latch_of, latches_of, resets_of, file_model}
 
 -- a model and a table that begin
 abbrev pub new_model : LexLine → OpenModel
@@ -36,7 +38,11 @@ with_outputs words m = record m { outputs = m.outputs ++ words; table = None }
 abbrev pub with_declared : List (List ℕ) → OpenModel → OpenModel
 with_declared words m = record m { decls = with_decls m.decls (decls_said words); table = None }
 
--- a model with a table that begins
+-- a model whose table is closed
+abbrev pub with_no_table : OpenModel → OpenModel
+with_no_table m = record m { table = None }
+
+-- a model with a table, or a reset table, that begins
 abbrev pub with_open_table : List (List ℕ) → OpenModel → OpenModel
 with_open_table words m = record m { table = Some (new_table words) }
 
@@ -62,6 +68,8 @@ inside_step Inputs l m = with_inputs (behind_first l) m
 inside_step Outputs l m = with_outputs (behind_first l) m
 inside_step Mv l m = with_declared (behind_first l) m
 inside_step Table l m = with_open_table (behind_first l) m
+inside_step Latch l m = with_no_table m
+inside_step Reset l m = with_open_table (behind_first l) m
 inside_step Default l m = with_default m
 inside_step Row l m = with_row m
 inside_step _ l m = m
@@ -85,9 +93,20 @@ placed_step c models (Some m) ls l = inside_stepped c models m ls l
 unfoldable pub line_step : Command → Known → List LexLine → LexLine → Known
 line_step c k ls l = placed_step c k.models k.inside ls l
 
--- a first line of a table has no more columns than a table may have
+-- what these lines of a model say besides its ports and its declarations
+abbrev pub contents_of : List Decl → List LexLine → Contents
+contents_of ds ls = record { tables = tables_of ds ls; latches = latches_of ls; resets = resets_of ds ls }
+
+-- that of the lines before, with what a line adds, where these lines stand behind it
+abbrev pub with_line : Command → List Decl → LexLine → List LexLine → Contents → Contents
+with_line Table ds l ls k = record k { tables = k.tables ++ table_of ds l (front_rows ls) ∷ [] }
+with_line Latch ds l ls k = record k { latches = k.latches ++ latch_of l ∷ [] }
+with_line Reset ds l ls k = record k { resets = k.resets ++ table_of ds l (front_rows ls) ∷ [] }
+with_line _ ds l ls k = k
+
+-- a first line of a table or a reset table has no more columns than a table may have
 abbrev pub HasFewColumns : LexLine → Type 0
-HasFewColumns l = command_at l ≡ Table → length (ins_of (behind_first l)) + length (outs_of (behind_first l)) ≤ MAX_COLUMNS
+HasFewColumns l = is_table (command_at l) ≡ true → length (ins_of (behind_first l)) + length (outs_of (behind_first l)) ≤ MAX_COLUMNS
 
 -- the open table has no more columns than a table may have
 pub record IsSmall (k : Known) : Type 0 where

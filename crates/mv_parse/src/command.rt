@@ -1,5 +1,5 @@
 ghost use Rattle.std.specs.Prelude.{◌≡◌};
-ghost use Rattle.mv_parse.specs.Commands.{command_of, command_at, first_of, first_word, is_unbuilt, is_table_word, keeps_table, is_end, is_bound, is_table};
+ghost use Rattle.mv_parse.specs.Commands.{command_of, command_at, first_of, first_word, is_unbuilt, is_table_word, is_reset_word, keeps_table, is_end, is_bound, is_table};
 
 use mv_base::Name;
 use mv_lex::LexLine;
@@ -14,6 +14,8 @@ pub enum Command {
     Outputs,
     Mv,
     Table,
+    Latch,
+    Reset,
     Default,
     Row,
     End,
@@ -26,11 +28,7 @@ pub enum Command {
 fn is_unbuilt(word: &[u8]) -> bool
     ensures { result ≡ is_unbuilt word.now }
 {
-    is_text(word, b".latch")
-        || is_text(word, b".reset")
-        || is_text(word, b".r")
-        || is_text(word, b".subckt")
-        || is_text(word, b".root")
+    is_text(word, b".subckt") || is_text(word, b".root")
 }
 
 /// Whether the word says that its line begins a table.
@@ -38,6 +36,13 @@ fn is_table_word(word: &[u8]) -> bool
     ensures { result ≡ is_table_word word.now }
 {
     is_text(word, b".table") || is_text(word, b".names")
+}
+
+/// Whether the word says that its line begins a reset table.
+fn is_reset_word(word: &[u8]) -> bool
+    ensures { result ≡ is_reset_word word.now }
+{
+    is_text(word, b".reset") || is_text(word, b".r")
 }
 
 /// What a line with this first word is.
@@ -61,6 +66,10 @@ fn command_of(word: &[u8]) -> Command
         Command::Default
     } else if is_text(word, b".end") {
         Command::End
+    } else if is_text(word, b".latch") {
+        Command::Latch
+    } else if is_reset_word(word) {
+        Command::Reset
     } else if is_unbuilt(word) {
         Command::Unbuilt
     } else {
@@ -99,11 +108,11 @@ pub fn is_end(command: Command) -> bool
     matches!(command, Command::End)
 }
 
-/// Whether the line begins a table.
+/// Whether the line begins a table or a reset table.
 pub fn is_table(command: Command) -> bool
     ensures { result ≡ is_table command }
 {
-    matches!(command, Command::Table)
+    matches!(command, Command::Table | Command::Reset)
 }
 
 /// Whether the line begins a model or ends one.

@@ -1,6 +1,6 @@
 use mv_base::{Items, Name, NameSet};
 use mv_decl::Decls;
-use mv_design::FileModel;
+use mv_design::{FileLatch, FileModel, FileTable};
 
 /// What the lines of the open table say so far: how many columns of each kind it has, how many rows, and whether its
 /// default has stood.
@@ -21,6 +21,14 @@ pub struct OpenModel {
     pub outputs: NameSet,
     pub decls: Decls,
     pub table: Option<OpenTable>,
+}
+
+/// What lines of a model say besides its ports and its declarations.
+#[derive(Drop)]
+pub struct Contents {
+    pub tables: Items<FileTable>,
+    pub latches: Items<FileLatch>,
+    pub resets: Items<FileTable>,
 }
 
 /// What the lines so far say: the models that have ended, and the one that is open.

@@ -3,6 +3,7 @@
 
 mod command;
 mod known;
+mod latches;
 mod lines;
 mod reader;
 mod step;

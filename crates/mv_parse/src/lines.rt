@@ -2,16 +2,17 @@ ghost use Rattle.std.specs.Prelude.{◌≡◌, ◌≤◌, ◌+◌, ◌++◌, IfO
 ghost use Rattle.mv_base.specs.declared.limits.TheConstants.{MAX_COLUMNS as most_columns};
 ghost use Rattle.mv_fault.specs.Tells.{Tells};
 ghost use Rattle.mv_decl.specs.Line.{decl_faults};
-ghost use Rattle.mv_table.specs.Columns.{columns_faults};
+ghost use Rattle.mv_table.specs.Columns.{columns_faults, reset_faults};
 ghost use Rattle.mv_parse.specs.Commands.{first_of};
-ghost use Rattle.mv_parse.specs.Grammar.{model_faults, port_faults, row_faults, default_faults};
-ghost use Rattle.mv_parse.specs.Steps.{with_inputs, with_outputs, with_declared, with_open_table, default_seen, row_seen};
+ghost use Rattle.mv_parse.specs.Grammar.{model_faults, port_faults, latch_faults, row_faults, default_faults};
+ghost use Rattle.mv_parse.specs.Steps.{with_inputs, with_outputs, with_declared, with_no_table, with_open_table, default_seen, row_seen};
 
 use crate::known::{OpenModel, OpenTable};
+use crate::latches::check_latch;
 use mv_base::{MAX_TABLE_LINES, Name, NameSet};
 use mv_decl::declare;
 use mv_fault::{ParseFault, Which};
-use mv_table::{check_columns, ins, outs};
+use mv_table::{check_columns, check_reset, ins, outs};
 use mv_word::{is_model_name, is_net_name};
 use std::alloc::Global;
 
@@ -94,6 +95,18 @@ pub fn read_decls(
     declare(alloc, &mut model.decls, number, word, words)
 }
 
+/// Opens the table, or the reset table, of a first line with these words.
+fn open_table(model: &mut OpenModel, words: &[Name])
+    ensures { model.new ≡ with_open_table words.now model.old }
+{
+    model.table = Some(OpenTable {
+        ins: ins(words).len(),
+        outs: outs(words).len(),
+        rows: 0,
+        has_default: false,
+    });
+}
+
 /// Reads the words behind `.table`.
 pub fn begin_table(
     model: &mut OpenModel,
@@ -105,13 +118,37 @@ pub fn begin_table(
     ensures ok { OnOk result (model.new ≡ with_open_table words.now model.old) }
 {
     check_columns(number, word, words)?;
-    model.table = Some(OpenTable {
-        ins: ins(words).len(),
-        outs: outs(words).len(),
-        rows: 0,
-        has_default: false,
-    });
+    open_table(model, words);
     Ok(())
+}
+
+/// Reads the words behind `.reset`.
+pub fn begin_reset(
+    model: &mut OpenModel,
+    number: u32,
+    word: &Name,
+    words: &[Name],
+) -> Result<(), ParseFault>
+    ensures fault { Tells result (reset_faults number word.now words.now) }
+    ensures ok { OnOk result (model.new ≡ with_open_table words.now model.old) }
+{
+    check_reset(number, word, words)?;
+    open_table(model, words);
+    Ok(())
+}
+
+/// Reads the words behind `.latch`: what they say is read at the end of the model.
+pub fn pass_latch(
+    model: &mut OpenModel,
+    number: u32,
+    word: &Name,
+    words: &[Name],
+) -> Result<(), ParseFault>
+    ensures fault { Tells result (latch_faults number word.now words.now) }
+    ensures ok { OnOk result (model.new ≡ with_no_table model.old) }
+{
+    model.table = None;
+    check_latch(number, word, words)
 }
 
 /// Counts a row of the open table.

@@ -12,7 +12,8 @@ ghost use Rattle.mv_parse.specs.Steps.{line_step, new_model, inside_step, HasFew
 use crate::command::{Command, first_word, is_end};
 use crate::known::{Known, OpenModel};
 use crate::lines::{
-    begin_table, count_default, count_row, model_name, read_decls, read_inputs, read_outputs,
+    begin_reset, begin_table, count_default, count_row, model_name, pass_latch, read_decls,
+    read_inputs, read_outputs,
 };
 use crate::tables::end_model;
 use mv_base::{Items, Name, NameSet};
@@ -24,7 +25,7 @@ use mv_table::{behind_first, has_several_outputs};
 use std::alloc::Global;
 use std::mem;
 
-/// Refuses a line that this version doesn't read: a second model, and a table with several outputs.
+/// Refuses a line that this version doesn't read: a second model, a table with several outputs, a latch and a reset.
 fn check_read(known: &Known, command: Command, line: &LexLine) -> Result<(), ParseFault>
     ensures { Tells result (unread_faults command known.now line.now) }
 {
@@ -35,6 +36,7 @@ fn check_read(known: &Known, command: Command, line: &LexLine) -> Result<(), Par
         Command::Table if has_several_outputs(behind_first(line)) => Err(ParseFault::NotBuilt {
             line: line.number,
         }),
+        Command::Latch | Command::Reset => Err(ParseFault::NotBuilt { line: line.number }),
         _ => Ok(()),
     }
 }
@@ -141,6 +143,14 @@ fn inside_line(
         Command::Table => {
             let word = Name::new(alloc, first_word(line))?;
             begin_table(model, number, &word, words)
+        }
+        Command::Latch => {
+            let word = Name::new(alloc, first_word(line))?;
+            pass_latch(model, number, &word, words)
+        }
+        Command::Reset => {
+            let word = Name::new(alloc, first_word(line))?;
+            begin_reset(model, number, &word, words)
         }
         Command::Row => row_line(model, line),
         Command::Default => default_line(alloc, model, line),

@@ -7,8 +7,8 @@ use Rattle.mv_base.proofs.NameLemmas.{same_word_is}
 use Rattle.mv_lex.specs.declared.lines.LexLine.{LexLine}
 use Rattle.mv_table.specs.Tables.{is_default_word, begins_default, says_default}
 use Rattle.mv_parse.specs.declared.command.Command.{Command}
-use Rattle.mv_parse.specs.declared.command.Command.TheVariants.{Model, Inputs, Outputs, Mv, Table, Default, Row, End, Unbuilt, Unknown}
-use Rattle.mv_parse.specs.Commands.{first_of, is_unbuilt, is_table_word, command_of, command_at}
+use Rattle.mv_parse.specs.declared.command.Command.TheVariants.{Model, Inputs, Outputs, Mv, Table, Latch, Reset, Default, Row, End, Unbuilt, Unknown}
+use Rattle.mv_parse.specs.Commands.{first_of, is_unbuilt, is_table_word, is_reset_word, command_of, command_at}
 
 -- a word for a default
 word-default : (w : List ℕ) → is_default_word w ≡ true → command_of w ≡ Default
@@ -31,7 +31,10 @@ past false x y other e = e
 default-word : (w : List ℕ) → command_of w ≡ Default → is_default_word w ≡ true
 unfolding command_of
 default-word w e =
-    let ended : Command = if same_word w (codes ".end") then End else if is_unbuilt w then Unbuilt else Unknown in
+    let unbuilt : Command = if is_unbuilt w then Unbuilt else Unknown in
+    let resets : Command = if is_reset_word w then Reset else unbuilt in
+    let latches : Command = if same_word w (codes ".latch") then Latch else resets in
+    let ended : Command = if same_word w (codes ".end") then End else latches in
     let defaults : Command = if is_default_word w then Default else ended in
     let tables : Command = if is_table_word w then Table else defaults in
     let declared : Command = if same_word w (codes ".mv") then Mv else tables in
@@ -48,8 +51,10 @@ default-word w e =
     (λ (y : is_default_word w ≡ true). y)
     (λ (n : is_default_word w ≡ false).
     let h : ended ≡ Default = rw n at g in
-    let i : (if is_unbuilt w then Unbuilt else Unknown) ≡ Default = past (same_word w (codes ".end")) End (if is_unbuilt w then Unbuilt else Unknown) (λ x. cc) h in
-    let j : Unknown ≡ Default = past (is_unbuilt w) Unbuilt Unknown (λ x. cc) i in
+    let i : latches ≡ Default = past (same_word w (codes ".end")) End latches (λ x. cc) h in
+    let j : resets ≡ Default = past (same_word w (codes ".latch")) Latch resets (λ x. cc) i in
+    let k : unbuilt ≡ Default = past (is_reset_word w) Reset unbuilt (λ x. cc) j in
+    let m : Unknown ≡ Default = past (is_unbuilt w) Unbuilt Unknown (λ x. cc) k in
     cc)
     (cases_Bool (is_default_word w))
 

@@ -33,6 +33,8 @@ use Rattle.mv_proper.proofs.Columns.{line-columns}
 use Rattle.mv_proper.proofs.LineKinds.{line-default, line-row}
 use Rattle.mv_proper.proofs.Ports.{ports-named}
 use Rattle.mv_proper.proofs.Tables.{AreTables, tables-push, tables-fit}
+use Rattle.mv_parse.proofs.Plain.{are_plain, no-latches, no-resets}
+use Rattle.mv_proper.proofs.Plain.{plain-push}
 use Rattle.mv_proper.proofs.Order.{stands}
 
 -- a model that is open, by its first line and those behind it
@@ -42,9 +44,10 @@ pub record IsOpen (m : LexLine) (ls : List LexLine) : Type 0 where
   pub outputs : IsNames is_net_name (outputs_of ls)
   pub decls : All IsFileDecl (decls_of ls)
   pub tables : AreTables ls
+  pub plain : are_plain ls ≡ true
 
 pub IsOpen-new : (m : LexLine) → is_model_name (first_of (behind_first m)) ≡ true → IsOpen m []
-IsOpen-new m y = record { name = y; inputs = no-names is_net_name; outputs = no-names is_net_name; decls = All-nil IsFileDecl; tables = tt }
+IsOpen-new m y = record { name = y; inputs = no-names is_net_name; outputs = no-names is_net_name; decls = All-nil IsFileDecl; tables = tt; plain = refl }
 
 -- ---- what one more line adds
 
@@ -110,6 +113,7 @@ IsOpen-push k m ls l h unread none =
       outputs = subst (IsNames is_net_name) (sym (outputs-push ls l)) (outputs-step c o l none h.outputs);
       decls = subst (All IsFileDecl) (sym (decls-push ls l)) (decls-step c o l none h.decls);
       tables = tables-push ls l h.tables (head-step c k o l unread none) (entry-step c o l refl none);
+      plain = plain-push ls k l h.plain unread;
     }
 
 -- ---- at its end
@@ -124,8 +128,8 @@ IsOpen-proper m ls h up =
       outputs_differ = h.outputs.differ;
       decls = h.decls;
       tables = tables-fit (decls_of ls) ls h.tables;
-      order = stands m ls up;
-      latches = refl;
-      resets = refl;
+      order = stands m ls h.plain up;
+      latches = no-latches ls h.plain;
+      resets = no-resets (decls_of ls) ls h.plain;
       parts = refl;
     }

@@ -11,6 +11,7 @@ use Rattle.mv_parse.specs.declared.command.Command.TheVariants.{Table}
 use Rattle.mv_parse.specs.Commands.{command_at}
 use Rattle.mv_parse.specs.Known.{table_at, tables_of, decls_of, open_model, file_model}
 use Rattle.mv_proper.specs.Lines.{numbers_of}
+use Rattle.mv_parse.proofs.Plain.{are_plain, no-latches, no-resets}
 use Rattle.mv_proper.proofs.Ascending.{first-below, ascend-tail, ascend-cons, ascend-lower}
 
 -- a line, which may begin a table, and the tables behind it
@@ -24,17 +25,19 @@ tables-ascend low ds [] up = refl
 tables-ascend low ds (l ∷ ls) up =
     table-more (command_at l) low ds l ls (tables_of ds ls) (first-below low l.number (numbers_of ls) up) (tables-ascend l.number ds ls (ascend-tail low (l.number ∷ numbers_of ls) up))
 
-pub stands : (m : LexLine) (ls : List LexLine) → numbers_ascend (numbers_of (m ∷ ls)) ≡ true → StandsByLine (file_model (open_model m ls) ls)
-stands m ls up =
+pub stands : (m : LexLine) (ls : List LexLine) → are_plain ls ≡ true → numbers_ascend (numbers_of (m ∷ ls)) ≡ true → StandsByLine (file_model (open_model m ls) ls)
+stands m ls plain up =
+    let latches = no-latches ls plain in
+    let resets = no-resets (decls_of ls) ls plain in
     record {
       tables = ascend-tail m.number (table_lines (tables_of (decls_of ls) ls)) (tables-ascend m.number (decls_of ls) ls up);
-      latches = refl;
-      resets = refl;
+      latches = rw latches refl;
+      resets = rw resets refl;
       parts = refl;
-      latches_tables = refl;
-      resets_tables = refl;
+      latches_tables = rw latches refl;
+      resets_tables = rw resets refl;
       parts_tables = refl;
-      latches_parts = refl;
-      resets_parts = refl;
-      resets_latches = All-nil _;
+      latches_parts = rw latches refl;
+      resets_parts = rw resets refl;
+      resets_latches = rw resets (All-nil _);
     }

@@ -1,11 +1,11 @@
--- The first line of a table, `.table COLUMNS`: its columns and their faults.
+-- The first line of a table, `.table COLUMNS`, and of a reset table, `.reset COLUMNS`: its columns and their faults.
 use Rattle.std.specs.Prelude.{ℕ, ◌+◌, ◌-◌, Bool, not, ◌&&◌, ◌==◌, nat_lt, nat_le, List, [], ◌∷◌, ◌++◌, length, take, drop, codes, if◌then◌else◌}
 use Rattle.std.specs.List.{position_or_len}
 use Rattle.mv_base.specs.Names.{same_word, is_net_name}
 use Rattle.mv_base.specs.declared.limits.TheConstants.{MAX_COLUMNS}
 use Rattle.mv_fault.specs.declared.fault.Which.TheVariants.{Columns}
 use Rattle.mv_fault.specs.declared.fault.ParseFault.{ParseFault}
-use Rattle.mv_fault.specs.declared.fault.ParseFault.TheVariants.{Missing, Limit, BadName}
+use Rattle.mv_fault.specs.declared.fault.ParseFault.TheVariants.{Missing, Extra, Limit, BadName}
 use Rattle.mv_fault.specs.Tells.{when}
 
 -- the word between the inputs and the outputs
@@ -46,3 +46,12 @@ names_faults n at (w ∷ ws) =
 unfoldable pub columns_faults : ℕ → List ℕ → List (List ℕ) → List ParseFault
 columns_faults n word words =
     names_faults n 0 (ins_of words) ++ names_faults n (length (ins_of words)) (outs_of words) ++ when (length (outs_of words) == 0) (Missing n word)
+
+-- the faults of the outputs of a reset table, which has one, behind so many columns
+abbrev pub output_faults : ℕ → List ℕ → ℕ → List (List ℕ) → List ParseFault
+output_faults n word at [] = Missing n word ∷ []
+output_faults n word at (w ∷ ws) = names_faults n at (w ∷ []) ++ when (nat_lt 0 (length ws)) (Extra n word)
+
+-- the faults of the words behind the command `word` of a reset table
+unfoldable pub reset_faults : ℕ → List ℕ → List (List ℕ) → List ParseFault
+reset_faults n word words = names_faults n 0 (ins_of words) ++ output_faults n word (length (ins_of words)) (outs_of words)

@@ -1,6 +1,6 @@
 ghost use Rattle.std.specs.Prelude.{◌≡◌, ◌+◌, length};
 ghost use Rattle.std.specs.List.{position_or_len};
-ghost use Rattle.mv_table.specs.Columns.{is_arrow, arrow_at, has_arrow, ins_of, outs_of, has_several_outputs, names_faults, columns_faults};
+ghost use Rattle.mv_table.specs.Columns.{is_arrow, arrow_at, has_arrow, ins_of, outs_of, has_several_outputs, names_faults, columns_faults, output_faults, reset_faults};
 ghost use Rattle.mv_fault.specs.Tells.{Tells};
 
 use mv_base::{MAX_COLUMNS, Name};
@@ -100,4 +100,35 @@ pub fn check_columns(number: u32, word: &Name, words: &[Name]) -> Result<(), Par
         });
     }
     Ok(())
+}
+
+/// Tells the first fault of the outputs of a reset table, behind so many columns.
+#[tactic(auto, using(mv_fault::proofs::Firsts::firsts))]
+fn check_output(number: u32, word: &Name, before: usize, outs: &[Name]) -> Result<(), ParseFault>
+    ensures { Tells result (output_faults number word.now before outs.now) }
+{
+    match outs {
+        [] => Err(ParseFault::Missing {
+            line: number,
+            word: word.copy()?,
+        }),
+        [_output] => check_names(number, before, outs),
+        [_output, ..] => {
+            check_names(number, before, &outs[..1])?;
+            Err(ParseFault::Extra {
+                line: number,
+                word: word.copy()?,
+            })
+        }
+    }
+}
+
+/// Tells the first fault of the words behind the command `word` of a reset table.
+#[tactic(auto, using(mv_fault::proofs::Firsts::firsts), unfolding(crate::specs::Columns::reset_faults))]
+pub fn check_reset(number: u32, word: &Name, words: &[Name]) -> Result<(), ParseFault>
+    ensures { Tells result (reset_faults number word.now words.now) }
+{
+    let ins = ins(words);
+    check_names(number, 0, ins)?;
+    check_output(number, word, ins.len(), outs(words))
 }
