@@ -1,5 +1,5 @@
 // Plain Rust for comparison with `mvopt opt NET SCRIPT`; nothing is proved of it. Scripts have the commands sweep, eliminate and
-// collapse NET; a network file has one model without latches, and its tables one output, values, sets of values and `-`. It ends with
+// collapse NET; a network file has one model, and its tables one output, values, sets of values, `-` and rows with `=x`. It ends with
 // 2 or 3 where it can't read the network or the script, and checks less of a file than the format asks. What is known of a net and
 // its readers is kept until a change touches one of their tables.
 use std::collections::HashMap;
@@ -664,6 +664,7 @@ struct Network {
     root: Vec<u8>,
     inputs: Vec<u32>,
     outputs: Vec<u32>,
+    latches: Vec<(u32, u32)>,
     nets: Vec<Net>,
     counts: Vec<u32>,
     literals: u64,
@@ -1201,7 +1202,7 @@ impl Network {
             t.push(b'\n');
         }
         for (n, net) in self.nets.iter().enumerate() {
-            if !net.held || (net.names.is_none() && self.counts[n] == 2) {
+            if !net.held || net.name[0] == b'.' || (net.names.is_none() && self.counts[n] == 2) {
                 continue;
             }
             t.extend_from_slice(b".mv ");
@@ -1212,6 +1213,13 @@ impl Network {
                 t.push(b' ');
                 t.extend_from_slice(name);
             }
+            t.push(b'\n');
+        }
+        for &(input, output) in &self.latches {
+            t.extend_from_slice(b".latch ");
+            t.extend_from_slice(&self.nets[input as usize].name);
+            t.push(b' ');
+            t.extend_from_slice(&self.nets[output as usize].name);
             t.push(b'\n');
         }
         let entry = |t: &mut Vec<u8>, n: usize, set: Set| {
@@ -1239,13 +1247,14 @@ impl Network {
             if !net.driven {
                 continue;
             }
-            t.extend_from_slice(b".table");
+            let reset = net.name[0] == b'.';
+            t.extend_from_slice(if reset { b".reset" } else { b".table" });
             for f in &net.fanins {
                 t.push(b' ');
                 t.extend_from_slice(&self.nets[f.net as usize].name);
             }
             t.extend_from_slice(b" -> ");
-            t.extend_from_slice(&net.name);
+            t.extend_from_slice(&net.name[reset as usize..]);
             t.push(b'\n');
             if net.cover.default != 0 {
                 t.extend_from_slice(b".default ");
@@ -1377,6 +1386,9 @@ struct File {
     nets: Vec<FileNet>,
     inputs: Vec<u32>,
     outputs: Vec<u32>,
+    latches: Vec<(u32, u32)>,
+    /// the net of each reset value, and its latch
+    resets: Vec<(u32, u32)>,
     tables: Vec<FileTable>,
     entries: Vec<&'static [u8]>,
     sizes: Vec<(Vec<&'static [u8]>, u32, Vec<Vec<u8>>)>,
@@ -1444,6 +1456,19 @@ impl File {
             }
             b".mv" => self.read_sizes(line, &words[1..]),
             b".table" | b".names" => self.read_table(line, &words[1..]),
+            b".reset" | b".r" => {
+                self.read_table(line, &words[1..]);
+                let table = self.tables.last_mut().unwrap();
+                let latch = table.out;
+                let name = [b".", self.nets[latch as usize].name.as_slice()].concat();
+                table.out = self.nets.len() as u32;
+                self.resets.push((table.out, latch));
+                self.nets.push(FileNet { name, count: 2, names: None });
+            }
+            b".latch" if words.len() == 3 => {
+                let ids = self.ids_of(&words[1..]);
+                self.latches.push((ids[0], ids[1]));
+            }
             b".end" => self.ended = true,
             word => {
                 let Some(table) = self.tables.last_mut() else { bad("no table", line) };
@@ -1468,6 +1493,10 @@ impl File {
                     self.nets[id as usize].names = if numbers { None } else { Some(values.clone()) };
                 }
             }
+        }
+        for &(reset, latch) in &self.resets {
+            self.nets[reset as usize].count = self.nets[latch as usize].count;
+            self.nets[reset as usize].names = self.nets[latch as usize].names.clone();
         }
     }
 }
@@ -1537,14 +1566,21 @@ fn cover_of(t: &FileTable, file: &File, number: &[u32]) -> Cover {
         bad("a column twice", t.line);
     }
     for row in file.entries[t.rows.clone()].chunks_exact(t.ins.len() + 1) {
-        for &k in &by {
-            let set = set_of(net(t.ins[k]), row[k], t.line);
-            if set != full(net(t.ins[k]).count) {
-                cover.cubes.lits.push(Lit { net: number[t.ins[k] as usize], set });
+        let out = row[t.ins.len()];
+        let named = out.strip_prefix(b"=").map(|x| t.ins.iter().position(|&id| net(id).name == x).unwrap_or_else(|| bad("value", t.line)));
+        let mut rest = named.map_or(1, |k| set_of(net(t.ins[k]), row[k], t.line));
+        while rest != 0 {
+            let one = rest & rest.wrapping_neg();
+            rest &= rest - 1;
+            for &k in &by {
+                let set = if named == Some(k) { one } else { set_of(net(t.ins[k]), row[k], t.line) };
+                if set != full(net(t.ins[k]).count) {
+                    cover.cubes.lits.push(Lit { net: number[t.ins[k] as usize], set });
+                }
             }
+            cover.cubes.close();
+            cover.outs.push(if named.is_some() { one } else { set_of(net(t.out), out, t.line) });
         }
-        cover.cubes.close();
-        cover.outs.push(set_of(net(t.out), row[t.ins.len()], t.line));
     }
     if (0..cover.cubes.len()).any(|i| cover.cubes.get(i).is_empty()) {
         cover.default = 0;
@@ -1560,8 +1596,9 @@ fn read_network(text: &'static [u8]) -> Network {
         bad("no end", 0);
     }
     file.set_sizes();
-    // numbers: the inputs, then the tables' nets in order
-    let order: Vec<u32> = file.inputs.iter().copied().chain(file.tables.iter().map(|t| t.out)).collect();
+    // numbers: the inputs, then the latches' outputs, then the nets of tables and reset tables in order
+    let states = file.latches.iter().map(|l| l.1);
+    let order: Vec<u32> = file.inputs.iter().copied().chain(states).chain(file.tables.iter().map(|t| t.out)).collect();
     let mut number = vec![u32::MAX; file.nets.len()];
     for (k, &id) in order.iter().enumerate() {
         if number[id as usize] != u32::MAX {
@@ -1578,6 +1615,7 @@ fn read_network(text: &'static [u8]) -> Network {
         root: std::mem::take(&mut file.root),
         inputs: file.inputs.iter().map(|&n| number[n as usize]).collect(),
         outputs: file.outputs.iter().map(|&n| number[n as usize]).collect(),
+        latches: file.latches.iter().map(|l| (number[l.0 as usize], number[l.1 as usize])).collect(),
         nets: vec![],
         counts: order.iter().map(|&id| file.nets[id as usize].count).collect(),
         literals: 0,
@@ -1596,7 +1634,8 @@ fn read_network(text: &'static [u8]) -> Network {
         net.set_table(n, cover, Told::Unknown, Told::Unknown);
         net.nets[n].absorbed = false;
     }
-    for &o in &net.outputs {
+    let resets = file.resets.iter().map(|r| number[r.0 as usize]);
+    for o in net.outputs.iter().copied().chain(net.latches.iter().map(|l| l.0)).chain(resets) {
         net.nets[o as usize].seen = true;
     }
     while net.heap.pop().is_some() {}

@@ -5,6 +5,8 @@
 # rows:    N and 2N nets: two inputs, and tables of two columns with five rows, every fourth net of three named values
 # equal:   N/4 and N/2 nets of eight values, whose tables have a default that gives the value of a column and needs a mark
 # wide:    N/20 and N/10 nets, whose tables have twelve columns and ten rows
+# states:  N/2 and N nets, whose tables have two columns and two rows, and half as many latches, each with a reset table that
+#          reads one of them
 # full:    198N/100 nets as those of rows, with eight rows to a table: at N = 100000 nearly as large as a file may be
 . "$(dirname "$0")/setup" mvopt
 : > "$folder/script"
@@ -22,6 +24,9 @@ network() {
                 v = i % 4 == 0 ? "x" : "0"; w = i % 4 == 0 ? "(y,z)" : "1"
                 print "0 0 " v "\n0 1 " w "\n1 0 " w "\n1 1 " v "\n- 1 " w
                 if (kind == "full") print "0 - " w "\n1 - " w "\n- 0 " v
+            } else if (kind == "states") {
+                printf ".table a %s -> g%d\n0 - 1\n- 1 0\n", i == 1 ? "b" : "g" int(rand() * (i - 1)) + 1, i
+                if (i % 2 == 0) printf ".latch g%d s%d\n.r g%d -> s%d\n0 1\n1 0\n", int(rand() * n) + 1, i, int(rand() * n) + 1, i
             } else if (kind == "equal") {
                 print ".mv g" i " 8"
                 print ".table a " (i == 1 ? "b" : "g" int(rand() * (i - 1)) + 1) " -> g" i
@@ -56,8 +61,9 @@ line() {
 
 n=${1:-100000}
 printf '%-6s %8s %10s %9s %8s %8s %9s\n' kind nets bytes lines user system megabytes
-for kind in rows equal wide; do
+for kind in rows equal wide states; do
     size=$n
+    if [ "$kind" = states ]; then size=$((n / 2)); fi
     if [ "$kind" = equal ]; then size=$((n / 4)); fi
     if [ "$kind" = wide ]; then size=$((n / 20)); fi
     line "$kind" "$size"

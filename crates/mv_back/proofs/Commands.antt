@@ -1,9 +1,11 @@
 -- What the lines of a text are, by their first words.
-use Rattle.std.proofs.Common.{◌≡◌, false, List, refl}
-use Rattle.std.specs.Prelude.{ℕ, codes}
+use Rattle.std.proofs.Common.{◌≡◌, Bool, true, false, List, refl}
+use Rattle.std.specs.Prelude.{ℕ, codes, if◌then◌else◌}
 use Rattle.mv_base.specs.Names.{begins_with}
-use Rattle.mv_parse.specs.declared.command.Command.TheVariants.{Model, Inputs, Outputs, Mv, Table, Default, Row, End}
+use Rattle.mv_parse.specs.declared.command.Command.{Command}
+use Rattle.mv_parse.specs.declared.command.Command.TheVariants.{Model, Inputs, Outputs, Mv, Table, Latch, Reset, Default, Row, End}
 use Rattle.mv_parse.specs.Commands.{command_of}
+use Rattle.mv_back.proofs.TextModel.{begin_word}
 
 pub command-model : command_of (codes ".model") ≡ Model
 unfolding command_of
@@ -21,9 +23,18 @@ pub command-mv : command_of (codes ".mv") ≡ Mv
 unfolding command_of
 command-mv = refl
 
-pub command-table : command_of (codes ".table") ≡ Table
+pub command-latch : command_of (codes ".latch") ≡ Latch
 unfolding command_of
-command-table = refl
+command-latch = refl
+
+-- the line that begins a table, or a reset table
+abbrev pub begins : Bool → Command
+begins resets = if resets then Reset else Table
+
+pub command-begins : (resets : Bool) → command_of (begin_word resets) ≡ begins resets
+unfolding command_of
+command-begins true = refl
+command-begins false = refl
 
 pub command-default : command_of (codes ".default") ≡ Default
 unfolding command_of

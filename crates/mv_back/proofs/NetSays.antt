@@ -1,27 +1,27 @@
 -- The lines of a network, one behind the other: the first, the others of its model, and its end.
-use Rattle.std.proofs.Common.{◌≡◌, ◌∙◌, ℕ, ◌+◌, Bool, true, false, not, ◌||◌, List, [], ◌∷◌, ◌++◌, length, refl, ap, ⊎_elim, append-nil}
+use Rattle.std.proofs.Common.{◌≡◌, ◌∙◌, ℕ, ◌+◌, Bool, true, false, List, [], ◌∷◌, ◌++◌, length, map, refl, ap, ⊎_elim, append-nil}
 use Rattle.std.specs.Prelude.{Option, Some, None, codes}
 use Rattle.std.specs.List.{list_all, flat_map}
-use Rattle.std.proofs.lemmas.Bool.{cases_Bool, and_from, or_left, or_right}
+use Rattle.std.proofs.lemmas.Bool.{cases_Bool, and_from}
 use Rattle.std.proofs.lemmas.List.Folds.{list_all-append}
 use Rattle.std.proofs.lemmas.Grind.{flat_map-append}
-use Rattle.mv_base.proofs.Lists.{all-weaker, flat_map-nothing}
 use Rattle.mv_lex.specs.declared.lines.LexLine.{LexLine}
-use Rattle.mv_decl.specs.Nets.{with_decls}
-use Rattle.mv_table.specs.Tables.{behind_first}
+use Rattle.mv_design.specs.declared.design.Decl.{Decl}
 use Rattle.mv_parse.specs.declared.command.Command.{Command}
-use Rattle.mv_parse.specs.declared.command.Command.TheVariants.{Mv, Table, Default, Row}
-use Rattle.mv_parse.specs.Commands.{command_at, is_end}
-use Rattle.mv_parse.specs.Known.{inputs_at, inputs_of, outputs_at, outputs_of, decls_at, decls_of}
+use Rattle.mv_parse.specs.declared.command.Command.TheVariants.{Mv, Latch}
+use Rattle.mv_parse.specs.Commands.{command_at}
+use Rattle.mv_parse.specs.Known.{inputs_of, outputs_of, decls_of, tables_of, latch_at, latches_of, resets_of}
+use Rattle.mv_parse.specs.Grammar.{tables_faults}
 use Rattle.mv_net.specs.declared.parts.FlatNet.{FlatNet}
 use Rattle.mv_net.specs.declared.parts.NetParts.{NetParts}
-use Rattle.mv_text.specs.Text.{is_plain_pair, names_of}
-use Rattle.mv_back.proofs.PlainLines.{plain_decl, plain_table, plain_inner, plain_lines}
+use Rattle.mv_text.specs.Text.{decl_words, latch_words, net_words, inner_lines, net_lines, names_of}
+use Rattle.mv_back.proofs.TextModel.{needs_none}
 use Rattle.mv_back.proofs.Commands.{command-model, command-inputs, command-outputs, command-mv}
 use Rattle.mv_back.proofs.Opened.{goes_on}
 use Rattle.mv_written.proofs.LinesFrom.{lines_from-append}
-use Rattle.mv_parse.proofs.Plain.{is_plain, are_plain}
-use Rattle.mv_back.proofs.Kept.{says_none, begins_none, is_of_table, of_table, table-goes, table-plain}
+use Rattle.mv_back.proofs.Tells.{all_pass, AllAre, are-pass, is_of_table, is_inner, is_other_than_mv, is_other_than_latch, begins_none, says_none, tables-inner, tables-no_mv, tables-no_latch}
+use Rattle.mv_back.proofs.Tells.{inner-goes, inner-inputs, inner-outputs, decls-front, others-latches, tables-behind, resets-behind, AllValued, none-valued, values-behind}
+use Rattle.mv_back.proofs.LatchLines.{are-latches}
 use Rattle.mv_written.specs.TextWords.{lines_from}
 
 -- ---- the lines
@@ -36,123 +36,104 @@ abbrev pub outputs_line : NetParts → LexLine
 outputs_line net = record { number = 3; words = codes ".outputs" ∷ names_of net.nets net.outputs }
 
 abbrev pub decl_part : NetParts → List LexLine
-decl_part net = lines_from 4 (flat_map plain_decl net.nets)
+decl_part net = lines_from 4 (flat_map decl_words net.nets)
+
+abbrev pub latches_from : NetParts → ℕ
+latches_from net = 4 + length (flat_map decl_words net.nets)
+
+abbrev pub latch_part : NetParts → List LexLine
+latch_part net = lines_from (latches_from net) (map (latch_words net.nets) net.latches)
 
 abbrev pub tables_from : NetParts → ℕ
-tables_from net = 4 + length (flat_map plain_decl net.nets)
+tables_from net = latches_from net + length (map (latch_words net.nets) net.latches)
 
 abbrev pub table_part : NetParts → List LexLine
-table_part net = lines_from (tables_from net) (flat_map (plain_table net.nets) net.nets)
+table_part net = lines_from (tables_from net) (flat_map (net_words net.nets) net.nets)
 
 abbrev pub end_line : NetParts → LexLine
-end_line net = record { number = 4 + length (plain_inner net.nets); words = codes ".end" ∷ [] }
+end_line net = record { number = 4 + length (inner_lines net); words = codes ".end" ∷ [] }
+
+-- those between the outputs and the end
+abbrev pub inner_part : NetParts → List LexLine
+inner_part net = decl_part net ++ (latch_part net ++ table_part net)
 
 -- those between the first and the last
 abbrev pub body : NetParts → List LexLine
-body net = inputs_line net ∷ outputs_line net ∷ decl_part net ++ table_part net
+body net = inputs_line net ∷ outputs_line net ∷ inner_part net
 
-pub net-split : (net : NetParts) → lines_from 1 (plain_lines net) ≡ model_line net ∷ body net ++ end_line net ∷ []
-unfolding plain_lines
+pub net-split : (net : NetParts) → lines_from 1 (net_lines net) ≡ model_line net ∷ body net ++ end_line net ∷ []
+unfolding net_lines
 net-split net =
-    let dw = flat_map plain_decl net.nets in
-    let tw = flat_map (plain_table net.nets) net.nets in
+    let dw = flat_map decl_words net.nets in
+    let lw = map (latch_words net.nets) net.latches in
+    let tw = flat_map (net_words net.nets) net.nets in
+    let inner : lines_from 4 (dw ++ (lw ++ tw)) ≡ inner_part net = lines_from-append 4 dw (lw ++ tw) ∙ ap (λ ls. decl_part net ++ ls) (lines_from-append (latches_from net) lw tw) in
     ap (λ ls. model_line net ∷ inputs_line net ∷ outputs_line net ∷ ls)
-    (lines_from-append 4 (plain_inner net.nets) ((codes ".end" ∷ []) ∷ []) ∙ ap (λ ls. ls ++ end_line net ∷ []) (lines_from-append 4 dw tw))
+    (lines_from-append 4 (inner_lines net) ((codes ".end" ∷ []) ∷ []) ∙ ap (λ ls. ls ++ end_line net ∷ []) inner)
 
 -- ---- declarations are lines of declarations alone
 
-abbrev is_mv : Command → Bool
-is_mv Mv = true
-is_mv _ = false
-
-abbrev pub of_decl : LexLine → Bool
-of_decl l = is_mv (command_at l)
-
-pub decls-alone : (n : ℕ) (fs : List (Option FlatNet)) → list_all of_decl (lines_from n (flat_map plain_decl fs)) ≡ true
-decls-alone n [] = refl
+pub decls-alone : (n : ℕ) (fs : List (Option FlatNet)) → AllAre Mv (lines_from n (flat_map decl_words fs))
+decls-alone n [] = tt
 decls-alone n (None ∷ fs) = decls-alone n fs
 decls-alone n (Some f ∷ fs) =
     ⊎_elim
-    (λ (y : is_plain_pair f ≡ true). rw y (decls-alone n fs))
-    (λ (other : is_plain_pair f ≡ false). rw (other, command-mv) (decls-alone (n + 1) fs))
-    (cases_Bool (is_plain_pair f))
+    (λ (y : needs_none f ≡ true). rw y (decls-alone n fs))
+    (λ (other : needs_none f ≡ false). rw other (command-mv, decls-alone (n + 1) fs))
+    (cases_Bool (needs_none f))
 
-goes_by : (c : Command) → is_mv c ≡ true → not (is_end c) ≡ true
-goes_by Mv e = refl
-goes_by _ e = cc
+-- the inner lines of a network whose last lines are lines of tables
+module _ (net : NetParts) (tables : all_pass is_of_table (table_part net) ≡ true) where
+  decls_pass : (test : Command → Bool) → test Mv ≡ true → all_pass test (decl_part net) ≡ true
+  decls_pass test e = are-pass test Mv e (decl_part net) (decls-alone 4 net.nets)
 
-none_by : (c : Command) → is_mv c ≡ true → says_none c ≡ true
-none_by Mv e = refl
-none_by _ e = cc
+  latches_pass : (test : Command → Bool) → test Latch ≡ true → all_pass test (latch_part net) ≡ true
+  latches_pass test e = are-pass test Latch e (latch_part net) (are-latches net.nets (latches_from net) net.latches)
 
-pub decls-begin_none : (ls : List LexLine) → list_all of_decl ls ≡ true → list_all begins_none ls ≡ true
-decls-begin_none ls e = all-weaker of_decl begins_none (λ l y. none_by (command_at l) y) ls e
+  pass_append : (test : Command → Bool) (xs ys : List LexLine) → all_pass test xs ≡ true → all_pass test ys ≡ true → all_pass test (xs ++ ys) ≡ true
+  pass_append test xs ys a b = list_all-append (λ l. test (command_at l)) xs ys ∙ and_from _ _ a b
 
--- no line but the last ends the model
-pub net-goes : (net : NetParts) → list_all of_table (table_part net) ≡ true → list_all goes_on (model_line net ∷ body net) ≡ true
-net-goes net tables =
-    let decls = all-weaker of_decl goes_on (λ l y. goes_by (command_at l) y) (decl_part net) (decls-alone 4 net.nets) in
-    let rest : list_all goes_on (decl_part net ++ table_part net) ≡ true = list_all-append goes_on (decl_part net) (table_part net) ∙ and_from _ _ decls (table-goes (table_part net) tables) in
-    rw (command-model, command-inputs, command-outputs) rest
+  pub inner_are : all_pass is_inner (inner_part net) ≡ true
+  inner_are =
+      pass_append is_inner (decl_part net) _ (decls_pass is_inner refl) (pass_append is_inner (latch_part net) (table_part net) (latches_pass is_inner refl) (tables-inner (table_part net) tables))
 
--- none of them says a latch or a reset table
-mv_plain : (c : Command) → is_mv c ≡ true → is_plain c ≡ true
-mv_plain Mv e = refl
-mv_plain _ e = cc
+  -- no line but the last ends the model
+  pub net-goes : list_all goes_on (model_line net ∷ body net) ≡ true
+  net-goes = rw (command-model, command-inputs, command-outputs) (inner-goes (inner_part net) inner_are)
 
-pub net-plain : (net : NetParts) → list_all of_table (table_part net) ≡ true → are_plain (body net) ≡ true
-net-plain net tables =
-    let plain = λ (l : LexLine). is_plain (command_at l) in
-    let decls = all-weaker of_decl plain (λ l y. mv_plain (command_at l) y) (decl_part net) (decls-alone 4 net.nets) in
-    let rest : list_all plain (decl_part net ++ table_part net) ≡ true = list_all-append plain (decl_part net) (table_part net) ∙ and_from _ _ decls (table-plain (table_part net) tables) in
-    rw (command-inputs, command-outputs) rest
+  -- ---- what they say
 
--- ---- what they say
+  pub net-inputs : inputs_of (body net) ≡ names_of net.nets net.inputs
+  net-inputs = rw (command-inputs, command-outputs, inner-inputs (inner_part net) inner_are) (append-nil (names_of net.nets net.inputs))
 
--- lines that declare nets, or belong to tables
-abbrev is_inner : LexLine → Bool
-is_inner l = of_decl l || of_table l
+  pub net-outputs : outputs_of (body net) ≡ names_of net.nets net.outputs
+  net-outputs = rw (command-inputs, command-outputs, inner-outputs (inner_part net) inner_are) (append-nil (names_of net.nets net.outputs))
 
-inner_all : (ds ts : List LexLine) → list_all of_decl ds ≡ true → list_all of_table ts ≡ true → list_all is_inner (ds ++ ts) ≡ true
-inner_all ds ts d t =
-    list_all-append is_inner ds ts
-    ∙ and_from _ _ (all-weaker of_decl is_inner (λ l y. or_left (of_decl l) (of_table l) y) ds d) (all-weaker of_table is_inner (λ l y. or_right (of_decl l) (of_table l) y) ts t)
+  -- lines of latches and of tables declare nothing
+  pub net-decls : (front : List LexLine) → decls_of (front ++ (latch_part net ++ table_part net)) ≡ decls_of front
+  net-decls front =
+      decls-front front (latch_part net ++ table_part net) (pass_append is_other_than_mv (latch_part net) (table_part net) (latches_pass is_other_than_mv refl) (tables-no_mv (table_part net) tables))
 
-no_inputs : (c : Command) (words : List (List ℕ)) → (is_mv c || is_of_table c) ≡ true → inputs_at c words ≡ []
-no_inputs Mv words e = refl
-no_inputs Table words e = refl
-no_inputs Default words e = refl
-no_inputs Row words e = refl
-no_inputs _ words e = cc
+  pub net-latches : latches_of (body net) ≡ latches_of (latch_part net)
+  net-latches =
+      let F = λ (l : LexLine). latch_at (command_at l) l in
+      let decls = others-latches (decl_part net) (decls_pass is_other_than_latch refl) in
+      let none = others-latches (table_part net) (tables-no_latch (table_part net) tables) in
+      rw (command-inputs, command-outputs, flat_map-append F (decl_part net) (latch_part net ++ table_part net), flat_map-append F (latch_part net) (table_part net), decls, none)
+      (append-nil (latches_of (latch_part net)))
 
-no_outputs : (c : Command) (words : List (List ℕ)) → (is_mv c || is_of_table c) ≡ true → outputs_at c words ≡ []
-no_outputs Mv words e = refl
-no_outputs Table words e = refl
-no_outputs Default words e = refl
-no_outputs Row words e = refl
-no_outputs _ words e = cc
+  pub net-tables : (ds : List Decl) → tables_of ds (body net) ≡ tables_of ds (table_part net)
+  net-tables ds =
+      rw (command-inputs, command-outputs)
+      (tables-behind ds (decl_part net) (latch_part net ++ table_part net) (decls_pass begins_none refl) ∙ tables-behind ds (latch_part net) (table_part net) (latches_pass begins_none refl))
 
-pub net-inputs : (net : NetParts) → list_all of_table (table_part net) ≡ true → inputs_of (body net) ≡ names_of net.nets net.inputs
-net-inputs net tables =
-    let inner = inner_all (decl_part net) (table_part net) (decls-alone 4 net.nets) tables in
-    let none = flat_map-nothing (λ l. inputs_at (command_at l) (behind_first l)) is_inner (λ l y. no_inputs (command_at l) (behind_first l) y) (decl_part net ++ table_part net) inner in
-    rw (command-inputs, command-outputs, none) (append-nil (names_of net.nets net.inputs))
+  pub net-resets : (ds : List Decl) → resets_of ds (body net) ≡ resets_of ds (table_part net)
+  net-resets ds =
+      rw (command-inputs, command-outputs)
+      (resets-behind ds (decl_part net) (latch_part net ++ table_part net) (decls_pass begins_none refl) ∙ resets-behind ds (latch_part net) (table_part net) (latches_pass begins_none refl))
 
-pub net-outputs : (net : NetParts) → list_all of_table (table_part net) ≡ true → outputs_of (body net) ≡ names_of net.nets net.outputs
-net-outputs net tables =
-    let inner = inner_all (decl_part net) (table_part net) (decls-alone 4 net.nets) tables in
-    let none = flat_map-nothing (λ l. outputs_at (command_at l) (behind_first l)) is_inner (λ l y. no_outputs (command_at l) (behind_first l) y) (decl_part net ++ table_part net) inner in
-    rw (command-inputs, command-outputs, none) (append-nil (names_of net.nets net.outputs))
-
-no_decls : (c : Command) (l : LexLine) → is_of_table c ≡ true → decls_at c (behind_first l) ≡ []
-no_decls Table l e = refl
-no_decls Default l e = refl
-no_decls Row l e = refl
-no_decls _ l e = cc
-
--- lines of tables declare nothing
-pub decls-tables : (front ts : List LexLine) → list_all of_table ts ≡ true → decls_of (front ++ ts) ≡ decls_of front
-decls-tables front ts tables =
-    let F = λ (l : LexLine). decls_at (command_at l) (behind_first l) in
-    let none = flat_map-nothing F of_table (λ l y. no_decls (command_at l) l y) ts tables in
-    ap (with_decls []) (flat_map-append F front ts ∙ (ap (λ ds. flat_map F front ++ ds) none ∙ append-nil (flat_map F front)))
+  -- where the values of the latches have no fault, the values have those of the tables
+  pub net-values : (ds : List Decl) → AllValued ds (latch_part net) → tables_faults ds (body net) ≡ tables_faults ds (table_part net)
+  net-values ds latches =
+      rw (command-inputs, command-outputs)
+      (values-behind ds (decl_part net) (latch_part net ++ table_part net) (none-valued ds (decl_part net) (decls_pass says_none refl)) ∙ values-behind ds (latch_part net) (table_part net) latches)

@@ -9,6 +9,7 @@ use Rattle.mv_base.proofs.NameLemmas.{same_word_is, same_word_refl}
 use Rattle.mv_base.specs.declared.number.NetId.{NetId}
 use Rattle.mv_net.specs.declared.parts.FlatNet.{FlatNet}
 use Rattle.mv_net.specs.Nets.{slot, name_in}
+use Rattle.mv_net.specs.Formed.{IsReadable}
 use Rattle.mv_graph.specs.Nets.{all_differ, has_id}
 use Rattle.mv_text.specs.Text.{numbers}
 
@@ -44,47 +45,69 @@ pub names_at-numbers : (nets : List (Option FlatNet)) (ns : List NetId) → map 
 names_at-numbers nets [] = refl
 names_at-numbers nets (n ∷ ns) = ap (λ ws. name_in (slot nets n.0) ∷ ws) (names_at-numbers nets ns)
 
-pub among-number : (nets : List (Option FlatNet)) (k : ℕ) (ks : List ℕ) → number_in k ks ≡ true → among (name_in (slot nets k)) (names_at nets ks) ≡ true
-among-number nets k [] e = cc
-among-number nets k (j ∷ ks) e =
-    ⊎_elim (λ (h : nat_eq k j ≡ true). or_left _ _ (ap (λ i. same_word (name_in (slot nets k)) (name_in (slot nets i))) (sym (eqb-true k j h)) ∙ same_word_refl (name_in (slot nets k)))) (λ (h : number_in k ks ≡ true). or_right _ _ (among-number nets k ks h)) (or_cases (nat_eq k j) (number_in k ks) e)
+pub among-number : (name : ℕ → List ℕ) (k : ℕ) (ks : List ℕ) → number_in k ks ≡ true → among (name k) (map name ks) ≡ true
+among-number name k [] e = cc
+among-number name k (j ∷ ks) e =
+    ⊎_elim (λ (h : nat_eq k j ≡ true). or_left _ _ (ap (λ i. same_word (name k) (name i)) (sym (eqb-true k j h)) ∙ same_word_refl (name k))) (λ (h : number_in k ks ≡ true). or_right _ _ (among-number name k ks h)) (or_cases (nat_eq k j) (number_in k ks) e)
 
--- ---- held nets
+-- the numbers of a list differ from k in name, where they differ from it
+abbrev TellsApart : (ℕ → List ℕ) → ℕ → List ℕ → Type 0
+TellsApart name k ks = (j : ℕ) → number_in j ks ≡ true → name k ≡ name j → k ≡ j
 
--- a number whose net is held
-pub record IsHeldAt (nets : List (Option FlatNet)) (k : ℕ) : Type 0 where
-  pub net : FlatNet
-  pub held : slot nets k ≡ Some net
-
-abbrev pub AllHeld : List (Option FlatNet) → List ℕ → Type 0
-AllHeld nets [] = Unit {0}
-AllHeld nets (k ∷ ks) = IsHeldAt nets k × AllHeld nets ks
-
--- no two held nets have one name
-pub record OneName (nets : List (Option FlatNet)) : Type 0 where
-  pub only : (n m : ℕ) (f g : FlatNet) → slot nets n ≡ Some f → slot nets m ≡ Some g → f.name ≡ g.name → n ≡ m
-
-name_is : (nets : List (Option FlatNet)) (k : ℕ) (h : IsHeldAt nets k) → name_in (slot nets k) ≡ h.net.name
-name_is nets k h = ap name_in h.held
-
-pub same_number : (nets : List (Option FlatNet)) → OneName nets → (k j : ℕ) → IsHeldAt nets k → IsHeldAt nets j → name_in (slot nets k) ≡ name_in (slot nets j) → k ≡ j
-same_number nets one k j h i e = one.only k j h.net i.net h.held i.held (sym (name_is nets k h) ∙ (e ∙ name_is nets j i))
-
-number-among : (nets : List (Option FlatNet)) → OneName nets → (k : ℕ) (ks : List ℕ) → IsHeldAt nets k → AllHeld nets ks → among (name_in (slot nets k)) (names_at nets ks) ≡ true → number_in k ks ≡ true
-number-among nets one k [] h all e = cc
-number-among nets one k (j ∷ ks) h all e =
-    ⊎_elim (λ (y : same_word (name_in (slot nets k)) (name_in (slot nets j)) ≡ true). or_left _ _ (eq-eqb k j (same_number nets one k j h all.0 (same_word_is _ _ y)))) (λ (y : among (name_in (slot nets k)) (names_at nets ks) ≡ true). or_right _ _ (number-among nets one k ks h all.1 y)) (or_cases (same_word (name_in (slot nets k)) (name_in (slot nets j))) (among (name_in (slot nets k)) (names_at nets ks)) e)
+number-among : (name : ℕ → List ℕ) (k : ℕ) (ks : List ℕ) → TellsApart name k ks → among (name k) (map name ks) ≡ true → number_in k ks ≡ true
+number-among name k [] one e = cc
+number-among name k (j ∷ ks) one e =
+    ⊎_elim (λ (y : same_word (name k) (name j) ≡ true). or_left _ _ (eq-eqb k j (one j (or_left _ _ (eq-eqb j j refl)) (same_word_is _ _ y)))) (λ (y : among (name k) (map name ks) ≡ true). or_right _ _ (number-among name k ks (λ i h. one i (or_right _ _ h)) y)) (or_cases (same_word (name k) (name j)) (among (name k) (map name ks)) e)
 
 none_of : (b c : Bool) → (b ≡ true → c ≡ true) → c ≡ false → b ≡ false
 none_of true c f e = absurd (false≢true (sym e ∙ f refl))
 none_of false c f e = refl
 
--- different numbers have different names
-pub names-differ : (nets : List (Option FlatNet)) → OneName nets → (ks : List ℕ) → AllHeld nets ks → numbers_differ ks ≡ true → names_differ (names_at nets ks) ≡ true
-names-differ nets one [] all e = refl
-names-differ nets one (k ∷ ks) all e =
+-- different numbers have different names, where no two of them have one name
+pub names-differ : (name : ℕ → List ℕ) (ks : List ℕ) → ((k : ℕ) → number_in k ks ≡ true → TellsApart name k ks) → numbers_differ ks ≡ true
+    → names_differ (map name ks) ≡ true
+names-differ name [] one e = refl
+names-differ name (k ∷ ks) one e =
     let p = and_parts (not (number_in k ks)) (numbers_differ ks) e in
-    and_from _ _ (not_from_false _ (none_of _ _ (number-among nets one k ks all.0 all.1) (not-true _ p.0))) (names-differ nets one ks all.1 p.1)
+    let first : TellsApart name k ks = λ j h. one k (or_left _ _ (eq-eqb k k refl)) j (or_right _ _ h) in
+    and_from _ _ (not_from_false _ (none_of _ _ (number-among name k ks first) (not-true _ p.0))) (names-differ name ks (λ i a j b. one i (or_right _ _ a) j (or_right _ _ b)) p.1)
+
+-- ---- nets that can be read
+
+abbrev pub AllReadable : List (Option FlatNet) → List ℕ → Type 0
+AllReadable nets [] = Unit {0}
+AllReadable nets (k ∷ ks) = IsReadable nets k × AllReadable nets ks
+
+pub AllReadable-append : (nets : List (Option FlatNet)) (ks js : List ℕ) → AllReadable nets ks → AllReadable nets js → AllReadable nets (ks ++ js)
+AllReadable-append nets [] js a b = b
+AllReadable-append nets (k ∷ ks) js a b = (a.0, AllReadable-append nets ks js a.1 b)
+
+-- a fact of each number of a list is one of all
+pub readable_from : (nets : List (Option FlatNet)) (ks : List ℕ) → ((k : ℕ) → number_in k ks ≡ true → IsReadable nets k) → AllReadable nets ks
+readable_from nets [] f = tt
+readable_from nets (k ∷ ks) f = (f k (or_left _ _ (eq-eqb k k refl)), readable_from nets ks (λ j h. f j (or_right _ _ h)))
+
+-- and the other way round
+pub readable_in : (nets : List (Option FlatNet)) (ks : List ℕ) (k : ℕ) → AllReadable nets ks → number_in k ks ≡ true → IsReadable nets k
+readable_in nets [] k all h = cc
+readable_in nets (j ∷ ks) k all h =
+    ⊎_elim (λ (y : nat_eq k j ≡ true). subst (IsReadable nets) (sym (eqb-true k j y)) all.0) (λ (y : number_in k ks ≡ true). readable_in nets ks k all.1 y) (or_cases _ _ h)
+
+-- no two held nets have one name
+pub record OneName (nets : List (Option FlatNet)) : Type 0 where
+  pub only : (n m : ℕ) (f g : FlatNet) → slot nets n ≡ Some f → slot nets m ≡ Some g → f.name ≡ g.name → n ≡ m
+
+name_is : (nets : List (Option FlatNet)) (k : ℕ) (r : IsReadable nets k) → name_in (slot nets k) ≡ r.net.name
+name_is nets k r = ap name_in r.held
+
+pub same_number : (nets : List (Option FlatNet)) → OneName nets → (k j : ℕ) → IsReadable nets k → IsReadable nets j
+    → name_in (slot nets k) ≡ name_in (slot nets j) → k ≡ j
+same_number nets one k j r s e = one.only k j r.net s.net r.held s.held (sym (name_is nets k r) ∙ (e ∙ name_is nets j s))
+
+pub readable_differ : (nets : List (Option FlatNet)) → OneName nets → (ks : List ℕ) → AllReadable nets ks → numbers_differ ks ≡ true
+    → names_differ (names_at nets ks) ≡ true
+readable_differ nets one ks all e =
+    names-differ (λ k. name_in (slot nets k)) ks (λ k a j b. same_number nets one k j (readable_in nets ks k all a) (readable_in nets ks j all b)) e
 
 -- ---- the number of a name
 
@@ -126,9 +149,9 @@ number_found w (g ∷ fs) (suc k) f e same only =
         let found = named_some w g y in
         absurd (zero_suc k (only 0 found.0 found.1 found.2))
 
-pub number_named-held : (nets : List (Option FlatNet)) → OneName nets → (k : ℕ) → IsHeldAt nets k → number_named (name_in (slot nets k)) nets ≡ k
-number_named-held nets one k h =
-    number_found (name_in (slot nets k)) nets k h.net h.held (name_is nets k h) (λ m g e s. one.only m k g h.net e h.held (sym s ∙ name_is nets k h))
+pub number_named-readable : (nets : List (Option FlatNet)) → OneName nets → (k : ℕ) → IsReadable nets k → number_named (name_in (slot nets k)) nets ≡ k
+number_named-readable nets one k r =
+    number_found (name_in (slot nets k)) nets k r.net r.held (name_is nets k r) (λ m g e s. one.only m k g r.net e r.held (sym s ∙ name_is nets k r))
 
 -- ---- numbers from a range
 
@@ -184,18 +207,3 @@ differ-append (k ∷ ks) js e f apart =
 pub names_at-append : (nets : List (Option FlatNet)) (ks js : List ℕ) → names_at nets (ks ++ js) ≡ names_at nets ks ++ names_at nets js
 names_at-append nets [] js = refl
 names_at-append nets (k ∷ ks) js = ap (λ ws. name_in (slot nets k) ∷ ws) (names_at-append nets ks js)
-
-pub AllHeld-append : (nets : List (Option FlatNet)) (ks js : List ℕ) → AllHeld nets ks → AllHeld nets js → AllHeld nets (ks ++ js)
-AllHeld-append nets [] js a b = b
-AllHeld-append nets (k ∷ ks) js a b = (a.0, AllHeld-append nets ks js a.1 b)
-
--- a fact of each number of a list is one of all
-pub held_from : (nets : List (Option FlatNet)) (ks : List ℕ) → ((k : ℕ) → number_in k ks ≡ true → IsHeldAt nets k) → AllHeld nets ks
-held_from nets [] f = tt
-held_from nets (k ∷ ks) f = (f k (or_left _ _ (eq-eqb k k refl)), held_from nets ks (λ j h. f j (or_right _ _ h)))
-
--- and the other way round
-pub held_in : (nets : List (Option FlatNet)) (ks : List ℕ) (k : ℕ) → AllHeld nets ks → number_in k ks ≡ true → IsHeldAt nets k
-held_in nets [] k all h = cc
-held_in nets (j ∷ ks) k all h =
-    ⊎_elim (λ (y : nat_eq k j ≡ true). subst (IsHeldAt nets) (sym (eqb-true k j y)) all.0) (λ (y : number_in k ks ≡ true). held_in nets ks k all.1 y) (or_cases _ _ h)

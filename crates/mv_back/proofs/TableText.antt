@@ -1,4 +1,4 @@
--- The lines of a written table say the table, and its values have no fault.
+-- The lines of a written table or reset table say the table, and its values have no fault.
 use Rattle.std.proofs.Common.{◌≡◌, ◌∙◌, ℕ, ◌+◌, true, false, not, List, [], ◌∷◌, ◌++◌, length, map, refl, sym, ap, eq-eqb, length-append}
 use Rattle.std.specs.Prelude.{Option, Some, None, option_map, codes}
 use Rattle.std.specs.List.{AllByRecursion, list_all}
@@ -20,8 +20,8 @@ use Rattle.mv_parse.specs.Commands.{first_of}
 use Rattle.mv_net.specs.declared.parts.FlatNet.{FlatNet}
 use Rattle.mv_net.specs.Nets.{slot, spelled_in, spelled_values}
 use Rattle.mv_net.specs.Formed.{AllLines}
-use Rattle.mv_text.specs.Text.{fanins_of, fanin_word, set_in, entry_word, line_words, default_words}
-use Rattle.mv_back.proofs.TextModel.{set_entries, row_said, fanin_names, IsTableOf}
+use Rattle.mv_text.specs.Text.{fanins_of, fanin_word, set_in, entry_word, line_words, default_words, told_name}
+use Rattle.mv_back.proofs.TextModel.{set_entries, row_said, fanin_names, IsTableOf, is_reset_net}
 use Rattle.mv_back.proofs.Entries.{entry-stop}
 use Rattle.mv_back.proofs.Commands.{command-default, command-row}
 use Rattle.mv_back.proofs.Columns.{ins-written, outs-written}
@@ -53,11 +53,11 @@ record Say (ds : List Decl) (ins outs : List (List ℕ)) (lines : List LexLine) 
 -- the net of a table, among nets that these declarations name
 pub record IsTableNet (nets : List (Option FlatNet)) (ds : List Decl) (f : FlatNet) (c : Cover) : Type 0 where
   pub fanins : AllByRecursion (IsFanin nets ds) (fanins_of (length nets) c)
-  pub output : IsColumn ds f.name f.values (spelled_values f.values f.value_names)
+  pub output : IsColumn ds (told_name (Some f)) f.values (spelled_values f.values f.value_names)
   pub lines : AllLines nets f.values c.lines
   pub default : (out : ℕ) → c.default ≡ Some out → IsOutput f.values out
   pub lawful : list_all is_net_name (fanin_names nets c) ≡ true
-  pub own : is_net_name f.name ≡ true
+  pub own : is_net_name (told_name (Some f)) ≡ true
 
 module _ (nets : List (Option FlatNet)) (ds : List Decl) (name : List ℕ) (values : ℕ) (names : List (List ℕ)) (output : IsColumn ds name values names) where
   -- the first word of a row doesn't begin with a full stop
@@ -111,13 +111,14 @@ pub record SayTable (nets : List (Option FlatNet)) (ds : List Decl) (f : FlatNet
   pub table : IsTableOf nets f c (table_of ds head kept)
   pub faults : table_faults ds head kept ≡ []
 
-pub table-said : (nets : List (Option FlatNet)) (ds : List Decl) (f : FlatNet) (c : Cover) (n m : ℕ) → IsTableNet nets ds f c → SayTable nets ds f c (head_line n (fanin_names nets c) f.name) (lines_from m (kept_words nets f c))
+pub table-said : (nets : List (Option FlatNet)) (ds : List Decl) (f : FlatNet) (c : Cover) (n m : ℕ) → IsTableNet nets ds f c
+    → SayTable nets ds f c (head_line (is_reset_net f) n (fanin_names nets c) (told_name (Some f))) (lines_from m (kept_words nets f c))
 unfolding table_of table_faults
 table-said nets ds f c n m is =
     let names = fanin_names nets c in
-    let ins = ins-written names f.name is.lawful in
-    let outs = outs-written names f.name is.lawful in
-    let say = behind_say nets ds f.name f.values (spelled_values f.values f.value_names) is.output m (fanins_of (length nets) c) c.default c.lines is.fanins is.lines is.default in
+    let ins = ins-written names (told_name (Some f)) is.lawful in
+    let outs = outs-written names (told_name (Some f)) is.lawful in
+    let say = behind_say nets ds (told_name (Some f)) f.values (spelled_values f.values f.value_names) is.output m (fanins_of (length nets) c) c.default c.lines is.fanins is.lines is.default in
     record {
       keep = say.keep;
       table = record {

@@ -1,12 +1,9 @@
-ghost use Rattle.std.specs.Prelude.{◌≡◌, []};
 ghost use Rattle.mv_back.specs.Back.{ReadsBack};
 
 use mv_net::Network;
 
-/// The text of a network without latches has no fault but limits, and reads as a sound design that means what the
-/// network means.
+/// The text of a network has no fault but limits, and reads as a sound design that means what the network means.
 pub fn reads_back(net: &Network)
-    requires { net.now.latches ≡ [] }
     ensures { ReadsBack net.now }
 {
     net.well_formed();

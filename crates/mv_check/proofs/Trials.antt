@@ -9,15 +9,10 @@ use Rattle.mv_net.specs.Nets.{literals_in}
 use Rattle.mv_text.specs.Text.{text_of}
 use Rattle.mv_back.specs.Back.{ReadsBack}
 use Rattle.mv_rules.specs.Replaying.{Replays}
-use Rattle.mv_rules.proofs.Replayed.{replayed_latches}
 use Rattle.mv_step.specs.declared.step.Step.{Step}
 use Rattle.mv_cert.specs.Replay.{rules_in}
 use Rattle.mv_task.specs.Ending.{IsEndCut, done_line}
 use Rattle.mv_check.specs.Trials.{HasTried, IsTrialCut}
-
--- the rules make no latches
-pub no_latches : (steps : List Step) (first net : NetParts) → first.latches ≡ [] → Replays (rules_in steps) first net → net.latches ≡ []
-no_latches steps first net none r = replayed_latches (rules_in steps) first net r ∙ none
 
 module _ (steps : List Step) (first net : NetParts) (before : ℕ) (count : before ≡ literals_in first.nets) (replays : Replays (rules_in steps) first net) (out out' notes notes' : Written) where
   pub tried : SameMeaning (of_net net) (of_net first) → ReadsBack net → Gained out out' (text_of net) → Gained notes notes' (done_line before (literals_in net.nets)) → HasTried steps first out out' notes notes'

@@ -1,4 +1,4 @@
-ghost use Rattle.std.specs.Prelude.{◌≡◌, [], length, Err, IfOk, IfErr, IfSome};
+ghost use Rattle.std.specs.Prelude.{◌≡◌, length, Err, IfOk, IfErr, IfSome};
 ghost use Rattle.mv_files.specs.FileReading.{Stay};
 ghost use Rattle.mv_task.specs.declared.fault.FileFault.{FileFault};
 ghost use Rattle.mv_task.specs.declared.fault.SourceStop.TheVariants.{Fault as faulty};
@@ -62,7 +62,6 @@ pub fn prepare<F: Files>(alloc: Global, words: &[String], files: &mut F) -> Resu
     requires { length words.now ≡ 3 }
     ensures steps { IfOk result (λ trial. HasSteps (texts words.now) (F.state files.old) trial.steps) }
     ensures made { IfOk result (λ trial. Prepared (texts words.now) (F.state files.old) (F.state files.new) trial.net) }
-    ensures latches { IfOk result (λ trial. trial.net.latches ≡ []) }
     ensures text { (fault : TextFault) → result ≡ Err (Stop.Text fault)
         → RefusesCertificate (texts words.now) (F.state files.old) fault }
     ensures faulty { (fault : FileFault) → result ≡ Err (Stop.Source (faulty fault))

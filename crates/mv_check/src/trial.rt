@@ -1,4 +1,4 @@
-ghost use Rattle.std.specs.Prelude.{◌≡◌, ℕ, [], Ok, Err, OnOk};
+ghost use Rattle.std.specs.Prelude.{◌≡◌, ℕ, Ok, Err, OnOk};
 ghost use Rattle.mv_entry.specs.declared.fault.RuleFault.{RuleFault};
 ghost use Rattle.mv_check.specs.Trials.{HasTried, FailsTrial, IsTrialCut};
 
@@ -29,7 +29,6 @@ pub fn carry_out<O: Sink, E: Sink>(
     out: &mut O,
     notes: &mut E,
 ) -> Result<(), TrialStop>
-    requires { trial.net.latches ≡ [] }
     ensures ok { OnOk result (HasTried trial.steps trial.net
         (O.state out.old) (O.state out.new) (E.state notes.old) (E.state notes.new)) }
     ensures rule { (line : ℕ) (fault : RuleFault) → result ≡ Err (TrialStop.Rule line fault)

@@ -1,5 +1,6 @@
 pub mod Values
 pub mod Tables
+pub mod ByLine
 pub mod Nets
 pub mod Proper
 pub mod Meaning

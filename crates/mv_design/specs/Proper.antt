@@ -1,5 +1,5 @@
 -- What the grammar makes sure of in a design, line by line: lawful names, values that the nets have, entries that fit, and
--- the order of lines. In this version there is one model, without latches and instances, and its tables have one output.
+-- the order of lines. In this version models are without instances, and their tables have one output.
 use Rattle.std.specs.Prelude.{◌≡◌, ℕ, ◌<◌, ◌≤◌, Bool, true, not, ◌&&◌, nat_eq, nat_lt, Some}
 use Rattle.std.specs.Prelude.{List, [], ◌∷◌, length, map, slice_index_or, All}
 use Rattle.std.specs.List.{list_all, list_any}
@@ -55,6 +55,12 @@ pub record IsFileTable (ds : List Decl) (t : FileTable) : Type 0 where
   pub rows : All (IsFileRow ds t) t.rows
   pub default : (entries : List Entry) → t.default ≡ Some entries → FitOutputs ds t.inputs t.outputs entries
 
+-- a latch has lawful names, and its input as many values as its output
+pub record IsFileLatch (ds : List Decl) (l : FileLatch) : Type 0 where
+  pub input : is_net_name l.input ≡ true
+  pub output : is_net_name l.output ≡ true
+  pub counts : count_of ds l.input ≡ count_of ds l.output
+
 -- a declared net: it has some values, and no more than a net may have, with lawful names, all different
 pub record IsFileDecl (d : Decl) : Type 0 where
   pub net : is_net_name d.net ≡ true
@@ -108,8 +114,8 @@ pub record StandsByLine (m : FileModel) : Type 0 where
 
 -- ---- models and designs
 
--- a model: its names are lawful, no input and no output stands twice, its declarations and tables are such as above, and it
--- stands by line. It has no latches, resets and instances
+-- a model: its names are lawful, no input and no output stands twice, its declarations, tables, latches and reset tables are
+-- such as above, and it stands by line. It has no instances
 pub record IsProperModel (m : FileModel) : Type 0 where
   pub name : is_model_name m.name ≡ true
   pub inputs : list_all is_net_name m.inputs ≡ true
@@ -119,12 +125,11 @@ pub record IsProperModel (m : FileModel) : Type 0 where
   pub decls : All IsFileDecl m.decls
   pub tables : All (IsFileTable m.decls) m.tables
   pub order : StandsByLine m
-  pub latches : m.latches ≡ []
-  pub resets : m.resets ≡ []
+  pub latches : All (IsFileLatch m.decls) m.latches
+  pub resets : All (IsFileTable m.decls) m.resets
   pub parts : m.parts ≡ []
 
--- a design whose root is its only model
+-- a design: each of its models is such, and its root is one of them
 pub record IsProper (d : Design) : Type 0 where
-  pub single : length d.models ≡ 1
-  pub root_is : d.root ≡ 0
-  pub root : IsProperModel (root_of d)
+  pub models : All IsProperModel d.models
+  pub root : d.root < length d.models

@@ -1,7 +1,7 @@
 -- From a valuation to an assignment: each net has its value at its number, and each mark the value that tells whether some
 -- row of its table matches.
-use Rattle.std.proofs.Common.{◌≡◌, ℕ, zero, suc, ◌<◌, ◌≤◌, Bool, true, false, List, [], ◌∷◌, ◌++◌, length, map, get_or, Option, Some, None, refl, sym, ◌∙◌, ap, subst, ⊎_elim}
-use Rattle.std.specs.Prelude.{if◌then◌else◌, nat_lt, ◌==◌}
+use Rattle.std.proofs.Common.{◌≡◌, ℕ, zero, suc, ◌<◌, ◌≤◌, Bool, true, false, List, [], ◌∷◌, ◌++◌, length, map, Option, Some, None, refl, sym, ◌∙◌, ap, subst, ⊎_elim}
+use Rattle.std.specs.Prelude.{if◌then◌else◌, nat_lt}
 use Rattle.std.specs.List.{flat_map, list_all, slice_get}
 use Rattle.std.proofs.lemmas.Bool.{false≢true, and_from, and_parts, cases_lt, cond-false, cond-true, or_from, or_parts, false_from_ne_true}
 use Rattle.std.proofs.lemmas.Option.{none-some, same_Some}
@@ -15,18 +15,17 @@ use Rattle.mv_net.specs.declared.parts.NetParts.{NetParts}
 use Rattle.mv_net.specs.Nets.{slot}
 use Rattle.mv_net.specs.Allowed.{net_allows, Agrees}
 use Rattle.mv_design.specs.Values.{count_of}
-use Rattle.mv_design.specs.Nets.{drivers, nets_named, nets_driven}
+use Rattle.mv_design.specs.Nets.{drivers, nets_named, nets_driven, output_of}
 use Rattle.mv_flat.specs.Places.{places, has_mark}
 use Rattle.mv_unfold.specs.Numbers.{number_in}
 use Rattle.mv_design.specs.Meaning.{in_values, table_holds}
-use Rattle.mv_flat.specs.Numbers.{mark_name, output_of, mark_at}
-use Rattle.mv_unfold.proofs.Listed.{name_at}
-use Rattle.mv_flat.proofs.Distinct.{is_spaced, lawful_unspaced}
+use Rattle.mv_flat.specs.Numbers.{mark_at}
+use Rattle.mv_flat.proofs.Lawful.{open_names, drivers_split}
 use Rattle.mv_unfold.proofs.Names.{all_among}
-use Rattle.mv_flat.proofs.Numbered.{mark_number}
 use Rattle.mv_flat.proofs.Slots.{IsTableAt, mark_net}
-use Rattle.mv_flat.proofs.Places.{IsModelNet, table_of, single_tables, input_slot, InputPlace, OutputPlace, MarkPlace, place_at, no_slot, named_file}
-use Rattle.mv_flat.proofs.Naming.{in_tables, input_named, lawful_named, output_of_among}
+use Rattle.mv_flat.proofs.Places.{IsModelNet, table_of, single_tables, open_slot, OpenPlace, OutputPlace, MarkPlace, place_at, no_slot}
+use Rattle.mv_flat.proofs.Naming.{in_tables, open_named, output_of_among}
+use Rattle.mv_flat.proofs.ByNumber.{of_number, at_net, at_mark}
 use Rattle.mv_flat.proofs.Valuations.{Follows, values_follow, range_follows, mark_at_columns, output_allows, marked_has, mark_up}
 
 -- the value of the mark of the table with this output
@@ -34,17 +33,8 @@ abbrev marked_in : (List ℕ → ℕ) → List FileTable → List ℕ → ℕ
 marked_in value [] w = 0
 marked_in value (t ∷ ts) w = if among w t.outputs then mark_value t.rows (map value t.inputs) else marked_in value ts w
 
--- the value of a name among the names by number
-abbrev named_value : FileModel → (List ℕ → ℕ) → List ℕ → ℕ
-named_value m value [] = value []
-named_value m value (b ∷ bs) = if b == 32 then marked_in value m.tables bs else value (b ∷ bs)
-
 abbrev pub by_number : FileModel → (List ℕ → ℕ) → ℕ → ℕ
-by_number m value n = named_value m value (get_or (places m) n [])
-
-unspaced_value : (m : FileModel) (value : List ℕ → ℕ) (w : List ℕ) → is_spaced w ≡ false → named_value m value w ≡ value w
-unspaced_value m value [] h = refl
-unspaced_value m value (b ∷ bs) h = cond-false (b == 32) _ _ h
+by_number m value = of_number m value (marked_in value m.tables)
 
 -- ---- outputs are apart
 
@@ -62,8 +52,7 @@ apart_left (u ∷ us) ws w a h =
     (apart_left us ws w a.1 h)
 
 outputs_apart : (m : FileModel) → IsDistinct (drivers m) → AreApart (flat_map nets_driven m.tables)
-unfolding drivers
-outputs_apart m d = apart_right m.inputs (flat_map nets_driven m.tables) d.apart
+outputs_apart m d = apart_right (open_names m) (flat_map nets_driven m.tables) (subst AreApart (drivers_split m) d.apart)
 
 found_mark : (value : List ℕ → ℕ) (ts : List FileTable) (k : ℕ) (t : FileTable) (w : List ℕ) → AreApart (flat_map nets_driven ts) → slice_get ts k ≡ Some t → among w t.outputs ≡ true → marked_in value ts w ≡ mark_value t.rows (map value t.inputs)
 found_mark value [] k t w a e h = absurd (none-some t e)
@@ -77,8 +66,7 @@ found_mark value (u ∷ us) (suc k) t w a e h =
 -- ---- the assignment follows the valuation
 
 number_value : (m : FileModel) (net : NetParts) → IsModelNet m net → (value : List ℕ → ℕ) (w : List ℕ) → among w (nets_named m) ≡ true → value w ≡ by_number m value (number_in (places m) w)
-number_value m net is value w h =
-    sym (ap (named_value m value) (name_at (places m) w (named_file m net is w h).listed) ∙ unspaced_value m value w (lawful_unspaced w (lawful_named m net is w h)))
+number_value m net is value w h = sym (at_net m net is value (marked_in value m.tables) w h)
 
 pub number_follows : (m : FileModel) (net : NetParts) → IsModelNet m net → (value : List ℕ → ℕ) → in_values m.decls value (nets_named m) ≡ true → Follows m (by_number m value) value
 number_follows m net is value range = record {
@@ -88,12 +76,9 @@ number_follows m net is value range = record {
 
 mark_value_is : (m : FileModel) (net : NetParts) → IsModelNet m net → (value : List ℕ → ℕ) → Follows m (by_number m value) value → (k : ℕ) (t : FileTable) → slice_get m.tables k ≡ Some t → has_mark m.decls t ≡ true → by_number m value (mark_at (places m) t).0 ≡ mark_at_columns m (by_number m value) t
 mark_value_is m net is value f k t e may =
-    let here = table_of m net is k t e in
-    let listed = here.marked may in
-    ap (by_number m value) (mark_number (places m) t listed)
-    ∙ (ap (named_value m value) (name_at (places m) (mark_name (output_of t)) listed)
+    at_mark m net is value (marked_in value m.tables) k t e may
     ∙ (found_mark value m.tables k t (output_of t) (outputs_apart m is.once) e (output_of_among t (single_tables m net is k t e))
-    ∙ ap (mark_value t.rows) (sym (values_follow m (by_number m value) value k t f e))))
+    ∙ ap (mark_value t.rows) (sym (values_follow m (by_number m value) value k t f e)))
 
 mark_has : (m : FileModel) (net : NetParts) (is : IsModelNet m net) (value : List ℕ → ℕ) → Follows m (by_number m value) value → (k : ℕ) (t : FileTable) (e : slice_get m.tables k ≡ Some t) → MarkHas (table_of m net is k t e).flat.mark (mark_at (places m) t) (by_number m value) (mark_at_columns m (by_number m value) t)
 mark_has m net is value f k t e = by_mark (table_of m net is k t e).flat.mark refl
@@ -112,11 +97,13 @@ all_at p (y ∷ xs) (suc k) x h e = all_at p xs k x (and_parts (p y) (list_all p
 abbrev Allows : NetParts → (ℕ → ℕ) → ℕ → Type 0
 Allows net at n = net_allows (slot net.nets n) at (at n) ≡ true
 
-allows_input : (m : FileModel) (net : NetParts) → IsModelNet m net → (at : ℕ → ℕ) (value : List ℕ → ℕ) → Follows m at value → (n : ℕ) → InputPlace m n → Allows net at n
-allows_input m net is at value f n p =
+allows_open : (m : FileModel) (net : NetParts) → IsModelNet m net → (at : ℕ → ℕ) (value : List ℕ → ℕ) → Follows m at value → (n : ℕ) → OpenPlace m n
+    → Allows net at n
+allows_open m net is at value f n p =
     let k : ℕ = number_in (places m) p.name in
     subst (Allows net at) (sym p.number)
-    (ap (λ s. net_allows s at (at k)) (input_slot m net is p.name p.listed) ∙ and_from (nat_lt (at k) (count_of m.decls p.name)) true (f.range p.name (input_named m p.name p.listed)) refl)
+    (ap (λ s. net_allows s at (at k)) (open_slot m net is p.kind p.name p.listed)
+    ∙ and_from (nat_lt (at k) (count_of m.decls p.name)) true (f.range p.name (open_named m p.kind p.name p.listed)) refl)
 
 allows_output : (m : FileModel) (net : NetParts) → IsModelNet m net → (value : List ℕ → ℕ) → Follows m (by_number m value) value → list_all (table_holds value) m.tables ≡ true → (n : ℕ) → OutputPlace m n → Allows net (by_number m value) n
 allows_output m net is value f holds n p =
@@ -144,7 +131,7 @@ number_agrees m net is value f holds = record {
   each = λ n.
       ⊎_elim
       (λ (low : n < length (places m)).
-      ⊎_elim (λ (p : InputPlace m n). allows_input m net is (by_number m value) value f n p)
+      ⊎_elim (λ (p : OpenPlace m n). allows_open m net is (by_number m value) value f n p)
       (λ q. ⊎_elim (λ (p : OutputPlace m n). allows_output m net is value f holds n p) (λ (p : MarkPlace m n). allows_mark m net is value f n p) q)
       (place_at m net is n low))
       (λ (high : length (places m) ≤ n). ap (λ s. net_allows s (by_number m value) (by_number m value n)) (no_slot m net is n high))

@@ -1,12 +1,11 @@
 -- The nets of tables, one table after the other behind the nets of the inputs.
-use Rattle.std.proofs.Common.{◌≡◌, ℕ, ◌+◌, ◌*◌, ◌<◌, ◌≤◌, ◌^◌, Bool, true, false, ◌||◌, List, [], ◌∷◌, ◌++◌, length, drop, get_or, Option, Some, refl, sym, ◌∙◌, ap, subst, arith, append_assoc, All}
+use Rattle.std.proofs.Common.{◌≡◌, ℕ, ◌+◌, ◌*◌, ◌<◌, ◌≤◌, ◌^◌, Bool, true, false, List, [], ◌∷◌, ◌++◌, length, drop, get_or, Option, Some, refl, sym, ◌∙◌, ap, subst, arith, append_assoc, All}
 use Rattle.std.specs.Prelude.{if◌then◌else◌}
 use Rattle.std.specs.List.{flat_map}
 use Rattle.std.proofs.lemmas.List.{append-nil, length-append, drop_more, drop_all}
 use Rattle.std.proofs.lemmas.List.Elements.{All-head, All-tail, All-get_or}
 use Rattle.mv_base.specs.Names.{among}
 use Rattle.mv_base.specs.declared.limits.TheConstants.{MAX_NETS}
-use Rattle.mv_base.proofs.NameLemmas.{among-append}
 use Rattle.mv_cover.specs.declared.cover.Cover.{Cover}
 use Rattle.mv_design.specs.declared.design.Decl.{Decl}
 use Rattle.mv_design.specs.declared.design.FileModel.{FileModel}
@@ -14,18 +13,20 @@ use Rattle.mv_design.specs.declared.table.FileTable.{FileTable}
 use Rattle.mv_rows.specs.declared.table.FlatTable.{FlatTable}
 use Rattle.mv_rows.specs.Flat.{IsMade}
 use Rattle.mv_net.specs.declared.parts.FlatNet.{FlatNet}
-use Rattle.mv_net.specs.declared.parts.Kind.TheVariants.{Table}
-use Rattle.mv_design.specs.Nets.{nets_driven, columns_of, drivers}
+use Rattle.mv_net.specs.declared.parts.Kind.{Kind}
+use Rattle.mv_design.specs.Nets.{nets_driven, columns_of, drivers, output_of}
 use Rattle.mv_flat.specs.Places.{has_mark, table_places, places}
-use Rattle.mv_design.specs.Proper.{IsFileTable, IsProperModel}
-use Rattle.mv_unfold.specs.Sound.{IsDrivenOnce, IsSoundModel}
-use Rattle.mv_flat.proofs.Distinct.{net_is_place}
-use Rattle.mv_unfold.proofs.Named.{among-nets_of}
-use Rattle.mv_flat.specs.Numbers.{columns_at, mark_name, output_of, mark_at, made_name}
-use Rattle.mv_flat.specs.Built.{file_net, IsMark, AreTables}
+use Rattle.mv_resets.specs.NetModels.{HasSoundNets, IsNetModel, IsNetTable}
+use Rattle.mv_unfold.specs.Sound.{IsDrivenOnce}
+use Rattle.mv_flat.proofs.Lawful.{open_names, drivers_split}
+use Rattle.mv_flat.proofs.Distinct.{places_split, places_driven, driver_is_place}
+use Rattle.mv_unfold.proofs.Distinct.{net_is_driven}
+use Rattle.mv_unfold.proofs.Commands.{column_named, named_is_net}
+use Rattle.mv_flat.specs.Numbers.{columns_at, mark_name, mark_at, made_name}
+use Rattle.mv_flat.specs.Built.{file_net, kind_of, IsMark, AreTables}
 use Rattle.mv_flat.specs.Marks.{IsLast, AddsNets, MarkNets, TableNets}
 use Rattle.mv_flat.specs.Placed.{IsPlacedTable, ArePlaced, AddsTables}
-use Rattle.mv_flat.proofs.Known.{tables_known, column_named}
+use Rattle.mv_flat.proofs.Known.{tables_known}
 use Rattle.mv_flat.proofs.MadeNames.{last_few}
 
 -- ---- one table
@@ -35,8 +36,13 @@ first_is : (os ws : List (List ℕ)) (out : List ℕ) → ws ≡ os → length o
 first_is [] ws out e single is = absurd (omega (arith, single))
 first_is (o ∷ os) ws out e single is = is ∙ ap (λ x. get_or x 0 out) e
 
-pub adds_table : (ds : List Decl) (names : List (List ℕ)) (t : FileTable) (flat : FlatTable) (cover : Cover) (mark : Option Cover) (outs : List (List ℕ)) (out : List ℕ) (before last : ℕ) (old mid new : List (Option FlatNet)) (net : FlatNet) → IsMade (columns_at ds names t) t (mark_at names t) flat → cover ≡ flat.cover → mark ≡ flat.mark → AddsNets (MarkNets mark) names before last old mid → outs ≡ t.outputs → length t.outputs ≡ 1 → out ≡ get_or outs 0 out → Some net ≡ file_net ds Table (Some cover) out → new ≡ mid ++ Some net ∷ [] → AddsNets (TableNets ds names t) names before last old new
-adds_table ds names t flat cover mark outs out before last old mid new net made cover_is mark_is marks outs_are single first is e = record {
+pub adds_table : (ds : List Decl) (names : List (List ℕ)) (t : FileTable) (flat : FlatTable) (cover : Cover) (mark : Option Cover) (outs : List (List ℕ))
+    (out : List ℕ) (before last : ℕ) (old mid new : List (Option FlatNet)) (kind : Kind) (net : FlatNet)
+    → IsMade (columns_at ds names t) t (mark_at names t) flat
+    → cover ≡ flat.cover → mark ≡ flat.mark → AddsNets (MarkNets mark) names before last old mid → outs ≡ t.outputs → length t.outputs ≡ 1
+    → out ≡ get_or outs 0 out → kind ≡ kind_of out → Some net ≡ file_net ds kind (Some cover) out → new ≡ mid ++ Some net ∷ []
+    → AddsNets (TableNets ds names t) names before last old new
+adds_table ds names t flat cover mark outs out before last old mid new kind net made cover_is mark_is marks outs_are single first kind_is is e = record {
   here = marks.here ++ Some net ∷ [];
   joined = e ∙ (ap (λ ns. ns ++ Some net ∷ []) marks.joined ∙ append_assoc old marks.here (Some net ∷ []));
   behind = λ held h.
@@ -49,7 +55,11 @@ adds_table ds names t flat cover mark outs out before last old mid new net made 
           made = made;
           mark = marks.here;
           marked = subst P mark_is b.are;
-          nets_are = ap (λ f. marks.here ++ f ∷ []) (is ∙ (ap (λ x. file_net ds Table (Some x) out) cover_is ∙ ap (file_net ds Table (Some flat.cover)) (first_is t.outputs outs out outs_are single first)));
+          nets_are =
+              ap (λ f. marks.here ++ f ∷ [])
+              (is
+              ∙ ((λ i. file_net ds (kind_is i) (Some (cover_is i)) out)
+              ∙ ap (λ w. file_net ds (kind_of w) (Some flat.cover) w) (first_is t.outputs outs out outs_are single first)));
         };
         lasts = b.lasts;
         few = b.few;
@@ -67,24 +77,6 @@ pub record TablesMade (m : FileModel) (names : List (List ℕ)) (i last : ℕ) (
   pub lasts : IsLast names held last
   pub few : length held ≤ length (drivers m) + i
 
--- a made name is a driver's exactly where it has a place, as no mark's name is made
-made_places : (k : ℕ) (out : List ℕ) (os : List (List ℕ)) (b : Bool) → among (made_name k) os ≡ among (made_name k) (if b then mark_name out ∷ os else os)
-made_places k out os false = refl
-made_places k out os true = refl
-
-made_in_tables : (ds : List Decl) (k : ℕ) (ts : List FileTable) → among (made_name k) (flat_map nets_driven ts) ≡ among (made_name k) (flat_map (table_places ds) ts)
-made_in_tables ds k [] = refl
-made_in_tables ds k (t ∷ ts) =
-    among-append (made_name k) t.outputs (flat_map nets_driven ts)
-    ∙ (ap (λ b. b || among (made_name k) (flat_map nets_driven ts)) (made_places k (output_of t) t.outputs (has_mark ds t))
-    ∙ (ap (λ b. among (made_name k) (table_places ds t) || b) (made_in_tables ds k ts) ∙ sym (among-append (made_name k) (table_places ds t) (flat_map (table_places ds) ts))))
-
-made_held : (m : FileModel) (k : ℕ) → among (made_name k) (drivers m) ≡ among (made_name k) (places m)
-unfolding drivers places
-made_held m k =
-    among-append (made_name k) m.inputs (flat_map nets_driven m.tables)
-    ∙ (ap (λ b. among (made_name k) m.inputs || b) (made_in_tables m.decls k m.tables) ∙ sym (among-append (made_name k) m.inputs (flat_map (table_places m.decls) m.tables)))
-
 pub tables_first : (m : FileModel) (names : List (List ℕ)) (nets : List (Option FlatNet)) → ArePlaced m names → TablesMade m names 0 0 nets nets
 tables_first m names nets p = record {
   held = drivers m;
@@ -94,7 +86,7 @@ tables_first m names nets p = record {
   lasts = record {
     small = omega arith;
     before = λ k low high. absurd (omega arith);
-    behind = λ k low small. made_held m k ∙ ap (among (made_name k)) (sym p.are);
+    behind = λ k low small. sym (places_driven m (made_name k) refl) ∙ ap (among (made_name k)) (sym p.are);
   };
   few = omega arith;
 }
@@ -146,8 +138,8 @@ pub ruleset tabled = (tables_first, tables_more, tables_last, tables_room, table
 
 -- ---- a sound model's nets have numbers
 
-column_known : (m : FileModel) (w : List ℕ) → IsDrivenOnce m → among w (flat_map columns_of m.tables) ≡ true → among w (places m) ≡ true
-column_known m w once h = net_is_place m w once (among-nets_of w m ∙ column_named m w h)
+column_known : (m : FileModel) (w : List ℕ) → IsNetModel m → IsDrivenOnce m → among w (flat_map columns_of m.tables) ≡ true → among w (places m) ≡ true
+column_known m w p once h = driver_is_place m p w (net_is_driven m w once (named_is_net m w (column_named m w h)))
 
 outputs_few : (out : List ℕ) (os : List (List ℕ)) (b : Bool) → length os ≤ length (if b then mark_name out ∷ os else os)
 outputs_few out os false = omega arith
@@ -162,29 +154,28 @@ drivers_few ds (t ∷ ts) =
     let r = drivers_few ds ts in
     omega arith
 
-tables_few : (ds : List Decl) (ts : List FileTable) → All (IsFileTable ds) ts → length ts ≤ length (flat_map nets_driven ts)
+tables_few : (ds : List Decl) (ts : List FileTable) → All (IsNetTable ds) ts → length ts ≤ length (flat_map nets_driven ts)
 tables_few ds [] all = omega arith
 tables_few ds (t ∷ ts) all =
-    let s = (All-head (IsFileTable ds) t ts all).single in
+    let s = (All-head (IsNetTable ds) t ts all).single in
     let a = length-append t.outputs (flat_map nets_driven ts) in
-    let r = tables_few ds ts (All-tail (IsFileTable ds) t ts all) in
+    let r = tables_few ds ts (All-tail (IsNetTable ds) t ts all) in
     omega arith
 
-driven_few : (m : FileModel) → IsProperModel m → length (places m) ≤ MAX_NETS → length (drivers m) + length m.tables ≤ 2 * MAX_NETS
-unfolding drivers places
+driven_few : (m : FileModel) → IsNetModel m → length (places m) ≤ MAX_NETS → length (drivers m) + length m.tables ≤ 2 * MAX_NETS
 driven_few m p few =
-    let a = length-append m.inputs (flat_map nets_driven m.tables) in
-    let b = length-append m.inputs (flat_map (table_places m.decls) m.tables) in
+    let a = ap length (drivers_split m) ∙ length-append (open_names m) (flat_map nets_driven m.tables) in
+    let b = ap length (places_split m) ∙ length-append (open_names m) (flat_map (table_places m.decls) m.tables) in
     let c = drivers_few m.decls m.tables in
     let d = tables_few m.decls m.tables p.tables in
     omega arith
 
-pub placed : (m : FileModel) (names : List (List ℕ)) → IsProperModel m → IsSoundModel m → names ≡ places m → length names ≤ MAX_NETS → ArePlaced m names
+pub placed : (m : FileModel) (names : List (List ℕ)) → IsNetModel m → HasSoundNets m → names ≡ places m → length names ≤ MAX_NETS → ArePlaced m names
 placed m names p s e few =
     let P : List (List ℕ) → Type 0 = λ ns. All (IsPlacedTable m.decls ns) m.tables in
     record {
       are = e;
       few = few;
       driven = driven_few m p (let l = ap length e in omega arith);
-      tables = subst P (sym e) (tables_known m.decls (places m) m.tables p.tables (λ w y. column_known m w s.driven y));
+      tables = subst P (sym e) (tables_known m.decls (places m) m.tables p.tables (λ w y. column_known m w p s.once y));
     }

@@ -9,12 +9,12 @@ use Rattle.std.proofs.lemmas.Option.{none-some, same_Some}
 use Rattle.mv_cover.specs.declared.cover.Cover.{Cover}
 use Rattle.mv_design.specs.declared.design.Decl.{Decl}
 use Rattle.mv_design.specs.declared.table.FileTable.{FileTable}
-use Rattle.mv_design.specs.Proper.{IsFileDecl}
+use Rattle.mv_resets.specs.NetModels.{HasLawfulValues}
 use Rattle.mv_net.specs.declared.parts.FlatNet.{FlatNet}
-use Rattle.mv_net.specs.declared.parts.Kind.TheVariants.{Table}
-use Rattle.mv_flat.specs.Numbers.{mark_name, output_of}
+use Rattle.mv_design.specs.Nets.{output_of}
+use Rattle.mv_flat.specs.Numbers.{mark_name}
 use Rattle.mv_flat.specs.Places.{has_mark, table_places}
-use Rattle.mv_flat.specs.Built.{file_net, IsMark, AreTableNets, AreTables}
+use Rattle.mv_flat.specs.Built.{file_net, kind_of, IsMark, AreTableNets, AreTables}
 use Rattle.mv_flat.specs.Placed.{IsPlacedTable}
 use Rattle.mv_flat.proofs.HasMark.{mark_is}
 
@@ -54,10 +54,10 @@ pub record IsBlock (ds : List Decl) (names : List (List ℕ)) (nets : List (Opti
   pub nets_are : nets ≡ before ++ (here ++ behind)
   pub level : length before ≡ length front
 
-module _ (ds : List Decl) (names : List (List ℕ)) (proper : All IsFileDecl ds) where
+module _ (ds : List Decl) (names : List (List ℕ)) (proper : All HasLawfulValues ds) where
   block_size : (held : List (List ℕ)) (t : FileTable) (here : List (Option FlatNet)) (after : List (List ℕ)) → IsPlacedTable ds names t → AreTableNets ds names held t here after → length here ≡ length (table_places ds t)
   block_size held t here after p a =
-      let f : List (Option FlatNet) = file_net ds Table (Some a.flat.cover) (output_of t) ∷ [] in
+      let f : List (Option FlatNet) = file_net ds (kind_of (output_of t)) (Some a.flat.cover) (output_of t) ∷ [] in
       let size = mark_size held (output_of t) (has_mark ds t) a.flat.mark a.mark after (mark_is ds names t a.flat proper p a.made) a.marked in
       ap length a.nets_are
       ∙ (length-append a.mark f

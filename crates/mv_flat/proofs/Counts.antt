@@ -9,7 +9,7 @@ use Rattle.mv_base.specs.Names.{same_word}
 use Rattle.mv_base.specs.declared.limits.TheConstants.{MAX_VALUES}
 use Rattle.mv_design.specs.declared.design.Decl.{Decl}
 use Rattle.mv_design.specs.Values.{values_of}
-use Rattle.mv_design.specs.Proper.{IsFileDecl}
+use Rattle.mv_resets.specs.NetModels.{HasLawfulValues}
 use Rattle.mv_flat.specs.Numbers.{are_numbers}
 use Rattle.mv_flat.specs.Values.{numbers_from}
 
@@ -19,12 +19,13 @@ pub record AreFew (n : ℕ) : Type 0 where
   pub some : 0 < n
   pub few : n ≤ MAX_VALUES
 
-pub values_few : (ds : List Decl) (net : List ℕ) → All IsFileDecl ds → AreFew (length (values_of ds net))
+pub values_few : (ds : List Decl) (net : List ℕ) → All HasLawfulValues ds → AreFew (length (values_of ds net))
 values_few [] net all = record { some = omega arith; few = omega arith }
 values_few (d ∷ ds) net all =
-    let h = All-head IsFileDecl d ds all in
+    let h = All-head HasLawfulValues d ds all in
     let P : List (List ℕ) → Type 0 = λ vs. AreFew (length vs) in
-    cond_both (same_word net d.net) d.values (values_of ds net) P (λ _. record { some = h.some; few = h.few }) (λ _. values_few ds net (All-tail IsFileDecl d ds all))
+    cond_both (same_word net d.net) d.values (values_of ds net) P (λ _. record { some = h.some; few = h.few })
+    (λ _. values_few ds net (All-tail HasLawfulValues d ds all))
 
 -- ---- numbers as names
 

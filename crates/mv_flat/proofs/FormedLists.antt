@@ -1,24 +1,28 @@
--- The inputs and outputs of a model's network: each of its inputs once, and outputs that can be read.
-use Rattle.std.proofs.Common.{◌≡◌, ◌⊎◌, ℕ, ◌<◌, ◌≤◌, true, not, List, [], ◌∷◌, length, map, Option, Some, None, refl, sym, ◌∙◌, ap, subst, ⊎_elim, inl, inr}
+-- The inputs, outputs and latches of a model's network: each net of their kinds once, and outputs that can be read.
+use Rattle.std.proofs.Common.{◌≡◌, ◌⊎◌, ℕ, ◌<◌, ◌≤◌, true, false, not, List, [], ◌∷◌, length, map, Option, Some, None, refl, sym, ◌∙◌, ap, subst, ⊎_elim, inl, inr}
 use Rattle.std.proofs.lemmas.Bool.{false≢true, and_from, and_parts, cases_lt, false_from_ne_true, not-true, not_from_false}
-use Rattle.mv_base.specs.Names.{among, names_differ}
+use Rattle.mv_base.specs.Names.{among, is_net_name, names_differ}
 use Rattle.mv_base.specs.declared.number.NetId.{NetId}
 use Rattle.mv_cover.specs.declared.cover.Cover.{Cover}
 use Rattle.mv_design.specs.declared.design.FileModel.{FileModel}
 use Rattle.mv_net.specs.declared.parts.FlatNet.{FlatNet}
 use Rattle.mv_net.specs.declared.parts.NetParts.{NetParts}
 use Rattle.mv_net.specs.declared.parts.Kind.{Kind}
-use Rattle.mv_net.specs.declared.parts.Kind.TheVariants.{Input, Table}
+use Rattle.mv_net.specs.declared.parts.Kind.TheVariants.{Table, Reset}
 use Rattle.mv_net.specs.Nets.{slot}
 use Rattle.mv_graph.specs.Nets.{all_differ, has_id}
-use Rattle.mv_net.specs.Formed.{IsKind, IsReadable, AreKind}
-use Rattle.mv_design.specs.Nets.{nets_named}
+use Rattle.mv_net.specs.Formed.{has_table, IsKind, IsReadable, AreKind}
+use Rattle.mv_design.specs.Nets.{drivers, nets_named, output_of}
+use Rattle.mv_flat.specs.Built.{kind_of}
 use Rattle.mv_flat.specs.Places.{places}
 use Rattle.mv_unfold.specs.Numbers.{net_in, number_in}
+use Rattle.mv_unfold.proofs.Names.{all_among}
+use Rattle.mv_flat.proofs.Lawful.{open_of, kind_has_table}
 use Rattle.mv_flat.proofs.Numbered.{same_number}
 use Rattle.mv_flat.proofs.Slots.{mark_net}
-use Rattle.mv_flat.proofs.Places.{IsModelNet, table_of, input_slot, InputPlace, OutputPlace, MarkPlace, place_at, no_slot, named_file}
-use Rattle.mv_flat.proofs.Naming.{number_listed, listed_number, among_first, among_later, input_named, output_named}
+use Rattle.mv_flat.proofs.Places.{IsModelNet, single_tables, table_of, open_slot, OpenPlace, OutputPlace, MarkPlace, place_at, no_slot, named_file}
+use Rattle.mv_unfold.proofs.Commands.{output_named}
+use Rattle.mv_flat.proofs.Naming.{IsNumberOf, number_listed, listed_number, among_first, among_later, open_named, output_of_among, table_output_named}
 use Rattle.mv_flat.proofs.FormedTables.{file_readable}
 
 -- ---- the kinds of nets
@@ -35,40 +39,47 @@ mark_kind : (name : List ℕ) (o : Option Cover) (kind : Kind) → HasKind (mark
 mark_kind name None kind h = absurd h
 mark_kind name (Some c) kind h = h
 
--- only inputs and outputs of tables are there
-pub kinds : (m : FileModel) (net : NetParts) → IsModelNet m net → (n : ℕ) (kind : Kind) → IsKind net.nets n kind → (InputPlace m n × (Input ≡ kind)) ⊎ (Table ≡ kind)
+-- the net of a table is of this kind by its name
+pub record IsOutputOf (m : FileModel) (kind : Kind) (n : ℕ) : Type 0 where
+  pub name : List ℕ
+  pub driven : among name (drivers m) ≡ true
+  pub is : kind_of name ≡ kind
+  pub number : number_in (places m) name ≡ n
+
+open_there : (m : FileModel) (net : NetParts) → IsModelNet m net → (n : ℕ) (kind : Kind) → IsKind net.nets n kind → OpenPlace m n
+    → IsNumberOf (places m) (open_of m kind) n
+open_there m net is n kind k p =
+    let there : p.kind ≡ kind = kind_there net.nets n kind _ (ap (slot net.nets) p.number ∙ open_slot m net is p.kind p.name p.listed) k in
+    record { name = p.name; listed = ap (λ x. among p.name (open_of m x)) (sym there) ∙ p.listed; number = sym p.number }
+
+output_there : (m : FileModel) (net : NetParts) → IsModelNet m net → (n : ℕ) (kind : Kind) → IsKind net.nets n kind → OutputPlace m n → IsOutputOf m kind n
+output_there m net is n kind k p = record {
+  name = output_of p.table;
+  driven =
+      is.driven (output_of p.table)
+      (table_output_named m p.place p.table (output_of p.table) p.listed (output_of_among p.table (single_tables m net is p.place p.table p.listed)));
+  is = kind_there net.nets n kind _ (ap (slot net.nets) p.number ∙ (table_of m net is p.place p.table p.listed).output) k;
+  number = sym p.number;
+}
+
+mark_there : (m : FileModel) (net : NetParts) → IsModelNet m net → (n : ℕ) (kind : Kind) → IsKind net.nets n kind → MarkPlace m n → Table ≡ kind
+mark_there m net is n kind k p =
+    let here = table_of m net is p.place p.table p.listed in
+    mark_kind here.name here.flat.mark kind (kind_there net.nets n kind _ (ap (slot net.nets) p.number ∙ here.mark p.may) k)
+
+-- a net of a kind is one without a table, the output of a table, or a mark
+kinds : (m : FileModel) (net : NetParts) → IsModelNet m net → (n : ℕ) (kind : Kind) → IsKind net.nets n kind
+    → IsNumberOf (places m) (open_of m kind) n ⊎ (IsOutputOf m kind n ⊎ (Table ≡ kind))
 kinds m net is n kind k =
     ⊎_elim
     (λ (low : n < length (places m)).
-    ⊎_elim
-    (λ (p : InputPlace m n).
-    let there : Input ≡ kind = kind_there net.nets n kind _ (ap (slot net.nets) p.number ∙ input_slot m net is p.name p.listed) k in
-    inl (p, there))
+    ⊎_elim (λ (p : OpenPlace m n). inl (open_there m net is n kind k p))
     (λ q.
-    ⊎_elim
-    (λ (p : OutputPlace m n).
-    let here = table_of m net is p.place p.table p.listed in
-    let there : Table ≡ kind = kind_there net.nets n kind _ (ap (slot net.nets) p.number ∙ here.output) k in
-    inr there)
-    (λ (p : MarkPlace m n).
-    let here = table_of m net is p.place p.table p.listed in
-    inr (mark_kind here.name here.flat.mark kind (kind_there net.nets n kind _ (ap (slot net.nets) p.number ∙ here.mark p.may) k)))
+    ⊎_elim (λ (p : OutputPlace m n). inr (inl (output_there m net is n kind k p))) (λ (p : MarkPlace m n). inr (inr (mark_there m net is n kind k p)))
     q)
     (place_at m net is n low))
     (λ (high : length (places m) ≤ n). absurd (kind_there net.nets n kind None (no_slot m net is n high) k))
     (cases_lt n (length (places m)))
-
--- so no net of another kind
-pub none_of_kind : (m : FileModel) (net : NetParts) → IsModelNet m net → (kind : Kind) → (Input ≡ kind → ⊥) → (Table ≡ kind → ⊥) → (list : List NetId) → list ≡ [] → AreKind net.nets kind list
-none_of_kind m net is kind no_input no_table list e =
-    let P : List NetId → Type 0 = AreKind net.nets kind in
-    subst P (sym e)
-    (record {
-      all = λ n k.
-          absurd (⊎_elim (λ (q : InputPlace m n.0 × (Input ≡ kind)). no_input q.1) (λ (t : Table ≡ kind). no_table t) (kinds m net is n.0 kind k));
-      only = λ n h. absurd (false≢true h);
-      once = refl;
-    })
 
 -- ---- lists of numbers
 
@@ -85,30 +96,58 @@ numbers_differ m net is (w ∷ ws) named h =
     false≢true (sym (not-true (among w ws) p.0) ∙ (ap (λ u. among u ws) (sym same) ∙ c.listed)))))
     (numbers_differ m net is ws (λ u y. named u (among_later u w ws y)) p.1)
 
--- ---- inputs and outputs
+-- a reset net is the output of a table
+pub reset_output : (m : FileModel) (net : NetParts) → IsModelNet m net → (n : ℕ) → IsKind net.nets n Reset → IsOutputOf m Reset n
+reset_output m net is n k =
+    ⊎_elim (λ (c : IsNumberOf (places m) [] n). absurd (false≢true c.listed))
+    (λ q. ⊎_elim (λ (o : IsOutputOf m Reset n). o) (λ (e : Table ≡ Reset). absurd (cc)) q)
+    (kinds m net is n Reset k)
 
-pub inputs_formed : (m : FileModel) (net : NetParts) → IsModelNet m net → AreKind net.nets Input net.inputs
-inputs_formed m net is =
-    let P : List NetId → Type 0 = AreKind net.nets Input in
-    subst P (sym is.built.inputs)
+-- nets that are of a kind, and all nets of it
+pub names_formed : (m : FileModel) (net : NetParts) → IsModelNet m net → (kind : Kind) (ws : List (List ℕ))
+    → ((w : List ℕ) → among w ws ≡ true → among w (nets_named m) ≡ true) → names_differ ws ≡ true
+    → ((n : ℕ) → IsKind net.nets n kind → IsNumberOf (places m) ws n) → ((w : List ℕ) → among w ws ≡ true → IsKind net.nets (number_in (places m) w) kind)
+    → (list : List NetId) → list ≡ map (net_in (places m)) ws → AreKind net.nets kind list
+names_formed m net is kind ws named differ all only list e =
+    let P : List NetId → Type 0 = AreKind net.nets kind in
+    subst P (sym e)
     (record {
       all = λ n k.
-          ⊎_elim
-          (λ (q : InputPlace m n.0 × (Input ≡ Input)). listed_number (λ (i : NetId). i.0) (net_in (places m)) (places m) m.inputs q.0.name n.0 (λ u. refl) q.0.listed (sym q.0.number))
-          (λ (t : Table ≡ Input). cc)
-          (kinds m net is n.0 Input k);
+          let c = all n.0 k in
+          listed_number (λ (i : NetId). i.0) (net_in (places m)) (places m) ws c.name n.0 (λ u. refl) c.listed c.number;
       only = λ n h.
-          let c = number_listed (λ (i : NetId). i.0) (net_in (places m)) (places m) m.inputs n.0 (λ u. refl) h in
-          let Q : ℕ → Type 0 = λ j. IsKind net.nets j Input in
-          subst Q c.number (record { net = _; held = input_slot m net is c.name c.listed; is = refl });
-      once = numbers_differ m net is m.inputs (λ w h. input_named m w h) is.proper.inputs_differ;
+          let c = number_listed (λ (i : NetId). i.0) (net_in (places m)) (places m) ws n.0 (λ u. refl) h in
+          let Q : ℕ → Type 0 = λ j. IsKind net.nets j kind in
+          subst Q c.number (only c.name c.listed);
+      once = numbers_differ m net is ws named differ;
     })
+
+-- ---- inputs, outputs and latches
+
+pub open_only : (m : FileModel) (net : NetParts) → IsModelNet m net → (kind : Kind) → has_table kind ≡ false → (n : ℕ) → IsKind net.nets n kind
+    → IsNumberOf (places m) (open_of m kind) n
+open_only m net is kind tableless n k =
+    ⊎_elim (λ (c : IsNumberOf (places m) (open_of m kind) n). c)
+    (λ q.
+    ⊎_elim (λ (o : IsOutputOf m kind n). absurd (false≢true (sym tableless ∙ (ap has_table (sym o.is) ∙ kind_has_table o.name))))
+    (λ (e : Table ≡ kind). absurd (false≢true (sym tableless ∙ ap has_table (sym e))))
+    q)
+    (kinds m net is n kind k)
+
+-- the nets of a kind without tables
+pub open_formed : (m : FileModel) (net : NetParts) → IsModelNet m net → (kind : Kind) → has_table kind ≡ false → names_differ (open_of m kind) ≡ true
+    → (list : List NetId) → list ≡ map (net_in (places m)) (open_of m kind) → AreKind net.nets kind list
+open_formed m net is kind tableless differ list e =
+    names_formed m net is kind (open_of m kind) (open_named m kind) differ (open_only m net is kind tableless)
+    (λ w h. record { net = _; held = open_slot m net is kind w h; is = refl }) list e
 
 pub outputs_formed : (m : FileModel) (net : NetParts) → IsModelNet m net → (n : NetId) → has_id net.outputs n.0 ≡ true → IsReadable net.nets n.0
 outputs_formed m net is n h =
     let c = number_listed (λ (i : NetId). i.0) (net_in (places m)) (places m) m.outputs n.0 (λ u. refl) (ap (λ ns. has_id ns n.0) (sym is.built.outputs) ∙ h) in
     let Q : ℕ → Type 0 = IsReadable net.nets in
-    subst Q c.number (file_readable m net.nets c.name (named_file m net is c.name (output_named m c.name c.listed)))
+    subst Q c.number
+    (file_readable m net.nets c.name (all_among is_net_name m.outputs c.name is.proper.outputs c.listed)
+    (named_file m net is c.name (output_named m c.name c.listed)))
 
 pub outputs_once : (m : FileModel) (net : NetParts) → IsModelNet m net → all_differ net.outputs ≡ true
-outputs_once m net is = ap all_differ is.built.outputs ∙ numbers_differ m net is m.outputs (λ w h. output_named m w h) is.proper.outputs_differ
+outputs_once m net is = ap all_differ is.built.outputs ∙ numbers_differ m net is m.outputs (output_named m) is.proper.outputs_differ

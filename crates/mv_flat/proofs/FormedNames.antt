@@ -2,6 +2,7 @@
 use Rattle.std.proofs.Common.{◌≡◌, ◌⊎◌, ℕ, zero, suc, true, false, List, [], ◌∷◌, ◌++◌, map, Option, Some, None, refl, sym, ◌∙◌, ap, subst, ⊎_elim, inl, inr}
 use Rattle.std.specs.List.{flat_map}
 use Rattle.std.proofs.lemmas.Bool.{false≢true, or_parts}
+use Rattle.std.proofs.lemmas.List.{append_assoc}
 use Rattle.std.proofs.lemmas.Option.{none-some, same_Some}
 use Rattle.mv_base.specs.Names.{among, AreApart}
 use Rattle.mv_base.proofs.NameLemmas.{among-append}
@@ -11,9 +12,10 @@ use Rattle.mv_design.specs.declared.design.FileModel.{FileModel}
 use Rattle.mv_design.specs.declared.table.FileTable.{FileTable}
 use Rattle.mv_net.specs.declared.parts.FlatNet.{FlatNet}
 use Rattle.mv_net.specs.declared.parts.NetParts.{NetParts}
-use Rattle.mv_net.specs.declared.parts.Kind.TheVariants.{Input}
+use Rattle.mv_net.specs.declared.parts.Kind.{Kind}
+use Rattle.mv_net.specs.declared.parts.Kind.TheVariants.{Input, Latch}
 use Rattle.mv_net.specs.Nets.{slot}
-use Rattle.mv_design.specs.Nets.{drivers, nets_driven}
+use Rattle.mv_design.specs.Nets.{drivers, latch_outputs, nets_driven}
 use Rattle.mv_flat.specs.Places.{places}
 use Rattle.mv_flat.specs.Built.{file_net, IsMark, AreTables}
 use Rattle.mv_flat.proofs.Places.{IsModelNet, AreSingle, single_tables, outputs_are}
@@ -131,17 +133,21 @@ tables_named ds names (t ∷ ts) held fs single a =
       are = tables_named ds names ts a.after a.rest (λ k. single (suc k)) a.are_rest;
     }))
 
-inputs_named : (ds : List Decl) (ws left held : List (List ℕ)) (fs : List (Option FlatNet)) → AreNamed left held fs → AreNamed (ws ++ left) held (map (file_net ds Input None) ws ++ fs)
-inputs_named ds [] left held fs named = named
-inputs_named ds (w ∷ ws) left held fs named = inl (record { rest = ws ++ left; is = refl; are = inputs_named ds ws left held fs named })
+open_nets_named : (ds : List Decl) (kind : Kind) (ws left held : List (List ℕ)) (fs : List (Option FlatNet)) → AreNamed left held fs
+    → AreNamed (ws ++ left) held (map (file_net ds kind None) ws ++ fs)
+open_nets_named ds kind [] left held fs named = named
+open_nets_named ds kind (w ∷ ws) left held fs named = inl (record { rest = ws ++ left; is = refl; are = open_nets_named ds kind ws left held fs named })
 
 all_named : (m : FileModel) (net : NetParts) → IsModelNet m net → AreNamed (drivers m) (drivers m) net.nets
 unfolding drivers
 all_named m net is =
     let P : List (Option FlatNet) → Type 0 = AreNamed (drivers m) (drivers m) in
-    subst P (sym is.built.nets_are)
-    (inputs_named m.decls m.inputs (flat_map nets_driven m.tables) (drivers m) is.built.of_tables
-    (tables_named m.decls (places m) m.tables (drivers m) is.built.of_tables (single_tables m net is) is.built.are_tables))
+    let states : List (Option FlatNet) = map (file_net m.decls Latch None) (latch_outputs m) in
+    let outputs : List (List ℕ) = flat_map nets_driven m.tables in
+    subst P (sym (is.built.nets_are ∙ append_assoc (map (file_net m.decls Input None) m.inputs) states is.built.of_tables))
+    (open_nets_named m.decls Input m.inputs (latch_outputs m ++ outputs) (drivers m) (states ++ is.built.of_tables)
+    (open_nets_named m.decls Latch (latch_outputs m) outputs (drivers m) is.built.of_tables
+    (tables_named m.decls (places m) m.tables (drivers m) is.built.of_tables (single_tables m net is) is.built.are_tables)))
 
 -- no two nets have one name
 pub nets_differ : (m : FileModel) (net : NetParts) → IsModelNet m net → (n k : ℕ) (f g : FlatNet) → slot net.nets n ≡ Some f → slot net.nets k ≡ Some g → f.name ≡ g.name → n ≡ k

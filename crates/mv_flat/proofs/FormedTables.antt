@@ -6,7 +6,7 @@ use Rattle.std.proofs.lemmas.Bool.{false≢true, cond-true, eq-eqb, eqb-true, or
 use Rattle.std.proofs.lemmas.List.{get_or-map}
 use Rattle.std.proofs.lemmas.List.Elements.{All-cons, All-nil, All-weaker}
 use Rattle.std.proofs.lemmas.Option.{none-some}
-use Rattle.mv_base.specs.Names.{among}
+use Rattle.mv_base.specs.Names.{among, is_net_name}
 use Rattle.mv_base.specs.declared.number.NetId.{NetId}
 use Rattle.mv_cover.specs.Covers.{cover_reads}
 use Rattle.mv_cover.specs.declared.cover.Cover.{Cover}
@@ -26,10 +26,13 @@ use Rattle.mv_net.specs.declared.parts.NetParts.{NetParts}
 use Rattle.mv_net.specs.Nets.{slot, values_in}
 use Rattle.mv_net.specs.Formed.{IsReadable, IsCover}
 use Rattle.mv_design.specs.Values.{count_of}
+use Rattle.mv_design.specs.Nets.{output_of}
 use Rattle.mv_flat.specs.Places.{places}
 use Rattle.mv_unfold.specs.Numbers.{number_in}
-use Rattle.mv_design.specs.Proper.{IsFileRow, IsFileTable, FitOutputs as FitEntries}
-use Rattle.mv_flat.specs.Numbers.{column_of, columns_at, output_of, mark_at}
+use Rattle.mv_resets.specs.NetModels.{IsNetTable}
+use Rattle.mv_design.specs.Proper.{IsFileRow, FitOutputs as FitEntries}
+use Rattle.mv_flat.specs.Numbers.{column_of, columns_at, mark_at}
+use Rattle.mv_unfold.proofs.Names.{all_among}
 use Rattle.mv_flat.proofs.Slots.{IsTableAt}
 use Rattle.mv_flat.proofs.Places.{IsModelNet, IsFileNet, table_of, file_table, named_file}
 use Rattle.mv_flat.proofs.Naming.{IsNumberOf, number_listed, listed_number, among_first, among_later, table_input_named}
@@ -60,8 +63,9 @@ above ds names ws o mark n h =
 
 -- ---- they can be read, and have their values
 
-pub file_readable : (m : FileModel) (nets : List (Option FlatNet)) (w : List ℕ) → IsFileNet m nets w → IsReadable nets (number_in (places m) w)
-file_readable m nets w f = record { net = _; held = f.held; plain = f.plain }
+pub file_readable : (m : FileModel) (nets : List (Option FlatNet)) (w : List ℕ) → is_net_name w ≡ true → IsFileNet m nets w
+    → IsReadable nets (number_in (places m) w)
+file_readable m nets w lawful f = record { net = _; held = f.held; plain = f.plain lawful }
 
 mark_readable : (ds : List Decl) (names : List (List ℕ)) (nets : List (Option FlatNet)) (t : FileTable) (here : IsTableAt ds names nets t) (c : Cover) → here.flat.mark ≡ Some c → IsReadable nets (mark_at names t).0
 mark_readable ds names nets t here c e = record { net = _; held = mark_slot ds names nets t here c e; plain = λ x. cc }
@@ -70,7 +74,10 @@ readable_above : (m : FileModel) (net : NetParts) (is : IsModelNet m net) (k : �
 readable_above m net is k t e o marked n h =
     let P : ℕ → Type 0 = IsReadable net.nets in
     ⊎_elim
-    (λ (c : IsNumberOf (places m) t.inputs n). subst P c.number (file_readable m net.nets c.name (named_file m net is c.name (table_input_named m k t c.name e c.listed))))
+    (λ (c : IsNumberOf (places m) t.inputs n).
+    subst P c.number
+    (file_readable m net.nets c.name (all_among is_net_name t.inputs c.name (file_table m net is k t e).inputs c.listed)
+    (named_file m net is c.name (table_input_named m k t c.name e c.listed))))
     (λ (c : IsMarkOf o (mark_at (places m) t) n). subst P c.number (mark_readable m.decls (places m) net.nets t (table_of m net is k t e) c.cover (marked c.cover c.there)))
     (above m.decls (places m) t.inputs o (mark_at (places m) t) n h)
 
@@ -115,7 +122,7 @@ fit_entries ds names ins (w ∷ []) [] one fit = absurd fit
 fit_entries ds names ins (w ∷ []) (entry ∷ entries) one fit = fit_entry ds names ins w entry entries fit
 fit_entries ds names ins (w ∷ u ∷ ws) entries one fit = absurd (omega arith)
 
-fits : (ds : List Decl) (names : List (List ℕ)) (t : FileTable) → IsFileTable ds t → FitOutputs (columns_at ds names t) (count_of ds (output_of t)) t
+fits : (ds : List Decl) (names : List (List ℕ)) (t : FileTable) → IsNetTable ds t → FitOutputs (columns_at ds names t) (count_of ds (output_of t)) t
 fits ds names t is = record {
   rows = All-weaker (IsFileRow ds t) (λ (r : Row). FitOutput (columns_at ds names t) (count_of ds (output_of t)) (only_entry r.outs)) (λ r row. fit_entries ds names t.inputs t.outputs r.outs is.single row.outs) t.rows is.rows;
   default = λ entries e. fit_entries ds names t.inputs t.outputs entries is.single (is.default entries e);

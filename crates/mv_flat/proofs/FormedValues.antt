@@ -11,7 +11,7 @@ use Rattle.mv_base.specs.declared.limits.TheConstants.{MAX_VALUES}
 use Rattle.mv_design.specs.Values.{two_values, values_of}
 use Rattle.mv_design.specs.declared.design.Decl.{Decl}
 use Rattle.mv_net.specs.Formed.{IsNamed}
-use Rattle.mv_design.specs.Proper.{IsFileDecl}
+use Rattle.mv_resets.specs.NetModels.{HasLawfulValues}
 use Rattle.mv_flat.specs.Numbers.{are_numbers, kept_names}
 
 -- some values, and no more than a net may have, with lawful names, all different
@@ -29,14 +29,15 @@ two_are : AreValues two_values
 two_are = record { some = omega arith; few = omega arith; lawful = two_lawful; differ = refl }
 
 -- so are the values of each net
-pub values_are : (ds : List Decl) (w : List ℕ) → All IsFileDecl ds → AreValues (values_of ds w)
+pub values_are : (ds : List Decl) (w : List ℕ) → All HasLawfulValues ds → AreValues (values_of ds w)
 values_are [] w all = two_are
 values_are (d ∷ ds) w all =
-    let here = All-head IsFileDecl d ds all in
+    let here = All-head HasLawfulValues d ds all in
     let P : List (List ℕ) → Type 0 = AreValues in
     ⊎_elim
     (λ (y : same_word w d.net ≡ true). subst P (sym (cond-true (same_word w d.net) d.values (values_of ds w) y)) (record { some = here.some; few = here.few; lawful = here.lawful; differ = here.differ }))
-    (λ (n : same_word w d.net ≡ false). subst P (sym (cond-false (same_word w d.net) d.values (values_of ds w) n)) (values_are ds w (All-tail IsFileDecl d ds all)))
+    (λ (n : same_word w d.net ≡ false).
+    subst P (sym (cond-false (same_word w d.net) d.values (values_of ds w) n)) (values_are ds w (All-tail HasLawfulValues d ds all)))
     (cases_Bool (same_word w d.net))
 
 alike : (us ws : List (List ℕ)) → us ≡ ws → pointwise (pointwise nat_eq) us ws ≡ true

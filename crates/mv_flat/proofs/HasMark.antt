@@ -6,7 +6,7 @@ use Rattle.mv_base.specs.Names.{same_word, among}
 use Rattle.mv_base.proofs.NameLemmas.{same_word_is, same_word_refl}
 use Rattle.mv_design.specs.declared.design.Decl.{Decl}
 use Rattle.mv_design.specs.declared.table.FileTable.{FileTable}
-use Rattle.mv_design.specs.Proper.{IsFileDecl}
+use Rattle.mv_resets.specs.NetModels.{HasLawfulValues}
 use Rattle.mv_rows.specs.declared.table.FlatTable.{FlatTable}
 use Rattle.mv_rows.specs.Flat.{IsMade}
 use Rattle.mv_rows.specs.Marked.{is_marked}
@@ -37,6 +37,7 @@ marked_by ds names t p =
     numbers_same names u w (all_among (λ v. among v names) t.inputs u p.known h) (all_among (λ v. among v names) t.inputs w p.known k)
     ∙ sym (numbers_same t.inputs u w h k))
 
-pub mark_is : (ds : List Decl) (names : List (List ℕ)) (t : FileTable) (flat : FlatTable) → All IsFileDecl ds → IsPlacedTable ds names t → IsMade (columns_at ds names t) t (mark_at names t) flat → is_some flat.mark ≡ has_mark ds t
+pub mark_is : (ds : List Decl) (names : List (List ℕ)) (t : FileTable) (flat : FlatTable) → All HasLawfulValues ds → IsPlacedTable ds names t
+    → IsMade (columns_at ds names t) t (mark_at names t) flat → is_some flat.mark ≡ has_mark ds t
 mark_is ds names t flat all p made =
     marked_exactly (columns_at ds names t) t (mark_at names t) flat (table_columns ds names t all p) (table_is ds names t p) made ∙ marked_by ds names t p

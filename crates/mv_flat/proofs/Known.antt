@@ -1,18 +1,14 @@
 -- The columns of a sound model's tables have numbers.
-use Rattle.std.proofs.Common.{◌≡◌, ℕ, true, List, [], ◌∷◌, refl, ◌∙◌, All}
+use Rattle.std.proofs.Common.{◌≡◌, ℕ, true, List, [], ◌∷◌, refl, All}
 use Rattle.std.specs.List.{flat_map}
 use Rattle.std.proofs.lemmas.Bool.{and_from, or_left, or_right}
 use Rattle.std.proofs.lemmas.List.Elements.{All-nil, All-cons, All-head, All-tail}
 use Rattle.mv_base.specs.Names.{same_word, among}
 use Rattle.mv_base.proofs.NameLemmas.{same_word_refl}
 use Rattle.mv_design.specs.declared.design.Decl.{Decl}
-use Rattle.mv_design.specs.declared.design.FileModel.{FileModel}
 use Rattle.mv_design.specs.declared.table.FileTable.{FileTable}
-use Rattle.mv_design.specs.Nets.{columns_of, nets_named, drivers}
-use Rattle.mv_design.specs.Proper.{IsFileTable, IsProperModel}
-use Rattle.mv_unfold.specs.Sound.{IsDrivenOnce}
-use Rattle.mv_unfold.proofs.Distinct.{net_is_driven}
-use Rattle.mv_unfold.proofs.Named.{among-nets_of}
+use Rattle.mv_design.specs.Nets.{columns_of}
+use Rattle.mv_resets.specs.NetModels.{IsNetTable}
 use Rattle.mv_unfold.proofs.Soundness.{in_left, in_right}
 use Rattle.mv_flat.specs.Placed.{are_known, IsPlacedTable}
 
@@ -21,21 +17,18 @@ known names [] h = refl
 known names (w ∷ ws) h =
     and_from _ _ (h w (or_left _ _ (same_word_refl w))) (known names ws (λ v y. h v (or_right (same_word v w) _ y)))
 
-pub tables_known : (ds : List Decl) (names : List (List ℕ)) (ts : List FileTable) → All (IsFileTable ds) ts → ((w : List ℕ) → among w (flat_map columns_of ts) ≡ true → among w names ≡ true) → All (IsPlacedTable ds names) ts
+pub tables_known : (ds : List Decl) (names : List (List ℕ)) (ts : List FileTable) → All (IsNetTable ds) ts
+    → ((w : List ℕ) → among w (flat_map columns_of ts) ≡ true → among w names ≡ true) → All (IsPlacedTable ds names) ts
 tables_known ds names [] all h = All-nil _
 tables_known ds names (t ∷ ts) all h =
     All-cons (IsPlacedTable ds names) t ts
     (record {
-      fits = All-head (IsFileTable ds) t ts all;
+      fits = All-head (IsNetTable ds) t ts all;
       known = known names t.inputs (λ w y. h w (in_left w (columns_of t) _ (in_left w t.inputs t.outputs y)));
     })
-    (tables_known ds names ts (All-tail (IsFileTable ds) t ts all) (λ w y. h w (in_right w (columns_of t) _ y)))
+    (tables_known ds names ts (All-tail (IsNetTable ds) t ts all) (λ w y. h w (in_right w (columns_of t) _ y)))
 
--- the model names each column
-pub column_named : (m : FileModel) (w : List ℕ) → among w (flat_map columns_of m.tables) ≡ true → among w (nets_named m) ≡ true
-unfolding nets_named
-column_named m w h = in_right w m.inputs _ (in_right w m.outputs _ h)
-
--- each column is driven
-pub driven_known : (m : FileModel) → IsProperModel m → IsDrivenOnce m → All (IsPlacedTable m.decls (drivers m)) m.tables
-driven_known m p d = tables_known m.decls (drivers m) m.tables p.tables (λ w h. net_is_driven m w d (among-nets_of w m ∙ column_named m w h))
+-- tables whose input columns have numbers
+pub tables_placed : (ds : List Decl) (names : List (List ℕ)) (ts : List FileTable) → All (IsNetTable ds) ts
+    → All (λ (t : FileTable). are_known names t.inputs ≡ true) ts → All (IsPlacedTable ds names) ts
+tables_placed ds names ts all known = λ k t l. record { fits = all k t l; known = known k t l }

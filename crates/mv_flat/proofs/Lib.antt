@@ -1,4 +1,5 @@
 pub mod Names
+pub mod Lawful
 pub mod Distinct
 pub mod Known
 pub mod Counts
@@ -12,6 +13,7 @@ pub mod Blocks
 pub mod Slots
 pub mod Places
 pub mod Naming
+pub mod ByNumber
 pub mod Valuations
 pub mod Assigned
 pub mod Ports
@@ -22,7 +24,10 @@ pub mod FormedTables
 pub mod FormedNames
 pub mod FormedNets
 pub mod FormedLists
+pub mod FormedLatches
+pub mod FormedReads
 pub mod FormedRanks
+pub mod FormedAlone
 pub mod Formed
 pub mod ShortNames
 pub mod Whole

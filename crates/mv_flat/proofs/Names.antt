@@ -7,7 +7,8 @@ use Rattle.mv_design.specs.declared.design.Decl.{Decl}
 use Rattle.mv_design.specs.declared.table.FileTable.{FileTable}
 use Rattle.mv_unfold.specs.Driving.{with_name, with_names}
 use Rattle.mv_unfold.proofs.Names.{with_names_append, with_names_new}
-use Rattle.mv_flat.specs.Numbers.{mark_name, output_of}
+use Rattle.mv_design.specs.Nets.{output_of}
+use Rattle.mv_flat.specs.Numbers.{mark_name}
 use Rattle.mv_flat.specs.Places.{has_mark, table_places}
 use Rattle.mv_flat.specs.Gathered.{with_mark, with_places}
 
@@ -23,8 +24,10 @@ with_places_are ds names (t ∷ ts) =
     ∙ (ap (λ ns. with_names ns (flat_map (table_places ds) ts)) (mark_is names t.outputs (output_of t) (has_mark ds t))
     ∙ sym (with_names_append names (table_places ds t) (flat_map (table_places ds) ts)))
 
--- the inputs and the nets of tables
-pub with_places_of : (ds : List Decl) (is : List (List ℕ)) (ts : List FileTable) → names_differ (is ++ flat_map (table_places ds) ts) ≡ true → with_places ds (with_names [] is) ts ≡ is ++ flat_map (table_places ds) ts
-with_places_of ds is ts d =
-    with_places_are ds (with_names [] is) ts
-    ∙ (sym (with_names_append [] is (flat_map (table_places ds) ts)) ∙ with_names_new [] (is ++ flat_map (table_places ds) ts) d)
+-- the inputs, the outputs of the latches and the nets of tables
+pub with_places_of : (ds : List Decl) (is ls : List (List ℕ)) (ts : List FileTable) → names_differ (is ++ (ls ++ flat_map (table_places ds) ts)) ≡ true
+    → with_places ds (with_names (with_names [] is) ls) ts ≡ is ++ (ls ++ flat_map (table_places ds) ts)
+with_places_of ds is ls ts d =
+    with_places_are ds (with_names (with_names [] is) ls) ts
+    ∙ (sym (with_names_append [] is (ls ++ flat_map (table_places ds) ts) ∙ with_names_append (with_names [] is) ls (flat_map (table_places ds) ts))
+    ∙ with_names_new [] (is ++ (ls ++ flat_map (table_places ds) ts)) d)

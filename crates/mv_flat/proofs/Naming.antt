@@ -1,20 +1,29 @@
--- The nets that a model names: its inputs and outputs, and the columns of its tables. Their names are lawful.
-use Rattle.std.proofs.Common.{◌≡◌, ℕ, zero, suc, Bool, true, List, [], ◌∷◌, ◌++◌, length, map, Some, refl, sym, ◌∙◌, ap, ⊎_elim}
+-- The nets that a model names: the nets of its latches, and the columns of its tables. Their names are those of nets.
+use Rattle.std.proofs.Common.{◌≡◌, ℕ, zero, suc, Bool, true, List, [], ◌∷◌, length, map, Some, refl, sym, ◌∙◌, ap, ⊎_elim}
 use Rattle.std.specs.Prelude.{nat_eq}
 use Rattle.std.specs.List.{flat_map, list_all, list_any, slice_get}
 use Rattle.std.proofs.lemmas.Bool.{false≢true, and_from, eq-eqb, eqb-true, or_cases, or_left, or_right}
 use Rattle.std.proofs.lemmas.Option.{none-some, same_Some}
-use Rattle.mv_base.specs.Names.{same_word, among, is_net_name}
+use Rattle.std.proofs.lemmas.Simd.{map-map}
+use Rattle.mv_base.specs.Names.{same_word, among}
+use Rattle.mv_base.specs.declared.number.NetId.{NetId}
 use Rattle.mv_base.proofs.NameLemmas.{same_word_is, same_word_refl}
+use Rattle.mv_design.specs.declared.design.FileLatch.{FileLatch}
 use Rattle.mv_design.specs.declared.design.FileModel.{FileModel}
 use Rattle.mv_design.specs.declared.table.FileTable.{FileTable}
+use Rattle.mv_net.specs.declared.parts.FlatLatch.{FlatLatch}
+use Rattle.mv_net.specs.declared.parts.Kind.{Kind}
 use Rattle.mv_net.specs.declared.parts.NetParts.{NetParts}
-use Rattle.mv_design.specs.Nets.{columns_of, nets_named}
-use Rattle.mv_unfold.specs.Numbers.{number_in}
-use Rattle.mv_unfold.proofs.Names.{all_among}
-use Rattle.mv_unfold.proofs.Soundness.{in_left, in_right, in_either}
-use Rattle.mv_flat.specs.Numbers.{output_of}
-use Rattle.mv_flat.proofs.Places.{IsModelNet, file_table, outputs_are}
+use Rattle.mv_design.specs.Nets.{columns_of, drivers, nets_driven, nets_named, output_of}
+use Rattle.mv_unfold.specs.Numbers.{net_in, number_in}
+use Rattle.mv_flat.specs.Built.{flat_latch}
+use Rattle.mv_flat.specs.Places.{places}
+use Rattle.mv_resets.specs.NetModels.{is_flat_name}
+use Rattle.mv_unfold.proofs.Commands.{column_named, driver_is_net}
+use Rattle.mv_unfold.proofs.Named.{among-nets_of}
+use Rattle.mv_unfold.proofs.Soundness.{in_left, in_right}
+use Rattle.mv_flat.proofs.Lawful.{open_names, open_of, kind_open, drivers_split, driver_flat}
+use Rattle.mv_flat.proofs.Places.{IsModelNet, outputs_are}
 
 -- ---- names in lists
 
@@ -59,64 +68,38 @@ listed_number num f names (u ∷ us) w n is h e =
 
 -- ---- names in the tables' lists
 
--- a name that the tables' lists have is in the list of a table
-pub record IsOfTable (f : FileTable → List (List ℕ)) (ts : List FileTable) (w : List ℕ) : Type 0 where
-  pub place : ℕ
-  pub table : FileTable
-  pub listed : slice_get ts place ≡ Some table
-  pub there : among w (f table) ≡ true
-
-pub of_table : (f : FileTable → List (List ℕ)) (ts : List FileTable) (w : List ℕ) → among w (flat_map f ts) ≡ true → IsOfTable f ts w
-of_table f [] w h = absurd (false≢true h)
-of_table f (t ∷ ts) w h =
-    ⊎_elim
-    (λ (y : among w (f t) ≡ true). let o : IsOfTable f (t ∷ ts) w = record { place = 0; table = t; listed = refl; there = y } in o)
-    (λ (y : among w (flat_map f ts) ≡ true).
-    let r = of_table f ts w y in
-    let o : IsOfTable f (t ∷ ts) w = record { place = suc r.place; table = r.table; listed = r.listed; there = r.there } in
-    o)
-    (in_either w (f t) (flat_map f ts) h)
-
+-- a name in a table's list is in those of all
 pub in_tables : (f : FileTable → List (List ℕ)) (ts : List FileTable) (k : ℕ) (t : FileTable) (w : List ℕ) → slice_get ts k ≡ Some t → among w (f t) ≡ true → among w (flat_map f ts) ≡ true
 in_tables f [] k t w e h = absurd (none-some t e)
 in_tables f (u ∷ us) zero t w e h = in_left w (f u) (flat_map f us) (ap (λ x. among w (f x)) (same_Some u t e) ∙ h)
 in_tables f (u ∷ us) (suc k) t w e h = in_right w (f u) (flat_map f us) (in_tables f us k t w e h)
 
--- ---- the nets of a model
-
-pub input_named : (m : FileModel) (w : List ℕ) → among w m.inputs ≡ true → among w (nets_named m) ≡ true
-unfolding nets_named
-input_named m w h = in_left w m.inputs _ h
-
-pub output_named : (m : FileModel) (w : List ℕ) → among w m.outputs ≡ true → among w (nets_named m) ≡ true
-unfolding nets_named
-output_named m w h = in_right w m.inputs _ (in_left w m.outputs _ h)
-
-column_named : (m : FileModel) (k : ℕ) (t : FileTable) (w : List ℕ) → slice_get m.tables k ≡ Some t → among w (columns_of t) ≡ true → among w (nets_named m) ≡ true
-unfolding nets_named
-column_named m k t w e h = in_right w m.inputs _ (in_right w m.outputs _ (in_tables columns_of m.tables k t w e h))
+-- ---- the nets of a model, which it names
 
 pub table_input_named : (m : FileModel) (k : ℕ) (t : FileTable) (w : List ℕ) → slice_get m.tables k ≡ Some t → among w t.inputs ≡ true → among w (nets_named m) ≡ true
-table_input_named m k t w e h = column_named m k t w e (in_left w t.inputs t.outputs h)
+table_input_named m k t w e h = column_named m w (in_tables columns_of m.tables k t w e (in_left w t.inputs t.outputs h))
 
 pub table_output_named : (m : FileModel) (k : ℕ) (t : FileTable) (w : List ℕ) → slice_get m.tables k ≡ Some t → among w t.outputs ≡ true → among w (nets_named m) ≡ true
-table_output_named m k t w e h = column_named m k t w e (in_right w t.inputs t.outputs h)
+table_output_named m k t w e h = column_named m w (in_tables columns_of m.tables k t w e (in_right w t.inputs t.outputs h))
+
+pub driver_named : (m : FileModel) (w : List ℕ) → among w (drivers m) ≡ true → among w (nets_named m) ≡ true
+driver_named m w h = sym (among-nets_of w m) ∙ driver_is_net m w h
+
+pub open_named : (m : FileModel) (kind : Kind) (w : List ℕ) → among w (open_of m kind) ≡ true → among w (nets_named m) ≡ true
+open_named m kind w h = driver_named m w (ap (among w) (drivers_split m) ∙ in_left w (open_names m) (flat_map nets_driven m.tables) (kind_open m kind w h))
 
 pub output_of_among : (t : FileTable) → length t.outputs ≡ 1 → among (output_of t) t.outputs ≡ true
 output_of_among t one = ap (among (output_of t)) (outputs_are t one) ∙ among_first (output_of t) []
 
+-- the nets on one side of the latches by number
+pub sides_are : (m : FileModel) (net : NetParts) → IsModelNet m net → (side : FlatLatch → NetId) (name : FileLatch → List ℕ)
+    → ((l : FileLatch) → side (flat_latch (places m) l) ≡ net_in (places m) (name l)) → map side net.latches ≡ map (net_in (places m)) (map name m.latches)
+sides_are m net is side name same =
+    ap (map side) is.built.latches
+    ∙ (map-map side (flat_latch (places m)) m.latches ∙ ((λ i. map (λ l. same l i) m.latches) ∙ sym (map-map (net_in (places m)) name m.latches)))
+
 -- ---- lawful names
 
-pub lawful_named : (m : FileModel) (net : NetParts) → IsModelNet m net → (w : List ℕ) → among w (nets_named m) ≡ true → is_net_name w ≡ true
-unfolding nets_named
-lawful_named m net is w h =
-    ⊎_elim (λ (y : among w m.inputs ≡ true). all_among is_net_name m.inputs w is.proper.inputs y)
-    (λ (y : among w (m.outputs ++ flat_map columns_of m.tables) ≡ true).
-    ⊎_elim (λ (z : among w m.outputs ≡ true). all_among is_net_name m.outputs w is.proper.outputs z)
-    (λ (z : among w (flat_map columns_of m.tables) ≡ true).
-    let o = of_table columns_of m.tables w z in
-    let t = file_table m net is o.place o.table o.listed in
-    ⊎_elim (λ (x : among w o.table.inputs ≡ true). all_among is_net_name o.table.inputs w t.inputs x) (λ (x : among w o.table.outputs ≡ true). all_among is_net_name o.table.outputs w t.outputs x)
-    (in_either w o.table.inputs o.table.outputs o.there))
-    (in_either w m.outputs (flat_map columns_of m.tables) y))
-    (in_either w m.inputs (m.outputs ++ flat_map columns_of m.tables) h)
+-- a net that the model names has the name of a net
+pub named_flat : (m : FileModel) (net : NetParts) → IsModelNet m net → (w : List ℕ) → among w (nets_named m) ≡ true → is_flat_name w ≡ true
+named_flat m net is w h = driver_flat m is.proper w (is.driven w h)

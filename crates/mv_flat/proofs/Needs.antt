@@ -13,7 +13,7 @@ use Rattle.mv_design.specs.declared.table.Entry.{Entry}
 use Rattle.mv_design.specs.declared.table.Entry.TheVariants.{Set, Same}
 use Rattle.mv_design.specs.declared.table.Row.{Row}
 use Rattle.mv_design.specs.declared.table.FileTable.{FileTable}
-use Rattle.mv_design.specs.Proper.{IsFileDecl, IsFileTable}
+use Rattle.mv_resets.specs.NetModels.{HasLawfulValues, IsNetTable}
 use Rattle.mv_design.specs.Tables.{row_matches}
 use Rattle.mv_rows.specs.declared.column.Column.{Column}
 use Rattle.mv_rows.specs.Cubes.{column_values, in_range, IsColumn, AreColumns, CountBy, FitRow}
@@ -110,7 +110,8 @@ some_each : (ds : List Decl) (names ws : List (List ℕ)) (rows : List Row) → 
 some_each ds names ws [] = refl
 some_each ds names ws (r ∷ rows) = λ i. all_each ds names ws r.ins i || some_each ds names ws rows i
 
-none_bare : (ds : List Decl) (t : FileTable) → All IsFileDecl ds → IsPlacedTable ds t.inputs t → some_has_all ds t.inputs t.rows ≡ false → some_row_bare (columns_at ds t.inputs t) t.rows ≡ false
+none_bare : (ds : List Decl) (t : FileTable) → All HasLawfulValues ds → IsPlacedTable ds t.inputs t → some_has_all ds t.inputs t.rows ≡ false
+    → some_row_bare (columns_at ds t.inputs t) t.rows ≡ false
 none_bare ds t all p h =
     let cs = columns_at ds t.inputs t in
     false_from_ne_true (some_row_bare cs t.rows) (λ y.
@@ -132,7 +133,7 @@ all_at_end ds ws sets n high =
 
 -- ---- what is told
 
-own_placed : (ds : List Decl) (t : FileTable) → IsFileTable ds t → IsPlacedTable ds t.inputs t
+own_placed : (ds : List Decl) (t : FileTable) → IsNetTable ds t → IsPlacedTable ds t.inputs t
 own_placed ds t f = record { fits = f; known = known t.inputs t.inputs (λ w h. h) }
 
 pub none_told : (ds : List Decl) (t : FileTable) → t.default ≡ None → false ≡ has_mark ds t
@@ -153,7 +154,8 @@ same_marked : (cs : List Column) (rows : List Row) (entries : List Entry) (k : �
 same_marked cs rows entries k e h =
     and_from _ _ (and_from _ _ (ap (λ x. not (says_nothing x)) e) (ap not h)) (ap (needs_mark cs rows) e)
 
-pub same_told : (ds : List Decl) (t : FileTable) (entries : List Entry) (k : ℕ) → All IsFileDecl ds → IsFileTable ds t → t.default ≡ Some entries → only_entry entries ≡ Same k → some_has_all ds t.inputs t.rows ≡ false → true ≡ has_mark ds t
+pub same_told : (ds : List Decl) (t : FileTable) (entries : List Entry) (k : ℕ) → All HasLawfulValues ds → IsNetTable ds t → t.default ≡ Some entries
+    → only_entry entries ≡ Same k → some_has_all ds t.inputs t.rows ≡ false → true ≡ has_mark ds t
 unfolding has_mark is_marked
 same_told ds t entries k all f e o h =
     let cs = columns_at ds t.inputs t in

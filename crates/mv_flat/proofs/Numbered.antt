@@ -7,7 +7,8 @@ use Rattle.mv_base.proofs.NameLemmas.{IsPlace-from_among}
 use Rattle.mv_design.specs.declared.table.FileTable.{FileTable}
 use Rattle.mv_unfold.specs.Numbers.{number_in}
 use Rattle.mv_unfold.proofs.Listed.{number_at, name_at}
-use Rattle.mv_flat.specs.Numbers.{mark_name, output_of, mark_at}
+use Rattle.mv_design.specs.Nets.{output_of}
+use Rattle.mv_flat.specs.Numbers.{mark_name, mark_at}
 
 -- names with one number are one name
 pub same_number : (names : List (List ℕ)) (u w : List ℕ) → among u names ≡ true → among w names ≡ true → number_in names u ≡ number_in names w → u ≡ w

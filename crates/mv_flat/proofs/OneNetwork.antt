@@ -1,5 +1,5 @@
 -- A design has at most one network: the rules say its nets one by one, and the name of each that is made.
-use Rattle.std.proofs.Common.{◌≡◌, ℕ, ◌<◌, ◌≤◌, List, [], ◌∷◌, ◌++◌, map, Option, Some, None, refl, sym, ◌∙◌, ap, subst, arith, All, ⊎_elim}
+use Rattle.std.proofs.Common.{◌≡◌, ℕ, ◌<◌, ◌≤◌, List, [], ◌∷◌, ◌++◌, Option, Some, None, refl, sym, ◌∙◌, ap, subst, arith, All, ⊎_elim}
 use Rattle.std.proofs.lemmas.Bool.{false≢true, cases_lt}
 use Rattle.std.proofs.lemmas.List.Elements.{All-head, All-tail}
 use Rattle.mv_base.specs.Names.{among}
@@ -12,16 +12,17 @@ use Rattle.mv_rows.specs.declared.table.FlatTable.{FlatTable}
 use Rattle.mv_rows.proofs.OneTable.{one_made}
 use Rattle.mv_net.specs.declared.parts.FlatNet.{FlatNet}
 use Rattle.mv_net.specs.declared.parts.NetParts.{NetParts}
-use Rattle.mv_net.specs.declared.parts.Kind.TheVariants.{Input, Table}
-use Rattle.mv_design.specs.Nets.{root_of, drivers}
+use Rattle.mv_design.specs.Nets.{root_of, drivers, output_of}
 use Rattle.mv_flat.specs.Places.{places}
-use Rattle.mv_design.specs.Proper.{IsProper, IsFileDecl}
-use Rattle.mv_flat.proofs.Distinct.{few_places}
-use Rattle.mv_flat.specs.Numbers.{columns_at, mark_at, output_of, made_name}
-use Rattle.mv_flat.specs.Built.{file_net, fresh_net, IsFreshName, IsMark, AreTableNets, AreTables, IsBuilt}
+use Rattle.mv_resets.specs.NetModels.{HasLawfulValues}
+use Rattle.mv_design.specs.Proper.{IsProper}
+use Rattle.mv_flat.specs.Numbers.{columns_at, mark_at, made_name}
+use Rattle.mv_flat.specs.Built.{file_net, fresh_net, kind_of, open_nets, IsFreshName, IsMark, AreTableNets, AreTables, IsBuilt}
 use Rattle.mv_flat.specs.Flat.{IsFlat}
 use Rattle.mv_flat.specs.Placed.{IsPlacedTable, ArePlaced}
 use Rattle.mv_flat.proofs.Behinds.{placed}
+use Rattle.mv_resets.specs.Resets.{with_reset_nets}
+use Rattle.mv_flat.proofs.Whole.{with_nets, places_few, root_proper}
 use Rattle.mv_flat.proofs.Shapes.{table_columns, marked_columns}
 
 -- ---- made nets
@@ -57,7 +58,7 @@ one_mark held (Some c) nets others after behind p q =
     }
 one_mark held None nets others after behind p q = record { nets_are = p.nets_are ∙ sym q.nets_are; after_is = p.after_is ∙ sym q.after_is }
 
-module _ (ds : List Decl) (names : List (List ℕ)) (proper : All IsFileDecl ds) where
+module _ (ds : List Decl) (names : List (List ℕ)) (proper : All HasLawfulValues ds) where
   one_table : (held : List (List ℕ)) (t : FileTable) (nets others : List (Option FlatNet)) (after behind : List (List ℕ)) → IsPlacedTable ds names t → AreTableNets ds names held t nets after → AreTableNets ds names held t others behind → AreSame nets others after behind
   one_table held t nets others after behind known p q =
       let flat : p.flat ≡ q.flat =
@@ -68,8 +69,8 @@ module _ (ds : List Decl) (names : List (List ℕ)) (proper : All IsFileDecl ds)
       record {
         nets_are =
             p.nets_are
-            ∙ (ap (λ ms. ms ++ file_net ds Table (Some p.flat.cover) (output_of t) ∷ []) marks.nets_are
-            ∙ (ap (λ (f : FlatTable). q.mark ++ file_net ds Table (Some f.cover) (output_of t) ∷ []) flat ∙ sym q.nets_are));
+            ∙ (ap (λ ms. ms ++ file_net ds (kind_of (output_of t)) (Some p.flat.cover) (output_of t) ∷ []) marks.nets_are
+            ∙ (ap (λ (f : FlatTable). q.mark ++ file_net ds (kind_of (output_of t)) (Some f.cover) (output_of t) ∷ []) flat ∙ sym q.nets_are));
         after_is = marks.after_is;
       }
 
@@ -86,17 +87,17 @@ module _ (ds : List Decl) (names : List (List ℕ)) (proper : All IsFileDecl ds)
 same_parts : (a b : NetParts) → a.root ≡ b.root → a.inputs ≡ b.inputs → a.outputs ≡ b.outputs → a.latches ≡ b.latches → a.nets ≡ b.nets → a ≡ b
 same_parts a b r x y l n = λ i. record { root = r i; inputs = x i; outputs = y i; latches = l i; nets = n i }
 
-one_built : (m : FileModel) (a b : NetParts) → All IsFileDecl m.decls → ArePlaced m (places m) → IsBuilt m a → IsBuilt m b → a ≡ b
+one_built : (m : FileModel) (a b : NetParts) → All HasLawfulValues m.decls → ArePlaced m (places m) → IsBuilt m a → IsBuilt m b → a ≡ b
 one_built m a b proper known p q =
     let tables = one_tables m.decls (places m) proper m.tables (drivers m) p.of_tables q.of_tables known.tables p.are_tables q.are_tables in
     same_parts a b (p.root ∙ sym q.root) (p.inputs ∙ sym q.inputs) (p.outputs ∙ sym q.outputs) (p.latches ∙ sym q.latches)
-    (p.nets_are ∙ (ap (λ fs. map (file_net m.decls Input None) m.inputs ++ fs) tables ∙ sym q.nets_are))
+    (p.nets_are ∙ (ap (λ fs. open_nets m ++ fs) tables ∙ sym q.nets_are))
 
 -- a design has at most one network
 pub one_network : (d : Design) (one other : NetParts) → IsProper d → IsFlat one d → IsFlat other d → one ≡ other
 one_network d one other proper p q =
     let m = root_of d in
-    let twice = few_places m proper.root p.sound.root.driven in
-    let few = p.limits.few in
-    let known = placed m (places m) proper.root p.sound.root refl (omega (arith, twice, few)) in
-    one_built m one other proper.root.decls known p.built q.built
+    let nets = with_reset_nets m in
+    let are = with_nets m nets (root_proper d m refl proper) p.sound.root p.limits refl in
+    let known = placed nets (places nets) are.proper are.sound refl (places_few nets are.proper are.few) in
+    one_built nets one other are.proper.decls known p.built q.built

@@ -1,12 +1,12 @@
--- What stands at each number of a model's network: an input, the output of a table, or the mark of a table.
+-- What stands at each number of a model's network: a net without a table, the output of a table, or the mark of a table.
 use Rattle.std.proofs.Common.{◌≡◌, ◌⊎◌, ℕ, zero, suc, ◌+◌, ◌<◌, ◌≤◌, Bool, true, false, List, [], ◌∷◌, ◌++◌, length, map, get_or, Option, Some, None, refl, sym, ◌∙◌, ap, subst, arith, ⊎_elim, inl, inr, All}
 use Rattle.std.specs.Prelude.{if◌then◌else◌, slice_index_or}
 use Rattle.std.specs.List.{flat_map, slice_get}
-use Rattle.std.proofs.lemmas.Bool.{false≢true, or_cases, or_left}
-use Rattle.std.proofs.lemmas.List.{get_or_past, length-append, length-map}
+use Rattle.std.proofs.lemmas.Bool.{false≢true, or_cases}
+use Rattle.std.proofs.lemmas.List.{append_assoc, get_or_past, get_or-append-add, length-append, length-map}
 use Rattle.std.proofs.lemmas.List.Elements.{All-get_or}
 use Rattle.std.proofs.lemmas.Option.{none-some, same_Some, slice_get_within, slice_get-get_or, get_or_from_slice_get}
-use Rattle.mv_base.specs.Names.{same_word, among, IsDistinct}
+use Rattle.mv_base.specs.Names.{same_word, among, is_net_name, IsDistinct}
 use Rattle.mv_base.proofs.NameLemmas.{same_word_is, among-append, among-at, IsPlace-from_among}
 use Rattle.mv_cover.specs.declared.cover.Cover.{Cover}
 use Rattle.mv_design.specs.declared.design.Decl.{Decl}
@@ -15,26 +15,30 @@ use Rattle.mv_design.specs.declared.table.FileTable.{FileTable}
 use Rattle.mv_net.specs.declared.parts.FlatNet.{FlatNet}
 use Rattle.mv_net.specs.declared.parts.NetParts.{NetParts}
 use Rattle.mv_net.specs.declared.parts.Kind.{Kind}
-use Rattle.mv_net.specs.declared.parts.Kind.TheVariants.{Input, Table, Reset}
+use Rattle.mv_net.specs.declared.parts.Kind.TheVariants.{Input, Latch, Table, Reset}
 use Rattle.mv_net.specs.Nets.{slot}
-use Rattle.mv_design.specs.Nets.{drivers, nets_driven, nets_named}
+use Rattle.mv_design.specs.Nets.{drivers, latch_outputs, nets_driven, nets_named, output_of}
 use Rattle.mv_flat.specs.Places.{places, table_places, has_mark}
 use Rattle.mv_unfold.specs.Numbers.{number_in}
-use Rattle.mv_design.specs.Proper.{IsProperModel, IsFileTable}
-use Rattle.mv_flat.specs.Numbers.{mark_name, output_of, mark_at}
-use Rattle.mv_flat.specs.Built.{file_net, IsBuilt}
+use Rattle.mv_resets.specs.NetModels.{IsNetModel, IsNetTable}
+use Rattle.mv_flat.specs.Numbers.{mark_name, mark_at}
+use Rattle.mv_flat.specs.Built.{file_net, kind_of, open_nets, IsBuilt}
 use Rattle.mv_base.proofs.Lists.{get_front}
 use Rattle.mv_unfold.proofs.Listed.{number_at}
 use Rattle.mv_flat.proofs.Numbered.{number_of_name, mark_number}
 use Rattle.mv_flat.specs.Placed.{IsPlacedTable}
-use Rattle.mv_flat.proofs.Distinct.{driver_is_place}
-use Rattle.mv_flat.proofs.Known.{tables_known, column_named}
+use Rattle.mv_unfold.proofs.Soundness.{in_left, in_either}
+use Rattle.mv_flat.proofs.Lawful.{open_names, open_of, drivers_split, IsOpen, open_kind, kind_open, open_lawful, lawful_kind}
+use Rattle.mv_flat.proofs.Distinct.{places_split, driver_is_place}
+use Rattle.mv_unfold.proofs.Commands.{column_named}
+use Rattle.mv_flat.proofs.Known.{tables_known}
 use Rattle.mv_flat.proofs.Blocks.{marks_of, places_of, blocks_size, block_at}
-use Rattle.mv_flat.proofs.Slots.{IsTableAt, table_at}
+use Rattle.mv_flat.proofs.Slots.{IsTableAt, table_at, get_behind}
 
--- a proper model with its network, whose names by number are distinct, as its drivers are, and each of whose nets is driven
+-- a model of which each reset value has a net, with its network, whose names by number are distinct, as its drivers are, and
+-- each of whose nets is driven
 pub record IsModelNet (m : FileModel) (net : NetParts) : Type 0 where
-  pub proper : IsProperModel m
+  pub proper : IsNetModel m
   pub distinct : IsDistinct (places m)
   pub once : IsDistinct (drivers m)
   pub driven : (w : List ℕ) → among w (nets_named m) ≡ true → among w (drivers m) ≡ true
@@ -42,9 +46,9 @@ pub record IsModelNet (m : FileModel) (net : NetParts) : Type 0 where
 
 -- ---- the tables
 
-pub file_table : (m : FileModel) (net : NetParts) → IsModelNet m net → (k : ℕ) (t : FileTable) → slice_get m.tables k ≡ Some t → IsFileTable m.decls t
+pub file_table : (m : FileModel) (net : NetParts) → IsModelNet m net → (k : ℕ) (t : FileTable) → slice_get m.tables k ≡ Some t → IsNetTable m.decls t
 file_table m net is k t e =
-    let P : FileTable → Type 0 = IsFileTable m.decls in
+    let P : FileTable → Type 0 = IsNetTable m.decls in
     subst P (get_or_from_slice_get m.tables k t t e) (All-get_or P m.tables k t (slice_get_within m.tables k t e) is.proper.tables)
 
 -- each table has one output
@@ -56,38 +60,68 @@ single_tables m net is k t e = (file_table m net is k t e).single
 
 -- the columns of each table have numbers
 placed_tables : (m : FileModel) (net : NetParts) → IsModelNet m net → All (IsPlacedTable m.decls (places m)) m.tables
-placed_tables m net is = tables_known m.decls (places m) m.tables is.proper.tables (λ w h. driver_is_place m w (is.driven w (column_named m w h)))
+placed_tables m net is = tables_known m.decls (places m) m.tables is.proper.tables (λ w h. driver_is_place m is.proper w (is.driven w (column_named m w h)))
+
+-- as many nets without a table as names
+open_size : (m : FileModel) → length (open_nets m) ≡ length (open_names m)
+open_size m =
+    let inputs : List (Option FlatNet) = map (file_net m.decls Input None) m.inputs in
+    let states : List (Option FlatNet) = map (file_net m.decls Latch None) (latch_outputs m) in
+    length-append inputs states
+    ∙ ((λ i. length-map m.inputs (file_net m.decls Input None) i + length-map (latch_outputs m) (file_net m.decls Latch None) i)
+    ∙ sym (length-append m.inputs (latch_outputs m)))
 
 -- what stands at the numbers of each table
 pub table_of : (m : FileModel) (net : NetParts) → IsModelNet m net → (k : ℕ) (t : FileTable) → slice_get m.tables k ≡ Some t → IsTableAt m.decls (places m) net.nets t
-unfolding places
 table_of m net is k t e =
     table_at m.decls (places m) net.nets t is.proper.decls is.distinct
-    (block_at m.decls (places m) is.proper.decls net.nets m.inputs (map (file_net m.decls Input None) m.inputs) m.tables (drivers m) is.built.of_tables (placed_tables m net is) is.built.are_tables refl is.built.nets_are
-    (length-map m.inputs (file_net m.decls Input None)) k t e)
+    (block_at m.decls (places m) is.proper.decls net.nets (open_names m) (open_nets m) m.tables (drivers m) is.built.of_tables (placed_tables m net is)
+    is.built.are_tables (places_split m) is.built.nets_are (open_size m) k t e)
 
 -- as many nets as names
 pub nets_size : (m : FileModel) (net : NetParts) → IsModelNet m net → length net.nets ≡ length (places m)
-unfolding places
 nets_size m net is =
     ap length is.built.nets_are
-    ∙ (length-append (map (file_net m.decls Input None) m.inputs) is.built.of_tables
-    ∙ ((λ i. length-map m.inputs (file_net m.decls Input None) i + blocks_size m.decls (places m) is.proper.decls (drivers m) m.tables is.built.of_tables (placed_tables m net is) is.built.are_tables i)
-    ∙ sym (length-append m.inputs (flat_map (table_places m.decls) m.tables))))
+    ∙ (length-append (open_nets m) is.built.of_tables
+    ∙ ((λ i.
+    open_size m i + blocks_size m.decls (places m) is.proper.decls (drivers m) m.tables is.built.of_tables (placed_tables m net is) is.built.are_tables i)
+    ∙ sym (ap length (places_split m) ∙ length-append (open_names m) (flat_map (table_places m.decls) m.tables))))
 
--- ---- the inputs
+-- ---- the nets without a table
 
 slot_left : (f : List ℕ → Option FlatNet) (ws : List (List ℕ)) (fs : List (Option FlatNet)) (k : ℕ) (w : List ℕ) → slice_get ws k ≡ Some w → slot (map f ws ++ fs) k ≡ f w
 slot_left f [] fs k w e = absurd (none-some w e)
 slot_left f (u ∷ us) fs zero w e = ap f (same_Some u w e)
 slot_left f (u ∷ us) fs (suc k) w e = slot_left f us fs k w e
 
-pub input_slot : (m : FileModel) (net : NetParts) → IsModelNet m net → (w : List ℕ) → among w m.inputs ≡ true → slot net.nets (number_in (places m) w) ≡ file_net m.decls Input None w
+-- names and their nets, between as many others
+between : (f : List ℕ → Option FlatNet) (names front ws rest : List (List ℕ)) (nets before behind : List (Option FlatNet)) → IsDistinct names
+    → names ≡ front ++ (ws ++ rest) → nets ≡ before ++ (map f ws ++ behind) → length before ≡ length front → (w : List ℕ) → among w ws ≡ true
+    → slot nets (number_in names w) ≡ f w
+between f names front ws rest nets before behind distinct names_are nets_are level w h =
+    let p = IsPlace-from_among w ws h in
+    let listed : slice_get names (length before + p.0) ≡ Some w =
+    ap (λ ns. slice_get ns (length before + p.0)) names_are
+    ∙ (get_behind front (ws ++ rest) (length before + p.0) p.0 (omega arith) ∙ (get_front ws rest p.0 p.1.within ∙ p.1.found)) in
+    ap (slot nets) (number_at names (length before + p.0) w distinct listed)
+    ∙ (ap (λ ns. slot ns (length before + p.0)) nets_are ∙ (get_or-append-add before (map f ws ++ behind) p.0 None ∙ slot_left f ws behind p.0 w p.1.found))
+
+pub open_slot : (m : FileModel) (net : NetParts) → IsModelNet m net → (kind : Kind) (w : List ℕ) → among w (open_of m kind) ≡ true
+    → slot net.nets (number_in (places m) w) ≡ file_net m.decls kind None w
 unfolding places
-input_slot m net is w h =
-    let p = IsPlace-from_among w m.inputs h in
-    ap (slot net.nets) (number_at (places m) p.0 w is.distinct (get_front m.inputs (flat_map (table_places m.decls) m.tables) p.0 p.1.within ∙ p.1.found))
-    ∙ (ap (λ ns. slot ns p.0) is.built.nets_are ∙ slot_left (file_net m.decls Input None) m.inputs is.built.of_tables p.0 w p.1.found)
+open_slot m net is Input w h =
+    let states : List (Option FlatNet) = map (file_net m.decls Latch None) (latch_outputs m) in
+    between (file_net m.decls Input None) (places m) [] m.inputs (latch_outputs m ++ flat_map (table_places m.decls) m.tables) net.nets []
+    (states ++ is.built.of_tables) is.distinct refl
+    (is.built.nets_are ∙ append_assoc (map (file_net m.decls Input None) m.inputs) states is.built.of_tables) refl w h
+open_slot m net is Latch w h =
+    let inputs : List (Option FlatNet) = map (file_net m.decls Input None) m.inputs in
+    between (file_net m.decls Latch None) (places m) m.inputs (latch_outputs m) (flat_map (table_places m.decls) m.tables) net.nets inputs
+    is.built.of_tables is.distinct refl
+    (is.built.nets_are ∙ append_assoc inputs (map (file_net m.decls Latch None) (latch_outputs m)) is.built.of_tables)
+    (length-map m.inputs (file_net m.decls Input None)) w h
+open_slot m net is Table w h = absurd (false≢true h)
+open_slot m net is Reset w h = absurd (false≢true h)
 
 -- ---- names of tables' nets
 
@@ -159,9 +193,10 @@ places_in ds (t ∷ ts) w single h =
 
 -- ---- what stands at a number
 
-pub record InputPlace (m : FileModel) (n : ℕ) : Type 0 where
+pub record OpenPlace (m : FileModel) (n : ℕ) : Type 0 where
+  pub kind : Kind
   pub name : List ℕ
-  pub listed : among name m.inputs ≡ true
+  pub listed : among name (open_of m kind) ≡ true
   pub number : n ≡ number_in (places m) name
 
 pub record OutputPlace (m : FileModel) (n : ℕ) : Type 0 where
@@ -177,6 +212,9 @@ pub record MarkPlace (m : FileModel) (n : ℕ) : Type 0 where
   pub may : has_mark m.decls table ≡ true
   pub number : n ≡ (mark_at (places m) table).0
 
+open_place : (m : FileModel) (w : List ℕ) → IsOpen m w → OpenPlace m (number_in (places m) w)
+open_place m w o = record { kind = o.kind; name = w; listed = o.listed; number = refl }
+
 output_place : (m : FileModel) (w : List ℕ) → IsTableOutput m.tables w → OutputPlace m (number_in (places m) w)
 output_place m w o = record { place = o.place; table = o.table; listed = o.listed; number = ap (number_in (places m)) o.is }
 
@@ -189,23 +227,20 @@ mark_place m net is w o = record {
   number = ap (number_in (places m)) o.is ∙ sym (mark_number (places m) o.table ((table_of m net is o.place o.table o.listed).marked o.may));
 }
 
-named_place : (m : FileModel) (net : NetParts) → IsModelNet m net → (w : List ℕ) → among w (places m) ≡ true → InputPlace m (number_in (places m) w) ⊎ (OutputPlace m (number_in (places m) w) ⊎ MarkPlace m (number_in (places m) w))
-unfolding places
+named_place : (m : FileModel) (net : NetParts) → IsModelNet m net → (w : List ℕ) → among w (places m) ≡ true
+    → OpenPlace m (number_in (places m) w) ⊎ (OutputPlace m (number_in (places m) w) ⊎ MarkPlace m (number_in (places m) w))
 named_place m net is w h =
-    ⊎_elim
-    (λ (y : among w m.inputs ≡ true).
-    let p : InputPlace m (number_in (places m) w) = record { name = w; listed = y; number = refl } in
-    inl p)
+    ⊎_elim (λ (y : among w (open_names m) ≡ true). inl (open_place m w (open_kind m w y)))
     (λ (y : among w (flat_map (table_places m.decls) m.tables) ≡ true).
     ⊎_elim (λ (o : IsTableOutput m.tables w). inr (inl (output_place m w o))) (λ (o : IsMarked m.decls m.tables w). inr (inr (mark_place m net is w o)))
     (places_in m.decls m.tables w (single_tables m net is) y))
-    (or_cases (among w m.inputs) (among w (flat_map (table_places m.decls) m.tables)) (sym (among-append w m.inputs (flat_map (table_places m.decls) m.tables)) ∙ h))
+    (in_either w (open_names m) (flat_map (table_places m.decls) m.tables) (ap (among w) (sym (places_split m)) ∙ h))
 
--- each number within the names is that of an input, an output or a mark
-pub place_at : (m : FileModel) (net : NetParts) → IsModelNet m net → (n : ℕ) → n < length (places m) → InputPlace m n ⊎ (OutputPlace m n ⊎ MarkPlace m n)
+-- each number within the names is that of a net without a table, an output or a mark
+pub place_at : (m : FileModel) (net : NetParts) → IsModelNet m net → (n : ℕ) → n < length (places m) → OpenPlace m n ⊎ (OutputPlace m n ⊎ MarkPlace m n)
 place_at m net is n low =
     let w : List ℕ = get_or (places m) n [] in
-    let P : ℕ → Type 0 = λ k. InputPlace m k ⊎ (OutputPlace m k ⊎ MarkPlace m k) in
+    let P : ℕ → Type 0 = λ k. OpenPlace m k ⊎ (OutputPlace m k ⊎ MarkPlace m k) in
     subst P (sym (number_of_name (places m) n is.distinct low)) (named_place m net is w (among-at (places m) n w (slice_get-get_or (places m) n [] low)))
 
 -- and no net stands at another
@@ -214,36 +249,47 @@ no_slot m net is n high = get_or_past net.nets n None (let size = nets_size m ne
 
 -- ---- driven nets
 
--- a driven net is an input or the output of a table
-pub driven_by : (m : FileModel) (net : NetParts) → IsModelNet m net → (w : List ℕ) → among w (drivers m) ≡ true → (among w m.inputs ≡ true) ⊎ IsTableOutput m.tables w
-unfolding drivers
+-- a driven net has no table, or is the output of one
+driven_by : (m : FileModel) (net : NetParts) → IsModelNet m net → (w : List ℕ) → among w (drivers m) ≡ true → IsOpen m w ⊎ IsTableOutput m.tables w
 driven_by m net is w h =
-    ⊎_elim (λ (y : among w m.inputs ≡ true). inl y) (λ (y : among w (flat_map nets_driven m.tables) ≡ true). inr (outputs_in m.tables w (single_tables m net is) y))
-    (or_cases (among w m.inputs) (among w (flat_map nets_driven m.tables)) (sym (among-append w m.inputs (flat_map nets_driven m.tables)) ∙ h))
+    ⊎_elim (λ (y : among w (open_names m) ≡ true). inl (open_kind m w y))
+    (λ (y : among w (flat_map nets_driven m.tables) ≡ true). inr (outputs_in m.tables w (single_tables m net is) y))
+    (in_either w (open_names m) (flat_map nets_driven m.tables) (ap (among w) (sym (drivers_split m)) ∙ h))
 
--- a net of the model, which can be read, with a place
+-- a net of the model with a place; it can be read, where its name is one of a file, and is a reset net where it is named so
 pub record IsFileNet (m : FileModel) (nets : List (Option FlatNet)) (w : List ℕ) : Type 0 where
   pub kind : Kind
   pub table : Option Cover
   pub listed : among w (places m) ≡ true
   pub held : slot nets (number_in (places m) w) ≡ file_net m.decls kind table w
-  pub plain : kind ≡ Reset → ⊥
+  pub plain : is_net_name w ≡ true → kind ≡ Reset → ⊥
+  pub reset : kind_of w ≡ Reset → kind ≡ Reset
 
-input_listed : (m : FileModel) (w : List ℕ) → among w m.inputs ≡ true → among w (places m) ≡ true
-unfolding places
-input_listed m w h = among-append w m.inputs (flat_map (table_places m.decls) m.tables) ∙ or_left (among w m.inputs) (among w (flat_map (table_places m.decls) m.tables)) h
+open_file : (m : FileModel) (net : NetParts) → IsModelNet m net → (w : List ℕ) → IsOpen m w → IsFileNet m net.nets w
+open_file m net is w o = record {
+  kind = o.kind;
+  table = None;
+  listed = ap (among w) (places_split m) ∙ in_left w (open_names m) (flat_map (table_places m.decls) m.tables) (kind_open m o.kind w o.listed);
+  held = open_slot m net is o.kind w o.listed;
+  plain = λ lawful e. false≢true (ap (λ k. among w (open_of m k)) (sym e) ∙ o.listed);
+  reset = λ e. let other : Table ≡ Reset = sym (lawful_kind w (open_lawful m is.proper w (kind_open m o.kind w o.listed))) ∙ e in cc;
+}
 
-pub input_file : (m : FileModel) (net : NetParts) → IsModelNet m net → (w : List ℕ) → among w m.inputs ≡ true → IsFileNet m net.nets w
-input_file m net is w h = record { kind = Input; table = None; listed = input_listed m w h; held = input_slot m net is w h; plain = λ e. cc }
-
-pub output_file : (m : FileModel) (net : NetParts) → IsModelNet m net → (k : ℕ) (t : FileTable) → slice_get m.tables k ≡ Some t → IsFileNet m net.nets (output_of t)
+output_file : (m : FileModel) (net : NetParts) → IsModelNet m net → (k : ℕ) (t : FileTable) → slice_get m.tables k ≡ Some t → IsFileNet m net.nets (output_of t)
 output_file m net is k t e =
     let at = table_of m net is k t e in
-    record { kind = Table; table = Some at.flat.cover; listed = at.listed; held = at.output; plain = λ x. cc }
+    record {
+      kind = kind_of (output_of t);
+      table = Some at.flat.cover;
+      listed = at.listed;
+      held = at.output;
+      plain = λ lawful x. let other : Table ≡ Reset = sym (lawful_kind (output_of t) lawful) ∙ x in cc;
+      reset = λ x. x;
+    }
 
 pub driven_file : (m : FileModel) (net : NetParts) → IsModelNet m net → (w : List ℕ) → among w (drivers m) ≡ true → IsFileNet m net.nets w
 driven_file m net is w h =
-    ⊎_elim (λ (y : among w m.inputs ≡ true). input_file m net is w y)
+    ⊎_elim (λ (o : IsOpen m w). open_file m net is w o)
     (λ (o : IsTableOutput m.tables w). let P : List ℕ → Type 0 = IsFileNet m net.nets in subst P (sym o.is) (output_file m net is o.place o.table o.listed))
     (driven_by m net is w h)
 

@@ -1,24 +1,32 @@
 -- The network of a model is seen from outside as the model is.
-use Rattle.std.proofs.Common.{◌≡◌, ℕ, Bool, true, false, Option, List, [], ◌∷◌, length, map, decimal, refl, sym, ◌∙◌, ap}
+use Rattle.std.proofs.Common.{◌≡◌, ℕ, Bool, true, false, Option, Some, None, option_map, is_some, List, [], ◌∷◌, length, map, decimal, refl, sym, ◌∙◌, ap}
 use Rattle.std.specs.Prelude.{if◌then◌else◌, nat_eq}
 use Rattle.std.specs.List.{range_with_len}
 use Rattle.std.specs.Cmp.Lexicographic.{pointwise}
 use Rattle.std.proofs.lemmas.Slice.Eq.{bytes_eq-Decides, slice_eq-Decides}
 use Rattle.mv_base.specs.Meaning.{Port}
-use Rattle.mv_base.specs.Names.{among}
+use Rattle.mv_base.specs.Names.{among, place_of}
+use Rattle.mv_base.proofs.NameLemmas.{is_some-place_of}
 use Rattle.mv_base.specs.declared.number.NetId.{NetId}
 use Rattle.mv_design.specs.Values.{values_of}
+use Rattle.mv_design.specs.declared.design.FileLatch.{FileLatch}
 use Rattle.mv_design.specs.declared.design.FileModel.{FileModel}
 use Rattle.mv_net.specs.declared.parts.FlatNet.{FlatNet}
+use Rattle.mv_net.specs.declared.parts.Kind.TheVariants.{Input, Latch}
 use Rattle.mv_net.specs.declared.parts.NetParts.{NetParts}
-use Rattle.mv_net.specs.Nets.{name_in, spelled_values, spelled_in, port_of, latch_port_of, interface_of}
+use Rattle.mv_net.specs.Nets.{name_in, spelled_values, spelled_in, port_of, has_reset, latch_port_of, interface_of}
 use Rattle.mv_design.specs.Nets.{nets_named}
 use Rattle.mv_flat.specs.Places.{places}
 use Rattle.mv_unfold.specs.Numbers.{net_in}
 use Rattle.mv_design.specs.Meaning.{port}
 use Rattle.mv_flat.specs.Numbers.{are_numbers, kept_names}
+use Rattle.mv_flat.specs.Built.{flat_latch, reset_in}
+use Rattle.mv_resets.specs.Resets.{reset_name}
+use Rattle.mv_resets.specs.Valued.{has_reset_net, latch_seen}
+use Rattle.mv_flat.proofs.Distinct.{places_driven}
 use Rattle.mv_flat.proofs.Places.{IsModelNet, named_file}
-use Rattle.mv_flat.proofs.Naming.{map_same, input_named, output_named}
+use Rattle.mv_unfold.proofs.Commands.{output_named}
+use Rattle.mv_flat.proofs.Naming.{among_first, among_later, map_same, open_named}
 
 -- words that are found alike, one by one, are the same
 pub same_words : (us ws : List (List ℕ)) → pointwise (pointwise nat_eq) us ws ≡ true → us ≡ ws
@@ -42,10 +50,34 @@ ports_are : (m : FileModel) (net : NetParts) → IsModelNet m net → (ns : List
 ports_are m net is ns ws e named =
     ap (map (port_of net.nets)) e ∙ map_same (net_in (places m)) (port_of net.nets) (port m) ws (λ w h. port_is m net is w (named w h))
 
-pub looks_alike : (m : FileModel) (net : NetParts) → IsModelNet m net → interface_of net ≡ record { inputs = map (port m) m.inputs; outputs = map (port m) m.outputs; latches = [] }
+-- ---- latches
+
+there_is : (o : Option ℕ) → has_reset (option_map (λ n. record { 0 = n }) o) ≡ is_some o
+there_is None = refl
+there_is (Some n) = refl
+
+-- a latch has a reset net in the network where it has one in the model
+reset_there : (m : FileModel) (w : List ℕ) → has_reset (reset_in (places m) w) ≡ has_reset_net m w
+reset_there m w = there_is (place_of (reset_name w) (places m)) ∙ (is_some-place_of (reset_name w) (places m) ∙ places_driven m (reset_name w) refl)
+
+latch_is : (m : FileModel) (net : NetParts) → IsModelNet m net → (l : FileLatch) → among l.output (nets_named m) ≡ true
+    → latch_port_of net.nets (flat_latch (places m) l) ≡ latch_seen m l
+latch_is m net is l h =
+    let p = port_is m net is l.output h in
+    λ i. record { name = (p i).name; values = (p i).values; has_reset = reset_there m l.output i }
+
+latches_are : (m : FileModel) (net : NetParts) → IsModelNet m net → (ls : List FileLatch)
+    → ((w : List ℕ) → among w (map (λ (l : FileLatch). l.output) ls) ≡ true → among w (nets_named m) ≡ true)
+    → map (latch_port_of net.nets) (map (flat_latch (places m)) ls) ≡ map (latch_seen m) ls
+latches_are m net is [] named = refl
+latches_are m net is (l ∷ ls) named =
+    λ i. latch_is m net is l (named l.output (among_first l.output _)) i ∷ latches_are m net is ls (λ w h. named w (among_later w l.output _ h)) i
+
+pub looks_alike : (m : FileModel) (net : NetParts) → IsModelNet m net
+    → interface_of net ≡ record { inputs = map (port m) m.inputs; outputs = map (port m) m.outputs; latches = map (latch_seen m) m.latches }
 unfolding interface_of
 looks_alike m net is =
-    let ins = ports_are m net is net.inputs m.inputs is.built.inputs (λ w h. input_named m w h) in
-    let outs = ports_are m net is net.outputs m.outputs is.built.outputs (λ w h. output_named m w h) in
-    let none : map (latch_port_of net.nets) net.latches ≡ [] = ap (map (latch_port_of net.nets)) is.built.latches in
-    λ i. record { inputs = ins i; outputs = outs i; latches = none i }
+    let ins = ports_are m net is net.inputs m.inputs is.built.inputs (open_named m Input) in
+    let outs = ports_are m net is net.outputs m.outputs is.built.outputs (output_named m) in
+    let latches = ap (map (latch_port_of net.nets)) is.built.latches ∙ latches_are m net is m.latches (open_named m Latch) in
+    λ i. record { inputs = ins i; outputs = outs i; latches = latches i }

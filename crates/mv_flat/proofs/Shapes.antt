@@ -18,10 +18,12 @@ use Rattle.mv_rows.specs.Lines.{FitEntry}
 use Rattle.mv_rows.specs.Flat.{only_entry, with_mark, IsRow, IsTable}
 use Rattle.mv_design.specs.Values.{count_of}
 use Rattle.mv_unfold.specs.Numbers.{number_in}
-use Rattle.mv_design.specs.Proper.{FitSets, FitOutput, FitOutputs, IsFileDecl, IsFileRow, IsFileTable}
+use Rattle.mv_resets.specs.NetModels.{HasLawfulValues, IsNetTable}
+use Rattle.mv_design.specs.Proper.{FitSets, FitOutput, FitOutputs, IsFileRow}
 use Rattle.mv_unfold.proofs.Listed.{IsNumber-among, name_at}
-use Rattle.mv_flat.proofs.Distinct.{lawful_unspaced}
-use Rattle.mv_flat.specs.Numbers.{column_of, columns_at, mark_name, output_of, mark_at}
+use Rattle.mv_design.specs.Nets.{output_of}
+use Rattle.mv_flat.proofs.Lawful.{lawful_unspaced}
+use Rattle.mv_flat.specs.Numbers.{column_of, columns_at, mark_name, mark_at}
 use Rattle.mv_flat.specs.Placed.{are_known, IsPlacedTable}
 use Rattle.mv_flat.proofs.Counts.{values_few}
 
@@ -70,20 +72,22 @@ mark_counts ds names mark = sym (cond-true (mark == mark) 2 _ (equal mark))
 
 -- ---- the columns
 
-columns_are : (ds : List Decl) (names ws : List (List ℕ)) → All IsFileDecl ds → All IsColumn (map (column_of ds names) ws)
+columns_are : (ds : List Decl) (names ws : List (List ℕ)) → All HasLawfulValues ds → All IsColumn (map (column_of ds names) ws)
 columns_are ds names [] all = All-nil _
 columns_are ds names (w ∷ ws) all =
     let f = values_few ds w all in
     All-cons IsColumn (column_of ds names w) (map (column_of ds names) ws) (record { some = f.some; few = f.few }) (columns_are ds names ws all)
 
-pub table_columns : (ds : List Decl) (names : List (List ℕ)) (t : FileTable) → All IsFileDecl ds → IsPlacedTable ds names t → AreColumns (columns_at ds names t)
+pub table_columns : (ds : List Decl) (names : List (List ℕ)) (t : FileTable) → All HasLawfulValues ds → IsPlacedTable ds names t
+    → AreColumns (columns_at ds names t)
 table_columns ds names t all p = record {
   each = columns_are ds names t.inputs all;
   count = count_by ds names (mark_at names t).0;
   counts = columns_count ds names t t.inputs p.known p.fits.inputs;
 }
 
-pub marked_columns : (ds : List Decl) (names : List (List ℕ)) (t : FileTable) → All IsFileDecl ds → IsPlacedTable ds names t → AreColumns (with_mark (columns_at ds names t) (mark_at names t))
+pub marked_columns : (ds : List Decl) (names : List (List ℕ)) (t : FileTable) → All HasLawfulValues ds → IsPlacedTable ds names t
+    → AreColumns (with_mark (columns_at ds names t) (mark_at names t))
 marked_columns ds names t all p = record {
   each = All-append IsColumn (columns_at ds names t) _ (columns_are ds names t.inputs all) (All-cons IsColumn _ [] (record { some = omega arith; few = omega arith }) (All-nil _));
   count = count_by ds names (mark_at names t).0;
@@ -116,7 +120,7 @@ one_fits ds names t (o ∷ []) [] single h = absurd h
 one_fits ds names t (o ∷ []) (e ∷ f ∷ es) single h = absurd h.1
 one_fits ds names t (o ∷ []) (e ∷ []) single h = record { single = refl; entry = entry_fits ds names t o e h.0 }
 
-row_is : (ds : List Decl) (names : List (List ℕ)) (t : FileTable) → IsFileTable ds t → (r : Row) → IsFileRow ds t r → IsRow (columns_at ds names t) r
+row_is : (ds : List Decl) (names : List (List ℕ)) (t : FileTable) → IsNetTable ds t → (r : Row) → IsFileRow ds t r → IsRow (columns_at ds names t) r
 row_is ds names t h r f =
     let o = one_fits ds names t t.outputs r.outs h.single f.outs in
     record { sets = sets_fit ds names t.inputs r.ins f.sets; single = o.single; entry = o.entry }

@@ -1,5 +1,6 @@
--- No name of a model's network is too long: its nets have the model's names, and a made one has a number.
-use Rattle.std.proofs.Common.{◌≡◌, ℕ, ◌<◌, ◌≤◌, ◌^◌, true, List, [], ◌∷◌, ◌++◌, length, map, codes, decimal, Option, Some, None, sym, subst, arith}
+-- No name of a model's network is too long: its nets have the model's names, that of a reset net with a byte more, and a made
+-- one has a number.
+use Rattle.std.proofs.Common.{◌≡◌, ℕ, ◌+◌, ◌<◌, ◌≤◌, ◌^◌, true, List, [], ◌∷◌, ◌++◌, length, map, codes, decimal, Option, Some, None, sym, subst, arith}
 use Rattle.std.specs.Prelude.{IfSome, slice_index_or}
 use Rattle.std.specs.List.{flat_map}
 use Rattle.std.proofs.lemmas.Bool.{or_left}
@@ -15,26 +16,27 @@ use Rattle.mv_design.specs.declared.design.FileModel.{FileModel}
 use Rattle.mv_design.specs.declared.table.FileTable.{FileTable}
 use Rattle.mv_net.specs.declared.parts.FlatNet.{FlatNet}
 use Rattle.mv_net.specs.declared.parts.NetParts.{NetParts}
-use Rattle.mv_net.specs.declared.parts.Kind.TheVariants.{Input, Table}
-use Rattle.mv_design.specs.Nets.{drivers, nets_driven}
+use Rattle.mv_net.specs.declared.parts.Kind.{Kind}
+use Rattle.mv_net.specs.declared.parts.Kind.TheVariants.{Input, Latch}
+use Rattle.mv_design.specs.Nets.{drivers, latch_outputs, nets_driven, output_of}
 use Rattle.mv_flat.specs.Places.{places}
-use Rattle.mv_unfold.specs.Sound.{IsWithinLimits}
-use Rattle.mv_unfold.proofs.Soundness.{in_left, in_right, driver_is_net}
-use Rattle.mv_flat.specs.Numbers.{output_of, made_name}
-use Rattle.mv_flat.specs.Built.{file_net, fresh_net, IsMark, AreTables, IsBuilt}
+use Rattle.mv_resets.specs.NetModels.{HasFewNets}
+use Rattle.mv_unfold.proofs.Soundness.{in_left, in_right}
+use Rattle.mv_flat.specs.Numbers.{made_name}
+use Rattle.mv_flat.specs.Built.{file_net, fresh_net, kind_of, open_nets, IsMark, AreTables, IsBuilt}
 use Rattle.mv_flat.specs.Flat.{AreShort}
 
 -- a net without a name, or with one that isn't too long
 abbrev IsShort : Option FlatNet → Type 0
-IsShort o = IfSome o (λ (f : FlatNet). length f.name ≤ MAX_FLAT_NAME_BYTES)
+IsShort o = IfSome o (λ (f : FlatNet). length f.name ≤ MAX_FLAT_NAME_BYTES + 1)
 
 -- no name among these is too long
 abbrev AllShort : List (List ℕ) → Type 0
-AllShort ws = (w : List ℕ) → among w ws ≡ true → length w ≤ MAX_FLAT_NAME_BYTES
+AllShort ws = (w : List ℕ) → among w ws ≡ true → length w ≤ MAX_FLAT_NAME_BYTES + 1
 
 -- ---- made names
 
-short_made : (n : ℕ) → n < 2 ^ 32 → length (made_name n) ≤ MAX_FLAT_NAME_BYTES
+short_made : (n : ℕ) → n < 2 ^ 32 → length (made_name n) ≤ MAX_FLAT_NAME_BYTES + 1
 short_made n small =
     let digits : length (decimal n) ≤ 10 = length-decimal-le 10 n (omega arith) (omega arith) (omega arith) in
     let size = length-append (codes "_m") (decimal n) in
@@ -42,13 +44,14 @@ short_made n small =
 
 mark_short : (held : List (List ℕ)) (o : Option Cover) (nets : List (Option FlatNet)) (after : List (List ℕ)) → IsMark held o nets after → AreShort nets
 mark_short held (Some c) nets after h =
-    let name : length h.name ≤ MAX_FLAT_NAME_BYTES = subst (λ (w : List ℕ). length w ≤ MAX_FLAT_NAME_BYTES) (sym h.fresh.is) (short_made h.fresh.number h.fresh.small) in
+    let name : length h.name ≤ MAX_FLAT_NAME_BYTES + 1 =
+    subst (λ (w : List ℕ). length w ≤ MAX_FLAT_NAME_BYTES + 1) (sym h.fresh.is) (short_made h.fresh.number h.fresh.small) in
     subst AreShort (sym h.nets_are) (All-cons IsShort (fresh_net h.name c) [] name (All-nil IsShort))
 mark_short held None nets after h = subst AreShort (sym h.nets_are) (All-nil IsShort)
 
 -- ---- the nets of the file
 
-first_short : (os : List (List ℕ)) → AllShort os → length (slice_index_or os 0 []) ≤ MAX_FLAT_NAME_BYTES
+first_short : (os : List (List ℕ)) → AllShort os → length (slice_index_or os 0 []) ≤ MAX_FLAT_NAME_BYTES + 1
 first_short [] all = omega arith
 first_short (w ∷ ws) all = all w (or_left _ _ (same_word_refl w))
 
@@ -56,27 +59,27 @@ tables_short : (ds : List Decl) (names : List (List ℕ)) (ts : List FileTable) 
 tables_short ds names [] held nets all a = subst AreShort (sym a) (All-nil IsShort)
 tables_short ds names (t ∷ ts) held nets all a =
     let here = a.are_here in
-    let output : Option FlatNet = file_net ds Table (Some here.flat.cover) (output_of t) in
+    let output : Option FlatNet = file_net ds (kind_of (output_of t)) (Some here.flat.cover) (output_of t) in
     let named = first_short t.outputs (λ w h. all w (in_left w t.outputs (flat_map nets_driven ts) h)) in
     let rest = tables_short ds names ts a.after a.rest (λ w h. all w (in_right w t.outputs (flat_map nets_driven ts) h)) a.are_rest in
     let table : AreShort (here.mark ++ output ∷ []) =
     All-append IsShort here.mark (output ∷ []) (mark_short held here.flat.mark here.mark a.after here.marked) (All-cons IsShort output [] named (All-nil IsShort)) in
     subst AreShort (sym a.joined) (All-append IsShort a.here a.rest (subst AreShort (sym here.nets_are) table) rest)
 
-inputs_short : (ds : List Decl) (ws : List (List ℕ)) → AllShort ws → AreShort (map (file_net ds Input None) ws)
-inputs_short ds [] all = All-nil IsShort
-inputs_short ds (w ∷ ws) all =
-    All-cons IsShort (file_net ds Input None w) _ (all w (or_left _ _ (same_word_refl w))) (inputs_short ds ws (λ u h. all u (in_right u (w ∷ []) ws h)))
-
-drivers_short : (m : FileModel) → IsWithinLimits m → AllShort (drivers m)
-drivers_short m limits w h = limits.short w (driver_is_net m w h)
+open_short : (ds : List Decl) (kind : Kind) (ws : List (List ℕ)) → AllShort ws → AreShort (map (file_net ds kind None) ws)
+open_short ds kind [] all = All-nil IsShort
+open_short ds kind (w ∷ ws) all =
+    All-cons IsShort (file_net ds kind None w) _ (all w (or_left _ _ (same_word_refl w))) (open_short ds kind ws (λ u h. all u (in_right u (w ∷ []) ws h)))
 
 -- no name of a model's network is too long
-pub names_short : (m : FileModel) (net : NetParts) → IsWithinLimits m → IsBuilt m net → AreShort net.nets
+pub names_short : (m : FileModel) (net : NetParts) → HasFewNets m → IsBuilt m net → AreShort net.nets
 unfolding drivers
-names_short m net limits built =
-    let all = drivers_short m limits in
+names_short m net few built =
+    let outputs : List (List ℕ) = flat_map nets_driven m.tables in
     subst AreShort (sym built.nets_are)
-    (All-append IsShort (map (file_net m.decls Input None) m.inputs) built.of_tables
-    (inputs_short m.decls m.inputs (λ w h. all w (in_left w m.inputs (flat_map nets_driven m.tables) h)))
-    (tables_short m.decls (places m) m.tables (drivers m) built.of_tables (λ w h. all w (in_right w m.inputs (flat_map nets_driven m.tables) h)) built.are_tables))
+    (All-append IsShort (open_nets m) built.of_tables
+    (All-append IsShort (map (file_net m.decls Input None) m.inputs) (map (file_net m.decls Latch None) (latch_outputs m))
+    (open_short m.decls Input m.inputs (λ w h. few.short w (in_left w m.inputs _ h)))
+    (open_short m.decls Latch (latch_outputs m) (λ w h. few.short w (in_right w m.inputs _ (in_left w (latch_outputs m) outputs h)))))
+    (tables_short m.decls (places m) m.tables (drivers m) built.of_tables
+    (λ w h. few.short w (in_right w m.inputs _ (in_right w (latch_outputs m) outputs h))) built.are_tables))

@@ -13,14 +13,14 @@ use Rattle.mv_design.specs.declared.table.FileTable.{FileTable}
 use Rattle.mv_rows.specs.declared.table.FlatTable.{FlatTable}
 use Rattle.mv_rows.specs.Covers.{IsFlatTable}
 use Rattle.mv_net.specs.declared.parts.FlatNet.{FlatNet}
-use Rattle.mv_net.specs.declared.parts.Kind.TheVariants.{Table}
 use Rattle.mv_net.specs.Nets.{slot}
-use Rattle.mv_design.specs.Proper.{IsFileDecl}
+use Rattle.mv_resets.specs.NetModels.{HasLawfulValues}
 use Rattle.mv_rows.proofs.Flat.{IsFlatTable_made}
+use Rattle.mv_design.specs.Nets.{output_of}
 use Rattle.mv_flat.specs.Places.{has_mark}
 use Rattle.mv_unfold.specs.Numbers.{number_in}
-use Rattle.mv_flat.specs.Numbers.{columns_at, mark_name, output_of, mark_at}
-use Rattle.mv_flat.specs.Built.{file_net, fresh_net, IsFreshName, IsMark}
+use Rattle.mv_flat.specs.Numbers.{columns_at, mark_name, mark_at}
+use Rattle.mv_flat.specs.Built.{file_net, fresh_net, kind_of, IsFreshName, IsMark}
 use Rattle.mv_unfold.proofs.Listed.{number_at}
 use Rattle.mv_flat.proofs.Numbered.{mark_number}
 use Rattle.mv_flat.proofs.Shapes.{table_is}
@@ -48,11 +48,10 @@ mark_nets held false None nets after i h = record { name = []; nets_are = h.nets
 
 -- ---- elements of lists in parts
 
-slice_get_at : {X : Type 0} (xs : List X) (y : X) (ys : List X) (n : ℕ) → length xs ≡ n → slice_get (xs ++ y ∷ ys) n ≡ Some y
-slice_get_at [] y ys zero e = refl
-slice_get_at [] y ys (suc n) e = absurd (omega arith)
-slice_get_at (x ∷ xs) y ys zero e = absurd (omega arith)
-slice_get_at (x ∷ xs) y ys (suc n) e = slice_get_at xs y ys n (omega arith)
+pub get_behind : {X : Type 0} (xs ys : List X) (n k : ℕ) → n ≡ length xs + k → slice_get (xs ++ ys) n ≡ slice_get ys k
+get_behind [] ys n k e = ap (slice_get ys) (omega arith)
+get_behind (x ∷ xs) ys zero k e = absurd (omega arith)
+get_behind (x ∷ xs) ys (suc n) k e = get_behind xs ys n k (omega arith)
 
 last_moved : {X : Type 0} (xs ys : List X) (y : X) (zs : List X) → xs ++ ((ys ++ y ∷ []) ++ zs) ≡ (xs ++ ys) ++ y ∷ zs
 last_moved xs ys y zs = ap (λ l. xs ++ l) (append_assoc ys (y ∷ []) zs) ∙ sym (append_assoc xs ys (y ∷ zs))
@@ -63,7 +62,7 @@ pub record IsTableAt (ds : List Decl) (names : List (List ℕ)) (nets : List (Op
   pub flat : FlatTable
   pub relation : IsFlatTable (columns_at ds names t) t (mark_at names t) flat
   pub listed : among (output_of t) names ≡ true
-  pub output : slot nets (number_in names (output_of t)) ≡ file_net ds Table (Some flat.cover) (output_of t)
+  pub output : slot nets (number_in names (output_of t)) ≡ file_net ds (kind_of (output_of t)) (Some flat.cover) (output_of t)
   pub held : List (List ℕ)
   pub name : List ℕ
   pub fresh : (c : Cover) → flat.mark ≡ Some c → IsFreshName held name
@@ -71,7 +70,8 @@ pub record IsTableAt (ds : List Decl) (names : List (List ℕ)) (nets : List (Op
   pub mark : has_mark ds t ≡ true → slot nets (mark_at names t).0 ≡ mark_net name flat.mark
   pub unmarked : has_mark ds t ≡ false → flat.mark ≡ None
 
-pub table_at : (ds : List Decl) (names : List (List ℕ)) (nets : List (Option FlatNet)) (t : FileTable) → All IsFileDecl ds → IsDistinct names → IsBlock ds names nets t → IsTableAt ds names nets t
+pub table_at : (ds : List Decl) (names : List (List ℕ)) (nets : List (Option FlatNet)) (t : FileTable) → All HasLawfulValues ds → IsDistinct names
+    → IsBlock ds names nets t → IsTableAt ds names nets t
 table_at ds names nets t proper distinct b = record {
   flat = b.are.flat;
   relation = IsFlatTable_made (columns_at ds names t) t (mark_at names t) b.are.flat (table_is ds names t b.placed) b.are.made;
@@ -95,7 +95,7 @@ table_at ds names nets t proper distinct b = record {
     w = output_of t
 
     f : Option FlatNet
-    f = file_net ds Table (Some b.are.flat.cover) (output_of t)
+    f = file_net ds (kind_of (output_of t)) (Some b.are.flat.cover) (output_of t)
 
     made : is_some b.are.flat.mark ≡ has_mark ds t
     made = mark_is ds names t b.are.flat proper b.placed b.are.made
@@ -112,7 +112,7 @@ table_at ds names nets t proper distinct b = record {
     output_name =
         ap (λ ns. slice_get ns (length (b.front ++ marks_of ds t)))
         (b.names_are ∙ (ap (λ ps. b.front ++ (ps ++ b.rest)) (places_of ds t b.placed.fits.single) ∙ last_moved b.front (marks_of ds t) w b.rest))
-        ∙ slice_get_at (b.front ++ marks_of ds t) w b.rest (length (b.front ++ marks_of ds t)) refl
+        ∙ get_behind (b.front ++ marks_of ds t) (w ∷ b.rest) (length (b.front ++ marks_of ds t)) 0 (omega arith)
 
     output_nets : nets ≡ (b.before ++ b.are.mark) ++ f ∷ b.behind
     output_nets = b.nets_are ∙ (ap (λ ns. b.before ++ (ns ++ b.behind)) b.are.nets_are ∙ last_moved b.before b.are.mark f b.behind)
@@ -122,7 +122,7 @@ table_at ds names nets t proper distinct b = record {
         ap (λ ns. slice_get ns (length b.front))
         (b.names_are
         ∙ (ap (λ ps. b.front ++ (ps ++ b.rest)) (places_of ds t b.placed.fits.single) ∙ ap (λ x. b.front ++ (((if x then mark_name w ∷ [] else []) ++ w ∷ []) ++ b.rest)) may))
-        ∙ slice_get_at b.front (mark_name w) (w ∷ b.rest) (length b.front) refl
+        ∙ get_behind b.front (mark_name w ∷ w ∷ b.rest) (length b.front) 0 (omega arith)
 
     mark_nets_are : has_mark ds t ≡ true → nets ≡ b.before ++ mark_net marks.name b.are.flat.mark ∷ f ∷ b.behind
     mark_nets_are may =

@@ -20,11 +20,11 @@ use Rattle.mv_net.specs.declared.parts.NetParts.{NetParts}
 use Rattle.mv_net.specs.Nets.{slot}
 use Rattle.mv_net.specs.Allowed.{net_allows, Agrees}
 use Rattle.mv_design.specs.Values.{count_of}
-use Rattle.mv_design.specs.Nets.{nets_named}
+use Rattle.mv_design.specs.Nets.{nets_named, output_of}
 use Rattle.mv_flat.specs.Places.{places, has_mark}
 use Rattle.mv_unfold.specs.Numbers.{number_in}
 use Rattle.mv_design.specs.Meaning.{table_holds}
-use Rattle.mv_flat.specs.Numbers.{column_of, columns_at, output_of, mark_at}
+use Rattle.mv_flat.specs.Numbers.{column_of, columns_at, mark_at}
 use Rattle.mv_flat.specs.Built.{fresh_net}
 use Rattle.mv_flat.proofs.Slots.{IsTableAt, mark_net}
 use Rattle.mv_flat.proofs.Places.{IsModelNet, table_of, single_tables, outputs_are}

@@ -1,9 +1,11 @@
 -- The network of a sound model: it is well formed, has few enough nets and no name that is too long, and means what the
 -- model means.
-use Rattle.std.proofs.Common.{◌≡◌, ℕ, ◌≤◌, true, List, length, ◌∙◌, arith}
+use Rattle.std.proofs.Common.{◌≡◌, ℕ, ◌≤◌, true, List, length, refl, sym, subst, arith, All}
+use Rattle.std.proofs.lemmas.List.Elements.{All-get_or}
 use Rattle.mv_base.specs.Meaning.{SameMeaning}
 use Rattle.mv_base.specs.Names.{among}
 use Rattle.mv_base.specs.declared.limits.TheConstants.{MAX_NETS}
+use Rattle.mv_base.proofs.Meanings.{SameMeaning-then}
 use Rattle.mv_base.proofs.NameLemmas.{IsDistinct-from_differ}
 use Rattle.mv_design.specs.declared.design.Design.{Design}
 use Rattle.mv_design.specs.declared.design.FileModel.{FileModel}
@@ -11,56 +13,98 @@ use Rattle.mv_net.specs.Allowed.{of_net}
 use Rattle.mv_net.specs.Formed.{WellFormed}
 use Rattle.mv_net.specs.declared.parts.NetParts.{NetParts}
 use Rattle.mv_design.specs.Meaning.{of_model, of_design}
-use Rattle.mv_design.specs.Nets.{root_of, nets_named, drivers}
+use Rattle.mv_design.specs.Nets.{no_model, root_of, nets_named, drivers}
+use Rattle.mv_design.specs.Proper.{IsProper, IsProperModel}
 use Rattle.mv_flat.specs.Places.{places}
-use Rattle.mv_design.specs.Proper.{IsProperModel}
+use Rattle.mv_resets.specs.NetModels.{HasFewNets, HasSoundNets, IsNetModel}
+use Rattle.mv_resets.specs.Resets.{with_reset_nets}
+use Rattle.mv_resets.specs.Valued.{of_nets}
+use Rattle.mv_resets.proofs.NetModels.{net_model, inputs_driven}
+use Rattle.mv_resets.proofs.SoundNets.{sound_nets, few_nets as few_drivers}
+use Rattle.mv_resets.proofs.Valued.{same_meaning as same_with_resets}
 use Rattle.mv_unfold.specs.Sound.{IsDrivenOnce, IsSoundModel, IsWithinLimits}
 use Rattle.mv_unfold.proofs.Distinct.{differ_counted, drivers_counted, net_is_driven}
 use Rattle.mv_flat.proofs.Distinct.{places_differ, few_places}
-use Rattle.mv_unfold.proofs.Named.{among-nets_of}
+use Rattle.mv_flat.proofs.Known.{tables_placed}
+use Rattle.mv_unfold.proofs.Commands.{named_is_net}
 use Rattle.mv_flat.specs.Built.{IsBuilt}
 use Rattle.mv_flat.specs.Flat.{IsFlat}
+use Rattle.mv_flat.specs.Placed.{IsPlacedTable}
 use Rattle.mv_flat.proofs.Places.{IsModelNet, nets_size}
 use Rattle.mv_flat.proofs.Same.{net_same}
 use Rattle.mv_flat.proofs.ShortNames.{names_short}
 use Rattle.mv_flat.proofs.Formed.{net_formed}
 
--- ---- each net is driven once
+-- ---- a model with a net for each reset value
 
 named_driven : (m : FileModel) → IsDrivenOnce m → (w : List ℕ) → among w (nets_named m) ≡ true → among w (drivers m) ≡ true
-named_driven m d w h = net_is_driven m w d (among-nets_of w m ∙ h)
+named_driven m d w h = net_is_driven m w d (named_is_net m w h)
 
-pub model_net : (m : FileModel) (net : NetParts) → IsProperModel m → IsSoundModel m → IsBuilt m net → IsModelNet m net
+pub model_net : (m : FileModel) (net : NetParts) → IsNetModel m → HasSoundNets m → IsBuilt m net → IsModelNet m net
 model_net m net proper sound built = record {
   proper = proper;
-  distinct = IsDistinct-from_differ (places m) (places_differ m proper sound.driven);
-  once = IsDistinct-from_differ (drivers m) (differ_counted (drivers m) (drivers_counted m sound.driven));
-  driven = named_driven m sound.driven;
+  distinct = IsDistinct-from_differ (places m) (places_differ m proper sound.once);
+  once = IsDistinct-from_differ (drivers m) (differ_counted (drivers m) (drivers_counted m sound.once));
+  driven = named_driven m sound.once;
   built = built;
 }
 
--- ---- the network
-
-pub well_formed : (m : FileModel) (net : NetParts) → IsProperModel m → IsSoundModel m → IsBuilt m net → WellFormed net
+pub well_formed : (m : FileModel) (net : NetParts) → IsNetModel m → HasSoundNets m → IsBuilt m net → WellFormed net
 well_formed m net proper sound built = net_formed m net (model_net m net proper sound built) sound
 
-pub few_nets : (m : FileModel) (net : NetParts) → IsProperModel m → IsSoundModel m → IsWithinLimits m → IsBuilt m net → length net.nets ≤ MAX_NETS
-few_nets m net proper sound limits built =
-    let size = nets_size m net (model_net m net proper sound built) in
-    let twice = few_places m proper sound.driven in
+pub places_few : (m : FileModel) → IsNetModel m → HasFewNets m → length (places m) ≤ MAX_NETS
+places_few m proper limits =
+    let twice = few_places m proper in
     let few = limits.few in
     omega arith
 
-pub same_meaning : (m : FileModel) (net : NetParts) → IsProperModel m → IsSoundModel m → IsBuilt m net → SameMeaning (of_net net) (of_model m)
+pub nets_few : (m : FileModel) (net : NetParts) → IsNetModel m → HasSoundNets m → HasFewNets m → IsBuilt m net → length net.nets ≤ MAX_NETS
+nets_few m net proper sound limits built =
+    let size = nets_size m net (model_net m net proper sound built) in
+    let few = places_few m proper limits in
+    omega arith
+
+pub same_meaning : (m : FileModel) (net : NetParts) → IsNetModel m → HasSoundNets m → IsBuilt m net → SameMeaning (of_net net) (of_nets m)
 same_meaning m net proper sound built = net_same m net (model_net m net proper sound built)
 
+-- ---- a sound model and the one with a net for each reset value
+
+-- the second is the first with a net for each reset value, and its nets are as they are to be
+pub record AreNetsOf (m nets : FileModel) : Type 0 where
+  pub proper : IsNetModel nets
+  pub sound : HasSoundNets nets
+  pub few : HasFewNets nets
+  pub placed : All (IsPlacedTable nets.decls (drivers m)) nets.tables
+
+pub with_nets : (m nets : FileModel) → IsProperModel m → IsSoundModel m → IsWithinLimits m → nets ≡ with_reset_nets m → AreNetsOf m nets
+with_nets m nets proper sound limits e =
+    let P : FileModel → Type 0 = AreNetsOf m in
+    let model = net_model m proper sound in
+    subst P (sym e)
+    (record {
+      proper = model;
+      sound = sound_nets m proper sound;
+      few = few_drivers m proper sound limits;
+      placed = tables_placed (with_reset_nets m).decls (drivers m) (with_reset_nets m).tables model.tables (inputs_driven m sound.driven);
+    })
+
+-- the root of a proper design is a proper model
+pub root_proper : (d : Design) (m : FileModel) → m ≡ root_of d → IsProper d → IsProperModel m
+unfolding root_of
+root_proper d m is proper = subst IsProperModel (sym is) (All-get_or IsProperModel d.models d.root no_model proper.root proper.models)
+
 -- the network of a design whose root is a sound model with nets within the limits
-pub flat_design : (d : Design) (net : NetParts) → IsProperModel (root_of d) → IsSoundModel (root_of d) → IsWithinLimits (root_of d) → IsBuilt (root_of d) net → IsFlat net d
+pub flat_design : (d : Design) (net : NetParts) → IsProperModel (root_of d) → IsSoundModel (root_of d) → IsWithinLimits (root_of d)
+    → IsBuilt (with_reset_nets (root_of d)) net → IsFlat net d
 unfolding of_design
-flat_design d net proper sound limits built = record {
-  sound = record { root = sound };
-  limits = limits;
-  built = built;
-  means = same_meaning (root_of d) net proper sound built;
-  short = names_short (root_of d) net limits built;
-}
+flat_design d net proper sound limits built =
+    let m = root_of d in
+    let nets = with_reset_nets m in
+    let are = with_nets m nets proper sound limits refl in
+    record {
+      sound = record { root = sound };
+      limits = limits;
+      built = built;
+      means = SameMeaning-then (of_net net) (of_nets nets) (of_model m) (same_meaning nets net are.proper are.sound built) (same_with_resets m proper sound);
+      short = names_short nets net are.few built;
+    }

@@ -1,7 +1,8 @@
--- The network of a model: a net for each input, and for each table a net for its output, and before that a net for the mark
--- that its default may need.
-use Rattle.std.specs.Prelude.{◌≡◌, ℕ, ◌<◌, ◌^◌, true, false, Option, Some, None, List, [], ◌∷◌, ◌++◌, map}
-use Rattle.mv_base.specs.Names.{among}
+-- The network of a model with a net for each reset value: a net for each input and for each latch, and for each table a net
+-- for its output, and before that a net for the mark that its default may need.
+use Rattle.std.specs.Prelude.{◌≡◌, ℕ, ◌<◌, ◌^◌, true, false, Option, Some, None, List, [], ◌∷◌, ◌++◌, ◌==◌, map, option_map, if◌then◌else◌}
+use Rattle.mv_base.specs.Names.{among, place_of}
+use Rattle.mv_base.specs.declared.number.NetId.{NetId}
 use Rattle.mv_cover.specs.declared.cover.Cover.{Cover}
 use Rattle.mv_design.specs.declared.design.Decl.{Decl}
 use Rattle.mv_design.specs.declared.design.FileModel.{FileModel}
@@ -9,14 +10,22 @@ use Rattle.mv_design.specs.declared.table.FileTable.{FileTable}
 use Rattle.mv_design.specs.Values.{values_of, count_of}
 use Rattle.mv_rows.specs.declared.table.FlatTable.{FlatTable}
 use Rattle.mv_rows.specs.Flat.{IsMade}
-use Rattle.mv_design.specs.Nets.{drivers}
+use Rattle.mv_design.specs.declared.design.FileLatch.{FileLatch}
+use Rattle.mv_design.specs.Nets.{drivers, latch_outputs, output_of}
 use Rattle.mv_flat.specs.Places.{places}
 use Rattle.mv_unfold.specs.Numbers.{net_in}
 use Rattle.mv_net.specs.declared.parts.Kind.{Kind}
-use Rattle.mv_net.specs.declared.parts.Kind.TheVariants.{Input, Table}
+use Rattle.mv_net.specs.declared.parts.Kind.TheVariants.{Input, Latch, Table, Reset}
 use Rattle.mv_net.specs.declared.parts.FlatNet.{FlatNet}
+use Rattle.mv_net.specs.declared.parts.FlatLatch.{FlatLatch}
 use Rattle.mv_net.specs.declared.parts.NetParts.{NetParts}
-use Rattle.mv_flat.specs.Numbers.{columns_at, output_of, mark_at, kept_names, made_name}
+use Rattle.mv_flat.specs.Numbers.{columns_at, mark_at, kept_names, made_name}
+use Rattle.mv_resets.specs.Resets.{reset_name}
+
+-- what the net of a table's output is: a reset net, where its name begins with a full stop
+abbrev pub kind_of : List ℕ → Kind
+kind_of [] = Table
+kind_of (b ∷ bs) = if b == 46 then Reset else Table
 
 -- a net of the model
 abbrev pub file_net : List Decl → Kind → Option Cover → List ℕ → Option FlatNet
@@ -58,7 +67,7 @@ pub record AreTableNets (ds : List Decl) (names held : List (List ℕ)) (t : Fil
   pub made : IsMade (columns_at ds names t) t (mark_at names t) flat
   pub mark : List (Option FlatNet)
   pub marked : IsMark held flat.mark mark after
-  pub nets_are : nets ≡ mark ++ file_net ds Table (Some flat.cover) (output_of t) ∷ []
+  pub nets_are : nets ≡ mark ++ file_net ds (kind_of (output_of t)) (Some flat.cover) (output_of t) ∷ []
 
 -- some nets, and others behind them that know of their names
 pub record AreFollowed (Here : List (Option FlatNet) → List (List ℕ) → Type 0) (Behind : List (List ℕ) → List (Option FlatNet) → Type 0)
@@ -75,12 +84,24 @@ abbrev pub AreTables : List Decl → List (List ℕ) → List FileTable → List
 AreTables ds names [] held nets = nets ≡ []
 AreTables ds names (t ∷ ts) held nets = AreFollowed (AreTableNets ds names held t) (AreTables ds names ts) nets
 
+-- the number of a latch's reset net, where it has one
+abbrev pub reset_in : List (List ℕ) → List ℕ → Option NetId
+reset_in names latch = option_map (λ n. record { 0 = n }) (place_of (reset_name latch) names)
+
+-- a latch by the numbers of its nets
+abbrev pub flat_latch : List (List ℕ) → FileLatch → FlatLatch
+flat_latch names l = record { input = net_in names l.input; output = net_in names l.output; reset = reset_in names l.output }
+
+-- the nets that have no table: the inputs and the outputs of the latches
+abbrev pub open_nets : FileModel → List (Option FlatNet)
+open_nets m = map (file_net m.decls Input None) m.inputs ++ map (file_net m.decls Latch None) (latch_outputs m)
+
 -- the parts of a model's network
 pub record IsBuilt (m : FileModel) (net : NetParts) : Type 0 where
   pub root : net.root ≡ m.name
   pub inputs : net.inputs ≡ map (net_in (places m)) m.inputs
   pub outputs : net.outputs ≡ map (net_in (places m)) m.outputs
-  pub latches : net.latches ≡ []
+  pub latches : net.latches ≡ map (flat_latch (places m)) m.latches
   pub of_tables : List (Option FlatNet)
   pub are_tables : AreTables m.decls (places m) m.tables (drivers m) of_tables
-  pub nets_are : net.nets ≡ map (file_net m.decls Input None) m.inputs ++ of_tables
+  pub nets_are : net.nets ≡ open_nets m ++ of_tables

@@ -6,10 +6,11 @@ use Rattle.mv_design.specs.declared.design.Decl.{Decl}
 use Rattle.mv_design.specs.declared.table.Row.{Row}
 use Rattle.mv_design.specs.declared.table.FileTable.{FileTable}
 use Rattle.mv_base.specs.Set.{full}
+use Rattle.mv_design.specs.Nets.{output_of}
 use Rattle.mv_design.specs.Values.{count_of}
 use Rattle.mv_rows.specs.Flat.{only_entry, says_nothing}
 use Rattle.mv_unfold.specs.Driving.{with_name, with_names}
-use Rattle.mv_flat.specs.Numbers.{mark_name, output_of}
+use Rattle.mv_flat.specs.Numbers.{mark_name}
 use Rattle.mv_flat.specs.Places.{has_mark}
 
 -- names with that of a table's mark, if it gets one

@@ -1,5 +1,5 @@
 -- The columns of a model's tables by their numbers. The number of a net is its place among the names by number.
-use Rattle.std.specs.Prelude.{ℕ, Bool, List, [], ◌∷◌, ◌++◌, length, map, decimal, unwrap_or, slice_index_or, nat_eq, codes, if◌then◌else◌}
+use Rattle.std.specs.Prelude.{ℕ, Bool, List, [], ◌∷◌, ◌++◌, length, map, decimal, unwrap_or, nat_eq, codes, if◌then◌else◌}
 use Rattle.std.specs.List.{range_with_len}
 use Rattle.std.specs.Cmp.Lexicographic.{pointwise}
 use Rattle.mv_base.specs.Names.{place_of}
@@ -7,6 +7,7 @@ use Rattle.mv_base.specs.declared.number.NetId.{NetId}
 use Rattle.mv_design.specs.declared.design.Decl.{Decl}
 use Rattle.mv_design.specs.declared.table.FileTable.{FileTable}
 use Rattle.mv_rows.specs.declared.column.Column.{Column}
+use Rattle.mv_design.specs.Nets.{output_of}
 use Rattle.mv_design.specs.Values.{count_of}
 use Rattle.mv_unfold.specs.Numbers.{net_in}
 
@@ -17,10 +18,6 @@ column_of ds names net = record { net = net_in names net; count = count_of ds ne
 -- the input columns of a table
 abbrev pub columns_at : List Decl → List (List ℕ) → FileTable → List Column
 columns_at ds names t = map (column_of ds names) t.inputs
-
--- the output of a table with one
-abbrev pub output_of : FileTable → List ℕ
-output_of t = slice_index_or t.outputs 0 []
 
 -- the name by which the mark of the table with this output stands among the nets by number: a space and the output's name,
 -- as no net is named

@@ -7,9 +7,9 @@ use Rattle.mv_design.specs.declared.design.Decl.{Decl}
 use Rattle.mv_design.specs.declared.design.FileModel.{FileModel}
 use Rattle.mv_design.specs.declared.table.FileTable.{FileTable}
 use Rattle.mv_design.specs.Nets.{drivers}
-use Rattle.mv_flat.specs.Places.{places}
-use Rattle.mv_design.specs.Proper.{IsFileTable}
+use Rattle.mv_resets.specs.NetModels.{IsNetTable}
 use Rattle.mv_net.specs.declared.parts.FlatNet.{FlatNet}
+use Rattle.mv_flat.specs.Places.{places}
 use Rattle.mv_flat.specs.Built.{AreTables}
 
 -- each of these nets has a number
@@ -18,7 +18,7 @@ are_known names nets = list_all (λ net. among net names) nets
 
 -- a table whose input columns have numbers
 pub record IsPlacedTable (ds : List Decl) (names : List (List ℕ)) (t : FileTable) : Type 0 where
-  pub fits : IsFileTable ds t
+  pub fits : IsNetTable ds t
   pub known : are_known names t.inputs ≡ true
 
 -- the names are those of a model's nets by number, with the columns of its tables among them

@@ -1,9 +1,9 @@
 //! The columns of tables by number, and the covers of tables over them.
 ghost use Rattle.std.specs.Prelude.{◌≡◌, ◌≤◌, length, IfOk, All};
 ghost use Rattle.mv_base.specs.declared.limits.TheConstants.{MAX_NETS};
-ghost use Rattle.mv_design.specs.Proper.{IsFileDecl};
 ghost use Rattle.mv_rows.specs.Flat.{IsMade};
 ghost use Rattle.mv_flat.specs.Numbers.{columns_at, mark_at};
+ghost use Rattle.mv_resets.specs.NetModels.{HasLawfulValues};
 ghost use Rattle.mv_flat.specs.Placed.{IsPlacedTable};
 
 use crate::mark::mark_name;
@@ -53,7 +53,7 @@ pub fn covers(
     names: &Numbers,
     table: &FileTable,
 ) -> Result<FlatTable, Memory>
-    requires proper { All IsFileDecl decls.now }
+    requires proper { All HasLawfulValues decls.now }
     requires placed { IsPlacedTable decls.now names.now table.now }
     requires few { length names.now ≤ MAX_NETS }
     ensures { IfOk result (λ flat. IsMade (columns_at decls.now names.now table.now) table.now (mark_at names.now table.now) flat) }

@@ -1,9 +1,10 @@
-//! A design to its network. In this version: one model whose tables have one output, without latches and instances.
+//! A design to its network. In this version: one model whose tables have one output, without instances.
 #![tactic(auto)]
 
 mod columns;
 mod flat;
 mod fresh;
+mod latches;
 mod laws;
 mod mark;
 mod marks;

@@ -1,10 +1,10 @@
 //! Which tables get a mark, and the name by which it stands among the nets.
 ghost use Rattle.std.specs.Prelude.{◌≡◌, ◌≤◌, length, IfOk, IfSome, All};
 ghost use Rattle.mv_base.specs.declared.limits.TheConstants.{MAX_NETS};
-ghost use Rattle.mv_design.specs.Proper.{IsFileDecl, IsFileTable};
 ghost use Rattle.mv_rows.specs.Flat.{only_entry, says_nothing};
 ghost use Rattle.mv_flat.specs.Numbers.{mark_name};
 ghost use Rattle.mv_flat.specs.Places.{has_mark};
+ghost use Rattle.mv_resets.specs.NetModels.{HasLawfulValues, IsNetTable};
 ghost use Rattle.mv_flat.specs.Placed.{IsPlacedTable};
 ghost use Rattle.mv_flat.specs.Gathered.{has_all, some_has_all, some_silent};
 
@@ -34,7 +34,7 @@ pub fn has_mark(
     names: &Numbers,
     table: &FileTable,
 ) -> Result<bool, Memory>
-    requires proper { All IsFileDecl decls.now }
+    requires proper { All HasLawfulValues decls.now }
     requires placed { IsPlacedTable decls.now names.now table.now }
     requires few { length names.now ≤ MAX_NETS }
     ensures { IfOk result (λ b. b ≡ has_mark decls.now table.now) }
@@ -50,8 +50,8 @@ pub fn has_mark(
 /// says a value; but beside a column's value where no row has all values.
 #[tactic(auto, using(crate::proofs::Needs::told))]
 fn told_mark(decls: &Declared, table: &FileTable) -> Option<bool>
-    requires proper { All IsFileDecl decls.now }
-    requires fits { IsFileTable decls.now table.now }
+    requires proper { All HasLawfulValues decls.now }
+    requires fits { IsNetTable decls.now table.now }
     ensures { IfSome result (λ b. b ≡ has_mark decls.now table.now) }
 {
     let Some(entries) = &table.default else {

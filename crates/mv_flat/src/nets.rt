@@ -1,12 +1,13 @@
 //! The nets of a network.
-ghost use Rattle.std.specs.Prelude.{◌≡◌, Some, IfOk, None, map};
-ghost use Rattle.mv_net.specs.declared.parts.Kind.TheVariants.{Input};
-ghost use Rattle.mv_flat.specs.Built.{file_net, fresh_net};
+ghost use Rattle.std.specs.Prelude.{◌≡◌, ◌++◌, Some, IfOk, OnOk, None, map};
+ghost use Rattle.mv_net.specs.declared.parts.Kind.TheVariants.{Input, Latch};
+ghost use Rattle.mv_flat.specs.Built.{file_net, fresh_net, kind_of};
 
 use crate::values::{count_of, kept_names};
 use mv_base::{Items, Memory, Name};
 use mv_cover::Cover;
 use mv_decl::Declared;
+use mv_design::FileLatch;
 use mv_net::{FlatNet, Kind};
 use std::alloc::Global;
 
@@ -43,18 +44,59 @@ pub fn fresh_net(alloc: Global, name: Name, cover: Cover) -> FlatNet
     }
 }
 
-/// The nets of the inputs, which have no table.
-pub fn input_nets(
+/// What the net of a table's output is: a reset net, where its name begins with a full stop.
+pub fn kind_of(name: &Name) -> Kind
+    ensures { result ≡ kind_of name.now }
+{
+    match name.bytes().first() {
+        Some(b'.') => Kind::Reset,
+        _ => Kind::Table,
+    }
+}
+
+/// The nets that have no table: those of the inputs, and those of the outputs of the latches.
+pub fn open_nets(
     alloc: Global,
     decls: &Declared,
     inputs: &[Name],
+    latches: &[FileLatch],
 ) -> Result<Items<Option<FlatNet>>, Memory>
-    ensures { IfOk result (λ nets. nets ≡ map (file_net decls.now Input None) inputs.now) }
+    ensures { IfOk result (λ nets. nets ≡ map (file_net decls.now Input None) inputs.now ++ map (file_net decls.now Latch None) (map (λ l. l.output) latches.now)) }
 {
     let mut nets = Items::new(alloc);
+    add_inputs(alloc, &mut nets, decls, inputs)?;
+    add_states(alloc, &mut nets, decls, latches)?;
+    Ok(nets)
+}
+
+/// Adds the nets of inputs.
+fn add_inputs(
+    alloc: Global,
+    nets: &mut Items<Option<FlatNet>>,
+    decls: &Declared,
+    inputs: &[Name],
+) -> Result<(), Memory>
+    ensures { OnOk result (nets.new ≡ nets.old ++ map (file_net decls.now Input None) inputs.now) }
+{
     for input in inputs {
         let net = file_net(alloc, decls, Kind::Input, None, input)?;
         nets.push(Some(net))?;
     }
-    Ok(nets)
+    Ok(())
+}
+
+/// Adds the nets of the outputs of latches.
+fn add_states(
+    alloc: Global,
+    nets: &mut Items<Option<FlatNet>>,
+    decls: &Declared,
+    latches: &[FileLatch],
+) -> Result<(), Memory>
+    ensures { OnOk result (nets.new ≡ nets.old ++ map (file_net decls.now Latch None) (map (λ l. l.output) latches.now)) }
+{
+    for latch in latches {
+        let net = file_net(alloc, decls, Kind::Latch, None, &latch.output)?;
+        nets.push(Some(net))?;
+    }
+    Ok(())
 }

@@ -1,24 +1,26 @@
 //! The nets of a model by number.
-ghost use Rattle.std.specs.Prelude.{◌≡◌, ◌≤◌, length, true, IfOk, OnOk, All};
+ghost use Rattle.std.specs.Prelude.{◌≡◌, ◌≤◌, length, map, true, IfOk, OnOk, All};
 ghost use Rattle.mv_base.specs.Names.{names_differ};
 ghost use Rattle.mv_base.specs.declared.limits.TheConstants.{MAX_NETS};
-ghost use Rattle.mv_design.specs.Proper.{IsFileDecl, IsProperModel};
+ghost use Rattle.mv_resets.specs.NetModels.{HasLawfulValues, IsNetModel};
 ghost use Rattle.mv_flat.specs.Placed.{IsPlacedTable};
 ghost use Rattle.mv_flat.specs.Places.{places};
+ghost use Rattle.mv_unfold.specs.Driving.{with_names};
 ghost use Rattle.mv_flat.specs.Gathered.{with_mark, with_places};
 
 use crate::mark::{has_mark, mark_name};
 use mv_base::{Memory, NameSet};
 use mv_decl::Declared;
-use mv_design::{FileModel, FileTable};
+use mv_design::{FileLatch, FileModel, FileTable};
 use mv_unfold::{Numbers, add_net, add_nets};
 use std::alloc::Global;
 
-/// The nets of the model by number: the inputs, then the outputs of the tables in order. Before the output of a table that
-/// gets a mark there is the mark, which stands here by a space and the output's name. `driven` are the driven nets.
+/// The nets of the model by number: the inputs, the outputs of the latches, then those of the tables in order. Before the output
+/// of a table that gets a mark there is the mark, which stands here by a space and the output's name. `driven` are nets among
+/// which the columns of the tables are.
 #[tactic(auto, using(crate::proofs::Names::with_places_of), unfolding(crate::specs::Places::places))]
 pub fn numbered(alloc: Global, model: &FileModel, driven: &Numbers) -> Result<Numbers, Memory>
-    requires proper { IsProperModel model.now }
+    requires proper { IsNetModel model.now }
     requires placed { All (IsPlacedTable model.now.decls driven.now) model.now.tables }
     requires few { length driven.now ≤ MAX_NETS }
     requires differ { names_differ (places model.now) ≡ true }
@@ -27,8 +29,19 @@ pub fn numbered(alloc: Global, model: &FileModel, driven: &Numbers) -> Result<Nu
     let decls = Declared::of(alloc, model.decls.as_slice())?;
     let mut names = NameSet::new(alloc);
     add_nets(&mut names, model.inputs.as_slice())?;
+    add_states(&mut names, model.latches.as_slice())?;
     add_places(alloc, &mut names, &decls, driven, model.tables.as_slice())?;
     Ok(Numbers::of_names(names))
+}
+
+/// Adds the outputs of latches.
+fn add_states(names: &mut NameSet, latches: &[FileLatch]) -> Result<(), Memory>
+    ensures { OnOk result (names.new ≡ with_names names.old (map (λ l. l.output) latches.now)) }
+{
+    for latch in latches {
+        add_net(names, &latch.output)?;
+    }
+    Ok(())
 }
 
 /// Adds the nets of tables: their outputs, and their marks.
@@ -39,7 +52,7 @@ fn add_places(
     driven: &Numbers,
     tables: &[FileTable],
 ) -> Result<(), Memory>
-    requires proper { All IsFileDecl decls.now }
+    requires proper { All HasLawfulValues decls.now }
     requires placed { All (IsPlacedTable decls.now driven.now) tables.now }
     requires few { length driven.now ≤ MAX_NETS }
     ensures { OnOk result (names.new ≡ with_places decls.now names.old tables.now) }
@@ -59,7 +72,7 @@ fn add_mark(
     driven: &Numbers,
     table: &FileTable,
 ) -> Result<(), Memory>
-    requires proper { All IsFileDecl decls.now }
+    requires proper { All HasLawfulValues decls.now }
     requires placed { IsPlacedTable decls.now driven.now table.now }
     requires few { length driven.now ≤ MAX_NETS }
     ensures { OnOk result (names.new ≡ with_mark decls.now names.old table.now) }

@@ -15,7 +15,7 @@ use Rattle.mv_pass.specs.Taking.{Took, TookPart}
 use Rattle.mv_pass.proofs.Going.{goes_replays, rules_of-append}
 use Rattle.mv_pass.proofs.Taken.{Took-none, Took-then, TookPart-then}
 use Rattle.mv_rules.specs.Replaying.{Replays}
-use Rattle.mv_rules.proofs.Replayed.{replayed_then, replayed_latches}
+use Rattle.mv_rules.proofs.Replayed.{replayed_then}
 use Rattle.mv_sweep.specs.Drops.{IsDropStep}
 use Rattle.mv_sweep.specs.Sweeps.{IsSweepStep}
 use Rattle.mv_opt.specs.Runs.{CourseOf, DoesCommand, BegunCommand, Runs, StopsIn}
@@ -120,7 +120,3 @@ pub stops_replays : (cs : List Command) (a b : NetParts) (es : List Entry) → S
 stops_replays cs a b es s =
     subst (λ rs. Replays rs a b) (sym (ap rules_of s.entries_are ∙ rules_of-append s.front s.last))
     (replayed_then (rules_of s.front) (rules_of s.last) a s.mid b (runs_replays s.ran a s.mid s.front s.runs) (begun_replays s.command s.mid b s.last s.begun))
-
--- no command makes latches
-pub runs_latches : (cs : List Command) (a b : NetParts) (es : List Entry) → a.latches ≡ [] → Runs cs a es b → b.latches ≡ []
-runs_latches cs a b es none r = replayed_latches (rules_of es) a b (runs_replays cs a b es r) ∙ none

@@ -1,4 +1,4 @@
-ghost use Rattle.std.specs.Prelude.{◌≡◌, [], length, All, Err, IfOk, IfErr, IfSome, OnOk};
+ghost use Rattle.std.specs.Prelude.{◌≡◌, length, All, Err, IfOk, IfErr, IfSome, OnOk};
 ghost use Rattle.mv_files.specs.FileReading.{Stay};
 ghost use Rattle.mv_printed.specs.Names.{HasWordNames};
 ghost use Rattle.mv_script.specs.Scripts.{IsCommand};
@@ -64,7 +64,6 @@ pub fn prepare<F: Files>(alloc: Global, words: &[String], files: &mut F) -> Resu
         IfSome (F.state files.old).held (TakesCommands (texts words.now) work.commands)) }
     ensures lawful { IfOk result (λ work. All IsCommand work.commands) }
     ensures made { IfOk result (λ work. Prepared (texts words.now) (F.state files.old) (F.state files.new) work.net) }
-    ensures latches { IfOk result (λ work. work.net.latches ≡ []) }
     ensures names { IfOk result (λ work. HasWordNames work.net.nets) }
     ensures faulty { (fault : FileFault) → result ≡ Err (Stop.Source (faulty fault))
         → IfSome (F.state files.old).held (RefusesNetwork (texts words.now) fault) }

@@ -1,4 +1,4 @@
-ghost use Rattle.std.specs.Prelude.{◌≡◌, ◌≤◌, [], All, Err, OnOk};
+ghost use Rattle.std.specs.Prelude.{◌≡◌, ◌≤◌, All, Err, OnOk};
 ghost use Rattle.mv_printed.specs.Names.{HasWordNames};
 ghost use Rattle.mv_base.specs.Meaning.{Refines};
 ghost use Rattle.mv_base.specs.Outside.{Rose};
@@ -54,7 +54,6 @@ pub fn carry_out<O: Sink, E: Sink>(
     out: &mut O,
     notes: &mut E,
 ) -> Result<(), WorkStop>
-    requires latches { work.net.latches ≡ [] }
     requires names { HasWordNames work.net.nets }
     requires lawful { All IsCommand work.commands }
     ensures ok { OnOk result (HasWorked work.commands work.net

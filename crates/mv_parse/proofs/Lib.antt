@@ -1,6 +1,8 @@
 pub mod Opens
-pub mod Narrows
+pub mod Parts
+pub mod NamedRoots
 pub mod Knowns
+pub mod Narrows
+pub mod Rooms
 pub mod Walks
 pub mod Values
-pub mod Plain

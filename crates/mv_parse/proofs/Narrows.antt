@@ -19,11 +19,12 @@ use Rattle.mv_parse.specs.declared.known.OpenTable.{OpenTable}
 use Rattle.mv_parse.specs.declared.known.OpenModel.{OpenModel}
 use Rattle.mv_parse.specs.declared.known.Known.{Known}
 use Rattle.mv_parse.specs.Commands.{first_word, command_at, keeps_table, is_table}
-use Rattle.mv_parse.specs.Grammar.{unread_faults, placed_faults, line_faults}
+use Rattle.mv_parse.specs.Grammar.{body_faults, placed_faults, line_faults}
 use Rattle.mv_parse.specs.Known.{open_table, table_state}
 use Rattle.mv_parse.specs.Steps.{HasFewColumns}
+use Rattle.mv_parse.proofs.Knowns.{placed_none}
 
-few : (m n : ℕ) → nat_le m n ≡ false → n + 1 ≤ m
+pub few : (m n : ℕ) → nat_le m n ≡ false → n + 1 ≤ m
 few m n e = grind arith
 
 -- column names without a fault, behind so many columns
@@ -58,16 +59,22 @@ reset-few n word words none =
     output-few n word (length (ins_of words)) (outs_of words) (omega arith) (right-nothing (names_faults n 0 (ins_of words)) _ none)
 
 -- a line without a fault is narrow
-pub placed-narrow : (c : Command) (o : Option OpenModel) (ls : List LexLine) (l : LexLine) → is_table c ≡ true → placed_faults c o ls l ≡ [] → length (ins_of (behind_first l)) + length (outs_of (behind_first l)) ≤ MAX_COLUMNS
-placed-narrow Table None ls l e none = cc
-placed-narrow Table (Some m) ls l e none = columns-few l.number (first_word l) (behind_first l) none
-placed-narrow Reset None ls l e none = cc
-placed-narrow Reset (Some m) ls l e none = reset-few l.number (first_word l) (behind_first l) none
-placed-narrow _ o ls l e none = cc
+body-narrow : (c : Command) (o : Option OpenModel) (ls : List LexLine) (l : LexLine) → is_table c ≡ true → body_faults c o ls l ≡ []
+    → length (ins_of (behind_first l)) + length (outs_of (behind_first l)) ≤ MAX_COLUMNS
+body-narrow Table None ls l e none = cc
+body-narrow Table (Some m) ls l e none = columns-few l.number (first_word l) (behind_first l) none
+body-narrow Reset None ls l e none = cc
+body-narrow Reset (Some m) ls l e none = reset-few l.number (first_word l) (behind_first l) none
+body-narrow _ o ls l e none = cc
+
+placed-narrow : (c : Command) (k : Known) (ls : List LexLine) (l : LexLine) → is_table c ≡ true → placed_faults c k ls l ≡ []
+    → length (ins_of (behind_first l)) + length (outs_of (behind_first l)) ≤ MAX_COLUMNS
+placed-narrow Table k ls l e none = body-narrow Table k.inside ls l e none
+placed-narrow Reset k ls l e none = body-narrow Reset k.inside ls l e none
+placed-narrow _ k ls l e none = cc
 
 pub line-narrow : (k : Known) (ls : List LexLine) (l : LexLine) → line_faults (command_at l) k ls l ≡ [] → HasFewColumns l
-unfolding line_faults
-line-narrow k ls l none = λ e. placed-narrow (command_at l) k.inside ls l e (right-nothing (unread_faults (command_at l) k l) (placed_faults (command_at l) k.inside ls l) none)
+line-narrow k ls l none = λ e. placed-narrow (command_at l) k ls l e (placed_none (command_at l) k ls l none)
 
 -- and so is the open table of narrow lines
 pub open-small : (ls : List LexLine) (t : OpenTable) → All (λ (l : LexLine). HasFewColumns l) ls → open_table ls ≡ Some t → t.ins + t.outs ≤ MAX_COLUMNS

@@ -1,47 +1,56 @@
 -- The reader's way along the lines: where it stands, and what it has read.
-use Rattle.std.proofs.Common.{◌≡◌, ℕ, ◌+◌, ◌≤◌, ◌<◌, true, false, List, [], ◌∷◌, ◌++◌, length, take, drop, get_or, if◌then◌else◌, refl, sym, ap, ◌∙◌, ◌⊎◌, inl, inr, ⊎_elim}
-use Rattle.std.specs.Prelude.{Option, Some, None, All}
-use Rattle.std.proofs.lemmas.Bool.{cases_Bool}
+use Rattle.std.proofs.Common.{◌≡◌, ℕ, ◌+◌, ◌≤◌, ◌<◌, Bool, true, false, not, List, [], ◌∷◌, ◌++◌, length, take, drop, get_or, if◌then◌else◌, refl, sym, ap, ◌∙◌, ◌⊎◌, inl, inr, ⊎_elim, arith}
+use Rattle.std.specs.Prelude.{Some, None, All}
+use Rattle.std.proofs.lemmas.Bool.{cases_Bool, cond_both}
 use Rattle.std.proofs.lemmas.List.{take_all}
 use Rattle.std.proofs.lemmas.List.Elements.{All-nil, All-push}
+use Rattle.std.proofs.Math.Bool.{and-false}
 use Rattle.mv_base.specs.declared.limits.TheConstants.{MAX_COLUMNS}
 use Rattle.mv_lex.specs.declared.lines.LexLine.{LexLine}
-use Rattle.mv_lex.proofs.Cuts.{open_piece-end, open_piece-more}
 use Rattle.mv_fault.specs.declared.fault.ParseFault.{ParseFault}
-use Rattle.mv_fault.specs.declared.fault.ParseFault.TheVariants.{Memory}
+use Rattle.mv_fault.specs.declared.fault.ParseFault.TheVariants.{Memory, NoEnd}
 use Rattle.mv_fault.specs.Tells.{first}
 use Rattle.mv_fault.proofs.Firsts.{first-append}
-use Rattle.mv_fault.proofs.Nothing.{right-nothing}
+use Rattle.mv_table.specs.Tables.{behind_first}
 use Rattle.mv_parse.specs.declared.command.Command.{Command}
-use Rattle.mv_parse.specs.declared.command.Command.TheVariants.{Model, End}
+use Rattle.mv_parse.specs.declared.command.Command.TheVariants.{Model, End, Root}
 use Rattle.mv_parse.specs.declared.known.OpenTable.{OpenTable}
 use Rattle.mv_parse.specs.declared.known.OpenModel.{OpenModel}
 use Rattle.mv_parse.specs.declared.known.Known.{Known}
-use Rattle.mv_parse.specs.Commands.{command_at, is_end, is_bound}
-use Rattle.mv_parse.specs.Known.{ends_part, open_part, open_of, open_model, known}
-use Rattle.mv_parse.specs.Grammar.{unread_faults, placed_faults, line_faults, behind_model, faults_at, faults_behind, faults_of, design_of}
-use Rattle.mv_parse.specs.Steps.{line_step, HasFewColumns, IsSmall}
+use Rattle.mv_parse.specs.Commands.{first_word, command_at, is_model, is_end}
+use Rattle.mv_parse.specs.Known.{says_root, open_part, open_of, open_model, known}
+use Rattle.mv_parse.specs.Grammar.{model_faults, placed_faults, line_faults, behind_model, faults_at, faults_behind, faults_of, design_known, design_of}
+use Rattle.mv_parse.specs.Steps.{line_step, is_inner, HasFewColumns, IsSmall, HasRoom}
+use Rattle.mv_parse.proofs.Parts.{opened_with, open_part-more, open_part-end}
+use Rattle.mv_parse.proofs.Knowns.{outside-none, placed_none, known-push}
 use Rattle.mv_parse.proofs.Narrows.{line-narrow, open-small}
-use Rattle.mv_parse.proofs.Knowns.{known-push}
+use Rattle.mv_parse.proofs.Rooms.{line-room}
 use Rattle.mv_table.proofs.Places.{take_more, drop_one}
+
+-- lines with no more columns than a table may have
+abbrev pub AreNarrow : List LexLine → Type 0
+AreNarrow ls = All (λ (l : LexLine). HasFewColumns l) ls
 
 -- the reader stands before line `at`, knows what the lines before say, and has `body`, the open model's lines behind its first
 pub record IsAt (lines body : List LexLine) (at : ℕ) (k : Known) : Type 0 where
   pub known : k ≡ known (take at lines)
   pub open_lines : body ≡ behind_model (open_part (take at lines))
-  pub narrow : All (λ (l : LexLine). HasFewColumns l) (behind_model (open_part (take at lines)))
+  pub narrow : AreNarrow (behind_model (open_part (take at lines)))
+  pub room : HasRoom k
   pub fault : faults_behind (take at lines) (drop at lines) ≡ faults_of lines
 
-pub begins : (lines : List LexLine) → IsAt lines [] 0 (record { models = []; inside = None })
+pub begins : (lines : List LexLine) → IsAt lines [] 0 (record { models = []; names = []; root = None; inside = None })
 unfolding known faults_of
 begins lines = record {
   known = refl;
   open_lines = refl;
   narrow = All-nil (λ (l : LexLine). HasFewColumns l);
+  room = record { few = omega arith; opened = λ m e. cc };
   fault = refl;
 }
 
-part-small : (part : List LexLine) (m : OpenModel) (t : OpenTable) → All (λ (l : LexLine). HasFewColumns l) (behind_model part) → open_of part ≡ Some m → m.table ≡ Some t → t.ins + t.outs ≤ MAX_COLUMNS
+part-small : (part : List LexLine) (m : OpenModel) (t : OpenTable) → AreNarrow (behind_model part) → open_of part ≡ Some m → m.table ≡ Some t
+    → t.ins + t.outs ≤ MAX_COLUMNS
 part-small [] m t narrow e f = cc
 part-small (x ∷ ls) m t narrow e f = open-small ls t narrow (let same : open_model x ls ≡ m = cc in ap (λ (o : OpenModel). o.table) same ∙ f)
 
@@ -56,7 +65,7 @@ here_faults : (lines body : List LexLine) (at : ℕ) (k : Known) (l : LexLine) �
 here_faults lines body at k l here = rw (here.known, here.open_lines) refl
 
 -- at the end
-pub whole_design : (lines body : List LexLine) (at : ℕ) (k : Known) → IsAt lines body at k → length lines ≤ at → design_of lines ≡ record { root = 0; models = k.models }
+pub whole_design : (lines body : List LexLine) (at : ℕ) (k : Known) → IsAt lines body at k → length lines ≤ at → design_of lines ≡ design_known k
 unfolding design_of
 whole_design lines body at k here h = rw (here.known, take_all at lines h) refl
 
@@ -72,89 +81,65 @@ refused lines body at k l f here h e why =
 
 -- ---- one line on
 
--- behind a line that ends a model, or begins one, no line of an open model has been read behind its first
-bound-begins : (c : Command) (o : Option OpenModel) (ls : List LexLine) (l : LexLine) → is_bound c ≡ true → is_end c ≡ false → placed_faults c o ls l ≡ [] → o ≡ None
-bound-begins c None ls l b n none = refl
-bound-begins Model (Some m) ls l b n none = cc
-bound-begins _ (Some m) ls l b n none = cc
+-- the open model's lines behind its first, once a line has been read, and kept with them where it is one of them
+abbrev pub kept : Bool → List LexLine → LexLine → List LexLine
+kept inner body l = if inner then body ++ l ∷ [] else []
 
-inside-none : (part : List LexLine) → open_of part ≡ None → part ≡ []
-inside-none [] e = refl
-inside-none (x ∷ ls) e = cc
+-- the open model's lines behind its first, behind one more line that ends no model
+more-kept : (c : Command) (k : Known) (part : List LexLine) (l : LexLine) → command_at l ≡ c → k.inside ≡ open_of part → is_end c ≡ false
+    → placed_faults c k (behind_model part) l ≡ []
+    → kept (is_inner c (open_of (opened_with part l))) (behind_model part) l ≡ behind_model (opened_with part l)
+more-kept Model k [] l e is n none = rw e refl
+more-kept Model k (m ∷ ls) l e is n none =
+    let open_still : NoEnd (open_model m ls).line ∷ model_faults l.number (first_word l) k.names (behind_first l) ≡ [] = rw is at none in
+    cc
+more-kept Root k [] l e is n none = rw e refl
+more-kept Root k (m ∷ ls) l e is n none = refl
+more-kept End k part l e is n none = cc
+more-kept c k [] l e is n none = absurd (outside-none c l (rw is at none))
+more-kept c k (m ∷ ls) l e is n none = refl
 
--- another line of a model that is open stands behind those before
-other-inside : (c : Command) (part : List LexLine) (ls : List LexLine) (l : LexLine) → is_bound c ≡ false → placed_faults c (open_of part) ls l ≡ [] → behind_model (part ++ l ∷ []) ≡ behind_model part ++ l ∷ []
-other-inside Model [] ls l b none = cc
-other-inside _ [] ls l b none = cc
-other-inside c (x ∷ part) ls l b none = refl
-
--- the open model's lines behind its first, behind one more line
-pub open-bound : (before : List LexLine) (ls : List LexLine) (l : LexLine) → is_bound (command_at l) ≡ true → placed_faults (command_at l) (open_of (open_part before)) ls l ≡ [] → behind_model (open_part (before ++ l ∷ [])) ≡ []
-open-bound before ls l b none =
+kept-next : (before body : List LexLine) (l : LexLine) → faults_at before l ≡ [] → (is_end (command_at l) ≡ false → body ≡ behind_model (open_part before))
+    → kept (is_inner (command_at l) (known (before ++ l ∷ [])).inside) body l ≡ behind_model (open_part (before ++ l ∷ []))
+unfolding known
+kept-next before body l none same =
     ⊎_elim
-    (λ (y : is_end (command_at l) ≡ true). ap behind_model (open_piece-end ends_part before l y))
+    (λ (y : is_end (command_at l) ≡ true). rw (open_part-end before l y, and-false (not (is_model (command_at l)))) refl)
     (λ (n : is_end (command_at l) ≡ false).
-    ap behind_model (open_piece-more ends_part before l n ∙ ap (λ part. part ++ l ∷ []) (inside-none (open_part before) (bound-begins (command_at l) (open_of (open_part before)) ls l b n none))))
+    let placed = placed_none (command_at l) (known before) (behind_model (open_part before)) l none in
+    rw (same n, open_part-more before l n) (more-kept (command_at l) (known before) (open_part before) l refl refl n placed))
     (cases_Bool (is_end (command_at l)))
 
-not-end : (c : Command) → is_bound c ≡ false → is_end c ≡ false
-not-end Model e = refl
-not-end End e = cc
-not-end _ e = refl
+-- they are narrow, as the line is
+opened-narrow : (part : List LexLine) (l : LexLine) → AreNarrow (behind_model part) → HasFewColumns l → AreNarrow (behind_model (opened_with part l))
+opened-narrow [] l narrow h = cond_both (says_root l) [] (l ∷ []) (λ ls. AreNarrow (behind_model ls)) (λ y. narrow) (λ n. narrow)
+opened-narrow (m ∷ ls) l narrow h = All-push (λ (x : LexLine). HasFewColumns x) ls l narrow h
 
-pub open-more : (before : List LexLine) (ls : List LexLine) (l : LexLine) → is_bound (command_at l) ≡ false → placed_faults (command_at l) (open_of (open_part before)) ls l ≡ [] → behind_model (open_part (before ++ l ∷ [])) ≡ behind_model (open_part before) ++ l ∷ []
-open-more before ls l b none =
-    ap behind_model (open_piece-more ends_part before l (not-end (command_at l) b)) ∙ other-inside (command_at l) (open_part before) ls l b none
-
-placed_none : (ls : List LexLine) (l : LexLine) → faults_at ls l ≡ [] → placed_faults (command_at l) (open_of (open_part ls)) (behind_model (open_part ls)) l ≡ []
-unfolding line_faults known
-placed_none ls l none = right-nothing (unread_faults (command_at l) (known ls) l) (placed_faults (command_at l) (open_of (open_part ls)) (behind_model (open_part ls)) l) none
-
--- the open model's lines behind its first, once a line has been kept with them
-abbrev pub kept : Command → List LexLine → LexLine → List LexLine
-kept c body l = if is_bound c then [] else body ++ l ∷ []
-
--- the reader stands behind the line, whichever it was
-pub record IsBehind (before : List LexLine) (l : LexLine) (body : List LexLine) : Type 0 where
-  pub open_lines : body ≡ behind_model (open_part (before ++ l ∷ []))
-  pub narrow : All (λ (x : LexLine). HasFewColumns x) (behind_model (open_part (before ++ l ∷ [])))
-
-behind-bound : (before : List LexLine) (l : LexLine) → faults_at before l ≡ [] → is_bound (command_at l) ≡ true → IsBehind before l []
-behind-bound before l none b =
-    let no : behind_model (open_part (before ++ l ∷ [])) ≡ [] = open-bound before (behind_model (open_part before)) l b (placed_none before l none) in
-    record { open_lines = sym no; narrow = rw no (All-nil (λ (x : LexLine). HasFewColumns x)) }
-
-behind-more : (before : List LexLine) (l : LexLine) (body : List LexLine) → faults_at before l ≡ [] → body ≡ behind_model (open_part before) → All (λ (x : LexLine). HasFewColumns x) (behind_model (open_part before)) → is_bound (command_at l) ≡ false → IsBehind before l (body ++ l ∷ [])
-behind-more before l body none was narrow b =
-    let more : behind_model (open_part (before ++ l ∷ [])) ≡ behind_model (open_part before) ++ l ∷ [] = open-more before (behind_model (open_part before)) l b (placed_none before l none) in
-    record {
-      open_lines = ap (λ ls. ls ++ l ∷ []) was ∙ sym more;
-      narrow = rw more (All-push (λ (x : LexLine). HasFewColumns x) (behind_model (open_part before)) l narrow (line-narrow (known before) (behind_model (open_part before)) l none));
-    }
-
-behind-any : (before : List LexLine) (l : LexLine) (body : List LexLine) → faults_at before l ≡ [] → body ≡ behind_model (open_part before) → All (λ (x : LexLine). HasFewColumns x) (behind_model (open_part before)) → IsBehind before l (kept (command_at l) body l)
-behind-any before l body none was narrow =
+next-narrow : (before : List LexLine) (l : LexLine) → AreNarrow (behind_model (open_part before)) → HasFewColumns l
+    → AreNarrow (behind_model (open_part (before ++ l ∷ [])))
+next-narrow before l narrow h =
     ⊎_elim
-    (λ (y : is_bound (command_at l) ≡ true). rw y (behind-bound before l none y))
-    (λ (n : is_bound (command_at l) ≡ false). rw n (behind-more before l body none was narrow n))
-    (cases_Bool (is_bound (command_at l)))
+    (λ (y : is_end (command_at l) ≡ true). rw (open_part-end before l y) (All-nil (λ (x : LexLine). HasFewColumns x)))
+    (λ (n : is_end (command_at l) ≡ false). rw (open_part-more before l n) (opened-narrow (open_part before) l narrow h))
+    (cases_Bool (is_end (command_at l)))
 
-pub next : (lines body new_body : List LexLine) (at : ℕ) (k new : Known) (l : LexLine) → IsAt lines body at k → at < length lines → l ≡ get_or lines at l → line_faults (command_at l) k body l ≡ [] → new ≡ line_step (command_at l) k body l → new_body ≡ kept (command_at l) body l → IsAt lines new_body (at + 1) new
-next lines body new_body at k new l here h e none becomes moves =
-    let clean : faults_at (take at lines) l ≡ [] = sym (here_faults lines body at k l here) ∙ none in
-    let more : take (at + 1) lines ≡ take at lines ++ l ∷ [] = take_more lines at l h e in
-    let behind : IsBehind (take at lines) l new_body = rw (moves) (behind-any (take at lines) l body clean here.open_lines here.narrow) in
+-- where the line ends no model, the lines of the open one are still those
+pub next : (lines body same new_body : List LexLine) (at : ℕ) (k new : Known) (l : LexLine) → IsAt lines body at k → at < length lines
+    → l ≡ get_or lines at l → line_faults (command_at l) k body l ≡ [] → new ≡ line_step (command_at l) k body l
+    → (is_end (command_at l) ≡ false → same ≡ body) → new_body ≡ kept (is_inner (command_at l) new.inside) same l → IsAt lines new_body (at + 1) new
+next lines body same new_body at k new l here h e none becomes is_same moves =
+    let front : List LexLine = take at lines in
+    let clean : faults_at front l ≡ [] = sym (here_faults lines body at k l here) ∙ none in
+    let more : take (at + 1) lines ≡ front ++ l ∷ [] = take_more lines at l h e in
+    let knows : new ≡ known (front ++ l ∷ []) = becomes ∙ rw (here.known, here.open_lines) (sym (known-push front l clean)) in
+    let stands = kept-next front same l clean (λ n. is_same n ∙ here.open_lines) in
     record {
-      known = becomes ∙ (rw (here.known, here.open_lines) (sym (known-push (take at lines) l clean)) ∙ ap known (sym more));
-      open_lines = rw more behind.open_lines;
-      narrow = rw more behind.narrow;
-      fault = rw more (ap (λ fs. fs ++ faults_behind (take at lines ++ l ∷ []) (drop (at + 1) lines)) (sym clean) ∙ (ap (faults_behind (take at lines)) (sym (drop_one lines at l h e)) ∙ here.fault));
+      known = knows ∙ ap known (sym more);
+      open_lines = rw more (moves ∙ (ap (λ (x : Known). kept (is_inner (command_at l) x.inside) same l) knows ∙ stands));
+      narrow = rw more (next-narrow front l here.narrow (line-narrow (known front) (behind_model (open_part front)) l clean));
+      room = rw becomes (line-room (command_at l) k body l here.room (placed_none (command_at l) k body l none));
+      fault =
+          rw more
+          (ap (λ fs. fs ++ faults_behind (front ++ l ∷ []) (drop (at + 1) lines)) (sym clean)
+          ∙ (ap (faults_behind front) (sym (drop_one lines at l h e)) ∙ here.fault));
     }
-
--- the line keeps the open model's lines as they are where it neither begins nor ends a model
-pub kept_same : (c : Command) (body same : List LexLine) (l : LexLine) → (is_end c ≡ false → same ≡ body) → kept c same l ≡ kept c body l
-kept_same c body same l e =
-    ⊎_elim
-    (λ (y : is_bound c ≡ true). rw y refl)
-    (λ (n : is_bound c ≡ false). rw n (ap (λ ls. ls ++ l ∷ []) (e (not-end c n))))
-    (cases_Bool (is_bound c))

@@ -4,7 +4,7 @@ use Rattle.mv_base.specs.Names.{same_word, begins_with}
 use Rattle.mv_lex.specs.declared.lines.LexLine.{LexLine}
 use Rattle.mv_table.specs.Tables.{is_default_word}
 use Rattle.mv_parse.specs.declared.command.Command.{Command}
-use Rattle.mv_parse.specs.declared.command.Command.TheVariants.{Model, Inputs, Outputs, Mv, Table, Latch, Reset, Default, Row, End, Unbuilt, Unknown}
+use Rattle.mv_parse.specs.declared.command.Command.TheVariants.{Model, Inputs, Outputs, Mv, Table, Latch, Reset, Default, Row, End, Root, Unbuilt, Unknown}
 
 -- the first of these words, or no bytes where there is none
 abbrev pub first_of : List (List ℕ) → List ℕ
@@ -14,10 +14,6 @@ first_of (w ∷ words) = w
 -- the first word of a line
 abbrev pub first_word : LexLine → List ℕ
 first_word l = first_of l.words
-
--- the commands that this version doesn't read: instances, and the root's name
-abbrev pub is_unbuilt : List ℕ → Bool
-is_unbuilt w = same_word w (codes ".subckt") || same_word w (codes ".root")
 
 -- the words that say that a line begins a table
 abbrev pub is_table_word : List ℕ → Bool
@@ -40,7 +36,8 @@ command_of w =
     else if same_word w (codes ".end") then End
     else if same_word w (codes ".latch") then Latch
     else if is_reset_word w then Reset
-    else if is_unbuilt w then Unbuilt
+    else if same_word w (codes ".root") then Root
+    else if same_word w (codes ".subckt") then Unbuilt
     else Unknown
 
 -- what a line is
@@ -69,15 +66,17 @@ is_table Table = true
 is_table Reset = true
 is_table _ = false
 
+-- the line begins a model
+abbrev pub is_model : Command → Bool
+is_model Model = true
+is_model _ = false
+
 -- the line ends its model
 abbrev pub is_end : Command → Bool
 is_end End = true
 is_end _ = false
 
--- ---- what private functions alone cite
-
--- the first line of a model, and the last
-abbrev pub is_bound : Command → Bool
-is_bound Model = true
-is_bound End = true
-is_bound _ = false
+-- the line names the root
+abbrev pub is_root : Command → Bool
+is_root Root = true
+is_root _ = false

@@ -1,34 +1,47 @@
 -- The grammar of a network file, after the description of BLIF-MV by Kukimoto: the faults of its lines, in the order in
 -- which they are told. A line's faults depend on the lines before it; a file that has none is a design.
 use Rattle.std.specs.Prelude.{◌≡◌, ℕ, ◌+◌, Bool, true, false, not, ◌==◌, nat_lt, nat_le, List, []}
-use Rattle.std.specs.Prelude.{◌∷◌, ◌++◌, length, drop, filter, Option, Some, None, if◌then◌else◌}
-use Rattle.mv_base.specs.Names.{among, is_net_name, is_model_name}
-use Rattle.mv_base.specs.declared.limits.TheConstants.{MAX_TABLE_LINES}
+use Rattle.std.specs.Prelude.{◌∷◌, ◌++◌, length, drop, filter, Option, Some, None, is_some, if◌then◌else◌}
+use Rattle.mv_base.specs.Names.{among, place_of, is_net_name, is_model_name}
+use Rattle.mv_base.specs.declared.limits.TheConstants.{MAX_TABLE_LINES, MAX_MODELS}
 use Rattle.mv_lex.specs.declared.lines.LexLine.{LexLine}
 use Rattle.mv_design.specs.declared.design.Decl.{Decl}
 use Rattle.mv_design.specs.declared.design.FileLatch.{FileLatch}
 use Rattle.mv_design.specs.declared.design.Design.{Design}
 use Rattle.mv_design.specs.Values.{count_of}
-use Rattle.mv_fault.specs.declared.fault.Which.TheVariants.{TableLines}
+use Rattle.mv_fault.specs.declared.fault.Which.TheVariants.{TableLines, Models}
 use Rattle.mv_fault.specs.declared.fault.ParseFault.{ParseFault}
 use Rattle.mv_fault.specs.declared.fault.ParseFault.TheVariants.{UnknownCommand, OutsideModel, NoEnd, Missing, Extra, Columns, DefaultTwice}
-use Rattle.mv_fault.specs.declared.fault.ParseFault.TheVariants.{Repeated, NoModel, Limit, BadName, NoTable, LatchValues, NotBuilt}
+use Rattle.mv_fault.specs.declared.fault.ParseFault.TheVariants.{ModelTwice, RootFault, Repeated, NoModel, Limit}
+use Rattle.mv_fault.specs.declared.fault.ParseFault.TheVariants.{BadName, NoTable, LatchValues, NotBuilt}
 use Rattle.mv_fault.specs.Tells.{when, first}
 use Rattle.mv_decl.specs.Line.{net_name_faults, decl_faults}
 use Rattle.mv_table.specs.Columns.{has_several_outputs, columns_faults, reset_faults}
 use Rattle.mv_table.specs.Tables.{behind_first, table_faults}
 use Rattle.mv_parse.specs.declared.command.Command.{Command}
-use Rattle.mv_parse.specs.declared.command.Command.TheVariants.{Model, Inputs, Outputs, Mv, Table, Latch, Reset, Default, Row, End, Unbuilt, Unknown}
+use Rattle.mv_parse.specs.declared.command.Command.TheVariants.{Inputs, Outputs, Mv, Table, Latch, Reset, Default, Row, Unbuilt, Unknown}
 use Rattle.mv_parse.specs.declared.known.OpenTable.{OpenTable}
 use Rattle.mv_parse.specs.declared.known.OpenModel.{OpenModel}
+use Rattle.mv_parse.specs.declared.known.Root.{Root}
 use Rattle.mv_parse.specs.declared.known.Known.{Known}
-use Rattle.mv_parse.specs.Commands.{first_word, command_at, is_end}
+use Rattle.mv_parse.specs.Commands.{first_word, command_at, is_model, is_end, is_root}
 use Rattle.mv_parse.specs.Known.{front_rows, latch_of, open_part, known}
 
--- `.model NAME`: exactly one word
-unfoldable pub model_faults : ℕ → List ℕ → List (List ℕ) → List ParseFault
-model_faults n word [] = Missing n word ∷ []
-model_faults n word (w ∷ words) = when (not (is_model_name w)) (BadName n w) ++ when (nat_lt 0 (length words)) (Extra n word)
+-- the name behind `.model`, exactly one word: no model of this name has ended
+abbrev pub name_faults : ℕ → List ℕ → List (List ℕ) → List (List ℕ) → List ParseFault
+name_faults n word names [] = Missing n word ∷ []
+name_faults n word names (w ∷ words) =
+    when (not (is_model_name w)) (BadName n w) ++ when (among w names) (ModelTwice n w) ++ when (nat_lt 0 (length words)) (Extra n word)
+
+-- `.model NAME`, behind models with these names: first of all there may be one more
+unfoldable pub model_faults : ℕ → List ℕ → List (List ℕ) → List (List ℕ) → List ParseFault
+model_faults n word names words = when (nat_le MAX_MODELS (length names)) (Limit n Models (MAX_MODELS + 1)) ++ name_faults n word names words
+
+-- `.root NAME`: exactly one word, and no line before names the root
+unfoldable pub root_faults : ℕ → List ℕ → Option Root → List (List ℕ) → List ParseFault
+root_faults n word root [] = Missing n word ∷ []
+root_faults n word root (w ∷ words) =
+    when (not (is_model_name w)) (BadName n w) ++ when (is_some root) (RootFault n w) ++ when (nat_lt 0 (length words)) (Extra n word)
 
 -- `.inputs NAMES` and `.outputs NAMES`, behind those that stand there already
 abbrev pub port_faults : ℕ → List (List ℕ) → List (List ℕ) → List ParseFault
@@ -79,24 +92,19 @@ abbrev pub at_table : ℕ → Option OpenTable → (OpenTable → List ParseFaul
 at_table n None faults = NoTable n ∷ []
 at_table n (Some t) faults = faults t
 
--- the fault of a line that this version doesn't read: a second model, a table with several outputs, a latch and a reset
-abbrev pub unread_faults : Command → Known → LexLine → List ParseFault
-unread_faults Model k l = when (nat_lt 0 (length k.models)) (NotBuilt l.number)
-unread_faults Table k l = when (has_several_outputs (behind_first l)) (NotBuilt l.number)
-unread_faults Latch k l = NotBuilt l.number ∷ []
-unread_faults Reset k l = NotBuilt l.number ∷ []
-unread_faults _ k l = []
+-- the fault of a table that this version doesn't read: one with several outputs
+abbrev pub unread_faults : Command → LexLine → List ParseFault
+unread_faults Table l = when (has_several_outputs (behind_first l)) (NotBuilt l.number)
+unread_faults _ l = []
 
--- the faults of a line outside a model
+-- the fault of a line outside a model that may stand in one alone
 abbrev pub outside_faults : Command → LexLine → List ParseFault
-outside_faults Model l = model_faults l.number (first_word l) (behind_first l)
 outside_faults Unbuilt l = NotBuilt l.number ∷ []
 outside_faults Unknown l = UnknownCommand l.number (first_word l) ∷ []
 outside_faults _ l = OutsideModel l.number ∷ []
 
 -- the faults of a line within a model, which it doesn't end
 abbrev pub inside_faults : Command → OpenModel → LexLine → List ParseFault
-inside_faults Model m l = NoEnd m.line ∷ model_faults l.number (first_word l) (behind_first l)
 inside_faults Inputs m l = port_faults l.number m.inputs (behind_first l)
 inside_faults Outputs m l = port_faults l.number m.outputs (behind_first l)
 inside_faults Mv m l = decl_faults l.number (first_word l) m.decls (behind_first l)
@@ -105,19 +113,35 @@ inside_faults Latch m l = latch_faults l.number (first_word l) (behind_first l)
 inside_faults Reset m l = reset_faults l.number (first_word l) (behind_first l)
 inside_faults Default m l = at_table l.number m.table (λ t. default_faults l.number (first_word l) t (behind_first l))
 inside_faults Row m l = at_table l.number m.table (λ t. row_faults l.number t l.words)
-inside_faults End m l = []
 inside_faults Unbuilt m l = NotBuilt l.number ∷ []
 inside_faults Unknown m l = UnknownCommand l.number (first_word l) ∷ []
+inside_faults _ m l = []
 
--- the faults of a line outside a model or within one, where `ls` are the lines of the open model behind its first
-abbrev pub placed_faults : Command → Option OpenModel → List LexLine → LexLine → List ParseFault
-placed_faults c None ls l = outside_faults c l
-placed_faults c (Some m) ls l =
+-- the faults of a line that may stand in a model alone, where `ls` are the lines of the open model behind its first
+abbrev pub body_faults : Command → Option OpenModel → List LexLine → LexLine → List ParseFault
+body_faults c None ls l = outside_faults c l
+body_faults c (Some m) ls l =
     if is_end c then end_faults l.number (first_word l) (behind_first l) m.decls ls else inside_faults c m l
+
+-- a model begins behind the end of the one before
+abbrev pub unended_faults : Option OpenModel → List ParseFault
+unended_faults None = []
+unended_faults (Some m) = NoEnd m.line ∷ []
+
+-- the faults of a line that begins a model
+abbrev pub begin_faults : Known → LexLine → List ParseFault
+begin_faults k l = unended_faults k.inside ++ model_faults l.number (first_word l) k.names (behind_first l)
+
+-- the faults of a line where it stands: one that begins a model stands outside the others, and one that names the root anywhere
+abbrev pub placed_faults : Command → Known → List LexLine → LexLine → List ParseFault
+placed_faults c k ls l =
+    if is_model c then begin_faults k l
+    else if is_root c then root_faults l.number (first_word l) k.root (behind_first l)
+    else body_faults c k.inside ls l
 
 -- all faults of a line, where the lines before say `k`
 unfoldable pub line_faults : Command → Known → List LexLine → LexLine → List ParseFault
-line_faults c k ls l = unread_faults c k l ++ placed_faults c k.inside ls l
+line_faults c k ls l = unread_faults c l ++ placed_faults c k ls l
 
 -- the lines of the open model behind its first
 abbrev pub behind_model : List LexLine → List LexLine
@@ -127,14 +151,20 @@ behind_model part = drop 1 part
 abbrev pub faults_at : List LexLine → LexLine → List ParseFault
 faults_at before l = line_faults (command_at l) (known before) (behind_model (open_part before)) l
 
--- the faults of the end of the file, where a model may be open, and so many have ended: none is open, and there is one
-abbrev pub last_faults : Option OpenModel → ℕ → List ParseFault
-last_faults (Some m) models = NoEnd m.line ∷ []
-last_faults None models = when (models == 0) (NoModel 1)
+-- the root is one of the models with these names
+abbrev pub lost_faults : Option Root → List (List ℕ) → List ParseFault
+lost_faults None names = []
+lost_faults (Some r) names = when (not (among r.name names)) (RootFault r.line r.name)
+
+-- the faults of the end of a file, where this model is open, or none, and its lines say `k`: none is open, there is a model, and
+-- the root is one of them
+abbrev pub last_faults : Option OpenModel → Known → List ParseFault
+last_faults (Some m) k = NoEnd m.line ∷ []
+last_faults None k = when (length k.models == 0) (NoModel 1) ++ lost_faults k.root k.names
 
 -- the faults of the end of a file, where its lines say `k`
 abbrev pub file_faults : Known → List ParseFault
-file_faults k = last_faults k.inside (length k.models)
+file_faults k = last_faults k.inside k
 
 -- the faults of lines behind others, to the end of the file
 abbrev pub faults_behind : List LexLine → List LexLine → List ParseFault
@@ -150,9 +180,23 @@ abbrev pub is_limit : ParseFault → Bool
 is_limit (Limit n which number) = true
 is_limit _ = false
 
+-- a place, if there is one, and else the first
+abbrev pub or_first : Option ℕ → ℕ
+or_first None = 0
+or_first (Some place) = place
+
+-- the place of the root among the models with these names: the first, where no line names it
+abbrev pub root_place : Option Root → List (List ℕ) → ℕ
+root_place None names = 0
+root_place (Some r) names = or_first (place_of r.name names)
+
+-- the design that is known
+abbrev pub design_known : Known → Design
+design_known k = record { root = root_place k.root k.names; models = k.models }
+
 -- the design that lines say
 unfoldable pub design_of : List LexLine → Design
-design_of lines = record { root = 0; models = (known lines).models }
+design_of lines = design_known (known lines)
 
 -- the grammar: lines without a fault, limits aside, and the design that they say
 pub record IsDesign (lines : List LexLine) (d : Design) : Type 0 where

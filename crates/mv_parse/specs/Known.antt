@@ -1,5 +1,5 @@
 -- What the lines of a network file say, each part of it said of the whole list of lines.
-use Rattle.std.specs.Prelude.{ℕ, Bool, ◌&&◌, List, [], ◌∷◌, ◌++◌, length, drop, count_by, Option, Some, None, if◌then◌else◌}
+use Rattle.std.specs.Prelude.{ℕ, Bool, ◌&&◌, List, [], ◌∷◌, ◌++◌, length, drop, map, filter, count_by, Option, Some, None, option_map, if◌then◌else◌}
 use Rattle.std.specs.List.{flat_map, list_all, list_any}
 use Rattle.mv_lex.specs.declared.lines.LexLine.{LexLine}
 use Rattle.mv_lex.specs.Cuts.{closed, open_piece}
@@ -7,6 +7,7 @@ use Rattle.mv_design.specs.declared.design.Decl.{Decl}
 use Rattle.mv_design.specs.declared.design.FileLatch.{FileLatch}
 use Rattle.mv_design.specs.declared.design.FileModel.{FileModel}
 use Rattle.mv_design.specs.declared.table.FileTable.{FileTable}
+use Rattle.mv_fault.specs.Tells.{first}
 use Rattle.mv_decl.specs.Nets.{with_decls}
 use Rattle.mv_decl.specs.Line.{decls_said}
 use Rattle.mv_table.specs.Columns.{ins_of, outs_of}
@@ -15,8 +16,9 @@ use Rattle.mv_parse.specs.declared.command.Command.{Command}
 use Rattle.mv_parse.specs.declared.command.Command.TheVariants.{Inputs, Outputs, Mv, Table, Latch, Reset}
 use Rattle.mv_parse.specs.declared.known.OpenTable.{OpenTable}
 use Rattle.mv_parse.specs.declared.known.OpenModel.{OpenModel}
+use Rattle.mv_parse.specs.declared.known.Root.{Root}
 use Rattle.mv_parse.specs.declared.known.Known.{Known}
-use Rattle.mv_parse.specs.Commands.{first_of, command_at, keeps_table, is_row, is_default, is_table, is_end}
+use Rattle.mv_parse.specs.Commands.{first_of, command_at, keeps_table, is_row, is_default, is_table, is_end, is_root}
 
 -- ---- the lines of one model, behind its first
 
@@ -100,19 +102,39 @@ open_table [] = None
 open_table (l ∷ ls) =
     if is_table (command_at l) && list_all (λ r. keeps_table (command_at r)) ls then Some (table_state l ls) else open_table ls
 
+-- ---- the root
+
+-- a line names the root
+abbrev pub says_root : LexLine → Bool
+says_root l = is_root (command_at l)
+
+-- the root that such a line names
+abbrev pub root_said : LexLine → Root
+root_said l = record { line = l.number; name = first_of (behind_first l) }
+
+-- the root that lines say: that of the first one that names it, wherever it stands
+abbrev pub first_root : List LexLine → Option Root
+first_root ls = option_map root_said (first (filter says_root ls))
+
 -- ---- models: the lines are cut behind each `.end`
 
 -- a line ends its part
 abbrev pub ends_part : LexLine → Bool
 ends_part l = is_end (command_at l)
 
+-- a part without the lines in front that name the root, which stand outside its model. Within the model such a line is one of
+-- the model's, and says no more of it than that its table is closed
+abbrev pub unrooted : List LexLine → List LexLine
+unrooted [] = []
+unrooted (l ∷ ls) = if says_root l then unrooted ls else l ∷ ls
+
 -- the parts that an `.end` has ended, without it
 abbrev pub ended_parts : List LexLine → List (List LexLine)
-ended_parts ls = closed ends_part ls
+ended_parts ls = map unrooted (closed ends_part ls)
 
 -- the part behind the last `.end`
 abbrev pub open_part : List LexLine → List LexLine
-open_part ls = open_piece ends_part ls
+open_part ls = unrooted (open_piece ends_part ls)
 
 -- a model as its first line and the lines behind it say it
 abbrev pub open_model : LexLine → List LexLine → OpenModel
@@ -152,6 +174,19 @@ ended_model (Some m) ls = file_model m ls ∷ []
 abbrev pub model_of : List LexLine → List FileModel
 model_of part = ended_model (open_of part) (drop 1 part)
 
--- what the lines say: the models that have ended, and the one that is open
+-- the models that have ended
+abbrev pub models_of : List LexLine → List FileModel
+models_of ls = flat_map model_of (ended_parts ls)
+
+-- the names of models
+abbrev pub model_names : List FileModel → List (List ℕ)
+model_names models = map (λ m. m.name) models
+
+-- what the lines say: the models that have ended and their names, the root, and the model that is open
 unfoldable pub known : List LexLine → Known
-known ls = record { models = flat_map model_of (ended_parts ls); inside = open_of (open_part ls) }
+known ls = record {
+  models = models_of ls;
+  names = model_names (models_of ls);
+  root = first_root ls;
+  inside = open_of (open_part ls);
+}

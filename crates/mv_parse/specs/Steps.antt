@@ -1,9 +1,9 @@
 -- What a line that has no fault adds to what the lines before say. The reader computes this; that it is what the longer
 -- list of lines says is proved of it.
-use Rattle.std.specs.Prelude.{◌≡◌, ℕ, ◌+◌, ◌≤◌, List, [], ◌∷◌, ◌++◌, length, true, false, Option, Some, None, option_map, if◌then◌else◌}
+use Rattle.std.specs.Prelude.{◌≡◌, ℕ, ◌+◌, ◌<◌, ◌≤◌, Bool, true, false, not, ◌&&◌, List, [], ◌∷◌, ◌++◌, length, Option, Some, None, is_some, option_map, if◌then◌else◌}
+use Rattle.mv_base.specs.Names.{among}
 use Rattle.mv_lex.specs.declared.lines.LexLine.{LexLine}
 use Rattle.mv_design.specs.declared.design.Decl.{Decl}
-use Rattle.mv_design.specs.declared.design.FileModel.{FileModel}
 use Rattle.mv_decl.specs.Nets.{with_decls}
 use Rattle.mv_decl.specs.Line.{decls_said}
 use Rattle.mv_table.specs.Columns.{ins_of, outs_of}
@@ -14,9 +14,9 @@ use Rattle.mv_parse.specs.declared.known.OpenTable.{OpenTable}
 use Rattle.mv_parse.specs.declared.known.OpenModel.{OpenModel}
 use Rattle.mv_parse.specs.declared.known.Contents.{Contents}
 use Rattle.mv_parse.specs.declared.known.Known.{Known}
-use Rattle.mv_base.specs.declared.limits.TheConstants.{MAX_COLUMNS}
-use Rattle.mv_parse.specs.Commands.{first_of, command_at, is_table, is_end}
-use Rattle.mv_parse.specs.Known.{front_rows, tables_of, latch_of, latches_of, resets_of, file_model}
+use Rattle.mv_base.specs.declared.limits.TheConstants.{MAX_COLUMNS, MAX_MODELS}
+use Rattle.mv_parse.specs.Commands.{first_of, command_at, is_table, is_model, is_end, is_root}
+use Rattle.mv_parse.specs.Known.{front_rows, tables_of, latch_of, latches_of, resets_of, root_said, file_model}
 
 -- a model and a table that begin
 abbrev pub new_model : LexLine → OpenModel
@@ -74,24 +74,32 @@ inside_step Default l m = with_default m
 inside_step Row l m = with_row m
 inside_step _ l m = m
 
--- what is known behind a line: outside a model it begins one, and within one it may end it
-abbrev pub outside_stepped : List FileModel → LexLine → Known
-outside_stepped models l = record { models = models; inside = Some (new_model l) }
-
 -- a line within a model goes on with it, or ends it
-abbrev pub inside_stepped : Command → List FileModel → OpenModel → List LexLine → LexLine → Known
-inside_stepped c models m ls l =
-    if is_end c then record { models = models ++ file_model m ls ∷ []; inside = None }
-    else record { models = models; inside = Some (inside_step c l m) }
+abbrev pub inside_stepped : Command → Known → OpenModel → List LexLine → LexLine → Known
+inside_stepped c k m ls l =
+    if is_end c then record k { models = k.models ++ file_model m ls ∷ []; names = k.names ++ m.name ∷ []; inside = None }
+    else record k { inside = Some (inside_step c l m) }
 
--- a line outside a model, or within one
-abbrev pub placed_step : Command → List FileModel → Option OpenModel → List LexLine → LexLine → Known
-placed_step c models None ls l = outside_stepped models l
-placed_step c models (Some m) ls l = inside_stepped c models m ls l
+-- a line that may stand in a model alone
+abbrev pub body_step : Command → Known → Option OpenModel → List LexLine → LexLine → Known
+body_step c k None ls l = k
+body_step c k (Some m) ls l = inside_stepped c k m ls l
+
+-- a model begins
+abbrev pub with_model : LexLine → Known → Known
+with_model l k = record k { inside = Some (new_model l) }
+
+-- the root is named, and the line closes the table
+abbrev pub with_root : LexLine → Known → Known
+with_root l k = record k { root = Some (root_said l); inside = option_map with_no_table k.inside }
 
 -- what is known behind a line
 unfoldable pub line_step : Command → Known → List LexLine → LexLine → Known
-line_step c k ls l = placed_step c k.models k.inside ls l
+line_step c k ls l = if is_model c then with_model l k else if is_root c then with_root l k else body_step c k k.inside ls l
+
+-- a line that has been read is one of the open model's behind its first
+abbrev pub is_inner : Command → Option OpenModel → Bool
+is_inner c o = not (is_model c) && is_some o
 
 -- what these lines of a model say besides its ports and its declarations
 abbrev pub contents_of : List Decl → List LexLine → Contents
@@ -111,3 +119,13 @@ HasFewColumns l = is_table (command_at l) ≡ true → length (ins_of (behind_fi
 -- the open table has no more columns than a table may have
 pub record IsSmall (k : Known) : Type 0 where
   pub columns : (m : OpenModel) (t : OpenTable) → k.inside ≡ Some m → m.table ≡ Some t → t.ins + t.outs ≤ MAX_COLUMNS
+
+-- a model can end behind models with these names: it is none of them, and there may be one more
+pub record CanEnd (names : List (List ℕ)) (m : OpenModel) : Type 0 where
+  pub new : among m.name names ≡ false
+  pub room : length names < MAX_MODELS
+
+-- there are no more models than there may be, and the open one can end behind them
+pub record HasRoom (k : Known) : Type 0 where
+  pub few : length k.names ≤ MAX_MODELS
+  pub opened : (m : OpenModel) → k.inside ≡ Some m → CanEnd k.names m

@@ -1,5 +1,5 @@
 ghost use Rattle.std.specs.Prelude.{◌≡◌};
-ghost use Rattle.mv_parse.specs.Commands.{command_of, command_at, first_of, first_word, is_unbuilt, is_table_word, is_reset_word, keeps_table, is_end, is_bound, is_table};
+ghost use Rattle.mv_parse.specs.Commands.{command_of, command_at, first_of, first_word, is_table_word, is_reset_word, keeps_table, is_model, is_end, is_root, is_table};
 
 use mv_base::Name;
 use mv_lex::LexLine;
@@ -19,16 +19,10 @@ pub enum Command {
     Default,
     Row,
     End,
+    Root,
     /// A command that this version doesn't read.
     Unbuilt,
     Unknown,
-}
-
-/// Whether the word is a command that this version doesn't read.
-fn is_unbuilt(word: &[u8]) -> bool
-    ensures { result ≡ is_unbuilt word.now }
-{
-    is_text(word, b".subckt") || is_text(word, b".root")
 }
 
 /// Whether the word says that its line begins a table.
@@ -70,7 +64,9 @@ fn command_of(word: &[u8]) -> Command
         Command::Latch
     } else if is_reset_word(word) {
         Command::Reset
-    } else if is_unbuilt(word) {
+    } else if is_text(word, b".root") {
+        Command::Root
+    } else if is_text(word, b".subckt") {
         Command::Unbuilt
     } else {
         Command::Unknown
@@ -101,6 +97,20 @@ pub fn keeps_table(command: Command) -> bool
     matches!(command, Command::Row | Command::Default)
 }
 
+/// Whether the line begins a model.
+pub fn is_model(command: Command) -> bool
+    ensures { result ≡ is_model command }
+{
+    matches!(command, Command::Model)
+}
+
+/// Whether the line names the root.
+pub fn is_root(command: Command) -> bool
+    ensures { result ≡ is_root command }
+{
+    matches!(command, Command::Root)
+}
+
 /// Whether the line ends its model.
 pub fn is_end(command: Command) -> bool
     ensures { result ≡ is_end command }
@@ -113,11 +123,4 @@ pub fn is_table(command: Command) -> bool
     ensures { result ≡ is_table command }
 {
     matches!(command, Command::Table | Command::Reset)
-}
-
-/// Whether the line begins a model or ends one.
-pub fn is_bound(command: Command) -> bool
-    ensures { result ≡ is_bound command }
-{
-    matches!(command, Command::Model | Command::End)
 }

@@ -31,9 +31,18 @@ pub struct Contents {
     pub resets: Items<FileTable>,
 }
 
-/// What the lines so far say: the models that have ended, and the one that is open.
+/// The root as a line names it.
+#[derive(Drop)]
+pub struct Root {
+    pub line: u32,
+    pub name: Name,
+}
+
+/// What the lines so far say: the models that have ended and their names, the root, and the model that is open.
 #[derive(Drop)]
 pub struct Known {
     pub models: Items<FileModel>,
+    pub names: NameSet,
+    pub root: Option<Root>,
     pub inside: Option<OpenModel>,
 }

@@ -6,6 +6,7 @@ mod known;
 mod latches;
 mod lines;
 mod reader;
+mod roots;
 mod step;
 mod tables;
 

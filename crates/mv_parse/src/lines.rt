@@ -4,22 +4,22 @@ ghost use Rattle.mv_fault.specs.Tells.{Tells};
 ghost use Rattle.mv_decl.specs.Line.{decl_faults};
 ghost use Rattle.mv_table.specs.Columns.{columns_faults, reset_faults};
 ghost use Rattle.mv_parse.specs.Commands.{first_of};
-ghost use Rattle.mv_parse.specs.Grammar.{model_faults, port_faults, latch_faults, row_faults, default_faults};
+ghost use Rattle.mv_parse.specs.Grammar.{name_faults, model_faults, port_faults, latch_faults, row_faults, default_faults};
 ghost use Rattle.mv_parse.specs.Steps.{with_inputs, with_outputs, with_declared, with_no_table, with_open_table, default_seen, row_seen};
 
 use crate::known::{OpenModel, OpenTable};
 use crate::latches::check_latch;
-use mv_base::{MAX_TABLE_LINES, Name, NameSet};
+use mv_base::{MAX_MODELS, MAX_TABLE_LINES, Name, NameSet};
 use mv_decl::declare;
 use mv_fault::{ParseFault, Which};
 use mv_table::{check_columns, check_reset, ins, outs};
 use mv_word::{is_model_name, is_net_name};
 use std::alloc::Global;
 
-/// The name behind `.model`.
-#[tactic(auto, using(mv_fault::proofs::Firsts::firsts), unfolding(crate::specs::Grammar::model_faults))]
-pub fn model_name(number: u32, word: &Name, words: &[Name]) -> Result<Name, ParseFault>
-    ensures fault { Tells result (model_faults number word.now words.now) }
+/// The name behind `.model`, if it names none of these models.
+#[tactic(auto, using(mv_fault::proofs::Firsts::firsts))]
+fn new_name(number: u32, word: &Name, names: &NameSet, words: &[Name]) -> Result<Name, ParseFault>
+    ensures fault { Tells result (name_faults number word.now names.now words.now) }
     ensures ok { IfOk result (λ name. name ≡ first_of words.now) }
 {
     match words {
@@ -31,12 +31,37 @@ pub fn model_name(number: u32, word: &Name, words: &[Name]) -> Result<Name, Pars
             line: number,
             name: name.copy()?,
         }),
+        [name, ..] if names.contains(name) => Err(ParseFault::ModelTwice {
+            line: number,
+            name: name.copy()?,
+        }),
         [name] => Ok(name.copy()?),
         _ => Err(ParseFault::Extra {
             line: number,
             word: word.copy()?,
         }),
     }
+}
+
+/// The name behind `.model`, if there may be one more model than these.
+#[tactic(auto, using(mv_fault::proofs::Firsts::firsts), unfolding(crate::specs::Grammar::model_faults))]
+pub fn model_name(
+    number: u32,
+    word: &Name,
+    names: &NameSet,
+    words: &[Name],
+) -> Result<Name, ParseFault>
+    ensures fault { Tells result (model_faults number word.now names.now words.now) }
+    ensures ok { IfOk result (λ name. name ≡ first_of words.now) }
+{
+    if names.len() as u64 >= MAX_MODELS {
+        return Err(ParseFault::Limit {
+            line: number,
+            which: Which::Models,
+            number: MAX_MODELS + 1,
+        });
+    }
+    new_name(number, word, names, words)
 }
 
 /// Adds the names of inputs, or of outputs, to those that stand there already.

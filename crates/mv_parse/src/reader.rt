@@ -1,43 +1,62 @@
-ghost use Rattle.std.specs.Prelude.{◌≡◌, ◌⊎◌, ◌++◌, ◌∷◌, [], if◌then◌else◌, List, OnOk, IfOk, IfErr};
+ghost use Rattle.std.specs.Prelude.{◌≡◌, ◌⊎◌, ◌≤◌, ◌++◌, ◌∷◌, [], if◌then◌else◌, length, List, OnOk, IfOk, IfErr};
+ghost use Rattle.mv_base.specs.declared.limits.TheConstants.{MAX_MODELS as most_models};
 ghost use Rattle.mv_lex.specs.declared.lines.LexLine.{LexLine};
 ghost use Rattle.mv_design.specs.declared.design.Design.{Design};
 ghost use Rattle.mv_fault.specs.declared.fault.ParseFault.{ParseFault};
 ghost use Rattle.mv_fault.specs.Tells.{Tells};
-ghost use Rattle.mv_parse.specs.Commands.{is_bound};
-ghost use Rattle.mv_parse.specs.Grammar.{file_faults, faults_of, design_of, IsDesign, IsWithin, FirstFault};
+ghost use Rattle.mv_parse.specs.Grammar.{file_faults, faults_of, design_known, design_of, IsDesign, IsWithin, FirstFault};
+ghost use Rattle.mv_parse.specs.Steps.{is_inner};
 
-use crate::command::{Command, command_at, is_bound};
+use crate::command::{Command, command_at, is_model};
 use crate::known::Known;
+use crate::roots::root_place;
 use crate::step::take_line;
-use mv_base::Items;
+use mv_base::{Items, NameSet};
 use mv_design::Design;
 use mv_fault::ParseFault;
 use mv_lex::{LexLine, Lines};
 use std::alloc::Global;
 
 /// The design of the models that have ended, if none is open.
+#[tactic(auto, using(mv_fault::proofs::Firsts::firsts))]
 fn end_file(known: Known) -> Result<Design, ParseFault>
+    requires { length known.names ≤ most_models }
     ensures fault { Tells result (file_faults known) }
-    ensures ok { IfOk result (λ design. design ≡ record { root = 0; models = known.models }) }
+    ensures ok { IfOk result (λ design. design ≡ design_known known) }
 {
-    let Known { models, inside } = known;
+    let Known {
+        models,
+        names,
+        root,
+        inside,
+    } = known;
     match inside {
         Some(model) => Err(ParseFault::NoEnd { line: model.line }),
         None if models.is_empty() => Err(ParseFault::NoModel { line: 1 }),
-        None => Ok(Design { root: 0, models }),
+        None => Ok(Design {
+            root: root_place(&names, root)?,
+            models,
+        }),
     }
 }
 
-/// Keeps a line that has been read with those of the open model behind its first, which a line that begins or ends a model
-/// lets go.
-fn keep_line(body: &mut Items<LexLine>, command: Command, line: LexLine) -> Result<(), ParseFault>
-    ensures fault { IfErr result (λ f. f ≡ ParseFault.Memory) }
-    ensures ok { OnOk result (body.new ≡ (if is_bound command then [] else body.old ++ line ∷ [])) }
+/// Whether a line that has been read is one of the open model's behind its first.
+fn is_inner(command: Command, known: &Known) -> bool
+    ensures { result ≡ is_inner command known.now.inside }
 {
-    if is_bound(command) {
-        body.truncate(0);
-    } else {
+    !is_model(command) && known.inside.is_some()
+}
+
+/// Keeps a line that has been read with those of the open model behind its first. A line that is none of these lets them go:
+/// it begins a model or ends one, or stands outside.
+fn keep_line(body: &mut Items<LexLine>, inner: bool, line: LexLine) -> Result<(), ParseFault>
+    ensures fault { IfErr result (λ f. f ≡ ParseFault.Memory) }
+    ensures ok { OnOk result (body.new ≡ (if inner then body.old ++ line ∷ [] else [])) }
+{
+    if inner {
         body.push(line)?;
+    } else {
+        body.truncate(0);
     }
     Ok(())
 }
@@ -50,6 +69,8 @@ fn read_lines(alloc: Global, lines: Vec<LexLine>) -> Result<Design, ParseFault>
 {
     let mut known = Known {
         models: Items::new(alloc),
+        names: NameSet::new(alloc),
+        root: None,
         inside: None,
     };
     // the lines of the open model behind its first
@@ -60,7 +81,7 @@ fn read_lines(alloc: Global, lines: Vec<LexLine>) -> Result<Design, ParseFault>
             Ok(()) => {}
             Err(fault) => return Err(fault),
         }
-        keep_line(&mut body, command, line)?;
+        keep_line(&mut body, is_inner(command, &known), line)?;
     }
     end_file(known)
 }

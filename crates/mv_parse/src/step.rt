@@ -1,20 +1,22 @@
-ghost use Rattle.std.specs.Prelude.{◌≡◌, ◌≤◌, ◌+◌, All, Some, true, false, IfOk, OnOk};
+ghost use Rattle.std.specs.Prelude.{◌≡◌, ◌≤◌, ◌+◌, List, All, Some, true, false, IfOk, OnOk};
 ghost use Rattle.mv_base.specs.declared.limits.TheConstants.{MAX_COLUMNS as most_columns};
 ghost use Rattle.mv_lex.specs.declared.lines.LexLine.{LexLine};
 ghost use Rattle.mv_fault.specs.Tells.{Tells};
 ghost use Rattle.mv_parse.specs.declared.known.OpenTable.{OpenTable};
+ghost use Rattle.mv_parse.specs.declared.known.OpenModel.{OpenModel};
 ghost use Rattle.mv_table.specs.Tables.{behind_first};
-ghost use Rattle.mv_parse.specs.Commands.{first_word, is_end};
-ghost use Rattle.mv_parse.specs.Grammar.{line_faults, unread_faults, placed_faults, outside_faults, inside_faults, end_faults};
+ghost use Rattle.mv_parse.specs.Commands.{first_word, is_model, is_end, is_root};
+ghost use Rattle.mv_parse.specs.Grammar.{root_faults, unread_faults, outside_faults, inside_faults, end_faults, body_faults, begin_faults, line_faults};
 ghost use Rattle.mv_parse.specs.Known.{file_model};
-ghost use Rattle.mv_parse.specs.Steps.{line_step, new_model, inside_step, HasFewColumns, IsSmall};
+ghost use Rattle.mv_parse.specs.Steps.{inside_step, body_step, with_model, with_root, line_step, HasFewColumns, IsSmall, CanEnd, HasRoom};
 
-use crate::command::{Command, first_word, is_end};
+use crate::command::{Command, first_word, is_end, is_model, is_root};
 use crate::known::{Known, OpenModel};
 use crate::lines::{
     begin_reset, begin_table, count_default, count_row, model_name, pass_latch, read_decls,
     read_inputs, read_outputs,
 };
+use crate::roots::read_root;
 use crate::tables::end_model;
 use mv_base::{Items, Name, NameSet};
 use mv_decl::Decls;
@@ -25,46 +27,59 @@ use mv_table::{behind_first, has_several_outputs};
 use std::alloc::Global;
 use std::mem;
 
-/// Refuses a line that this version doesn't read: a second model, a table with several outputs, a latch and a reset.
-fn check_read(known: &Known, command: Command, line: &LexLine) -> Result<(), ParseFault>
-    ensures { Tells result (unread_faults command known.now line.now) }
+/// Refuses a table that this version doesn't read: one with several outputs.
+fn check_read(command: Command, line: &LexLine) -> Result<(), ParseFault>
+    ensures { Tells result (unread_faults command line.now) }
 {
     match command {
-        Command::Model if !known.models.is_empty() => Err(ParseFault::NotBuilt {
-            line: line.number,
-        }),
         Command::Table if has_several_outputs(behind_first(line)) => Err(ParseFault::NotBuilt {
             line: line.number,
         }),
-        Command::Latch | Command::Reset => Err(ParseFault::NotBuilt { line: line.number }),
         _ => Ok(()),
     }
 }
 
-/// The model that begins on this line.
-fn begin_model(alloc: Global, line: &LexLine) -> Result<OpenModel, ParseFault>
-    ensures fault { Tells result (outside_faults Command.Model line.now) }
-    ensures ok { IfOk result (λ model. model ≡ new_model line.now) }
+/// Begins the model of this line, where none is open.
+#[tactic(auto, using(mv_fault::proofs::Firsts::firsts))]
+fn begin_model(alloc: Global, known: &mut Known, line: &LexLine) -> Result<(), ParseFault>
+    ensures fault { Tells result (begin_faults known.old line.now) }
+    ensures ok { OnOk result (known.new ≡ with_model line.now known.old) }
 {
+    if let Some(model) = &known.inside {
+        return Err(ParseFault::NoEnd { line: model.line });
+    }
     let word = Name::new(alloc, first_word(line))?;
-    let name = model_name(line.number, &word, behind_first(line))?;
-    Ok(OpenModel {
+    let name = model_name(line.number, &word, &known.names, behind_first(line))?;
+    known.inside = Some(OpenModel {
         line: line.number,
         name,
         inputs: NameSet::new(alloc),
         outputs: NameSet::new(alloc),
         decls: Decls::new(alloc)?,
         table: None,
-    })
+    });
+    Ok(())
 }
 
-/// A line outside a model begins one, or is refused.
-fn outside_line(alloc: Global, command: Command, line: &LexLine) -> Result<OpenModel, ParseFault>
-    ensures fault { Tells result (outside_faults command line.now) }
-    ensures ok { IfOk result (λ model. model ≡ new_model line.now) }
+/// Keeps the root that this line names, where no line before names one.
+fn name_root(alloc: Global, known: &mut Known, line: &LexLine) -> Result<(), ParseFault>
+    ensures fault { Tells result (root_faults line.now.number (first_word line.now) known.old.root (behind_first line.now)) }
+    ensures ok { OnOk result (known.new ≡ with_root line.now known.old) }
+{
+    let word = Name::new(alloc, first_word(line))?;
+    let root = read_root(line.number, &word, &known.root, behind_first(line))?;
+    known.root = Some(root);
+    if let Some(model) = &mut known.inside {
+        model.table = None;
+    }
+    Ok(())
+}
+
+/// Refuses a line outside a model that may stand in one alone.
+fn outside_line(alloc: Global, command: Command, line: &LexLine) -> Result<(), ParseFault>
+    ensures { Tells result (outside_faults command line.now) }
 {
     match command {
-        Command::Model => begin_model(alloc, line),
         Command::Unbuilt => Err(ParseFault::NotBuilt { line: line.number }),
         Command::Unknown => Err(ParseFault::UnknownCommand {
             line: line.number,
@@ -127,7 +142,9 @@ fn inside_line(
     line: &LexLine,
 ) -> Result<(), ParseFault>
     requires small { (t : OpenTable) → model.old.table ≡ Some t → t.ins + t.outs ≤ most_columns }
-    requires on { is_end command ≡ false }
+    requires no_model { is_model command ≡ false }
+    requires no_root { is_root command ≡ false }
+    requires no_end { is_end command ≡ false }
     ensures fault { Tells result (inside_faults command model.old line.now) }
     ensures ok { OnOk result (model.new ≡ inside_step command line.now model.old) }
 {
@@ -154,8 +171,7 @@ fn inside_line(
         }
         Command::Row => row_line(model, line),
         Command::Default => default_line(alloc, model, line),
-        Command::Model => Err(ParseFault::NoEnd { line: model.line }),
-        Command::End => unreachable!(),
+        Command::Model | Command::Root | Command::End => unreachable!(),
         Command::Unbuilt => Err(ParseFault::NotBuilt { line: number }),
         Command::Unknown => Err(ParseFault::UnknownCommand {
             line: number,
@@ -165,27 +181,48 @@ fn inside_line(
 }
 
 /// A line that ends the open model, if there is one.
-#[tactic(auto, using(mv_fault::proofs::Firsts::firsts), unfolding(crate::specs::Steps::line_step))]
+#[tactic(auto, using(mv_fault::proofs::Firsts::firsts))]
 fn end_open(
     alloc: Global,
     known: &mut Known,
-    command: Command,
     body: &mut Items<LexLine>,
     line: &LexLine,
 ) -> Result<(), ParseFault>
     requires narrow { All (λ (l : LexLine). HasFewColumns l) body.old }
-    requires ends { is_end command ≡ true }
-    ensures fault { Tells result (placed_faults command known.old.inside body.old line.now) }
-    ensures ok { OnOk result (known.new ≡ line_step command known.old body.old line.now) }
+    requires opened { (m : OpenModel) → known.old.inside ≡ Some m → CanEnd known.old.names m }
+    ensures fault { Tells result (body_faults Command.End known.old.inside body.old line.now) }
+    ensures ok { OnOk result (known.new ≡ body_step Command.End known.old known.old.inside body.old line.now) }
 {
     match known.inside.take() {
-        None => known.inside = Some(outside_line(alloc, command, line)?),
+        None => outside_line(alloc, Command::End, line),
         Some(model) => {
             let lines = mem::replace(body, Items::new(alloc));
-            known.models.push(end_line(alloc, model, lines, line)?)?;
+            let ended = end_line(alloc, model, lines, line)?;
+            let _new = known.names.add(ended.name.copy()?)?;
+            known.models.push(ended)?;
+            Ok(())
         }
     }
-    Ok(())
+}
+
+/// A line that may stand in a model alone, and doesn't end it.
+fn body_line(
+    alloc: Global,
+    known: &mut Known,
+    command: Command,
+    line: &LexLine,
+) -> Result<(), ParseFault>
+    requires small { (m : OpenModel) (t : OpenTable) → known.old.inside ≡ Some m → m.table ≡ Some t → t.ins + t.outs ≤ most_columns }
+    requires no_model { is_model command ≡ false }
+    requires no_root { is_root command ≡ false }
+    requires no_end { is_end command ≡ false }
+    ensures fault { (body : List LexLine) → Tells result (body_faults command known.old.inside body line.now) }
+    ensures ok { (body : List LexLine) → OnOk result (known.new ≡ body_step command known.old known.old.inside body line.now) }
+{
+    match &mut known.inside {
+        None => outside_line(alloc, command, line),
+        Some(model) => inside_line(alloc, model, command, line),
+    }
 }
 
 /// Reads a line: what is known behind it, or its first fault. `body` are the lines of the open model behind its
@@ -199,20 +236,20 @@ pub fn take_line(
     line: &LexLine,
 ) -> Result<(), ParseFault>
     requires small { IsSmall known.old }
+    requires room { HasRoom known.old }
     requires narrow { All (λ (l : LexLine). HasFewColumns l) body.old }
     ensures fault { Tells result (line_faults command known.old body.old line.now) }
     ensures ok { OnOk result (known.new ≡ line_step command known.old body.old line.now) }
     ensures same { is_end command ≡ false → body.new ≡ body.old }
 {
-    check_read(known, command, line)?;
-    if is_end(command) {
-        return end_open(alloc, known, command, body, line);
-    }
-    match &mut known.inside {
-        None => {
-            known.inside = Some(outside_line(alloc, command, line)?);
-            Ok(())
-        }
-        Some(model) => inside_line(alloc, model, command, line),
+    check_read(command, line)?;
+    if is_model(command) {
+        begin_model(alloc, known, line)
+    } else if is_root(command) {
+        name_root(alloc, known, line)
+    } else if is_end(command) {
+        end_open(alloc, known, body, line)
+    } else {
+        body_line(alloc, known, command, line)
     }
 }

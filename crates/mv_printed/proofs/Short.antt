@@ -1,5 +1,5 @@
 -- Names that aren't longer than a word may be: those of a design are such, and a rule that applies keeps them so.
-use Rattle.std.proofs.Common.{◌≡◌, ℕ, ◌<◌, ◌≤◌, List, [], ◌∷◌, ◌++◌, length, Option, Some, None, All, map, sym, subst, set, arith, ⊎_elim}
+use Rattle.std.proofs.Common.{◌≡◌, ℕ, ◌+◌, ◌<◌, ◌≤◌, List, [], ◌∷◌, ◌++◌, length, Option, Some, None, All, map, sym, subst, set, arith, ⊎_elim}
 use Rattle.std.specs.Prelude.{IfSome}
 use Rattle.std.proofs.lemmas.Bool.{cases_eq, cases_lt}
 use Rattle.std.proofs.lemmas.List.{get_or_past}
@@ -30,11 +30,11 @@ IsShort o = length (name_in o) ≤ MAX_WORD_BYTES
 
 -- ---- the names of a design
 
-design_name : (o : Option FlatNet) → IfSome o (λ (f : FlatNet). length f.name ≤ MAX_FLAT_NAME_BYTES) → IsShort o
+design_name : (o : Option FlatNet) → IfSome o (λ (f : FlatNet). length f.name ≤ MAX_FLAT_NAME_BYTES + 1) → IsShort o
 design_name None short = omega arith
 design_name (Some f) short = omega (arith, short)
 
-pub design_short : (nets : List (Option FlatNet)) → All (λ (o : Option FlatNet). IfSome o (λ (f : FlatNet). length f.name ≤ MAX_FLAT_NAME_BYTES)) nets → HasWordNames nets
+pub design_short : (nets : List (Option FlatNet)) → All (λ (o : Option FlatNet). IfSome o (λ (f : FlatNet). length f.name ≤ MAX_FLAT_NAME_BYTES + 1)) nets → HasWordNames nets
 design_short nets all = record {
   short = λ n.
       ⊎_elim

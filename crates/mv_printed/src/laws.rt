@@ -1,4 +1,4 @@
-ghost use Rattle.std.specs.Prelude.{◌≤◌, Option, IfSome, List, length, map, All};
+ghost use Rattle.std.specs.Prelude.{◌+◌, ◌≤◌, Option, IfSome, List, length, map, All};
 ghost use Rattle.mv_base.specs.declared.limits.TheConstants.{MAX_FLAT_NAME_BYTES};
 ghost use Rattle.mv_lex.specs.Lines.{lines_of};
 ghost use Rattle.mv_entry.specs.declared.rule.Rule.{Rule};
@@ -15,11 +15,11 @@ ghost use Rattle.mv_told.specs.Printable.{Printable};
 ghost use Rattle.mv_printed.specs.Names.{HasWordNames};
 ghost use Rattle.mv_printed.specs.Notes.{notes_of, IsPrintableNote};
 
-/// The names of nets are no longer than a word may be where they are within the limit of a design's names, and stay so under each
-/// rule that applies, and under rules that apply in turn.
+/// The names of nets are no longer than a word may be where they are within the limit of a design's names, but for the full stop
+/// of a reset net, and stay so under each rule that applies, and under rules that apply in turn.
 pub fn name_laws()
     ensures short { (nets : List (Option FlatNet))
-        → All (λ (o : Option FlatNet). IfSome o (λ (f : FlatNet). length f.name ≤ MAX_FLAT_NAME_BYTES)) nets → HasWordNames nets }
+        → All (λ (o : Option FlatNet). IfSome o (λ (f : FlatNet). length f.name ≤ MAX_FLAT_NAME_BYTES + 1)) nets → HasWordNames nets }
     ensures kept { (rule : Rule) (old new : NetParts) → HasWordNames old.nets → Applies rule old new → HasWordNames new.nets }
     ensures replayed { (rules : List Rule) (old new : NetParts) → HasWordNames old.nets → Replays rules old new → HasWordNames new.nets }
 {}

@@ -1,16 +1,16 @@
--- The first line of a table, if it has no fault, names lawful columns, and one output among them.
-use Rattle.std.proofs.Common.{◌≡◌, ℕ, ◌+◌, true, false, not, ◌==◌, List, [], ◌∷◌, ◌++◌, length, refl, ⊎_elim, arith}
+-- The first line of a table or a reset table, if it has no fault, names lawful columns, and one output among them.
+use Rattle.std.proofs.Common.{◌≡◌, ℕ, ◌+◌, ◌≤◌, true, false, not, ◌==◌, List, [], ◌∷◌, ◌++◌, length, refl, ⊎_elim, arith}
 use Rattle.std.specs.Prelude.{◌&&◌, nat_le, nat_lt}
 use Rattle.std.specs.List.{list_all}
-use Rattle.std.proofs.lemmas.Bool.{and_parts, and_cases, and_from, both_ways, not-false, le-ltb}
+use Rattle.std.proofs.lemmas.Bool.{and_parts, and_cases, and_from, both_ways, not-false, le-ltb, ltb-false}
 use Rattle.std.proofs.lemmas.Bool.Decides.{nat_tests}
 use Rattle.mv_base.specs.Names.{is_net_name}
 use Rattle.mv_base.specs.declared.limits.TheConstants.{MAX_COLUMNS}
 use Rattle.mv_fault.specs.declared.fault.Which.TheVariants.{Columns}
-use Rattle.mv_fault.specs.declared.fault.ParseFault.TheVariants.{Limit, BadName, Missing}
+use Rattle.mv_fault.specs.declared.fault.ParseFault.TheVariants.{Limit, BadName, Missing, Extra}
 use Rattle.mv_fault.specs.Tells.{when}
 use Rattle.mv_fault.proofs.Nothing.{left-nothing, right-nothing, when-nothing}
-use Rattle.mv_table.specs.Columns.{arrow_at, has_arrow, ins_of, outs_of, has_several_outputs, names_faults, columns_faults}
+use Rattle.mv_table.specs.Columns.{arrow_at, has_arrow, ins_of, outs_of, has_several_outputs, names_faults, columns_faults, output_faults, reset_faults}
 use Rattle.mv_word.proofs.LawfulNames.{net_name-has}
 use Rattle.mv_proper.proofs.Rows.{HasColumns}
 
@@ -56,3 +56,27 @@ line-columns n word words none few =
       outputs = lawful;
       single = one-output (length (outs_of words)) (few-outputs (outs_of words) lawful few) (when-nothing _ _ (right-nothing (ins ++ outs) lacks none));
     }
+
+-- ---- a reset table
+
+-- its output: one lawful name
+record IsOutput (ws : List (List ℕ)) : Type 0 where
+  lawful : list_all is_net_name ws ≡ true
+  single : length ws ≡ 1
+
+output-one : (n : ℕ) (word : List ℕ) (at : ℕ) (ws : List (List ℕ)) → output_faults n word at ws ≡ [] → IsOutput ws
+output-one n word at [] none = cc
+output-one n word at (w ∷ []) none =
+    record { lawful = names-lawful n at (w ∷ []) (left-nothing (names_faults n at (w ∷ [])) [] none); single = refl }
+output-one n word at (w ∷ v ∷ ws) none =
+    let more : nat_lt 0 (length (v ∷ ws)) ≡ false = when-nothing _ (Extra n word) (right-nothing (names_faults n at (w ∷ [])) _ none) in
+    let no_more : length (v ∷ ws) ≤ 0 = ltb-false 0 (length (v ∷ ws)) more in
+    absurd (omega arith)
+
+pub reset-columns : (n : ℕ) (word : List ℕ) (words : List (List ℕ)) → reset_faults n word words ≡ [] → HasColumns words
+unfolding reset_faults
+reset-columns n word words none =
+    let ins = names_faults n 0 (ins_of words) in
+    let outs = output_faults n word (length (ins_of words)) (outs_of words) in
+    let output = output-one n word (length (ins_of words)) (outs_of words) (right-nothing ins outs none) in
+    record { inputs = names-lawful n 0 (ins_of words) (left-nothing ins outs none); outputs = output.lawful; single = output.single }

@@ -21,7 +21,7 @@ use Rattle.mv_proper.proofs.Names.{IsNames, no-names, values-named}
 
 -- ---- the nets, and the count behind them
 
-net-lawful : (n : ℕ) (w : List ℕ) → net_name_faults n w ≡ [] → is_net_name w ≡ true
+pub net-lawful : (n : ℕ) (w : List ℕ) → net_name_faults n w ≡ [] → is_net_name w ≡ true
 unfolding net_name_faults
 net-lawful n w none = not-false _ (when-nothing _ _ none)
 

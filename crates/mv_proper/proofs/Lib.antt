@@ -11,7 +11,7 @@ pub mod Columns
 pub mod LineKinds
 pub mod Ports
 pub mod Tables
-pub mod Plain
+pub mod Latches
 pub mod Order
 pub mod Models
 pub mod Proper

@@ -7,8 +7,8 @@ use Rattle.mv_base.proofs.NameLemmas.{same_word_is}
 use Rattle.mv_lex.specs.declared.lines.LexLine.{LexLine}
 use Rattle.mv_table.specs.Tables.{is_default_word, begins_default, says_default}
 use Rattle.mv_parse.specs.declared.command.Command.{Command}
-use Rattle.mv_parse.specs.declared.command.Command.TheVariants.{Model, Inputs, Outputs, Mv, Table, Latch, Reset, Default, Row, End, Unbuilt, Unknown}
-use Rattle.mv_parse.specs.Commands.{first_of, is_unbuilt, is_table_word, is_reset_word, command_of, command_at}
+use Rattle.mv_parse.specs.declared.command.Command.TheVariants.{Model, Inputs, Outputs, Mv, Table, Latch, Reset, Default, Row, End, Root, Unbuilt, Unknown}
+use Rattle.mv_parse.specs.Commands.{first_of, is_table_word, is_reset_word, command_of, command_at}
 
 -- a word for a default
 word-default : (w : List ℕ) → is_default_word w ≡ true → command_of w ≡ Default
@@ -31,8 +31,9 @@ past false x y other e = e
 default-word : (w : List ℕ) → command_of w ≡ Default → is_default_word w ≡ true
 unfolding command_of
 default-word w e =
-    let unbuilt : Command = if is_unbuilt w then Unbuilt else Unknown in
-    let resets : Command = if is_reset_word w then Reset else unbuilt in
+    let unbuilt : Command = if same_word w (codes ".subckt") then Unbuilt else Unknown in
+    let roots : Command = if same_word w (codes ".root") then Root else unbuilt in
+    let resets : Command = if is_reset_word w then Reset else roots in
     let latches : Command = if same_word w (codes ".latch") then Latch else resets in
     let ended : Command = if same_word w (codes ".end") then End else latches in
     let defaults : Command = if is_default_word w then Default else ended in
@@ -53,8 +54,9 @@ default-word w e =
     let h : ended ≡ Default = rw n at g in
     let i : latches ≡ Default = past (same_word w (codes ".end")) End latches (λ x. cc) h in
     let j : resets ≡ Default = past (same_word w (codes ".latch")) Latch resets (λ x. cc) i in
-    let k : unbuilt ≡ Default = past (is_reset_word w) Reset unbuilt (λ x. cc) j in
-    let m : Unknown ≡ Default = past (is_unbuilt w) Unbuilt Unknown (λ x. cc) k in
+    let k : roots ≡ Default = past (is_reset_word w) Reset roots (λ x. cc) j in
+    let m : unbuilt ≡ Default = past (same_word w (codes ".root")) Root unbuilt (λ x. cc) k in
+    let n : Unknown ≡ Default = past (same_word w (codes ".subckt")) Unbuilt Unknown (λ x. cc) m in
     cc)
     (cases_Bool (is_default_word w))
 

@@ -1,4 +1,4 @@
--- A model whose lines have no fault, and numbers that ascend, is a proper one, line by line.
+-- A model whose lines and whose values have no fault, and numbers that ascend, is a proper one, line by line.
 use Rattle.std.proofs.Common.{◌≡◌, ℕ, ◌+◌, ◌≤◌, true, false, not, ◌==◌, List, [], ◌∷◌, ◌++◌, length, refl, sym, subst, ◌∙◌, arith}
 use Rattle.std.specs.Prelude.{All, Option, Some, nat_le, nat_lt}
 use Rattle.std.proofs.lemmas.Bool.{not-false, eqb-true, ltb-false}
@@ -16,25 +16,23 @@ use Rattle.mv_decl.specs.Line.{decls_said}
 use Rattle.mv_table.specs.Columns.{has_several_outputs}
 use Rattle.mv_table.specs.Tables.{behind_first}
 use Rattle.mv_parse.specs.declared.command.Command.{Command}
-use Rattle.mv_parse.specs.declared.command.Command.TheVariants.{Inputs, Outputs, Mv, Table, Default, Row}
+use Rattle.mv_parse.specs.declared.command.Command.TheVariants.{Inputs, Outputs, Mv, Table, Reset, Default, Row}
 use Rattle.mv_parse.specs.declared.known.OpenTable.{OpenTable}
 use Rattle.mv_parse.specs.declared.known.OpenModel.{OpenModel}
-use Rattle.mv_parse.specs.declared.known.Known.{Known}
-use Rattle.mv_parse.specs.Commands.{first_of, first_word, command_at, keeps_table}
-use Rattle.mv_parse.specs.Known.{inputs_at, inputs_of, outputs_at, outputs_of, decls_at, decls_of, open_model, file_model}
-use Rattle.mv_parse.specs.Grammar.{row_faults, default_faults, at_table, unread_faults, inside_faults}
+use Rattle.mv_parse.specs.Commands.{first_of, first_word, command_at, keeps_table, is_table}
+use Rattle.mv_parse.specs.Known.{inputs_at, inputs_of, outputs_at, outputs_of, decls_at, decls_of, latches_of, open_model, file_model}
+use Rattle.mv_parse.specs.Grammar.{row_faults, default_faults, tables_faults, at_table, unread_faults, inside_faults}
 use Rattle.mv_parse.proofs.Opens.{inputs-push, outputs-push, decls-push}
 use Rattle.mv_design.specs.Proper.{IsFileDecl, numbers_ascend, IsProperModel}
 use Rattle.mv_proper.specs.Lines.{numbers_of}
 use Rattle.mv_proper.proofs.Rows.{IsEntryLine, HasColumns}
 use Rattle.mv_proper.proofs.Names.{IsNames, no-names, IsNames-nil}
 use Rattle.mv_proper.proofs.Decls.{line-declares, All-with_decls}
-use Rattle.mv_proper.proofs.Columns.{line-columns}
+use Rattle.mv_proper.proofs.Columns.{line-columns, reset-columns}
 use Rattle.mv_proper.proofs.LineKinds.{line-default, line-row}
 use Rattle.mv_proper.proofs.Ports.{ports-named}
 use Rattle.mv_proper.proofs.Tables.{AreTables, tables-push, tables-fit}
-use Rattle.mv_parse.proofs.Plain.{are_plain, no-latches, no-resets}
-use Rattle.mv_proper.proofs.Plain.{plain-push}
+use Rattle.mv_proper.proofs.Latches.{IsNamed, latches-push, latches-fit}
 use Rattle.mv_proper.proofs.Order.{stands}
 
 -- a model that is open, by its first line and those behind it
@@ -44,10 +42,10 @@ pub record IsOpen (m : LexLine) (ls : List LexLine) : Type 0 where
   pub outputs : IsNames is_net_name (outputs_of ls)
   pub decls : All IsFileDecl (decls_of ls)
   pub tables : AreTables ls
-  pub plain : are_plain ls ≡ true
+  pub latches : All IsNamed (latches_of ls)
 
 pub IsOpen-new : (m : LexLine) → is_model_name (first_of (behind_first m)) ≡ true → IsOpen m []
-IsOpen-new m y = record { name = y; inputs = no-names is_net_name; outputs = no-names is_net_name; decls = All-nil IsFileDecl; tables = tt; plain = refl }
+IsOpen-new m y = record { name = y; inputs = no-names is_net_name; outputs = no-names is_net_name; decls = All-nil IsFileDecl; tables = tt; latches = All-nil IsNamed }
 
 -- ---- what one more line adds
 
@@ -63,9 +61,10 @@ decls-step : (c : Command) (m : OpenModel) (l : LexLine) → inside_faults c m l
 decls-step Mv m l none h = All-with_decls IsFileDecl m.decls (decls_said (behind_first l)) h (line-declares l.number (first_word l) m.decls (behind_first l) none)
 decls-step _ m l none h = h
 
-head-step : (c : Command) (k : Known) (m : OpenModel) (l : LexLine) → unread_faults c k l ≡ [] → inside_faults c m l ≡ [] → c ≡ Table → HasColumns (behind_first l)
-head-step Table k m l unread none e = line-columns l.number (first_word l) (behind_first l) none (when-nothing (has_several_outputs (behind_first l)) _ unread)
-head-step _ k m l unread none e = cc
+head-step : (c : Command) (m : OpenModel) (l : LexLine) → unread_faults c l ≡ [] → inside_faults c m l ≡ [] → is_table c ≡ true → HasColumns (behind_first l)
+head-step Table m l unread none e = line-columns l.number (first_word l) (behind_first l) none (when-nothing (has_several_outputs (behind_first l)) _ unread)
+head-step Reset m l unread none e = reset-columns l.number (first_word l) (behind_first l) none
+head-step _ m l unread none e = cc
 
 row-entries : (n : ℕ) (t : OpenTable) (words : List (List ℕ)) → row_faults n t words ≡ [] → length words ≡ t.ins + t.outs
 unfolding row_faults
@@ -103,8 +102,9 @@ entry-step Row m l e none y t o =
     }
 entry-step _ m l e none y t o = cc
 
-pub IsOpen-push : (k : Known) (m : LexLine) (ls : List LexLine) (l : LexLine) → IsOpen m ls → unread_faults (command_at l) k l ≡ [] → inside_faults (command_at l) (open_model m ls) l ≡ [] → IsOpen m (ls ++ l ∷ [])
-IsOpen-push k m ls l h unread none =
+pub IsOpen-push : (m : LexLine) (ls : List LexLine) (l : LexLine) → IsOpen m ls → unread_faults (command_at l) l ≡ []
+    → inside_faults (command_at l) (open_model m ls) l ≡ [] → IsOpen m (ls ++ l ∷ [])
+IsOpen-push m ls l h unread none =
     let c = command_at l in
     let o = open_model m ls in
     record {
@@ -112,14 +112,16 @@ IsOpen-push k m ls l h unread none =
       inputs = subst (IsNames is_net_name) (sym (inputs-push ls l)) (inputs-step c o l none h.inputs);
       outputs = subst (IsNames is_net_name) (sym (outputs-push ls l)) (outputs-step c o l none h.outputs);
       decls = subst (All IsFileDecl) (sym (decls-push ls l)) (decls-step c o l none h.decls);
-      tables = tables-push ls l h.tables (head-step c k o l unread none) (entry-step c o l refl none);
-      plain = plain-push ls k l h.plain unread;
+      tables = tables-push ls l h.tables (head-step c o l unread none) (entry-step c o l refl none);
+      latches = latches-push o ls l none h.latches;
     }
 
 -- ---- at its end
 
-pub IsOpen-proper : (m : LexLine) (ls : List LexLine) → IsOpen m ls → numbers_ascend (numbers_of (m ∷ ls)) ≡ true → IsProperModel (file_model (open_model m ls) ls)
-IsOpen-proper m ls h up =
+pub IsOpen-proper : (m : LexLine) (ls : List LexLine) → IsOpen m ls → numbers_ascend (numbers_of (m ∷ ls)) ≡ true → tables_faults (decls_of ls) ls ≡ []
+    → IsProperModel (file_model (open_model m ls) ls)
+IsOpen-proper m ls h up none =
+    let fit = tables-fit (decls_of ls) ls h.tables in
     record {
       name = h.name;
       inputs = h.inputs.lawful;
@@ -127,9 +129,9 @@ IsOpen-proper m ls h up =
       outputs = h.outputs.lawful;
       outputs_differ = h.outputs.differ;
       decls = h.decls;
-      tables = tables-fit (decls_of ls) ls h.tables;
-      order = stands m ls h.plain up;
-      latches = no-latches ls h.plain;
-      resets = no-resets (decls_of ls) ls h.plain;
+      tables = fit.tables;
+      order = stands m ls up;
+      latches = latches-fit (decls_of ls) ls h.latches none;
+      resets = fit.resets;
       parts = refl;
     }

@@ -1,26 +1,28 @@
 -- Lines without a fault, whose numbers ascend, say a proper design.
-use Rattle.std.proofs.Common.{◌≡◌, ◌≢◌, ℕ, ◌+◌, ◌≤◌, true, false, ◌==◌, List, [], ◌∷◌, ◌++◌, length, length-append, append_assoc, refl, sym, subst, ⊎_elim, arith}
-use Rattle.std.specs.Prelude.{All, Option, Some, None}
-use Rattle.std.specs.List.{flat_map}
-use Rattle.std.proofs.lemmas.Bool.{cases_Bool, eqb-false, ltb-false}
-use Rattle.std.proofs.lemmas.List.{append-nil, map-append}
-use Rattle.std.proofs.lemmas.List.Elements.{All-nil, All-push, All-get_or}
+use Rattle.std.proofs.Common.{◌≡◌, ◌≢◌, ℕ, ◌<◌, true, false, ◌==◌, List, [], ◌∷◌, ◌++◌, length, append_assoc, refl, sym, subst, ◌∙◌, ⊎_elim, arith}
+use Rattle.std.specs.Prelude.{All, Option, Some, None, nat_lt, not}
+use Rattle.std.proofs.lemmas.Bool.{cases_Bool, eqb-false, not-false}
+use Rattle.std.proofs.lemmas.List.{append-nil, map-append, length-map}
+use Rattle.std.proofs.lemmas.List.Elements.{All-nil, All-push}
+use Rattle.mv_base.specs.Names.{among}
+use Rattle.mv_base.proofs.NameLemmas.{IsPlace-from_among}
 use Rattle.mv_lex.specs.declared.lines.LexLine.{LexLine}
-use Rattle.mv_lex.proofs.Cuts.{closed-more, open_piece-end, open_piece-more}
 use Rattle.mv_design.specs.declared.design.FileModel.{FileModel}
 use Rattle.mv_design.specs.declared.design.Design.{Design}
 use Rattle.mv_table.specs.Tables.{behind_first}
-use Rattle.mv_fault.specs.declared.fault.ParseFault.TheVariants.{NoModel}
+use Rattle.mv_fault.specs.declared.fault.ParseFault.TheVariants.{Extra, RootFault, NoModel}
+use Rattle.mv_fault.specs.Tells.{when}
 use Rattle.mv_fault.proofs.Nothing.{left-nothing, right-nothing, when-nothing}
 use Rattle.mv_parse.specs.declared.command.Command.{Command}
-use Rattle.mv_parse.specs.declared.command.Command.TheVariants.{Model}
+use Rattle.mv_parse.specs.declared.command.Command.TheVariants.{End, Root as NamesRoot}
 use Rattle.mv_parse.specs.declared.known.OpenModel.{OpenModel}
+use Rattle.mv_parse.specs.declared.known.Root.{Root}
 use Rattle.mv_parse.specs.declared.known.Known.{Known}
-use Rattle.mv_parse.specs.Commands.{first_word, command_at, is_end}
-use Rattle.mv_parse.specs.Known.{ends_part, ended_parts, open_part, open_model, open_of, file_model, model_of, known}
-use Rattle.mv_parse.specs.Grammar.{model_faults, unread_faults, outside_faults, placed_faults, line_faults, behind_model, faults_at, last_faults, file_faults, faults_behind, faults_of, is_limit, design_of, IsDesign, IsWithin}
-use Rattle.mv_parse.proofs.Knowns.{said, models-end}
-use Rattle.mv_design.specs.Nets.{no_model, root_of}
+use Rattle.mv_parse.specs.Commands.{first_word, command_at, is_model, is_end, is_root}
+use Rattle.mv_parse.specs.Known.{says_root, decls_of, open_part, open_model, open_of, file_model, model_of, models_of, known}
+use Rattle.mv_parse.specs.Grammar.{model_faults, tables_faults, end_faults, unread_faults, inside_faults, body_faults, unended_faults, placed_faults, line_faults, behind_model, faults_at, lost_faults, last_faults, file_faults, faults_behind, faults_of, is_limit, root_place, design_of, IsDesign, IsWithin}
+use Rattle.mv_parse.proofs.Parts.{opened_with, open_part-more, open_part-end}
+use Rattle.mv_parse.proofs.Knowns.{model-no_root, outside-none, models-end, models-more, placed_none}
 use Rattle.mv_design.specs.Proper.{numbers_ascend, IsProperModel, IsProper}
 use Rattle.mv_proper.specs.Lines.{numbers_of}
 use Rattle.mv_proper.proofs.Ascending.{ascend-tail, ascend-front, ascend-behind}
@@ -40,129 +42,161 @@ numbers-behind : (ls more : List LexLine) → numbers_ascend (numbers_of (ls ++ 
 numbers-behind ls more up = ascend-behind (numbers_of ls) (numbers_of more) (rw numbers-append at up)
 
 -- those of the open part and of what comes, with one more line read
+numbers-opened : (part : List LexLine) (l : LexLine) (rest : List LexLine) → numbers_ascend (numbers_of (part ++ l ∷ rest)) ≡ true
+    → numbers_ascend (numbers_of (opened_with part l ++ rest)) ≡ true
+numbers-opened [] l rest up =
+    ⊎_elim
+    (λ (y : says_root l ≡ true). rw y (ascend-tail l.number (numbers_of rest) up))
+    (λ (n : says_root l ≡ false). rw n up)
+    (cases_Bool (says_root l))
+numbers-opened (m ∷ ls) l rest up = rw (append_assoc ls (l ∷ []) rest) up
+
 numbers-next : (before : List LexLine) (l : LexLine) (rest : List LexLine) → numbers_ascend (numbers_of (open_part before ++ l ∷ rest)) ≡ true → numbers_ascend (numbers_of (open_part (before ++ l ∷ []) ++ rest)) ≡ true
 numbers-next before l rest up =
     ⊎_elim
-    (λ (y : is_end (command_at l) ≡ true). rw (open_piece-end ends_part before l y) (ascend-tail l.number (numbers_of rest) (numbers-behind (open_part before) (l ∷ rest) up)))
-    (λ (n : is_end (command_at l) ≡ false). rw (open_piece-more ends_part before l n, append_assoc (open_part before) (l ∷ []) rest) up)
+    (λ (y : is_end (command_at l) ≡ true). rw (open_part-end before l y) (ascend-tail l.number (numbers_of rest) (numbers-behind (open_part before) (l ∷ rest) up)))
+    (λ (n : is_end (command_at l) ≡ false). rw (open_part-more before l n) (numbers-opened (open_part before) l rest up))
     (cases_Bool (is_end (command_at l)))
 
 -- ---- what stands along the lines
 
--- where a model is open, it is the first
-abbrev IsFirst : List FileModel → List LexLine → Type 0
-IsFirst models [] = Unit {0}
-IsFirst models (m ∷ ls) = (length models ≡ 0) × IsOpen m ls
+-- what is open stands
+abbrev Stands : List LexLine → Type 0
+Stands [] = Unit {0}
+Stands (m ∷ ls) = IsOpen m ls
 
--- along the lines: the models that have ended, one at most, and the lines of the open one
+-- along the lines: the models that have ended, and the lines of the open one
 record IsAlong (models : List FileModel) (part : List LexLine) : Type 0 where
   proper : All IsProperModel models
-  few : length models ≤ 1
-  opened : IsFirst models part
+  opened : Stands part
 
--- ---- one more line
+-- ---- one more line, which ends no model
 
--- outside a model it begins one
-outside-model : (c : Command) (l : LexLine) → outside_faults c l ≡ [] → (c ≡ Model) × (model_faults l.number (first_word l) (behind_first l) ≡ [])
-outside-model Model l none = (refl, none)
-outside-model _ l none = cc
+-- it begins one
+stands-model : (k : Known) (part : List LexLine) (l : LexLine) → k.inside ≡ open_of part → is_model (command_at l) ≡ true
+    → placed_faults (command_at l) k (behind_model part) l ≡ [] → Stands (opened_with part l)
+stands-model k [] l is y none =
+    let begins : unended_faults k.inside ++ model_faults l.number (first_word l) k.names (behind_first l) ≡ [] = rw y at none in
+    let named = model-named l.number (first_word l) k.names (behind_first l) (right-nothing (unended_faults k.inside) _ begins) in
+    rw (model-no_root (command_at l) y) (IsOpen-new l named)
+stands-model k (m ∷ ls) l is y none =
+    let begins : unended_faults (open_of (m ∷ ls)) ++ model_faults l.number (first_word l) k.names (behind_first l) ≡ [] = rw (y, is) at none in
+    cc
 
-first-model : (c : Command) (k : Known) (l : LexLine) → c ≡ Model → unread_faults c k l ≡ [] → length k.models ≡ 0
-first-model Model k l e none =
-    let few : length k.models ≤ 0 = ltb-false 0 (length k.models) (when-nothing _ _ none) in
-    omega arith
-first-model _ k l e none = cc
+-- it names the root
+root-inside : (c : Command) (m : OpenModel) (l : LexLine) → is_root c ≡ true → inside_faults c m l ≡ []
+root-inside NamesRoot m l y = refl
+root-inside _ m l y = cc
 
-along-more : (models : List FileModel) (part : List LexLine) (l : LexLine) → IsAlong models part → is_end (command_at l) ≡ false → unread_faults (command_at l) (said models part) l ≡ [] → placed_faults (command_at l) (open_of part) (behind_model part) l ≡ [] → IsAlong models (part ++ l ∷ [])
-along-more models [] l h n unread none =
-    let begins = outside-model (command_at l) l none in
-    record {
-      proper = h.proper;
-      few = h.few;
-      opened = (first-model (command_at l) (said models []) l begins.0 unread, IsOpen-new l (model-named l.number (first_word l) (behind_first l) begins.1));
-    }
-along-more models (m ∷ ls) l h n unread none =
-    record {
-      proper = h.proper;
-      few = h.few;
-      opened = (h.opened.0, IsOpen-push (said models (m ∷ ls)) m ls l h.opened.1 unread (rw n at none));
-    }
+stands-root : (part : List LexLine) (l : LexLine) → Stands part → is_root (command_at l) ≡ true → unread_faults (command_at l) l ≡ []
+    → Stands (opened_with part l)
+stands-root [] l h y unread = rw y tt
+stands-root (m ∷ ls) l h y unread = IsOpen-push m ls l h unread (root-inside (command_at l) (open_model m ls) l y)
 
-no-end : (c : Command) → c ≡ Model → is_end c ≡ true → ⊥
-no-end Model e y = cc
-no-end _ e y = cc
+-- it stands in a model
+stands-body : (part : List LexLine) (l : LexLine) → Stands part → is_end (command_at l) ≡ false → unread_faults (command_at l) l ≡ []
+    → body_faults (command_at l) (open_of part) (behind_model part) l ≡ [] → Stands (opened_with part l)
+stands-body [] l h n unread none = absurd (outside-none (command_at l) l none)
+stands-body (m ∷ ls) l h n unread none = IsOpen-push m ls l h unread (rw n at none)
 
-along-end : (models : List FileModel) (part : List LexLine) (l : LexLine) → IsAlong models part → numbers_ascend (numbers_of part) ≡ true → is_end (command_at l) ≡ true → placed_faults (command_at l) (open_of part) (behind_model part) l ≡ [] → IsAlong (models ++ model_of part) []
-along-end models [] l h up y none = absurd (no-end (command_at l) (outside-model (command_at l) l none).0 y)
+stands-more : (k : Known) (part : List LexLine) (l : LexLine) → k.inside ≡ open_of part → Stands part → is_end (command_at l) ≡ false
+    → unread_faults (command_at l) l ≡ [] → placed_faults (command_at l) k (behind_model part) l ≡ [] → Stands (opened_with part l)
+stands-more k part l is h n unread none =
+    ⊎_elim
+    (λ (y : is_model (command_at l) ≡ true). stands-model k part l is y none)
+    (λ (no_model : is_model (command_at l) ≡ false).
+    ⊎_elim
+    (λ (y : is_root (command_at l) ≡ true). stands-root part l h y unread)
+    (λ (no_root : is_root (command_at l) ≡ false). stands-body part l h n unread (rw (no_model, no_root, is) at none))
+    (cases_Bool (is_root (command_at l))))
+    (cases_Bool (is_model (command_at l)))
+
+-- ---- one that ends a model
+
+ends-placed : (c : Command) (k : Known) (ls : List LexLine) (l : LexLine) → is_end c ≡ true → placed_faults c k ls l ≡ body_faults c k.inside ls l
+ends-placed End k ls l y = refl
+ends-placed _ k ls l y = cc
+
+along-end : (models : List FileModel) (part : List LexLine) (l : LexLine) → IsAlong models part → numbers_ascend (numbers_of part) ≡ true
+    → is_end (command_at l) ≡ true → body_faults (command_at l) (open_of part) (behind_model part) l ≡ [] → IsAlong (models ++ model_of part) []
+unfolding end_faults
+along-end models [] l h up y none = absurd (outside-none (command_at l) l none)
 along-end models (m ∷ ls) l h up y none =
     let new : FileModel = file_model (open_model m ls) ls in
-    let size : length (models ++ new ∷ []) ≡ length models + 1 = simp length-append in
-    let empty = h.opened.0 in
-    record {
-      proper = All-push IsProperModel models new h.proper (IsOpen-proper m ls h.opened.1 up);
-      few = omega arith;
-      opened = tt;
-    }
+    let ends : end_faults l.number (first_word l) (behind_first l) (decls_of ls) ls ≡ [] = rw y at none in
+    let extra = when (nat_lt 0 (length (behind_first l))) (Extra l.number (first_word l)) in
+    let values : tables_faults (decls_of ls) ls ≡ [] = right-nothing extra (tables_faults (decls_of ls) ls) ends in
+    record { proper = All-push IsProperModel models new h.proper (IsOpen-proper m ls h.opened up values); opened = tt }
 
 -- ---- all lines
 
 abbrev Along : List LexLine → Type 0
-Along before = IsAlong (flat_map model_of (ended_parts before)) (open_part before)
+Along before = IsAlong (models_of before) (open_part before)
 
 along-next : (before : List LexLine) (l : LexLine) → Along before → numbers_ascend (numbers_of (open_part before)) ≡ true → faults_at before l ≡ [] → Along (before ++ l ∷ [])
 unfolding known line_faults
 along-next before l h up none =
-    let models : List FileModel = flat_map model_of (ended_parts before) in
     let part : List LexLine = open_part before in
-    let unread : unread_faults (command_at l) (said models part) l ≡ [] = left-nothing _ (placed_faults (command_at l) (open_of part) (behind_model part) l) none in
-    let placed : placed_faults (command_at l) (open_of part) (behind_model part) l ≡ [] = right-nothing (unread_faults (command_at l) (said models part) l) _ none in
+    let unread : unread_faults (command_at l) l ≡ [] = left-nothing _ (placed_faults (command_at l) (known before) (behind_model part) l) none in
+    let placed = placed_none (command_at l) (known before) (behind_model part) l none in
     ⊎_elim
-    (λ (y : is_end (command_at l) ≡ true). rw (models-end before l y, open_piece-end ends_part before l y) (along-end models part l h up y placed))
-    (λ (n : is_end (command_at l) ≡ false). rw (closed-more ends_part before l n, open_piece-more ends_part before l n) (along-more models part l h n unread placed))
+    (λ (y : is_end (command_at l) ≡ true).
+    rw (models-end before l y, open_part-end before l y)
+    (along-end (models_of before) part l h up y (sym (ends-placed (command_at l) (known before) (behind_model part) l y) ∙ placed)))
+    (λ (n : is_end (command_at l) ≡ false).
+    rw (models-more before l n, open_part-more before l n)
+    (record { proper = h.proper; opened = stands-more (known before) part l refl h.opened n unread placed }))
     (cases_Bool (is_end (command_at l)))
 
--- at the end of the file one model has ended
-record IsWhole (models : List FileModel) : Type 0 where
-  proper : All IsProperModel models
-  single : length models ≡ 1
+-- at the end of the file all models are proper, and the root is one of them
+record IsWhole (k : Known) : Type 0 where
+  proper : All IsProperModel k.models
+  root : root_place k.root k.names < length k.models
 
-some-model : (o : Option OpenModel) (count : ℕ) → last_faults o count ≡ [] → (count == 0) ≡ false
-some-model (Some m) count none = cc
-some-model None count none = when-nothing (count == 0) (NoModel 1) none
+root-within : (root : Option Root) (names : List (List ℕ)) → 0 < length names → lost_faults root names ≡ [] → root_place root names < length names
+root-within None names some none = some
+root-within (Some r) names some none =
+    let there : among r.name names ≡ true = not-false _ (when-nothing (not (among r.name names)) (RootFault r.line r.name) none) in
+    let place = IsPlace-from_among r.name names there in
+    rw place.1.place place.1.within
 
-whole : (before : List LexLine) → Along before → file_faults (known before) ≡ [] → IsWhole (known before).models
+last-none : (o : Option OpenModel) (k : Known) → last_faults o k ≡ [] → when (length k.models == 0) (NoModel 1) ++ lost_faults k.root k.names ≡ []
+last-none (Some m) k none = cc
+last-none None k none = none
+
+whole : (before : List LexLine) → Along before → file_faults (known before) ≡ [] → IsWhole (known before)
 unfolding known
 whole before h none =
-    let models : List FileModel = flat_map model_of (ended_parts before) in
-    let other : length models ≢ 0 = eqb-false (length models) 0 (some-model (open_of (open_part before)) (length models) none) in
-    let few = h.few in
-    record { proper = h.proper; single = omega arith }
+    let k : Known = known before in
+    let last = last-none k.inside k none in
+    let missing = when (length k.models == 0) (NoModel 1) in
+    let lost = lost_faults k.root k.names in
+    let other : length k.models ≢ 0 = eqb-false (length k.models) 0 (when-nothing (length k.models == 0) (NoModel 1) (left-nothing missing lost last)) in
+    let size : length k.names ≡ length k.models = simp length-map in
+    let within : root_place k.root k.names < length k.names = root-within k.root k.names (omega arith) (right-nothing missing lost last) in
+    record { proper = h.proper; root = omega arith }
 
-walk : (before rest : List LexLine) → Along before → numbers_ascend (numbers_of (open_part before ++ rest)) ≡ true → faults_behind before rest ≡ [] → IsWhole (known (before ++ rest)).models
-walk before [] h up none = let P : List LexLine → Type 0 = λ ls. IsWhole (known ls).models in subst P (sym (append-nil before)) (whole before h none)
+walk : (before rest : List LexLine) → Along before → numbers_ascend (numbers_of (open_part before ++ rest)) ≡ true → faults_behind before rest ≡ []
+    → IsWhole (known (before ++ rest))
+walk before [] h up none = let P : List LexLine → Type 0 = λ ls. IsWhole (known ls) in subst P (sym (append-nil before)) (whole before h none)
 walk before (l ∷ rest) h up none =
     let here : faults_at before l ≡ [] = left-nothing (faults_at before l) (faults_behind (before ++ l ∷ []) rest) none in
     let behind : faults_behind (before ++ l ∷ []) rest ≡ [] = right-nothing (faults_at before l) _ none in
-    let P : List LexLine → Type 0 = λ ls. IsWhole (known ls).models in
+    let P : List LexLine → Type 0 = λ ls. IsWhole (known ls) in
     subst P (append_assoc before (l ∷ []) rest) (walk (before ++ l ∷ []) rest (along-next before l h (numbers-front (open_part before) (l ∷ rest) up) here) (numbers-next before l rest up) behind)
 
 nothing-read : Along []
-nothing-read = record { proper = All-nil IsProperModel; few = omega arith; opened = tt }
+nothing-read = record { proper = All-nil IsProperModel; opened = tt }
 
-lines-whole : (lines : List LexLine) → numbers_ascend (numbers_of lines) ≡ true → faults_of lines ≡ [] → IsWhole (known lines).models
+lines-whole : (lines : List LexLine) → numbers_ascend (numbers_of lines) ≡ true → faults_of lines ≡ [] → IsWhole (known lines)
 unfolding faults_of
 lines-whole lines up none = walk [] lines nothing-read up none
 
 said-proper : (lines : List LexLine) → numbers_ascend (numbers_of lines) ≡ true → faults_of lines ≡ [] → IsProper (design_of lines)
-unfolding design_of root_of
+unfolding design_of
 said-proper lines up none =
     let w = lines-whole lines up none in
-    let one = w.single in
-    record {
-      single = w.single;
-      root_is = refl;
-      root = All-get_or IsProperModel (known lines).models 0 no_model (omega arith) w.proper;
-    }
+    record { models = w.proper; root = w.root }
 
 -- lines that the grammar accepts, within the limits, have no fault
 pub no-faults : (lines : List LexLine) (d : Design) → IsDesign lines d → IsWithin lines → faults_of lines ≡ []

@@ -1,4 +1,5 @@
--- The tables of a model, as its lines are read: each has lawful columns, and its rows and defaults have an entry for each.
+-- The tables and reset tables of a model, as its lines are read: each has lawful columns, and its rows and defaults have an
+-- entry for each.
 use Rattle.std.proofs.Common.{◌≡◌, Bool, true, false, ◌&&◌, List, [], ◌∷◌, ◌++◌, refl, ap, sym, subst, ◌∙◌, ⊎_elim}
 use Rattle.std.specs.Prelude.{All, Option, Some, None}
 use Rattle.std.specs.List.{list_all}
@@ -6,18 +7,20 @@ use Rattle.std.proofs.lemmas.Bool.{cases_Bool, cond_both, cond-false, and_parts,
 use Rattle.std.proofs.lemmas.List.Elements.{All-nil, All-cons, All-append}
 use Rattle.mv_lex.specs.declared.lines.LexLine.{LexLine}
 use Rattle.mv_design.specs.declared.design.Decl.{Decl}
+use Rattle.mv_design.specs.declared.table.FileTable.{FileTable}
 use Rattle.mv_table.specs.Tables.{behind_first, table_of}
 use Rattle.mv_parse.specs.declared.command.Command.{Command}
-use Rattle.mv_parse.specs.declared.command.Command.TheVariants.{Table, Default, Row}
+use Rattle.mv_parse.specs.declared.command.Command.TheVariants.{Table, Reset, Default, Row}
 use Rattle.mv_parse.specs.declared.known.OpenTable.{OpenTable}
 use Rattle.mv_parse.specs.Commands.{command_at, keeps_table, is_table}
-use Rattle.mv_parse.specs.Known.{front_rows, table_at, tables_of, table_state, open_table}
+use Rattle.mv_parse.specs.Known.{front_rows, table_at, tables_of, reset_at, resets_of, table_state, open_table}
 use Rattle.mv_design.specs.Proper.{IsFileTable}
 use Rattle.mv_proper.proofs.Rows.{IsEntryLine, EntryLine, HasColumns, IsTableAt, table-fits}
 
+-- each line that begins a table or a reset table does so with the rows and defaults right behind it
 abbrev pub AreTables : List LexLine → Type 0
 AreTables [] = Unit {0}
-AreTables (l ∷ ls) = (command_at l ≡ Table → IsTableAt l (front_rows ls)) × AreTables ls
+AreTables (l ∷ ls) = (is_table (command_at l) ≡ true → IsTableAt l (front_rows ls)) × AreTables ls
 
 -- ---- one line more
 
@@ -71,15 +74,15 @@ none-open (l ∷ ls) all =
 nothing-open : (o : Option OpenTable) (t : OpenTable) → o ≡ None → o ≡ Some t → ⊥
 nothing-open o t e f = cc
 
-open-here : (l : LexLine) (ls : List LexLine) → command_at l ≡ Table → all_keep ls ≡ true → open_table (l ∷ ls) ≡ Some (table_state l ls)
+open-here : (l : LexLine) (ls : List LexLine) → is_table (command_at l) ≡ true → all_keep ls ≡ true → open_table (l ∷ ls) ≡ Some (table_state l ls)
 open-here l ls e all = rw (e, all) refl
 
-pub tables-push : (ls : List LexLine) (x : LexLine) → AreTables ls → (command_at x ≡ Table → HasColumns (behind_first x)) → (keeps_table (command_at x) ≡ true → (t : OpenTable) → open_table ls ≡ Some t → IsEntryLine t.ins t.outs x) → AreTables (ls ++ x ∷ [])
+pub tables-push : (ls : List LexLine) (x : LexLine) → AreTables ls → (is_table (command_at x) ≡ true → HasColumns (behind_first x)) → (keeps_table (command_at x) ≡ true → (t : OpenTable) → open_table ls ≡ Some t → IsEntryLine t.ins t.outs x) → AreTables (ls ++ x ∷ [])
 tables-push [] x h head fits = (λ e. record { columns = head e; entries = All-nil (EntryLine (behind_first x)) }, tt)
 tables-push (l ∷ ls) x h head fits =
     ⊎_elim
     (λ (all : all_keep ls ≡ true). (
-      λ (e : command_at l ≡ Table).
+      λ (e : is_table (command_at l) ≡ true).
           let old : IsTableAt l (front_rows ls) = h.0 e in
           record {
             columns = old.columns;
@@ -88,19 +91,37 @@ tables-push (l ∷ ls) x h head fits =
       tables-push ls x h.1 head (λ k t o. absurd (nothing-open (open_table ls) t (none-open ls all) o)),
     ))
     (λ (shut : all_keep ls ≡ false). (
-      λ (e : command_at l ≡ Table). subst (IsTableAt l) (sym (front-kept ls x shut)) (h.0 e),
+      λ (e : is_table (command_at l) ≡ true). subst (IsTableAt l) (sym (front-kept ls x shut)) (h.0 e),
       tables-push ls x h.1 head (λ k t o.
           fits k t (cond-false (is_table (command_at l) && all_keep ls) (Some (table_state l ls)) (open_table ls) (and_right _ _ shut) ∙ o)),
     ))
     (cases_Bool (all_keep ls))
 
--- ---- the tables that the lines say
+-- ---- the tables and reset tables that the lines say
 
-table-here : (c : Command) (ds : List Decl) (l : LexLine) (ls : List LexLine) → (c ≡ Table → IsTableAt l (front_rows ls)) → All (IsFileTable ds) (table_at c ds l ls)
-table-here Table ds l ls h = All-cons (IsFileTable ds) (table_of ds l (front_rows ls)) [] (table-fits ds l (front_rows ls) (h refl)) (All-nil (IsFileTable ds))
-table-here _ ds l ls h = All-nil (IsFileTable ds)
+-- these tables and these reset tables fit
+pub record DoFit (ds : List Decl) (plain reset : List FileTable) : Type 0 where
+  pub tables : All (IsFileTable ds) plain
+  pub resets : All (IsFileTable ds) reset
 
-pub tables-fit : (ds : List Decl) (ls : List LexLine) → AreTables ls → All (IsFileTable ds) (tables_of ds ls)
-tables-fit ds [] h = All-nil (IsFileTable ds)
+one-fits : (ds : List Decl) (l : LexLine) (rows : List LexLine) → IsTableAt l rows → All (IsFileTable ds) (table_of ds l rows ∷ [])
+one-fits ds l rows h = All-cons (IsFileTable ds) (table_of ds l rows) [] (table-fits ds l rows h) (All-nil (IsFileTable ds))
+
+none-fit : (ds : List Decl) → All (IsFileTable ds) []
+none-fit ds = All-nil (IsFileTable ds)
+
+table-here : (c : Command) (ds : List Decl) (l : LexLine) (ls : List LexLine) → (is_table c ≡ true → IsTableAt l (front_rows ls))
+    → DoFit ds (table_at c ds l ls) (reset_at c ds l ls)
+table-here Table ds l ls h = record { tables = one-fits ds l (front_rows ls) (h refl); resets = none-fit ds }
+table-here Reset ds l ls h = record { tables = none-fit ds; resets = one-fits ds l (front_rows ls) (h refl) }
+table-here _ ds l ls h = record { tables = none-fit ds; resets = none-fit ds }
+
+pub tables-fit : (ds : List Decl) (ls : List LexLine) → AreTables ls → DoFit ds (tables_of ds ls) (resets_of ds ls)
+tables-fit ds [] h = record { tables = none-fit ds; resets = none-fit ds }
 tables-fit ds (l ∷ ls) h =
-    All-append (IsFileTable ds) (table_at (command_at l) ds l ls) (tables_of ds ls) (table-here (command_at l) ds l ls h.0) (tables-fit ds ls h.1)
+    let here = table-here (command_at l) ds l ls h.0 in
+    let behind = tables-fit ds ls h.1 in
+    record {
+      tables = All-append (IsFileTable ds) (table_at (command_at l) ds l ls) (tables_of ds ls) here.tables behind.tables;
+      resets = All-append (IsFileTable ds) (reset_at (command_at l) ds l ls) (resets_of ds ls) here.resets behind.resets;
+    }

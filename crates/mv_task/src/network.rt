@@ -1,4 +1,4 @@
-ghost use Rattle.std.specs.Prelude.{◌≡◌, [], length, IfOk, IfErr};
+ghost use Rattle.std.specs.Prelude.{◌≡◌, length, IfOk, IfErr};
 ghost use Rattle.mv_printed.specs.Names.{HasWordNames};
 ghost use Rattle.mv_task.specs.Faults.{IsNetworkCause};
 ghost use Rattle.mv_task.specs.Made.{Prepared};
@@ -22,7 +22,6 @@ pub fn take_network<F: Files>(
 ) -> Result<Network, SourceStop>
     requires { length words.now ≡ 3 }
     ensures made { IfOk result (Prepared (texts words.now) (F.state files.old) (F.state files.new)) }
-    ensures latches { IfOk result (λ net. net.latches ≡ []) }
     ensures names { IfOk result (λ net. HasWordNames net.nets) }
     ensures stopped { IfErr result (IsNetworkCause (texts words.now) (F.state files.old) (F.state files.new)) }
 {

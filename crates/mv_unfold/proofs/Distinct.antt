@@ -9,7 +9,7 @@ use Rattle.mv_design.specs.declared.design.FileModel.{FileModel}
 use Rattle.mv_design.specs.Nets.{nets_of, drivers}
 use Rattle.mv_unfold.specs.Sound.{IsDrivenOnce}
 use Rattle.mv_unfold.proofs.Names.{count_of_cons, among_counted}
-use Rattle.mv_unfold.proofs.Soundness.{driver_is_net}
+use Rattle.mv_unfold.proofs.Commands.{driver_is_net}
 
 abbrev times : List ℕ → List (List ℕ) → ℕ
 times w ws = count_by (same_word w) ws
@@ -56,7 +56,8 @@ names_without-length : (u : List ℕ) (ws : List (List ℕ)) → among u ws ≡ 
 names_without-length u [] h = absurd (false≢true h)
 names_without-length u (w ∷ ws) h = split (same_word u w) h (names_without-length u ws)
   where
-    split : (b : Bool) → (b || among u ws) ≡ true → (among u ws ≡ true → length ws ≡ 1 + length (names_without u ws)) → length (w ∷ ws) ≡ 1 + length (if b then ws else w ∷ names_without u ws)
+    split : (b : Bool) → (b || among u ws) ≡ true → (among u ws ≡ true → length ws ≡ 1 + length (names_without u ws))
+        → length (w ∷ ws) ≡ 1 + length (if b then ws else w ∷ names_without u ws)
     split true e r = omega arith
     split false e r = let l = r e in omega arith
 
@@ -64,7 +65,8 @@ still_there : (u v : List ℕ) (ws : List (List ℕ)) → same_word v u ≡ fals
 still_there u v [] n h = h
 still_there u v (w ∷ ws) n h = split (same_word u w) refl (still_there u v ws n)
   where
-    split : (b : Bool) → same_word u w ≡ b → (among v ws ≡ true → among v (names_without u ws) ≡ true) → among v (if b then ws else w ∷ names_without u ws) ≡ true
+    split : (b : Bool) → same_word u w ≡ b → (among v ws ≡ true → among v (names_without u ws) ≡ true)
+        → among v (if b then ws else w ∷ names_without u ws) ≡ true
     split true e r =
         ⊎_elim (λ (y : same_word v w ≡ true). absurd (false≢true (sym n ∙ (ap (same_word v) (same_word_is u w e) ∙ y)))) (λ (y : among v ws ≡ true). y)
         (or_cases (same_word v w) (among v ws) h)

@@ -1,16 +1,16 @@
 -- The nets of a model by number, each with the nets that its table has as columns.
-use Rattle.std.proofs.Common.{◌≡◌, ℕ, Bool, false, ◌||◌, ◌&&◌, List, [], ◌∷◌, ◌++◌, map, refl, sym, ◌∙◌, ap}
+use Rattle.std.proofs.Common.{◌≡◌, ℕ, ◌+◌, Bool, false, ◌||◌, ◌&&◌, List, [], ◌∷◌, ◌++◌, length, map, replicate, refl, sym, ◌∙◌, ap}
 use Rattle.std.specs.List.{list_any, flat_map}
-use Rattle.std.proofs.lemmas.List.{map-append}
+use Rattle.std.proofs.lemmas.List.{append_assoc, length-append, length-map, map-append}
 use Rattle.std.proofs.Math.Bool.{and-false, and-or_distrib_right}
 use Rattle.std.proofs.lemmas.List.Folds.{list_any-append}
 use Rattle.mv_base.specs.Names.{same_word, among}
 use Rattle.mv_base.specs.declared.number.NetId.{NetId}
 use Rattle.mv_design.specs.declared.design.FileModel.{FileModel}
 use Rattle.mv_design.specs.declared.table.FileTable.{FileTable}
-use Rattle.mv_design.specs.Nets.{nets_driven, drivers}
+use Rattle.mv_design.specs.Nets.{nets_driven, latch_outputs, drivers}
 use Rattle.mv_unfold.specs.Numbers.{numbers_in}
-use Rattle.mv_unfold.specs.Columns.{no_columns, driven_columns, table_columns, columns_by_net}
+use Rattle.mv_unfold.specs.Columns.{driven_columns, table_columns, columns_by_net}
 use Rattle.mv_unfold.specs.Sound.{reads_through, reads}
 
 -- a net, and the nets that its table has as columns
@@ -30,9 +30,13 @@ read_by ins w = record { name = w; above = ins }
 abbrev table_entries : FileTable → List Entry
 table_entries t = map (read_by t.inputs) t.outputs
 
+-- the nets that no table drives: the inputs, and then the outputs of the latches
+abbrev open_nets : FileModel → List (List ℕ)
+open_nets m = m.inputs ++ latch_outputs m
+
 -- the nets of a model by number
 unfoldable pub entries : FileModel → List Entry
-entries m = map bare m.inputs ++ flat_map table_entries m.tables
+entries m = map bare (open_nets m) ++ flat_map table_entries m.tables
 
 -- the columns of an entry by number
 abbrev pub columns_in : List (List ℕ) → Entry → List NetId
@@ -62,9 +66,9 @@ names_tables (t ∷ ts) =
 pub names_are : (m : FileModel) → map name_of (entries m) ≡ drivers m
 unfolding entries drivers
 names_are m =
-    map-append name_of (map bare m.inputs) (flat_map table_entries m.tables)
-    ∙ (ap (λ us. us ++ map name_of (flat_map table_entries m.tables)) (names_bare m.inputs)
-    ∙ ap (λ us. m.inputs ++ us) (names_tables m.tables))
+    map-append name_of (map bare (open_nets m)) (flat_map table_entries m.tables)
+    ∙ (ap (λ us. us ++ map name_of (flat_map table_entries m.tables)) (names_bare (open_nets m))
+    ∙ (ap (λ us. open_nets m ++ us) (names_tables m.tables) ∙ append_assoc m.inputs (latch_outputs m) (flat_map nets_driven m.tables)))
 
 -- ---- they read what the tables read
 
@@ -88,17 +92,22 @@ reads_tables net above (t ∷ ts) =
 pub reads_are : (m : FileModel) (net above : List ℕ) → list_any (entry_reads net above) (entries m) ≡ reads m net above
 unfolding entries reads
 reads_are m net above =
-    list_any-append (entry_reads net above) (map bare m.inputs) (flat_map table_entries m.tables)
-    ∙ (ap (λ b. b || list_any (entry_reads net above) (flat_map table_entries m.tables)) (reads_bare net above m.inputs)
+    list_any-append (entry_reads net above) (map bare (open_nets m)) (flat_map table_entries m.tables)
+    ∙ (ap (λ b. b || list_any (entry_reads net above) (flat_map table_entries m.tables)) (reads_bare net above (open_nets m))
     ∙ reads_tables net above m.tables)
 
 -- ---- their columns are those of the model's nets
 
-columns_bare : (names ws : List (List ℕ)) → map (columns_in names) (map bare ws) ≡ map no_columns ws
+columns_bare : (names ws : List (List ℕ)) → map (columns_in names) (map bare ws) ≡ replicate (length ws) []
 columns_bare names [] = refl
 columns_bare names (w ∷ ws) = ap (λ ns. [] ∷ ns) (columns_bare names ws)
 
-columns_read : (names : List (List ℕ)) (t : FileTable) (ws : List (List ℕ)) → map (columns_in names) (map (read_by t.inputs) ws) ≡ map (driven_columns names t) ws
+-- how many nets no table drives
+open_count : (m : FileModel) → length (open_nets m) ≡ length m.inputs + length m.latches
+open_count m = length-append m.inputs (latch_outputs m) ∙ ap (λ n. length m.inputs + n) (length-map m.latches (λ l. l.output))
+
+columns_read : (names : List (List ℕ)) (t : FileTable) (ws : List (List ℕ))
+    → map (columns_in names) (map (read_by t.inputs) ws) ≡ map (driven_columns names t) ws
 columns_read names t [] = refl
 columns_read names t (w ∷ ws) = ap (λ ns. numbers_in names t.inputs ∷ ns) (columns_read names t ws)
 
@@ -112,6 +121,7 @@ columns_tables names (t ∷ ts) =
 pub columns_are : (names : List (List ℕ)) (m : FileModel) → map (columns_in names) (entries m) ≡ columns_by_net names m
 unfolding entries
 columns_are names m =
-    map-append (columns_in names) (map bare m.inputs) (flat_map table_entries m.tables)
-    ∙ (ap (λ ns. ns ++ map (columns_in names) (flat_map table_entries m.tables)) (columns_bare names m.inputs)
-    ∙ ap (λ ns. map no_columns m.inputs ++ ns) (columns_tables names m.tables))
+    map-append (columns_in names) (map bare (open_nets m)) (flat_map table_entries m.tables)
+    ∙ (ap (λ ns. ns ++ map (columns_in names) (flat_map table_entries m.tables)) (columns_bare names (open_nets m))
+    ∙ (ap (λ n. replicate n [] ++ map (columns_in names) (flat_map table_entries m.tables)) (open_count m)
+    ∙ ap (λ ns. replicate (length m.inputs + length m.latches) [] ++ ns) (columns_tables names m.tables)))

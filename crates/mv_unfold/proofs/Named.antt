@@ -7,9 +7,8 @@ use Rattle.mv_base.specs.Names.{same_word, among}
 use Rattle.mv_base.proofs.Firsts.{keys-firsts}
 use Rattle.mv_base.proofs.NameLemmas.{same_word_is}
 use Rattle.mv_design.specs.declared.design.FileModel.{FileModel}
-use Rattle.mv_design.specs.declared.table.FileTable.{FileTable}
-use Rattle.mv_unfold.specs.Driving.{with_columns, with_name, with_names}
-use Rattle.mv_design.specs.Nets.{columns_of, nets_named, nets_of}
+use Rattle.mv_design.specs.Nets.{Naming, nets_named, nets_of}
+use Rattle.mv_unfold.specs.Driving.{with_name, with_named, with_names}
 use Rattle.mv_unfold.proofs.Names.{with_names_of, among-with_names}
 
 -- names added one by one are put in a set
@@ -21,9 +20,10 @@ inserted names (w ∷ ws) = inserted (with_name names w) ws
 with_names-firsts : (ws : List (List ℕ)) → with_names [] ws ≡ firsts_by same_word ws
 with_names-firsts ws = inserted [] ws ∙ keys-firsts same_word same_word_is ws
 
--- inputs, outputs and columns
-pub nets_gathered : (is os : List (List ℕ)) (ts : List FileTable) → with_columns (with_names (with_names [] is) os) ts ≡ firsts_by same_word (is ++ (os ++ flat_map columns_of ts))
-nets_gathered is os ts = with_names_of is os ts ∙ with_names-firsts (is ++ (os ++ flat_map columns_of ts))
+-- inputs, outputs and what commands name
+pub nets_gathered : (is os : List (List ℕ)) (ns : List Naming)
+    → with_named (with_names (with_names [] is) os) ns ≡ firsts_by same_word (is ++ (os ++ flat_map (λ x. x.nets) ns))
+nets_gathered is os ns = with_names_of is os ns ∙ with_names-firsts (is ++ (os ++ flat_map (λ x. x.nets) ns))
 
 -- a model's nets are those that it names
 pub among-nets_of : (w : List ℕ) (m : FileModel) → among w (nets_of m) ≡ among w (nets_named m)

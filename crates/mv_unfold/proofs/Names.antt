@@ -1,36 +1,43 @@
 -- Names, each once, in the order in which they come; how often a name stands in a list; and what holds of each name of one.
-use Rattle.std.proofs.Common.{◌≡◌, ℕ, ◌+◌, Bool, true, false, ◌||◌, cond, List, [], ◌∷◌, ◌++◌, refl, sym, ◌∙◌, ap, arith, ⊎_elim}
+use Rattle.std.proofs.Common.{◌≡◌, ℕ, ◌+◌, Bool, true, false, ◌||◌, cond, List, [], ◌∷◌, ◌++◌, length, get_or, drop, ◌<◌, refl, sym, ◌∙◌, ap, arith, ⊎_elim}
 use Rattle.std.specs.Prelude.{nat_lt, count_by, if◌then◌else◌}
 use Rattle.std.specs.List.{flat_map, list_all}
 use Rattle.std.proofs.lemmas.Bool.{false≢true, and_from, and_parts, or_cases, or_left, or_right}
 use Rattle.std.proofs.lemmas.Bool.Decides.{nat_tests}
-use Rattle.std.proofs.lemmas.List.{append-nil, append_assoc}
+use Rattle.std.proofs.lemmas.List.{append-nil, append_assoc, drop_more}
 use Rattle.std.proofs.lemmas.List.Sums.{sum_by-cons, sum_by-append}
 use Rattle.mv_base.specs.Names.{same_word, among, names_differ}
 use Rattle.mv_base.proofs.NameLemmas.{same_word_is, same_word_refl, among-append, differ-repeated}
-use Rattle.mv_design.specs.declared.table.FileTable.{FileTable}
-use Rattle.mv_design.specs.Nets.{columns_of}
-use Rattle.mv_unfold.specs.Driving.{with_name, with_names, with_columns}
+use Rattle.mv_design.specs.Nets.{Naming}
+use Rattle.mv_unfold.specs.Driving.{with_name, with_names, with_named}
 
 pub with_names_append : (names us ws : List (List ℕ)) → with_names names (us ++ ws) ≡ with_names (with_names names us) ws
 with_names_append names [] ws = refl
 with_names_append names (u ∷ us) ws = with_names_append (with_name names u) us ws
 
--- the columns of tables, one table behind the other
-with_columns_are : (names : List (List ℕ)) (ts : List FileTable) → with_columns names ts ≡ with_names names (flat_map columns_of ts)
-with_columns_are names [] = refl
-with_columns_are names (t ∷ ts) =
-    with_columns_are (with_names (with_names names t.inputs) t.outputs) ts
-    ∙ sym (with_names_append names (t.inputs ++ t.outputs) (flat_map columns_of ts)
-    ∙ ap (λ ns. with_names ns (flat_map columns_of ts)) (with_names_append names t.inputs t.outputs))
+-- what commands name, one command behind the other
+with_named_are : (names : List (List ℕ)) (ns : List Naming) → with_named names ns ≡ with_names names (flat_map (λ x. x.nets) ns)
+with_named_are names [] = refl
+with_named_are names (n ∷ ns) = with_named_are (with_names names n.nets) ns ∙ sym (with_names_append names n.nets (flat_map (λ x. x.nets) ns))
 
--- inputs, outputs and columns
-pub with_names_of : (is os : List (List ℕ)) (ts : List FileTable) → with_columns (with_names (with_names [] is) os) ts ≡ with_names [] (is ++ (os ++ flat_map columns_of ts))
-with_names_of is os ts =
-    with_columns_are (with_names (with_names [] is) os) ts
-    ∙ sym (with_names_append [] is (os ++ flat_map columns_of ts) ∙ with_names_append (with_names [] is) os (flat_map columns_of ts))
+-- one more command, whose nets are given in two parts
+pub with_named_more : (names : List (List ℕ)) (ns : List Naming) (i : ℕ) (n : Naming) (us ws : List (List ℕ)) → i < length ns → n ≡ get_or ns i n
+    → n.nets ≡ us ++ ws
+    → with_named names (drop i ns) ≡ with_named (with_names (with_names names us) ws) (drop (i + 1) ns)
+with_named_more names ns i n us ws lt is parts =
+    let rest = drop (i + 1) ns in
+    ap (with_named names) (drop_more ns i n lt ∙ ap (λ (x : Naming). x ∷ rest) (sym is))
+    ∙ ap (λ xs. with_named xs rest) (ap (with_names names) parts ∙ with_names_append names us ws)
 
-new_head : (names ws : List (List ℕ)) (w : List ℕ) (known : Bool) → among w names ≡ known → names_differ (names ++ w ∷ ws) ≡ true → (if known then names else names ++ w ∷ []) ≡ names ++ w ∷ []
+-- inputs, outputs and what commands name
+pub with_names_of : (is os : List (List ℕ)) (ns : List Naming)
+    → with_named (with_names (with_names [] is) os) ns ≡ with_names [] (is ++ (os ++ flat_map (λ x. x.nets) ns))
+with_names_of is os ns =
+    with_named_are (with_names (with_names [] is) os) ns
+    ∙ sym (with_names_append [] is (os ++ flat_map (λ x. x.nets) ns) ∙ with_names_append (with_names [] is) os (flat_map (λ x. x.nets) ns))
+
+new_head : (names ws : List (List ℕ)) (w : List ℕ) (known : Bool) → among w names ≡ known → names_differ (names ++ w ∷ ws) ≡ true
+    → (if known then names else names ++ w ∷ []) ≡ names ++ w ∷ []
 new_head names ws w false e d = refl
 new_head names ws w true e d = absurd (false≢true (sym (differ-repeated names ws w e) ∙ d))
 
@@ -47,7 +54,8 @@ or_same false true h = refl
 or_same true false h = h refl
 or_same true true h = refl
 
-among_if : (w u : List ℕ) (names : List (List ℕ)) (known : Bool) → among u names ≡ known → among w (if known then names else names ++ u ∷ []) ≡ (among w names || (same_word w u || false))
+among_if : (w u : List ℕ) (names : List (List ℕ)) (known : Bool) → among u names ≡ known
+    → among w (if known then names else names ++ u ∷ []) ≡ (among w names || (same_word w u || false))
 among_if w u names true e = or_same (same_word w u) (among w names) (λ s. ap (λ x. among x names) (same_word_is w u s) ∙ e)
 among_if w u names false e = among-append w names (u ∷ [])
 

@@ -41,7 +41,8 @@ row_at es names k e h =
     (slice_get-map (columns_in names) es k ∙ ap (option_map (columns_in names)) h)
 
 -- a column by name is one by number
-pub reads_number : (es : List Entry) (names : List (List ℕ)) (net above : List ℕ) → AreNets es names → list_any (entry_reads net above) es ≡ true → has_id (row (columns_of es names) (number_in names net)) (number_in names above) ≡ true
+pub reads_number : (es : List Entry) (names : List (List ℕ)) (net above : List ℕ) → AreNets es names → list_any (entry_reads net above) es ≡ true
+    → has_id (row (columns_of es names) (number_in names net)) (number_in names above) ≡ true
 reads_number es names net above a h =
     let f = found (entry_reads net above) es h in
     let p = and_parts (same_word net f.item.name) (among above f.item.above) f.passes in
@@ -59,7 +60,8 @@ pub record ReadsName (es : List Entry) (names : List (List ℕ)) (n m : ℕ) : T
   pub above_known : among above names ≡ true
   pub reads : list_any (entry_reads net above) es ≡ true
 
-reads_at : (es : List Entry) (names : List (List ℕ)) (n m : ℕ) (e : Entry) → AreNets es names → slice_get es n ≡ Some e → has_id (columns_in names e) m ≡ true → ReadsName es names n m
+reads_at : (es : List Entry) (names : List (List ℕ)) (n m : ℕ) (e : Entry) → AreNets es names → slice_get es n ≡ Some e → has_id (columns_in names e) m ≡ true
+    → ReadsName es names n m
 reads_at es names n m e a at h =
     let b = numbered_by names e.above m h in
     let r : list_any (entry_reads e.name b.name) es ≡ true = any_passes_from_place (entry_reads e.name b.name) es n e at (and_from _ _ (same_word_refl e.name) b.among_them) in
@@ -90,7 +92,8 @@ reads_name es names n m a h =
     (cases_lt n (length es))
 
 -- ranks by number are ranks by name
-pub ranked_by_name : (m : FileModel) (names : List (List ℕ)) → AreNets (entries m) names → IsRanked (reads_by (columns_of (entries m) names)) → IsRanked (reads m)
+pub ranked_by_name : (m : FileModel) (names : List (List ℕ)) → AreNets (entries m) names → IsRanked (reads_by (columns_of (entries m) names))
+    → IsRanked (reads m)
 ranked_by_name m names a r = record {
   rank = λ net. r.rank (number_in names net);
   falls = λ net above h. r.falls (number_in names net) (number_in names above) (reads_number (entries m) names net above a (reads_are m net above ∙ h));
@@ -102,7 +105,8 @@ columns_below es names a =
     all_from (λ ns. All (λ (c : NetId). c.0 < length (columns_of es names)) ns) (columns_of es names)
     (λ k ns at. all_from (λ (c : NetId). c.0 < length (columns_of es names)) ns (λ j c there. below k ns at j c there))
   where
-    below : (k : ℕ) (ns : List NetId) → slice_get (columns_of es names) k ≡ Some ns → (j : ℕ) (c : NetId) → slice_get ns j ≡ Some c → c.0 < length (columns_of es names)
+    below : (k : ℕ) (ns : List NetId) → slice_get (columns_of es names) k ≡ Some ns → (j : ℕ) (c : NetId) → slice_get ns j ≡ Some c
+        → c.0 < length (columns_of es names)
     below k ns at j c there =
         let r : row (columns_of es names) k ≡ ns = get_or_from_slice_get (columns_of es names) k ns [] at in
         let b = reads_name es names k c.0 a (ap (λ x. has_id x c.0) r ∙ any_passes_from_place (λ (x : NetId). nat_eq x.0 c.0) ns j c there (eq-eqb c.0 c.0 refl)) in

@@ -1,11 +1,13 @@
--- What a private function tells of a model with a cycle.
+-- What a private function tells of what is above what in a model.
 use Rattle.mv_design.specs.declared.design.FileModel.{FileModel}
 use Rattle.mv_fault.specs.declared.flat.FlatFault.{FlatFault}
-use Rattle.mv_fault.specs.declared.flat.FlatFault.TheVariants.{Cycle, Memory}
-use Rattle.mv_unfold.specs.Sound.{IsFirstOnCycle}
+use Rattle.mv_fault.specs.declared.flat.FlatFault.TheVariants.{Cycle, ResetReadsLatch, Memory}
+use Rattle.mv_graph.specs.Above.{IsAcyclic}
+use Rattle.mv_unfold.specs.Sound.{reads, IsFirstOnCycle, IsFirstReading}
 
--- want of memory, or the first net on a cycle
-abbrev pub TellsCycle : FileModel → FlatFault → Type 0
-TellsCycle m (Cycle net) = IsFirstOnCycle m net
-TellsCycle m Memory = Unit {0}
-TellsCycle m _ = ⊥
+-- want of memory; the first net on a cycle; or, where there is none, the first reset value with a latch above it
+abbrev pub TellsAbove : FileModel → FlatFault → Type 0
+TellsAbove m (Cycle net) = IsFirstOnCycle m net
+TellsAbove m (ResetReadsLatch latch reached) = IsAcyclic (reads m) × IsFirstReading m latch reached
+TellsAbove m Memory = Unit {0}
+TellsAbove m _ = ⊥

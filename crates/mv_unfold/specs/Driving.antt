@@ -7,7 +7,9 @@ use Rattle.mv_fault.specs.Tells.{when}
 use Rattle.mv_fault.specs.declared.flat.FlatFault.{FlatFault}
 use Rattle.mv_fault.specs.declared.flat.FlatFault.TheVariants.{DrivenTwice, Undriven}
 use Rattle.mv_unfold.specs.declared.drivers.Drivers.{Drivers}
+use Rattle.mv_design.specs.declared.design.FileLatch.{FileLatch}
 use Rattle.mv_design.specs.declared.table.FileTable.{FileTable}
+use Rattle.mv_design.specs.Nets.{Naming}
 
 -- names with one more behind them, if it isn't one of them
 abbrev pub with_name : List (List ℕ) → List ℕ → List (List ℕ)
@@ -18,10 +20,10 @@ abbrev pub with_names : List (List ℕ) → List (List ℕ) → List (List ℕ)
 with_names names [] = names
 with_names names (w ∷ ws) = with_names (with_name names w) ws
 
--- names with the columns of tables
-abbrev pub with_columns : List (List ℕ) → List FileTable → List (List ℕ)
-with_columns names [] = names
-with_columns names (t ∷ ts) = with_columns (with_names (with_names names t.inputs) t.outputs) ts
+-- names with those of commands
+abbrev pub with_named : List (List ℕ) → List Naming → List (List ℕ)
+with_named names [] = names
+with_named names (n ∷ ns) = with_named (with_names names n.nets) ns
 
 -- the driven nets with one driver more
 abbrev pub with_driver : Drivers → List ℕ → Drivers
@@ -31,6 +33,11 @@ with_driver d w = record { driven = with_name d.driven w; twice = if among w d.d
 abbrev pub with_drivers : Drivers → List (List ℕ) → Drivers
 with_drivers d [] = d
 with_drivers d (w ∷ ws) = with_drivers (with_driver d w) ws
+
+-- the driven nets with the outputs of these latches more
+abbrev pub with_latches : Drivers → List FileLatch → Drivers
+with_latches d [] = d
+with_latches d (l ∷ ls) = with_latches (with_driver d l.output) ls
 
 -- the driven nets with the outputs of these tables more
 abbrev pub with_tables : Drivers → List FileTable → Drivers

@@ -4,3 +4,4 @@ pub mod Numbers
 pub mod Driving
 pub mod Columns
 pub mod Cycles
+pub mod Alone

@@ -1,8 +1,9 @@
--- When a model is sound: each net that it names is driven exactly once, and none is above itself. These are models without
--- latches, resets and instances: the grammar gives no others.
-use Rattle.std.specs.Prelude.{◌≡◌, ℕ, ◌+◌, ◌≤◌, Bool, true, ◌&&◌, ◌==◌, nat_lt, Some, List, [], ◌∷◌, ◌++◌, length, take}
-use Rattle.std.specs.List.{list_any, flat_map}
-use Rattle.mv_base.specs.Names.{among}
+-- When a model is sound: each net that it names is driven exactly once, each reset table has a latch, and each latch one reset
+-- table at most, no net is above itself, and no latch above a reset value. These are models without instances: the grammar
+-- gives no others.
+use Rattle.std.specs.Prelude.{◌≡◌, ◌⊎◌, ℕ, ◌+◌, ◌≤◌, Bool, true, not, ◌&&◌, ◌==◌, nat_lt, Some, List, [], ◌∷◌, ◌++◌, length, map, take, All}
+use Rattle.std.specs.List.{list_all, list_any, flat_map}
+use Rattle.mv_base.specs.Names.{among, names_differ}
 use Rattle.mv_base.specs.declared.limits.TheConstants.{MAX_FLAT_NETS, MAX_FLAT_NAME_BYTES}
 use Rattle.mv_fault.specs.Tells.{when, first}
 use Rattle.mv_fault.specs.declared.fault.Which.TheVariants.{Nets, NetName}
@@ -11,8 +12,8 @@ use Rattle.mv_design.specs.declared.design.FileModel.{FileModel}
 use Rattle.mv_design.specs.declared.design.Design.{Design}
 use Rattle.mv_design.specs.declared.table.FileTable.{FileTable}
 use Rattle.mv_fault.specs.declared.flat.FlatFault.{FlatFault}
-use Rattle.mv_fault.specs.declared.flat.FlatFault.TheVariants.{DrivenTwice, Undriven, Cycle, Limit, Memory}
-use Rattle.mv_design.specs.Nets.{root_of, nets_of, drivers_of}
+use Rattle.mv_fault.specs.declared.flat.FlatFault.TheVariants.{DrivenTwice, Undriven, NoLatch, ResetTwice, Cycle, ResetReadsLatch, Limit, Memory}
+use Rattle.mv_design.specs.Nets.{root_of, nets_of, drivers_of, output_of, latch_outputs}
 
 -- `net` is an output of the table, and `above` an input of it
 abbrev pub reads_through : List ℕ → List ℕ → FileTable → Bool
@@ -29,6 +30,30 @@ pub record IsFirstOnCycle (m : FileModel) (net : List ℕ) : Type 0 where
   pub after : List (List ℕ)
   pub place : nets_of m ≡ before ++ net ∷ after
   pub least : (w : List ℕ) → among w before ≡ true → IsAbove (reads m) w w → ⊥
+
+-- the net is above the reset value that the table gives: it is a column of the table, or above one
+pub record IsAboveReset (m : FileModel) (reset : FileTable) (net : List ℕ) : Type 0 where
+  pub column : List ℕ
+  pub listed : among column reset.inputs ≡ true
+  pub above : (net ≡ column) ⊎ IsAbove (reads m) net column
+
+-- a latch's output isn't above a reset value
+abbrev pub StandsAlone : FileModel → FileTable → Type 0
+StandsAlone m reset = (latch : List ℕ) → among latch (latch_outputs m) ≡ true → IsAboveReset m reset latch → ⊥
+
+-- the first reset table with a latch output above its reset value, and the first such output in the order of the latches
+pub record IsFirstReading (m : FileModel) (latch reached : List ℕ) : Type 0 where
+  pub reset : FileTable
+  pub before : List FileTable
+  pub after : List FileTable
+  pub place : m.resets ≡ before ++ reset ∷ after
+  pub is : latch ≡ output_of reset
+  pub earlier : All (StandsAlone m) before
+  pub lower : List (List ℕ)
+  pub higher : List (List ℕ)
+  pub listed : latch_outputs m ≡ lower ++ reached ∷ higher
+  pub above : IsAboveReset m reset reached
+  pub least : (w : List ℕ) → among w lower ≡ true → IsAboveReset m reset w → ⊥
 
 -- the fault of a net that is driven more than once
 abbrev pub twice_at : FileModel → List ℕ → List FlatFault
@@ -55,10 +80,24 @@ many_faults m = when (nat_lt MAX_FLAT_NETS (length (nets_of m))) (Limit Nets (MA
 unfoldable pub limit_faults : FileModel → List FlatFault
 limit_faults m = long_faults (take MAX_FLAT_NETS (nets_of m)) ++ many_faults m
 
--- the faults of a model's nets, cycles aside, in the order in which they are told: a limit is passed; a net is driven twice;
--- a net isn't driven
+-- the faults of reset tables, where these latches are in the model, and those have a reset table already: one whose output
+-- is no latch, and a second one of a latch
+abbrev pub latch_faults : List (List ℕ) → List (List ℕ) → List (List ℕ) → List FlatFault
+latch_faults latches seen [] = []
+latch_faults latches seen (w ∷ ws) = when (not (among w latches)) (NoLatch w) ++ (when (among w seen) (ResetTwice w) ++ latch_faults latches (seen ++ w ∷ []) ws)
+
+-- the latches that the reset tables of a model name, in order
+abbrev pub resets_named : FileModel → List (List ℕ)
+resets_named m = map output_of m.resets
+
+-- the faults of a model's reset tables
+unfoldable pub reset_faults : FileModel → List FlatFault
+reset_faults m = latch_faults (latch_outputs m) [] (resets_named m)
+
+-- the faults of a model's nets and reset tables, but for what is above what, in the order in which they are told: a limit is
+-- passed; a net is driven twice; a net isn't driven; a reset table has no latch, or isn't the only one of its latch
 unfoldable pub net_faults : FileModel → List FlatFault
-net_faults m = limit_faults m ++ (flat_map (twice_at m) (nets_of m) ++ flat_map (undriven_at m) (nets_of m))
+net_faults m = limit_faults m ++ (flat_map (twice_at m) (nets_of m) ++ (flat_map (undriven_at m) (nets_of m) ++ reset_faults m))
 
 -- the nets of a model pass no limit: there aren't too many, and no name is too long
 pub record IsWithinLimits (m : FileModel) : Type 0 where
@@ -69,23 +108,39 @@ pub record IsWithinLimits (m : FileModel) : Type 0 where
 pub record IsDrivenOnce (m : FileModel) : Type 0 where
   pub once : (net : List ℕ) → among net (nets_of m) ≡ true → drivers_of m net ≡ 1
 
--- a sound model: each net is driven once, and none is above itself
+-- each reset table is that of a latch of the model, and no latch has two
+pub record HasResetsOfLatches (m : FileModel) : Type 0 where
+  pub latches : list_all (λ w. among w (latch_outputs m)) (resets_named m) ≡ true
+  pub differ : names_differ (resets_named m) ≡ true
+
+-- a sound model: each net is driven once, each reset table has its own latch, no net is above itself, and no latch's output
+-- above a reset value
 pub record IsSoundModel (m : FileModel) : Type 0 where
   pub driven : IsDrivenOnce m
+  pub resets : HasResetsOfLatches m
   pub acyclic : IsAcyclic (reads m)
+  pub alone : All (StandsAlone m) m.resets
 
 -- a sound design: in this version its root is its only model
 pub record IsSound (d : Design) : Type 0 where
   pub root : IsSoundModel (root_of d)
 
--- the nets of the model have no other fault, and this is the first one on a cycle
+-- there is no fault but for what is above what, and this is the first net on a cycle
 pub record HasCycle (m : FileModel) (net : List ℕ) : Type 0 where
   pub none : net_faults m ≡ []
   pub first : IsFirstOnCycle m net
 
--- why a model is refused: the first fault of its nets, or, where they have none, the first net on a cycle; for want of
--- memory any may be
+-- there is no other fault, and this is the first latch whose reset value has a latch's output above it, and the first such
+-- output
+pub record HasReadingReset (m : FileModel) (latch reached : List ℕ) : Type 0 where
+  pub none : net_faults m ≡ []
+  pub acyclic : IsAcyclic (reads m)
+  pub first : IsFirstReading m latch reached
+
+-- why a model is refused: the first fault but for what is above what; where there is none, the first net on a cycle; where
+-- there is none either, the first reset value with a latch above it. For want of memory any may be
 abbrev pub IsFault : FileModel → FlatFault → Type 0
 IsFault m (Cycle net) = HasCycle m net
+IsFault m (ResetReadsLatch latch reached) = HasReadingReset m latch reached
 IsFault m Memory = Unit {0}
 IsFault m f = first (net_faults m) ≡ Some f

@@ -1,37 +1,44 @@
 //! The columns of each net's table by number.
-ghost use Rattle.std.specs.Prelude.{◌≡◌, ◌≤◌, ◌++◌, length, map, IfOk, OnOk};
+ghost use Rattle.std.specs.Prelude.{◌≡◌, ◌≤◌, ◌++◌, [], length, replicate, IfOk, OnOk};
 ghost use Rattle.std.specs.List.{flat_map};
 ghost use Rattle.mv_base.specs.declared.limits.TheConstants.{MAX_FLAT_NETS};
-ghost use Rattle.mv_unfold.specs.Columns.{columns_by_net, driven_columns, no_columns, table_columns};
+ghost use Rattle.mv_design.specs.Nets.{drivers};
+ghost use Rattle.mv_unfold.specs.Columns.{columns_by_net, driven_columns, table_columns};
 
 use crate::Numbers;
-use mv_base::{Items, MAX_FLAT_NETS, Memory, Name, NetId};
+use mv_base::{Items, MAX_FLAT_NETS, Memory, NetId};
 use mv_design::{FileModel, FileTable};
 use std::alloc::Global;
 
-/// The columns of each driven net by number: none for an input.
+/// The columns of each driven net by number: none for an input and for the output of a latch.
+#[tactic(auto, using(crate::proofs::Latches::few_open))]
 pub fn columns(
     alloc: Global,
     numbers: &Numbers,
     model: &FileModel,
 ) -> Result<Items<Items<NetId>>, Memory>
-    requires { length numbers.now ≤ MAX_FLAT_NETS }
+    requires numbers { numbers.now ≡ drivers model.now }
+    requires few { length numbers.now ≤ MAX_FLAT_NETS }
     ensures { IfOk result (λ columns. columns ≡ columns_by_net numbers.now model.now) }
 {
-    let mut columns = columns_of_inputs(alloc, model.inputs.as_slice())?;
+    let mut columns = Items::new(alloc);
+    add_open(
+        alloc,
+        &mut columns,
+        model.inputs.len() + model.latches.len(),
+    )?;
     add_tables(alloc, &mut columns, numbers, model.tables.as_slice())?;
     Ok(columns)
 }
 
-/// No columns for each of the inputs.
-fn columns_of_inputs(alloc: Global, inputs: &[Name]) -> Result<Items<Items<NetId>>, Memory>
-    ensures { IfOk result (λ columns. columns ≡ map no_columns inputs.now) }
+/// No columns for each of so many nets.
+fn add_open(alloc: Global, columns: &mut Items<Items<NetId>>, count: usize) -> Result<(), Memory>
+    ensures { OnOk result (columns.new ≡ columns.old ++ replicate count []) }
 {
-    let mut columns = Items::new(alloc);
-    for _input in inputs {
+    for _net in 0..count {
         columns.push(Items::new(alloc))?;
     }
-    Ok(columns)
+    Ok(())
 }
 
 /// Adds the columns of each table.

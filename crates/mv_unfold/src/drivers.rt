@@ -1,14 +1,16 @@
-//! The faults of a model's nets: limits that they pass, and nets that are driven twice or by nothing.
+//! The faults of a model's nets and reset tables: limits that the nets pass, nets that are driven twice or by nothing, and
+//! reset tables that have no latch, or not one of their own.
 ghost use Rattle.std.specs.Prelude.{◌≡◌, [], IfOk, OnOk};
 ghost use Rattle.mv_fault.specs.Tells.{TellsFirst};
 ghost use Rattle.mv_design.specs.Nets.{nets_of, drivers};
 ghost use Rattle.mv_unfold.specs.Sound.{net_faults};
-ghost use Rattle.mv_unfold.specs.Driving.{AreDriven, twice_faults, undriven_faults, with_driver, with_drivers, with_names, with_tables};
+ghost use Rattle.mv_unfold.specs.Driving.{AreDriven, twice_faults, undriven_faults, with_driver, with_drivers, with_latches, with_names, with_tables};
 
 use crate::limits::check_limits;
 use crate::nets::add_net;
+use crate::resets::check_resets;
 use mv_base::{Memory, Name, NameSet};
-use mv_design::{FileModel, FileTable};
+use mv_design::{FileLatch, FileModel, FileTable};
 use mv_fault::FlatFault;
 use std::alloc::Global;
 
@@ -19,14 +21,14 @@ pub struct Drivers {
     twice: NameSet,
 }
 
-/// The driven nets of the model, each once; or the first fault of its nets, cycles aside.
+/// The driven nets of the model, each once; or the first fault but for what is above what.
 pub fn check_nets(alloc: Global, model: &FileModel, nets: &NameSet) -> Result<NameSet, FlatFault>
     requires { nets.now ≡ nets_of model.now }
     ensures faults { TellsFirst FlatFault.Memory result (net_faults model.now) }
     ensures driven { IfOk result (λ driven. driven ≡ drivers model.now) }
 {
     let drivers = Drivers::of(alloc, model)?;
-    drivers.check(model, nets)?;
+    drivers.check(alloc, model, nets)?;
     Ok(drivers.driven)
 }
 
@@ -42,13 +44,14 @@ impl Drivers {
             twice: NameSet::new(alloc),
         };
         drivers.add_all(model.inputs.as_slice())?;
+        drivers.add_latches(model.latches.as_slice())?;
         drivers.add_tables(model.tables.as_slice())?;
         Ok(drivers)
     }
 
-    /// Tells the first fault of the model's nets, cycles aside.
+    /// Tells the first fault but for what is above what.
     #[tactic(auto, using(crate::proofs::Faults::told))]
-    fn check(&self, model: &FileModel, nets: &NameSet) -> Result<(), FlatFault>
+    fn check(&self, alloc: Global, model: &FileModel, nets: &NameSet) -> Result<(), FlatFault>
         requires nets { nets.now ≡ nets_of model.now }
         requires driven { AreDriven (drivers model.now) self.now }
         ensures { TellsFirst FlatFault.Memory result (net_faults model.now) }
@@ -56,6 +59,17 @@ impl Drivers {
         check_limits(nets, model)?;
         self.check_twice(nets.as_slice())?;
         self.check_undriven(nets.as_slice())?;
+        check_resets(alloc, model)?;
+        Ok(())
+    }
+
+    /// Adds the outputs of the latches.
+    fn add_latches(&mut self, latches: &[FileLatch]) -> Result<(), Memory>
+        ensures { OnOk result (self.new ≡ with_latches self.old latches.now) }
+    {
+        for latch in latches {
+            self.add(&latch.output)?;
+        }
         Ok(())
     }
 

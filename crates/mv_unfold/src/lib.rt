@@ -1,13 +1,16 @@
-//! Whether a design is sound: what its nets are, what drives them, and whether one is above itself. It knows of files alone,
-//! and nothing of covers and networks.
+//! Whether a design is sound: what its nets are, what drives them, whether one is above itself, and whether reset values
+//! stand apart from the latches. It knows of files alone, and nothing of covers and networks.
 #![tactic(auto)]
 
+mod alone;
 mod checking;
 mod columns;
 mod drivers;
 mod limits;
+mod naming;
 mod nets;
 mod numbers;
+mod resets;
 
 pub use checking::check;
 pub use nets::{add_net, add_nets};

@@ -1,10 +1,11 @@
 //! The nets of a model, each once, in the order in which it names them.
 ghost use Rattle.std.specs.Prelude.{◌≡◌, IfOk, OnOk};
 ghost use Rattle.mv_design.specs.Nets.{nets_of};
-ghost use Rattle.mv_unfold.specs.Driving.{with_name, with_names, with_columns};
+ghost use Rattle.mv_unfold.specs.Driving.{with_name, with_named, with_names};
 
+use crate::naming::{Naming, namings};
 use mv_base::{Memory, Name, NameSet};
-use mv_design::{FileModel, FileTable};
+use mv_design::FileModel;
 use std::alloc::Global;
 
 /// The nets of the model in order.
@@ -15,17 +16,19 @@ pub fn nets(alloc: Global, model: &FileModel) -> Result<NameSet, Memory>
     let mut nets = NameSet::new(alloc);
     add_nets(&mut nets, model.inputs.as_slice())?;
     add_nets(&mut nets, model.outputs.as_slice())?;
-    add_columns(&mut nets, model.tables.as_slice())?;
+    let namings = namings(alloc, model)?;
+    add_named(&mut nets, namings.as_slice())?;
     Ok(nets)
 }
 
-/// Adds the columns of the tables that aren't there yet.
-fn add_columns(nets: &mut NameSet, tables: &[FileTable]) -> Result<(), Memory>
-    ensures { OnOk result (nets.new ≡ with_columns nets.old tables.now) }
+/// Adds the nets that commands name and that aren't there yet.
+fn add_named(nets: &mut NameSet, namings: &[Naming<'_>]) -> Result<(), Memory>
+    ensures { OnOk result (nets.new ≡ with_named nets.old namings.now) }
 {
-    for table in tables {
-        add_nets(nets, table.inputs.as_slice())?;
-        add_nets(nets, table.outputs.as_slice())?;
+    for naming in namings {
+        let (inputs, outputs) = naming.parts();
+        add_nets(nets, inputs)?;
+        add_nets(nets, outputs)?;
     }
     Ok(())
 }

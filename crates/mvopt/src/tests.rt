@@ -4,6 +4,7 @@ mod commands;
 mod examples;
 mod faults;
 mod refusals;
+mod states;
 mod texts;
 
 use mv_base::{MemoryFiles, MemorySink};

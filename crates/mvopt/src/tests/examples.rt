@@ -54,6 +54,16 @@ const SWEPT: &str = "\
 .mv addr 3 CTRL DATA NONE;.table addr lock ready -> hit;.default 0;DATA 0 1 1;.table cmd hit -> load;\
 .default 0;WRITE 1 1;.table cmd hit -> send;.default 0;READ 1 1;.end; | \
 # begin sweep;wire op;remove op;collapse test;# end 8;# begin eliminate;collapse writing;# end 7;# done 12 7;
+-- A latch with a reset table, whose nets stay, and an inner net that goes.
+# A controller of four modes: told to go it loads and runs, is done, and waits again.;.model controller;.inputs go;\
+.outputs busy;.mv mode, next 4 IDLE LOAD RUN DONE;;# the mode is kept from step to step, and begins idle;\
+.latch next mode;.reset mode;IDLE;;# what is seen of it from outside;.table mode -> working;.default 0;\
+(LOAD,RUN) 1;.table working -> busy;- =working;;.table mode go -> next;IDLE 0 IDLE;IDLE 1 LOAD;LOAD - RUN;\
+RUN - DONE;DONE - IDLE;.end; | \
+.model controller;.inputs go;.outputs busy;.mv mode 4 IDLE LOAD RUN DONE;.mv next 4 IDLE LOAD RUN DONE;\
+.latch next mode;.reset -> mode;IDLE;.table mode -> busy;(IDLE,DONE) 0;(LOAD,RUN) 1;.table go mode -> next;\
+0 IDLE IDLE;1 IDLE LOAD;- LOAD RUN;- RUN DONE;- DONE IDLE;.end; | \
+# begin sweep;# end 10;# begin eliminate;collapse working;# end 9;# done 10 9;
 ";
 
 #[test]

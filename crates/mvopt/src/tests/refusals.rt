@@ -141,14 +141,14 @@ const REFUSED: &str = "\
 .gate x; | 5 UnknownCommand line 1 .gate
 .; | 5 UnknownCommand line 1 .
 .end; | 6 OutsideModel line 1
-.latch; | 39 NotBuilt line 1
+.latch; | 6 OutsideModel line 1
 .model m;.end;0 1; | 6 OutsideModel line 3
 .model m;.end;.end x; | 6 OutsideModel line 3
-.model m;.end;.model m; | 39 NotBuilt line 3
-.model m;.end;.root q; | 39 NotBuilt line 3
-.model m;.latch a; | 39 NotBuilt line 2
-.model m;.r s; | 39 NotBuilt line 2
-.model m;.reset; | 39 NotBuilt line 2
+.model m;.end;.model m; | 17 ModelTwice line 3 m
+.model m;.end;.root q; | 18 RootFault line 3 q
+.model m;.latch a; | 8 Missing line 2 .latch
+.model m;.r; | 8 Missing line 2 .r
+.model m;.reset; | 8 Missing line 2 .reset
 .model m;.subckt; | 39 NotBuilt line 2
 .model m;.table a, -> b c; | 39 NotBuilt line 2
 .model m;.model n; | 7 NoEnd line 1
@@ -161,11 +161,16 @@ const REFUSED: &str = "\
 .model a\\ b; | 36 BadName line 1 a\\
 .model m;.inputs a;.outputs z;.table a -> z;0 1; | 7 NoEnd line 1
 .model m;.end;.end; | 6 OutsideModel line 3
-.model m;.end;.model n;.end; | 39 NotBuilt line 3
+.model m;.end;.model m n; | 17 ModelTwice line 3 m
+.model m;.end;.model a=b c; | 36 BadName line 3 a=b
+.model m;.end;.model; | 8 Missing line 3 .model
+.model m;.end;.model n; | 7 NoEnd line 3
+.model m;.end;.model n;.inputs a a; | 19 Repeated line 4 a
+.subckt n u; | 39 NotBuilt line 1
 .model m=n;.end; | 36 BadName line 1 m=n
 .model m;.inputs a;0 1;.table a -> z;.end; | 37 NoTable line 3
 .model m;.inputs a\\ b;.end; | 36 BadName line 2 a\\
-.model m;.inputs a;.outputs z;.latch a z 0;.end; | 39 NotBuilt line 4
+.model m;.inputs a;.outputs z;.latch a z 0;.end; | 9 Extra line 4 .latch
 -- Names and declarations are judged from left to right, commas with the word that they stand in.
 .model m;.inputs a;.inputs b a; | 19 Repeated line 3 a
 .model m;.inputs a a b,; | 19 Repeated line 2 a
@@ -210,6 +215,29 @@ const REFUSED: &str = "\
 .model m;.table -> z;.def 0 1; | 9 Extra line 3 .def
 .model m;.table -> z;.default 0;.default; | 16 DefaultTwice line 4
 .model m;.table a -> z;0 1 0; | 13 Columns line 3 2 3
+-- A root is named once, inside or outside a model, and has to be one.
+.root; | 8 Missing line 1 .root
+.root a=b c; | 36 BadName line 1 a=b
+.root m n; | 9 Extra line 1 .root
+.root m;.model m;.root n x; | 18 RootFault line 3 n
+.root m;.root .n; | 36 BadName line 2 .n
+.root m; | 20 NoModel line 1
+.model m;.root q;.end;.model n;.end; | 18 RootFault line 2 q
+.model m;.root q; | 7 NoEnd line 1
+.model m;.table -> z;.root m;0; | 37 NoTable line 4
+-- A model that the root doesn't reach is judged by its lines all the same.
+.model m;.end;.model n;.table a -> z;2 0;.end; | 14 UnknownValue line 5 2
+-- Latches and reset tables are judged from left to right too.
+.model m;.latch a .b; | 36 BadName line 2 .b
+.model m;.latch a, ; | 36 BadName line 2 a,
+.model m;.latch a b .c; | 9 Extra line 2 .latch
+.model m;.reset a -> s t; | 9 Extra line 2 .reset
+.model m;.reset a -> s ->; | 9 Extra line 2 .reset
+.model m;.reset .a -> s t; | 36 BadName line 2 .a
+.model m;.r a ->; | 8 Missing line 2 .r
+.model m;.reset a s;0 1 0; | 13 Columns line 3 2 3
+.model m;.r -> s;.latch d s;0; | 37 NoTable line 4
+.model m;.r -> s;.default 0;.def 0; | 16 DefaultTwice line 4
 -- Values are judged at the end of their model, the default first.
 .model m;.table a -> z;2 0; | 7 NoEnd line 1
 .model m;.table a -> z;2 0;.table b -> y;0; | 13 Columns line 5 2 1
@@ -237,6 +265,13 @@ const REFUSED: &str = "\
 .model m;.mv x 5 a b a-b c d;.table x -> z;!(,a) 1;.end; | 14 UnknownValue line 4\x20
 .model m;.mv x 5 a b a-b c d;.table x -> z;{-} 1;.end; | 14 UnknownValue line 4 -
 .model m;.mv x 5 a b a-b c d;.table x -> z;{} 1;.end; | 14 UnknownValue line 4\x20
+-- Rows, defaults and latches are judged line by line together.
+.model m;.inputs p;.mv p 3;.latch p q;.end; | 38 LatchValues line 4 p q
+.model m;.mv d 3;.table a -> z;2 0;.latch d s;.end; | 14 UnknownValue line 4 2
+.model m;.mv d 3;.latch d s;.table a -> z;2 0;.end; | 38 LatchValues line 3 d s
+.model m;.r i -> s;2 1;.mv d 3;.latch d s;.end; | 14 UnknownValue line 3 2
+.model m;.latch d s;.r i -> s;.default 2;.end; | 14 UnknownValue line 4 2
+.model m;.latch d s;.r i -> s;- =j;.end; | 15 BadEqual line 4 j
 -- What a bracketed word and a joined line are.
 .model m;.inputs !!{ x\t}!y; | 36 BadName line 2 !!{x}
 .model m;.inputs (a\\b \\c\rd); | 36 BadName line 2 (a\\b\\cd)
@@ -275,6 +310,31 @@ const UNSOUND: &str = "\
 -- A cycle of an earlier net is told, also where another is found first.
 .model m;.outputs r u;.table s -> r;.table s t -> s;.default =s;.table u -> t;.table t -> u;.end; | 30 Cycle u
 .model m;.inputs a;.outputs r;.table x -> r;.table u a -> x;.table v -> u;.table u -> v;.table x -> s;.end; | 30 Cycle u
+-- A latch drives its output, and a reset table drives nothing.
+.model m;.inputs d s;.latch d s;.end; | 28 DrivenTwice s
+.model m;.inputs d e;.latch d s;.latch e s;.end; | 28 DrivenTwice s
+.model m;.inputs d;.latch d s;.table -> s;0;.end; | 28 DrivenTwice s
+.model m;.latch d s;.end; | 29 Undriven d
+.model m;.r i -> s;0 1;.end; | 29 Undriven i
+.model m;.latch d s;.latch e t;.table -> q;0;.end; | 29 Undriven d
+-- The nets stand in the order of lines, those of a latch where it stands.
+.model m;.table u -> z;0 1;.latch d s;.end; | 29 Undriven u
+.model m;.latch d s;.table u -> z;0 1;.end; | 29 Undriven d
+.model m;.r u -> s;0 1;.latch d s;.end; | 29 Undriven u
+-- A reset table is that of a latch, and no latch has two.
+.model m;.inputs d;.r d;0;.end; | 33 NoLatch d
+.model m;.inputs d;.latch d s;.r s;0;.r s;1;.end; | 32 ResetTwice s
+.model m;.inputs d;.latch d s;.r s;0;.r s;1;.r d;0;.end; | 32 ResetTwice s
+.model m;.inputs d;.latch d s;.r d;0;.r s;1;.r s;0;.end; | 33 NoLatch d
+.model m;.inputs d;.table z -> z;- 0;.r d;0;.end; | 33 NoLatch d
+-- No latch is above a reset value, however far.
+.model m;.inputs d;.latch d s;.r s -> s;- 0;.end; | 31 ResetReadsLatch s s
+.model m;.inputs d;.latch d s;.latch d t;.r p -> s;0 1;.table q -> p;- 0;.table t -> q;- 1;.end; | 31 ResetReadsLatch s t
+.model m;.inputs d;.r t u -> t;- - 0;.latch d u;.latch d t;.end; | 31 ResetReadsLatch t u
+.model m;.inputs d;.latch d s;.latch d t;.r -> s;0;.r p q -> t;- - 0;.table t -> p;- 0;.table s -> q;- 0;.end; | 31 ResetReadsLatch t s
+.model m;.inputs d;.latch d s;.r s -> s;- 0;.table z -> z;- 0;.end; | 30 Cycle z
+-- Only the root has to be sound.
+.root n;.model m;.outputs z;.end;.model n;.outputs y;.end; | 29 Undriven y
 ";
 
 #[test]
@@ -413,6 +473,24 @@ fn networks_have_limits(rt: HostRuntime) -> Result<(), Fail> {
     is_past(&rt, alloc, wide_table(alloc, 256)?, columns)?;
     let lines = "21 Limit line 65541 TableLines 65537";
     is_past(&rt, alloc, long_table(alloc, 65_537)?, lines)
+}
+
+/// A file of so many models.
+fn many_models(alloc: Global, models: u32) -> Result<Vec<u8>, Fail> {
+    let mut text = Vec::new(alloc);
+    for model in 0..models {
+        text.extend_from_slice(format!(in alloc; ".model m{model}\n.end\n")?.as_bytes())?;
+    }
+    Ok(text)
+}
+
+#[test]
+fn a_file_has_a_limit_of_models(rt: HostRuntime) -> Result<(), Fail> {
+    let net = many_models(rt.alloc(), 4_096)?;
+    let first = written(b".model m0\n.inputs\n.outputs\n.end\n", b"# done 0 0\n");
+    ends(&rt, rt.alloc(), opt(net.as_slice(), b""), first)?;
+    let net = many_models(rt.alloc(), 4_097)?;
+    is_past(&rt, rt.alloc(), net, "21 Limit line 8193 Models 4097")
 }
 
 #[test]

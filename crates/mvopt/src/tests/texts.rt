@@ -103,6 +103,10 @@ fn each_command_notes_its_part(rt: HostRuntime) -> Result<(), Fail> {
 
 /// Network files, what is written of them, and what the notes say.
 const WRITTEN: &str = "\
+-- The first model is the root, unless a line names another; one that isn't reached need not be sound.
+.model m;.inputs a;.outputs z;.table a -> z;0 1;.end;.model n;.outputs y;.end; | .model m;.inputs a;.outputs z;.table a -> z;0 1;.end; | # done 1 1;
+.model m;.outputs z;.end;.root n;.model n;.inputs b;.outputs b;.end; | .model n;.inputs b;.outputs b;.end; | # done 0 0;
+.model m;.outputs z;.root n;.end;.model n;.inputs b;.outputs b;.end; | .model n;.inputs b;.outputs b;.end; | # done 0 0;
 -- Blanks go, and columns stand in the order of the nets.
  .model\tm \r;;.inputs b a;.outputs z;.table y ->  z;1 0;0 1;.table a b -> y;1 - 1;0 0 0;.table -> c;1;.end | \
 .model m;.inputs b a;.outputs z;.table y -> z;1 0;0 1;.table b a -> y;- 1 1;0 0 0;.table -> c;1;.end; | \

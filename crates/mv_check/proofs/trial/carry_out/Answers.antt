@@ -1,9 +1,6 @@
--- The network that the steps left has no latches either.
-use Rattle.mv_check.proofs.Trials.{no_latches, tried, trial_cut}
+-- What was put to the notes and to the output comes behind the steps.
+use Rattle.mv_check.proofs.Trials.{tried, trial_cut}
 use Rattle.mv_check.proofs.trial.carry_out.Goals as goal
-
-pub reads_back-requires : goal.reads_back-requires
-reads_back-requires g c = no_latches _ _ _ c.requires c.in-Ok.ensures.replays
 
 pub returns-in-Ok-finish-clause-ok : goal.returns-in-Ok-finish-clause-ok
 returns-in-Ok-finish-clause-ok g c =

@@ -1,11 +1,6 @@
--- The network that the commands left has no latches either, and what was put to the notes and to the output comes behind
--- what the commands put.
-use Rattle.mv_opt.proofs.CommandRuns.{runs_latches}
+-- What was put to the notes and to the output comes behind what the commands put.
 use Rattle.mv_opt.proofs.Works.{work_done, work_cut}
 use Rattle.mv_opt.proofs.work.carry_out.Goals as goal
-
-pub reads_back-requires : goal.reads_back-requires
-reads_back-requires g c = runs_latches _ _ _ _ c.requires.latches c.in-Ok.ensures.ok.runs
 
 pub returns-in-Ok-finish-clause-ok : goal.returns-in-Ok-finish-clause-ok
 returns-in-Ok-finish-clause-ok g c =

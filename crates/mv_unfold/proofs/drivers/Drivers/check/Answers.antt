@@ -2,10 +2,10 @@
 use Rattle.std.proofs.Common.{◌∙◌, sym, ap}
 use Rattle.std.proofs.lemmas.Result.{err_from_is_err_and}
 use Rattle.mv_unfold.specs.Driving.{twice_faults, undriven_faults}
-use Rattle.mv_unfold.specs.Sound.{net_faults}
+use Rattle.mv_unfold.specs.Sound.{reset_faults, net_faults}
 use Rattle.mv_fault.proofs.Firsts.{told_of}
 use Rattle.mv_fault.specs.declared.flat.FlatFault.TheVariants.{Memory}
-use Rattle.mv_unfold.proofs.Faults.{twice_told, undriven_told}
+use Rattle.mv_unfold.proofs.Faults.{twice_told, undriven_told, reset_told}
 use Rattle.mv_unfold.proofs.drivers.Drivers.check.Goals as goal
 
 pub returns-in_err-check_twice : goal.returns-in_err-check_twice
@@ -28,3 +28,15 @@ returns-in_err-check_undriven c =
     (λ f. undriven_told m _ d f (c.as_slice-2.ensures ∙ c.requires.nets) c.requires.driven c.in_ok-check_limits.ensures
     (ap (twice_faults d) (c.as_slice-2.ensures ∙ sym c.as_slice.ensures) ∙ c.in_ok-check_twice.ensures))
     c.in_err-check_undriven.ensures)
+
+pub returns-in_err-check_resets : goal.returns-in_err-check_resets
+returns-in_err-check_resets c =
+    let m = c.args.model.now in
+    let d = c.args.self.now in
+    let e = err_from_is_err_and c.from_residual-in_err-check_resets.result c.from_residual-in_err-check_resets.ensures.1 in
+    rw (e.1, e.2)
+    (told_of Memory _ (reset_faults m) (net_faults m)
+    (λ f. reset_told m _ d f (c.as_slice-2.ensures ∙ c.requires.nets) c.requires.driven c.in_ok-check_limits.ensures
+    (ap (twice_faults d) (c.as_slice-2.ensures ∙ sym c.as_slice.ensures) ∙ c.in_ok-check_twice.ensures)
+    c.in_ok-check_undriven.ensures)
+    c.in_err-check_resets.ensures)

@@ -1,0 +1,42 @@
+-- What is said of the nets of a model by name, and of the marks by the names of their tables' outputs, said by number.
+use Rattle.std.proofs.Common.{◌≡◌, ℕ, true, false, List, [], ◌∷◌, get_or, Some, refl, ◌∙◌, ap}
+use Rattle.std.specs.Prelude.{if◌then◌else◌, ◌==◌}
+use Rattle.std.specs.List.{slice_get}
+use Rattle.std.proofs.lemmas.Bool.{cond-false}
+use Rattle.mv_base.specs.Names.{among}
+use Rattle.mv_design.specs.declared.design.FileModel.{FileModel}
+use Rattle.mv_design.specs.declared.table.FileTable.{FileTable}
+use Rattle.mv_design.specs.Nets.{nets_named, output_of}
+use Rattle.mv_net.specs.declared.parts.NetParts.{NetParts}
+use Rattle.mv_unfold.specs.Numbers.{number_in}
+use Rattle.mv_unfold.proofs.Listed.{name_at}
+use Rattle.mv_flat.specs.Numbers.{mark_name, mark_at}
+use Rattle.mv_flat.specs.Places.{places, has_mark}
+use Rattle.mv_flat.proofs.Lawful.{is_spaced, flat_unspaced}
+use Rattle.mv_flat.proofs.Numbered.{mark_number}
+use Rattle.mv_flat.proofs.Places.{IsModelNet, table_of, named_file}
+use Rattle.mv_flat.proofs.Naming.{named_flat}
+
+-- of a name among the names by number
+abbrev pub of_name : {X : Type 0} → (List ℕ → X) → (List ℕ → X) → List ℕ → X
+of_name of_net of_mark [] = of_net []
+of_name of_net of_mark (b ∷ bs) = if b == 32 then of_mark bs else of_net (b ∷ bs)
+
+-- and of a number
+abbrev pub of_number : {X : Type 0} → FileModel → (List ℕ → X) → (List ℕ → X) → ℕ → X
+of_number m of_net of_mark n = of_name of_net of_mark (get_or (places m) n [])
+
+unspaced : {X : Type 0} (of_net of_mark : List ℕ → X) (w : List ℕ) → is_spaced w ≡ false → of_name of_net of_mark w ≡ of_net w
+unspaced of_net of_mark [] h = refl
+unspaced of_net of_mark (b ∷ bs) h = cond-false (b == 32) _ _ h
+
+pub at_net : {X : Type 0} (m : FileModel) (net : NetParts) → IsModelNet m net → (of_net of_mark : List ℕ → X) (w : List ℕ) → among w (nets_named m) ≡ true
+    → of_number m of_net of_mark (number_in (places m) w) ≡ of_net w
+at_net m net is of_net of_mark w h =
+    ap (of_name of_net of_mark) (name_at (places m) w (named_file m net is w h).listed) ∙ unspaced of_net of_mark w (flat_unspaced w (named_flat m net is w h))
+
+pub at_mark : {X : Type 0} (m : FileModel) (net : NetParts) → IsModelNet m net → (of_net of_mark : List ℕ → X) (k : ℕ) (t : FileTable)
+    → slice_get m.tables k ≡ Some t → has_mark m.decls t ≡ true → of_number m of_net of_mark (mark_at (places m) t).0 ≡ of_mark (output_of t)
+at_mark m net is of_net of_mark k t e may =
+    let listed = (table_of m net is k t e).marked may in
+    ap (of_number m of_net of_mark) (mark_number (places m) t listed) ∙ ap (of_name of_net of_mark) (name_at (places m) (mark_name (output_of t)) listed)

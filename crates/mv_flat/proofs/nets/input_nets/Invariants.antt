@@ -1,7 +1,0 @@
-use Rattle.std.proofs.Common.{◌≡◌, None, map, take}
-use Rattle.mv_net.specs.declared.parts.Kind.TheVariants.{Input}
-use Rattle.mv_flat.specs.Built.{file_net}
-use Rattle.mv_flat.proofs.nets.input_nets.Given as goal
-
-abbrev pub invariant-loop-input : goal.invariant-loop-input
-invariant-loop-input l = l.nets ≡ map (file_net l.decls Input None) (take l.input-index l.inputs)

@@ -1,0 +1,3 @@
+pub mod Resets
+pub mod NetModels
+pub mod Valued

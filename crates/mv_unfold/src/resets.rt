@@ -1,0 +1,63 @@
+//! The faults of a model's reset tables: one whose output is no latch, and a second one of a latch.
+ghost use Rattle.std.specs.Prelude.{◌≡◌, [], map, IfOk};
+ghost use Rattle.mv_fault.specs.Tells.{TellsFirst};
+ghost use Rattle.mv_design.specs.Nets.{output_of};
+ghost use Rattle.mv_unfold.specs.Driving.{with_names};
+ghost use Rattle.mv_unfold.specs.Sound.{latch_faults, reset_faults};
+
+use crate::nets::add_net;
+use mv_base::{Memory, Name, NameSet};
+use mv_design::{FileLatch, FileModel, FileTable};
+use mv_fault::FlatFault;
+use std::alloc::Global;
+
+/// Tells the first fault of the model's reset tables.
+#[tactic(auto, using(crate::proofs::ResetFaults::resets_told))]
+pub fn check_resets(alloc: Global, model: &FileModel) -> Result<(), FlatFault>
+    ensures { TellsFirst FlatFault.Memory result (reset_faults model.now) }
+{
+    if model.resets.is_empty() {
+        return Ok(());
+    }
+    let latches = states(alloc, model.latches.as_slice())?;
+    check_each(alloc, &latches, model.resets.as_slice())
+}
+
+/// The outputs of latches, each once.
+fn states(alloc: Global, latches: &[FileLatch]) -> Result<NameSet, Memory>
+    ensures { IfOk result (λ set. set ≡ with_names [] (map (λ l. l.output) latches.now)) }
+{
+    let mut set = NameSet::new(alloc);
+    for latch in latches {
+        add_net(&mut set, &latch.output)?;
+    }
+    Ok(set)
+}
+
+/// Tells the first of these reset tables whose output is no latch, or that of an earlier one.
+fn check_each(alloc: Global, latches: &NameSet, resets: &[FileTable]) -> Result<(), FlatFault>
+    ensures { TellsFirst FlatFault.Memory result (latch_faults latches.now [] (map output_of resets.now)) }
+{
+    let mut seen = NameSet::new(alloc);
+    for reset in resets {
+        let latch = output(alloc, reset)?;
+        if !latches.contains(&latch) {
+            return Err(FlatFault::NoLatch { net: latch });
+        }
+        if seen.contains(&latch) {
+            return Err(FlatFault::ResetTwice { latch });
+        }
+        seen.add(latch)?;
+    }
+    Ok(())
+}
+
+/// The latch that a reset table names: its output.
+pub fn output(alloc: Global, reset: &FileTable) -> Result<Name, Memory>
+    ensures { IfOk result (λ name. name ≡ output_of reset.now) }
+{
+    match reset.outputs.get(0) {
+        Some(output) => Ok(output.copy()?),
+        None => Ok(Name::new(alloc, &[])?),
+    }
+}
