@@ -1,4 +1,4 @@
-//! A design to its network. In this version: one model whose tables have one output, without instances.
+//! A design to the network of its root. In this version models are without instances, and their tables have one output.
 #![tactic(auto)]
 
 mod columns;

@@ -59,7 +59,8 @@ pub record IsNetModel (m : FileModel) : Type 0 where
 pub record HasSoundNets (m : FileModel) : Type 0 where
   pub once : IsDrivenOnce m
   pub acyclic : IsAcyclic (reads m)
-  pub alone : (latch reset : List ℕ) → among latch (latch_outputs m) ≡ true → among (reset_name reset) (drivers m) ≡ true → IsAbove (reads m) latch (reset_name reset) → ⊥
+  pub alone : (latch reset : List ℕ) → among latch (latch_outputs m) ≡ true → among (reset_name reset) (drivers m) ≡ true
+      → IsAbove (reads m) latch (reset_name reset) → ⊥
 
 -- and there aren't too many, nor are their names too long; the name of a reset net has one byte more
 pub record HasFewNets (m : FileModel) : Type 0 where

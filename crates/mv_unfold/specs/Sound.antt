@@ -84,7 +84,8 @@ limit_faults m = long_faults (take MAX_FLAT_NETS (nets_of m)) ++ many_faults m
 -- is no latch, and a second one of a latch
 abbrev pub latch_faults : List (List ℕ) → List (List ℕ) → List (List ℕ) → List FlatFault
 latch_faults latches seen [] = []
-latch_faults latches seen (w ∷ ws) = when (not (among w latches)) (NoLatch w) ++ (when (among w seen) (ResetTwice w) ++ latch_faults latches (seen ++ w ∷ []) ws)
+latch_faults latches seen (w ∷ ws) =
+    when (not (among w latches)) (NoLatch w) ++ (when (among w seen) (ResetTwice w) ++ latch_faults latches (seen ++ w ∷ []) ws)
 
 -- the latches that the reset tables of a model name, in order
 abbrev pub resets_named : FileModel → List (List ℕ)
@@ -121,7 +122,7 @@ pub record IsSoundModel (m : FileModel) : Type 0 where
   pub acyclic : IsAcyclic (reads m)
   pub alone : All (StandsAlone m) m.resets
 
--- a sound design: in this version its root is its only model
+-- a sound design: its root is sound. In this version a root has no instances, so no other model is reached
 pub record IsSound (d : Design) : Type 0 where
   pub root : IsSoundModel (root_of d)
 
