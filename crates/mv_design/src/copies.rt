@@ -2,19 +2,8 @@
 ghost use Rattle.std.specs.Prelude.{◌≡◌, IfOk};
 
 use crate::design::{Bind, Decl, FileLatch, FileModel, Part};
-use crate::table::{FileTable, Row};
+use crate::table::FileTable;
 use mv_base::{Items, Memory};
-
-/// An equal list of rows.
-pub fn copy_rows(rows: &Items<Row>) -> Result<Items<Row>, Memory>
-    ensures { IfOk result (λ c. c ≡ rows.now) }
-{
-    let mut copied = Items::with_room(rows.allocator(), rows.len())?;
-    for row in rows.as_slice() {
-        copied.push(row.copy()?)?;
-    }
-    Ok(copied)
-}
 
 /// An equal list of tables.
 pub fn copy_tables(tables: &Items<FileTable>) -> Result<Items<FileTable>, Memory>

@@ -3,7 +3,9 @@
 
 mod copies;
 mod design;
+mod rows;
 mod table;
 
 pub use design::{Bind, Decl, Design, FileLatch, FileModel, Part};
+pub use rows::Rows;
 pub use table::{Entry, FileTable, Row};

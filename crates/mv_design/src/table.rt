@@ -1,6 +1,6 @@
 ghost use Rattle.std.specs.Prelude.{◌≡◌, IfOk};
 
-use crate::copies::copy_rows;
+use crate::rows::Rows;
 use mv_base::{Items, Memory, Name, ValueSet};
 
 /// What a row or a default says of an output column.
@@ -26,7 +26,7 @@ pub struct FileTable {
     pub line: u32,
     pub inputs: Items<Name>,
     pub outputs: Items<Name>,
-    pub rows: Items<Row>,
+    pub rows: Rows,
     pub default: Option<Items<Entry>>,
 }
 
@@ -55,7 +55,7 @@ impl FileTable {
             line: self.line,
             inputs: self.inputs.copy_names()?,
             outputs: self.outputs.copy_names()?,
-            rows: copy_rows(&self.rows)?,
+            rows: self.rows.copy()?,
             default,
         })
     }

@@ -6,10 +6,8 @@ use Rattle.std.proofs.lemmas.Bool.{false≢true, cases_Bool, cases_lt}
 use Rattle.std.proofs.lemmas.List.{get_or_past}
 use Rattle.mv_base.specs.declared.number.NetId.{NetId}
 use Rattle.mv_graph.specs.Nets.{has_id, row, AllBelow}
-use Rattle.mv_graph.specs.Marks.{is_marked}
+use Rattle.mv_graph.specs.Marks.{is_marked, AreAbove}
 use Rattle.mv_graph.specs.Above.{GoesOn, IsAbove, IsAcyclic, reads_by}
-use Rattle.mv_graph.specs.Cycles.{NoneTurns}
-use Rattle.mv_graph.specs.Walking.{AreAbove}
 use Rattle.mv_graph.proofs.Columns.{column_below, none_in}
 use Rattle.mv_graph.proofs.Paths.{above_more}
 use Rattle.mv_graph.proofs.Ranks.{IsRanked}
@@ -147,15 +145,3 @@ not_unranked columns below acyclic never =
     all_below (IsClear columns) (length columns)
     (λ n l out. decided (λ k. IsAbove (reads_by columns) k n) (length columns) (λ d. out (clear_from columns n below (acyclic.none n) d)))
     (λ clear. never (ranked_clear columns below clear))
-
--- the list has each net that has columns
-abbrev pub ListsEachReader : List (List NetId) → List NetId → Type 0
-ListsEachReader columns order = (n m : ℕ) → has_id (row columns n) m ≡ true → has_id order n ≡ true
-
-covered : (columns : List (List NetId)) (order : List NetId) → ListsEachReader columns order → (n above : ℕ) (path : List ℕ) → GoesOn (reads_by columns) above n path → has_id order n ≡ true
-covered columns order c n above [] g = c n above g
-covered columns order c n above (k ∷ path) g = c n k g.0
-
--- where none of them is above itself, no net is
-pub none_turns_acyclic : (columns : List (List NetId)) (order : List NetId) → ListsEachReader columns order → NoneTurns columns order → IsAcyclic (reads_by columns)
-none_turns_acyclic columns order c t = record { none = λ n a. t.none n (covered columns order c n n a.path a.goes) a }

@@ -4,8 +4,5 @@ pub mod Paths
 pub mod Ranks
 pub mod Transposes
 pub mod Waiting
-pub mod Walks
 pub mod Clear
 pub mod Finished
-pub mod Turned
-pub mod Spared

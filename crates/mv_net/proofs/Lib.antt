@@ -15,7 +15,6 @@ pub mod Drivers
 pub mod Stays
 pub mod Totals
 pub mod Removal
-pub mod Latchless
 pub mod Reaching
 pub mod Paths
 pub mod Windows

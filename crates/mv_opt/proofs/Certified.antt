@@ -29,7 +29,7 @@ use Rattle.mv_printed.specs.Notes.{notes_of}
 use Rattle.mv_rules.specs.Replaying.{Replays}
 use Rattle.mv_rules.proofs.Replayed.{replayed_formed}
 use Rattle.mv_rules.proofs.Spoken.{held_visible}
-use Rattle.mv_script.specs.Scripts.{IsCommand}
+use Rattle.mv_script.specs.Commands.{IsCommand}
 use Rattle.mv_sweep.specs.Drops.{IsDropStep}
 use Rattle.mv_sweep.specs.Sweeps.{IsSweepStep}
 use Rattle.mv_opt.specs.Runs.{CourseOf, DoesCommand, Runs, IsCertified, all_notes}

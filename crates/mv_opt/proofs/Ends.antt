@@ -19,11 +19,11 @@ use Rattle.mv_task.proofs.Networks.{prepared_taken}
 use Rattle.mv_task.proofs.Sources.{replaced}
 use Rattle.mv_task.proofs.Statuses.{IsOwn, ended_second, ended_network, ended_read, ended_not_done, ended_not_cut}
 use Rattle.mv_opt.specs.declared.stop.Stop.{Stop}
-use Rattle.mv_opt.specs.declared.stop.Stop.TheVariants.{Script, Read, Memory, Source}
+use Rattle.mv_opt.specs.declared.stop.Stop.TheVariants.{Script, Unbuilt, Read, Memory, Source}
 use Rattle.mv_opt.specs.Optimised.{Optimises}
 use Rattle.mv_opt.specs.Outcomes.{HasWorked, HasStoppedAt, IsCut, EndsShort}
-use Rattle.mv_opt.specs.Scripts.{IsScript, TakesCommands, script_line}
-use Rattle.mv_opt.specs.Stops.{status_of, line_of}
+use Rattle.mv_opt.specs.Scripts.{IsScript, TakesCommands, Faulty, NotBuilt, TellsScript}
+use Rattle.mv_opt.specs.Stops.{status_of, line_of, IsRefusal}
 
 own : IsOwn 3
 own = record {
@@ -36,16 +36,18 @@ own = record {
 
 -- ---- nothing to work on
 
-script_told : (stop : Stop) (notes notes' : Written) → TellsLine notes notes' (line_of stop) → status_of stop ≡ 3 → TellsLine notes notes' script_line
-script_told Script notes notes' t e = t
-script_told Read notes notes' t e = absurd (omega arith)
-script_told Memory notes notes' t e = absurd (omega arith)
-script_told (Source (Fault f)) notes notes' t e = absurd (omega arith)
-script_told (Source unread) notes notes' t e = absurd (omega arith)
-script_told (Source short_source) notes notes' t e = absurd (omega arith)
+script_told : (words : List (List ℕ)) (old : Stored) (stop : Stop) (notes notes' : Written) → TellsLine notes notes' (line_of stop) → IsRefusal words old stop → status_of stop ≡ 3 → TellsScript words old notes notes'
+script_told words old (Script fault) notes notes' t why e = record { cause = Faulty fault; refuses = why; tells = t }
+script_told words old Unbuilt notes notes' t why e = record { cause = NotBuilt; refuses = why; tells = t }
+script_told words old Read notes notes' t why e = absurd (omega arith)
+script_told words old Memory notes notes' t why e = absurd (omega arith)
+script_told words old (Source (Fault f)) notes notes' t why e = absurd (omega arith)
+script_told words old (Source unread) notes notes' t why e = absurd (omega arith)
+script_told words old (Source short_source) notes notes' t why e = absurd (omega arith)
 
 read_told : (stop : Stop) (notes notes' : Written) → TellsLine notes notes' (line_of stop) → status_of stop ≡ 4 → TellsLine notes notes' read_line
-read_told Script notes notes' t e = absurd (omega arith)
+read_told (Script fault) notes notes' t e = absurd (omega arith)
+read_told Unbuilt notes notes' t e = absurd (omega arith)
 read_told Read notes notes' t e = t
 read_told Memory notes notes' t e = absurd (omega arith)
 read_told (Source (Fault f)) notes notes' t e = absurd (omega arith)
@@ -55,7 +57,8 @@ read_told (Source short_source) notes notes' t e = absurd (omega arith)
 -- memory ran out before any command
 short_told : (words : List (List ℕ)) (old new : Stored) (stop : Stop) (notes notes' : Written) → TellsLine notes notes' (line_of stop) → status_of stop ≡ 6 → EndsShort words old new notes notes'
 unfolding print
-short_told words old new Script notes notes' t e = absurd (omega arith)
+short_told words old new (Script fault) notes notes' t e = absurd (omega arith)
+short_told words old new Unbuilt notes notes' t e = absurd (omega arith)
 short_told words old new Read notes notes' t e = absurd (omega arith)
 short_told words old new Memory notes notes' t e = record { entries = []; ran = inl refl; tells = t }
 short_told words old new (Source (Fault f)) notes notes' t e = absurd (omega arith)
@@ -64,7 +67,8 @@ short_told words old new (Source short_source) notes notes' t e = record { entri
 
 fault_told : (words : List (List ℕ)) (old : Stored) (stop : Stop) (notes notes' : Written) → TellsLine notes notes' (line_of stop)
     → ((f : FileFault) → stop ≡ Source (Fault f) → IfSome old.held (RefusesNetwork words f)) → status_of stop ≡ 2 → TellsFault words old notes notes'
-fault_told words old Script notes notes' t faulty e = absurd (omega arith)
+fault_told words old (Script fault) notes notes' t faulty e = absurd (omega arith)
+fault_told words old Unbuilt notes notes' t faulty e = absurd (omega arith)
 fault_told words old Read notes notes' t faulty e = absurd (omega arith)
 fault_told words old Memory notes notes' t faulty e = absurd (omega arith)
 fault_told words old (Source (Fault f)) notes notes' t faulty e = record { fault = f; refuses = faulty f refl; tells = t }
@@ -72,7 +76,8 @@ fault_told words old (Source unread) notes notes' t faulty e = absurd (omega ari
 fault_told words old (Source short_source) notes notes' t faulty e = absurd (omega arith)
 
 small_status : (stop : Stop) → status_of stop ≤ 6
-small_status Script = omega arith
+small_status (Script fault) = omega arith
+small_status Unbuilt = omega arith
 small_status Read = omega arith
 small_status Memory = omega arith
 small_status (Source (Fault f)) = omega arith
@@ -80,7 +85,8 @@ small_status (Source unread) = omega arith
 small_status (Source short_source) = omega arith
 
 never_one : (stop : Stop) → status_of stop ≡ 1 → ⊥
-never_one Script e = omega arith
+never_one (Script fault) e = omega arith
+never_one Unbuilt e = omega arith
 never_one Read e = omega arith
 never_one Memory e = omega arith
 never_one (Source (Fault f)) e = omega arith
@@ -88,14 +94,14 @@ never_one (Source unread) e = omega arith
 never_one (Source short_source) e = omega arith
 
 early_of : (words : List (List ℕ)) (old new : Stored) (out notes notes' : Written) (stop : Stop) → Ended IsScript 3 words old new (status_of stop)
-    → ((f : FileFault) → stop ≡ Source (Fault f) → IfSome old.held (RefusesNetwork words f)) → TellsLine notes notes' (line_of stop)
+    → ((f : FileFault) → stop ≡ Source (Fault f) → IfSome old.held (RefusesNetwork words f)) → IsRefusal words old stop → TellsLine notes notes' (line_of stop)
     → Optimises words old new out out notes notes' (status_of stop)
-early_of words old new out notes notes' stop ended faulty tells = record {
+early_of words old new out notes notes' stop ended faulty why tells = record {
   done = λ e. absurd (ended_not_done own ended e);
   network = λ e. fault_told words old stop notes notes' tells faulty e;
   behind = λ e. ended_network own ended e;
   script = λ e. ended_second own ended e;
-  script_told = λ e. script_told stop notes notes' tells e;
+  script_told = λ e. script_told words old stop notes notes' tells why e;
   read = λ e. ended_read own ended e;
   read_told = λ e. read_told stop notes notes' tells e;
   cut = λ e. absurd (ended_not_cut own ended e);
@@ -108,10 +114,10 @@ early_of words old new out notes notes' stop ended faulty tells = record {
 }
 
 pub early : (words : List (List ℕ)) (old new : Stored) (out notes notes' : Written) (stop : Stop) (status : ℕ) → status ≡ status_of stop → Ended IsScript 3 words old new (status_of stop)
-    → ((f : FileFault) → stop ≡ Source (Fault f) → IfSome old.held (RefusesNetwork words f)) → TellsLine notes notes' (line_of stop)
+    → ((f : FileFault) → stop ≡ Source (Fault f) → IfSome old.held (RefusesNetwork words f)) → IsRefusal words old stop → TellsLine notes notes' (line_of stop)
     → Optimises words old new out out notes notes' status
-early words old new out notes notes' stop status is ended faulty tells =
-    subst (λ s. Optimises words old new out out notes notes' s) (sym is) (early_of words old new out notes notes' stop ended faulty tells)
+early words old new out notes notes' stop status is ended faulty why tells =
+    subst (λ s. Optimises words old new out out notes notes' s) (sym is) (early_of words old new out notes notes' stop ended faulty why tells)
 
 -- ---- the work was begun
 

@@ -19,7 +19,7 @@ use Rattle.mv_pass.specs.Taking.{Took, TookPart}
 use Rattle.mv_opt.specs.Outcomes.{HasRun, HasStopped, IsNoteCut, HasWorked, IsCut}
 use Rattle.mv_pass.specs.declared.stop.Stop.{Stop}
 use Rattle.mv_opt.specs.Runs.{Runs, StopsIn}
-use Rattle.mv_script.specs.Scripts.{IsCommand}
+use Rattle.mv_script.specs.Commands.{IsCommand}
 use Rattle.mv_task.specs.Ending.{IsEndCut, done_line}
 
 -- ---- the commands

@@ -14,7 +14,7 @@ use Rattle.mv_task.specs.Taken.{IsTaken, IsRefused}
 use Rattle.mv_task.specs.Words.{word_at}
 use Rattle.mv_opt.specs.Outcomes.{EndsCut, EndsShort}
 use Rattle.mv_opt.specs.Runs.{Runs, all_notes, IsCertified}
-use Rattle.mv_opt.specs.Scripts.{IsScript, TakesCommands, script_line}
+use Rattle.mv_opt.specs.Scripts.{IsScript, TakesCommands, TellsScript}
 
 -- what the commands did: those of the named script ran on the first network, and the notes gained their entries and the done line,
 -- which are a certificate of it
@@ -38,13 +38,13 @@ pub record IsOptimised (words : List (List ℕ)) (old new : Stored) (out out' no
   pub told : Told words old first net notes notes'
 
 -- each status and what it says: 0 the work is done; 2 the network is refused, behind a script that was taken, and the notes tell
--- why; 3 the script is refused; 4 a read failed; 5 a write failed; 6 memory ran out
+-- why; 3 the script is refused, and the notes tell why; 4 a read failed; 5 a write failed; 6 memory ran out
 pub record Optimises (words : List (List ℕ)) (old new : Stored) (out out' notes notes' : Written) (status : ℕ) : Type 0 where
   pub done : status ≡ 0 → IsOptimised words old new out out' notes notes'
   pub network : status ≡ 2 → TellsFault words old notes notes'
   pub behind : status ≡ 2 → IfSome old.held (IsTaken IsScript (word_at words 2))
   pub script : status ≡ 3 → IfSome old.held (IsRefused IsScript (word_at words 2))
-  pub script_told : status ≡ 3 → TellsLine notes notes' script_line
+  pub script_told : status ≡ 3 → TellsScript words old notes notes'
   pub read : status ≡ 4 → Rose old.faults new.faults × IfSome old.held (LacksFile IsScript words)
   pub read_told : status ≡ 4 → TellsLine notes notes' read_line
   pub cut : status ≡ 5 → EndsCut words old new out out' notes notes'

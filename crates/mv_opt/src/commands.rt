@@ -3,14 +3,13 @@ ghost use Rattle.mv_base.specs.Meaning.{Refines};
 ghost use Rattle.mv_base.specs.Outside.{Rose};
 ghost use Rattle.mv_net.specs.Allowed.{of_net};
 ghost use Rattle.mv_pass.specs.Taking.{GoesOn, Took, TookPart};
-ghost use Rattle.mv_script.specs.Scripts.{IsCommand};
+ghost use Rattle.mv_script.specs.Commands.{IsCommand};
 ghost use Rattle.mv_opt.specs.Runs.{PassesCommand, Runs, StopsIn};
 
 use mv_collapse::{collapse, eliminate};
-use mv_entry::Journal;
+use mv_entry::{Command, Journal};
 use mv_net::Network;
 use mv_pass::Stop;
-use mv_script::Command;
 use mv_sweep::{remove_unread, sweep};
 use std::alloc::Global;
 

@@ -3,7 +3,7 @@ ghost use Rattle.mv_printed.specs.Names.{HasWordNames};
 ghost use Rattle.mv_base.specs.Meaning.{Refines};
 ghost use Rattle.mv_base.specs.Outside.{Rose};
 ghost use Rattle.mv_net.specs.Allowed.{of_net};
-ghost use Rattle.mv_script.specs.Scripts.{IsCommand};
+ghost use Rattle.mv_script.specs.Commands.{IsCommand};
 ghost use Rattle.mv_opt.specs.Outcomes.{HasRun, HasStopped, HasStoppedAt, HasWorked, IsCut, IsNoteCut};
 
 use crate::commands::run_commands;
@@ -11,9 +11,9 @@ use crate::take::Work;
 use mv_back::reads_back;
 use mv_base::Sink;
 use mv_cert::NoteJournal;
+use mv_entry::Command;
 use mv_net::Network;
 use mv_pass::Stop;
-use mv_script::Command;
 use mv_task::finish;
 use std::alloc::Global;
 

@@ -1,111 +1,140 @@
--- Each byte outside the comments of a script is a blank or can be seen.
-use Rattle.std.proofs.Common.{◌≡◌, ℕ, Bool, true, false, not, ◌&&◌, ◌||◌, ◌==◌, Option, Some, None, List, [], ◌∷◌, length, refl, sym, ◌∙◌, ap, ⊎_elim, arith}
-use Rattle.std.specs.Prelude.{codes, flat_map, nat_lt}
-use Rattle.std.specs.List.{list_all, slice_split, onto_first}
-use Rattle.std.specs.Option.{is_some}
-use Rattle.std.proofs.Math.Bool.{and_assoc, and-true}
-use Rattle.std.proofs.lemmas.Bool.{and_parts, and_from, or_left, or_right, cond_both, cond-true, cond-false, cases_Bool, false≢true}
-use Rattle.std.proofs.lemmas.Bool.Decides.{nat_tests}
+-- The names in a script can be seen.
+use Rattle.std.proofs.Common.{◌≡◌, ℕ, Bool, true, false, not, ◌&&◌, ◌||◌, List, [], ◌∷◌, ◌++◌, length, map, take, drop, take-append-drop, slice_index, take_while, refl, sym, ◌∙◌, ap, subst}
+use Rattle.std.specs.Prelude.{codes, nat_lt, flat_map}
+use Rattle.std.specs.List.{list_all, range_with_len}
+use Rattle.std.proofs.lemmas.Bool.{and_parts, and_from, cond_both, false≢true}
+use Rattle.std.proofs.lemmas.List.{map-append}
 use Rattle.std.proofs.lemmas.List.Folds.{list_all-append}
-use Rattle.mv_base.specs.Names.{same_word, is_visible}
-use Rattle.mv_base.proofs.Lists.{all-weaker}
-use Rattle.mv_base.proofs.NameLemmas.{same_word_is}
-use Rattle.mv_entry.specs.declared.note.Command.{Command}
-use Rattle.mv_script.specs.Scripts.{is_blank, is_mark, apart, said, nonempty, line_words, script_lines, script_words, is_name_byte, is_name, plain_command, named_collapse, put_before, commands_of, collapse_of, is_script, is_readable}
+use Rattle.mv_base.specs.Names.{is_visible}
+use Rattle.mv_entry.specs.Entries.{is_visible_name}
+use Rattle.mv_script.specs.declared.command.Command.{Command}
+use Rattle.mv_script.specs.declared.command.Command.TheVariants.{Drop, Sweep, Eliminate, Collapse, Kernel, Cube, Simplify, Merge, Default, Determinize, Encode, Fill}
+use Rattle.mv_script.specs.declared.part.Braces.TheVariants.{Repeat as RepeatBraces, Better as BetterBraces}
+use Rattle.mv_script.specs.declared.part.Part.{Part}
+use Rattle.mv_script.specs.declared.part.PartKind.{PartKind}
+use Rattle.mv_script.specs.declared.part.PartKind.TheVariants.{Do as DoPart, Open, Close}
+use Rattle.mv_script.specs.declared.token.Token.{Token}
+use Rattle.mv_script.specs.Commands.{is_named, are_named}
+use Rattle.mv_script.specs.Grammar.{SaysCommand, SaysKind, SayParts, IsScript}
+use Rattle.mv_script.specs.Parts.{parts_of, kinds}
+use Rattle.mv_script.specs.Reading.{is_name}
+use Rattle.mv_script.specs.Scripts.{Items, End, Do, Repeat, Better}
+use Rattle.mv_script.specs.Texts.{is_blank, is_mark, is_letter, is_strange, begins, word_at, token_at, said, tokens_of}
 
--- ---- words that say commands
+-- ---- names of items are those of their parts
 
--- the bytes of a word can be seen
-abbrev seen : List ℕ → Bool
-seen w = list_all is_visible w
+abbrev named_kind : PartKind → Bool
+named_kind (DoPart command) = is_named command
+named_kind (Open braces) = true
+named_kind Close = true
 
-seen_as : (w v : List ℕ) → seen v ≡ true → same_word w v ≡ true → seen w ≡ true
-seen_as w v h e = ap seen (same_word_is w v e) ∙ h
+named_item : (inside rest : List PartKind) (a b : Bool) → a ≡ list_all named_kind inside → b ≡ list_all named_kind rest → (a && b) ≡ list_all named_kind (inside ++ Close ∷ rest)
+named_item inside rest a b e h =
+    ap (λ x. x && b) e ∙ ap (λ y. list_all named_kind inside && y) h ∙ sym (list_all-append named_kind inside (Close ∷ rest))
 
-seen_plain : (w : List ℕ) → is_some (plain_command w) ≡ true → seen w ≡ true
-seen_plain w =
-    let P : Option Command → Type 0 = λ o. is_some o ≡ true → seen w ≡ true in
-    cond_both (same_word w (codes "drop")) _ _ P (λ e _. seen_as w (codes "drop") refl e)
-    (λ _. cond_both (same_word w (codes "sweep")) _ _ P (λ e _. seen_as w (codes "sweep") refl e)
-    (λ _. cond_both (same_word w (codes "eliminate")) _ _ P (λ e _. seen_as w (codes "eliminate") refl e) (λ _ h. absurd (false≢true h))))
+named_parts : (items : Items) → are_named items ≡ list_all named_kind (parts_of items)
+named_parts End = refl
+named_parts (Do command rest) = ap (λ b. is_named command && b) (named_parts rest)
+named_parts (Repeat times inside rest) = named_item (parts_of inside) (parts_of rest) (are_named inside) (are_named rest) (named_parts inside) (named_parts rest)
+named_parts (Better inside rest) = named_item (parts_of inside) (parts_of rest) (are_named inside) (are_named rest) (named_parts inside) (named_parts rest)
 
-seen_name : (w : List ℕ) → is_some (named_collapse w) ≡ true → seen w ≡ true
-seen_name w =
-    let P : Option Command → Type 0 = λ o. is_some o ≡ true → seen w ≡ true in
-    cond_both (is_name w) _ _ P
-    (λ e _. all-weaker is_name_byte is_visible (λ b f. (and_parts (is_visible b) (not (is_mark b)) f).0) w (and_parts (nat_lt 0 (length w)) (list_all is_name_byte w) e).1)
-    (λ _ h. absurd (false≢true h))
+-- ---- words of what is said
 
-put_parts : (c : Option Command) (o : Option (List Command)) → is_some (put_before c o) ≡ true → (is_some c ≡ true) × (is_some o ≡ true)
-put_parts None o h = absurd (false≢true h)
-put_parts (Some c) None h = absurd (false≢true h)
-put_parts (Some c) (Some cs) h = (refl, refl)
+-- a byte that isn't strange
+abbrev plain : ℕ → Bool
+plain b = not (is_strange b)
 
-mutual
-  seen_commands : (ws : List (List ℕ)) → is_some (commands_of ws) ≡ true → list_all seen ws ≡ true
-  seen_commands [] = λ _. refl
-  seen_commands (w ∷ ws) =
-      let P : Option (List Command) → Type 0 = λ o. is_some o ≡ true → list_all seen (w ∷ ws) ≡ true in
-      cond_both (same_word w (codes ";")) _ _ P (λ e h. and_from (seen w) (list_all seen ws) (seen_as w (codes ";") refl e) (seen_commands ws h))
-      (λ _. cond_both (same_word w (codes "collapse")) _ _ P (λ e h. and_from (seen w) (list_all seen ws) (seen_as w (codes "collapse") refl e) (seen_collapse ws h))
-      (λ _ h. let p = put_parts (plain_command w) (commands_of ws) h in and_from (seen w) (list_all seen ws) (seen_plain w p.0) (seen_commands ws p.1)))
+abbrev all_plain : List (List ℕ) → Bool
+all_plain words = list_all (λ w. list_all plain w) words
 
-  seen_collapse : (ws : List (List ℕ)) → is_some (collapse_of ws) ≡ true → list_all seen ws ≡ true
-  seen_collapse [] h = absurd (false≢true h)
-  seen_collapse (w ∷ ws) h =
-      let p = put_parts (named_collapse w) (commands_of ws) h in
-      and_from (seen w) (list_all seen ws) (seen_name w p.0) (seen_commands ws p.1)
+abbrev words_of : List Token → List (List ℕ)
+words_of ts = map (λ (t : Token). t.word) ts
 
--- ---- from words to bytes
+plain_front : (n : ℕ) (bs : List ℕ) → list_all plain bs ≡ true → list_all plain (take n bs) ≡ true
+plain_front n bs h =
+    (and_parts (list_all plain (take n bs)) (list_all plain (drop n bs)) (sym (list_all-append plain (take n bs) (drop n bs)) ∙ ap (list_all plain) (take-append-drop n bs) ∙ h)).0
 
-has_byte : (b : ℕ) (bs : List ℕ) → not (length (b ∷ bs) == 0) ≡ true
-has_byte b bs = grind (arith, nat_tests)
+plain_back : (n : ℕ) (bs : List ℕ) → list_all plain bs ≡ true → list_all plain (drop n bs) ≡ true
+plain_back n bs h =
+    (and_parts (list_all plain (take n bs)) (list_all plain (drop n bs)) (sym (list_all-append plain (take n bs) (drop n bs)) ∙ ap (list_all plain) (take-append-drop n bs) ∙ h)).1
 
--- a piece without bytes passes every test of its bytes
-seen_pieces : (ps : List (List ℕ)) → list_all seen (nonempty ps) ≡ list_all seen ps
-seen_pieces [] = refl
-seen_pieces ([] ∷ ps) = seen_pieces ps
-seen_pieces ((b ∷ bs) ∷ ps) =
-    ap (list_all seen) (cond-true (not (length (b ∷ bs) == 0)) ((b ∷ bs) ∷ nonempty ps) (nonempty ps) (has_byte b bs)) ∙ ap (λ t. seen (b ∷ bs) && t) (seen_pieces ps)
+plain_word : (bs : List ℕ) (p : ℕ) → list_all plain bs ≡ true → list_all plain (word_at bs p) ≡ true
+plain_word bs p h =
+    cond_both (is_mark (slice_index bs p)) _ _ (λ w. list_all plain w ≡ true) (λ _. plain_front 1 (drop p bs) (plain_back p bs h)) (λ _. plain_front _ (drop p bs) (plain_back p bs h))
 
-all_onto : (v : ℕ → Bool) (b : ℕ) (ps : List (List ℕ)) → list_all (λ w. list_all v w) (onto_first b ps) ≡ (v b && list_all (λ w. list_all v w) ps)
-all_onto v b [] = and-true (v b && true)
-all_onto v b (p ∷ ps) = and_assoc (v b) (list_all v p) (list_all (λ w. list_all v w) ps)
+plain_token : (bs : List ℕ) (p : ℕ) → list_all plain bs ≡ true → all_plain (words_of (token_at bs p)) ≡ true
+plain_token bs p h =
+    cond_both (begins bs p) _ _ (λ ts. all_plain (words_of ts) ≡ true) (λ _. and_from (list_all plain (word_at bs p)) true (plain_word bs p h) refl) (λ _. refl)
 
--- where the bytes of all pieces pass, each byte passes or parts two of them
-all_cut : (p v : ℕ → Bool) (bs : List ℕ) → list_all (λ w. list_all v w) (slice_split p bs) ≡ true → list_all (λ b. p b || v b) bs ≡ true
-all_cut p v [] h = refl
-all_cut p v (b ∷ bs) h =
-    let all : List (List ℕ) → Bool = λ ps. list_all (λ w. list_all v w) ps in
-    ⊎_elim
-    (λ (e : p b ≡ true). and_from (p b || v b) _ (or_left (p b) (v b) e) (all_cut p v bs (sym (ap all (cond-true (p b) ([] ∷ slice_split p bs) (onto_first b (slice_split p bs)) e)) ∙ h)))
-    (λ (e : p b ≡ false).
-    let q = and_parts (v b) (all (slice_split p bs)) (sym (ap all (cond-false (p b) ([] ∷ slice_split p bs) (onto_first b (slice_split p bs)) e) ∙ all_onto v b (slice_split p bs)) ∙ h) in
-    and_from (p b || v b) _ (or_right (p b) (v b) q.0) (all_cut p v bs q.1))
-    (cases_Bool (p b))
+plain_tokens : (bs ps : List ℕ) → list_all plain bs ≡ true → all_plain (words_of (flat_map (λ p. token_at bs p) ps)) ≡ true
+plain_tokens bs [] h = refl
+plain_tokens bs (p ∷ ps) h =
+    ap all_plain (map-append (λ (t : Token). t.word) (token_at bs p) (flat_map (λ q. token_at bs q) ps))
+    ∙ list_all-append (λ w. list_all plain w) (words_of (token_at bs p)) (words_of (flat_map (λ q. token_at bs q) ps))
+    ∙ and_from (all_plain (words_of (token_at bs p))) _ (plain_token bs p h) (plain_tokens bs ps h)
 
--- a test of all that was made of some is a test of what was made of each
-all_made : {A B : Type 0} (test : B → Bool) (f : A → List B) (xs : List A) → list_all test (flat_map f xs) ≡ list_all (λ x. list_all test (f x)) xs
-all_made test f [] = refl
-all_made test f (x ∷ xs) =
-    list_all-append test (f x) (flat_map f xs) ∙ ap (λ t. list_all test (f x) && t) (all_made test f xs)
+plain_said : (bs : List ℕ) → list_all plain bs ≡ true → all_plain (words_of (tokens_of bs)) ≡ true
+unfolding tokens_of
+plain_said bs h = plain_tokens bs (range_with_len 0 (length bs)) h
 
--- a byte is among those that it becomes
-all_apart : (test : ℕ → Bool) (b : ℕ) → list_all test (apart b) ≡ true → test b ≡ true
-all_apart test b =
-    cond_both (is_mark b) (32 ∷ b ∷ 32 ∷ []) (b ∷ []) (λ bs. list_all test bs ≡ true → test b ≡ true)
-    (λ _ h. (and_parts (test b) (test 32 && true) (and_parts (test 32) (test b && (test 32 && true)) h).1).0)
-    (λ _ h. (and_parts (test b) true h).0)
+-- ---- names that are said
 
-seen_line : (line : List ℕ) → list_all seen (line_words line) ≡ true → list_all (λ b. is_blank b || is_visible b) (said line) ≡ true
-seen_line line h =
-    let test : ℕ → Bool = λ b. is_blank b || is_visible b in
-    let spread = flat_map apart (said line) in
-    let all : list_all test spread ≡ true = all_cut is_blank is_visible spread (sym (seen_pieces (slice_split is_blank spread)) ∙ h) in
-    all-weaker (λ b. list_all test (apart b)) test (all_apart test) (said line) (sym (all_made test apart (said line)) ∙ all)
+letter_seen : (blank mark seen : Bool) → not (blank || mark) ≡ true → not (not (blank || seen)) ≡ true → seen ≡ true
+letter_seen true mark seen h k = absurd (false≢true h)
+letter_seen false mark true h k = refl
+letter_seen false mark false h k = k
 
-pub readable : (text : List ℕ) → is_script text ≡ true → is_readable text ≡ true
-unfolding is_script
-readable text h =
-    let some = (and_parts _ (is_some (commands_of (script_words text))) (and_parts (_ && is_some (commands_of (script_words text))) _ h).0).1 in
-    all-weaker (λ line. list_all seen (line_words line)) _ seen_line (script_lines text) (sym (all_made seen line_words (script_lines text)) ∙ seen_commands (script_words text) some)
+letters_seen : (w : List ℕ) → list_all is_letter w ≡ true → list_all plain w ≡ true → list_all is_visible w ≡ true
+letters_seen [] h k = refl
+letters_seen (b ∷ bs) h k =
+    let letters = and_parts (is_letter b) _ h in
+    let seen = and_parts (plain b) _ k in
+    and_from (is_visible b) _ (letter_seen (is_blank b) (is_mark b) (is_visible b) letters.0 seen.0) (letters_seen bs letters.1 seen.1)
+
+name_seen : (w : List ℕ) → is_name w ≡ true → list_all plain w ≡ true → is_visible_name w ≡ true
+name_seen w h k =
+    let parts = and_parts (nat_lt 0 (length w)) _ h in
+    and_from (nat_lt 0 (length w)) _ parts.0 (letters_seen w parts.1 k)
+
+said_name : (words : List (List ℕ)) (net : List ℕ) → words ≡ codes "collapse" ∷ net ∷ [] → is_name net ≡ true → all_plain words ≡ true → is_visible_name net ≡ true
+said_name words net e h k =
+    let all : all_plain (codes "collapse" ∷ net ∷ []) ≡ true = ap all_plain (sym e) ∙ k in
+    let behind : all_plain (net ∷ []) ≡ true = (and_parts (list_all plain (codes "collapse")) (all_plain (net ∷ [])) all).1 in
+    name_seen net h (and_parts (list_all plain net) true behind).0
+
+said_command : (command : Command) (words : List (List ℕ)) → SaysCommand command words → all_plain words ≡ true → is_named command ≡ true
+said_command Drop words h k = refl
+said_command Sweep words h k = refl
+said_command Eliminate words h k = refl
+said_command (Collapse net) words h k = said_name words net h.0 h.1 k
+said_command Kernel words h k = refl
+said_command Cube words h k = refl
+said_command (Simplify down up) words h k = refl
+said_command Merge words h k = refl
+said_command Default words h k = refl
+said_command Determinize words h k = refl
+said_command Encode words h k = refl
+said_command Fill words h k = refl
+
+said_kind : (kind : PartKind) (words : List (List ℕ)) → SaysKind kind words → all_plain words ≡ true → named_kind kind ≡ true
+said_kind (DoPart command) words h k = said_command command words h k
+said_kind (Open braces) words h k = refl
+said_kind Close words h k = refl
+
+plain_parts : (a b : List Token) → all_plain (words_of (a ++ b)) ≡ true → (all_plain (words_of a) ≡ true) × (all_plain (words_of b) ≡ true)
+plain_parts a b h =
+    and_parts (all_plain (words_of a)) (all_plain (words_of b)) (sym (list_all-append (λ w. list_all plain w) (words_of a) (words_of b)) ∙ ap all_plain (sym (map-append (λ (t : Token). t.word) a b)) ∙ h)
+
+said_parts : (parts : List Part) (ts : List Token) → SayParts parts ts → all_plain (words_of ts) ≡ true → list_all named_kind (kinds parts) ≡ true
+said_parts [] ts h k = refl
+said_parts (p ∷ parts) ts h k =
+    let own = h.1.0 in
+    let others = h.1.1.0 in
+    let rest = (plain_parts h.0 (own ++ others) (ap (λ x. all_plain (words_of x)) (sym h.1.1.1.0) ∙ k)).1 in
+    let both = plain_parts own others rest in
+    and_from (named_kind p.kind) _ (said_kind p.kind (words_of own) h.1.1.1.2.words both.0) (said_parts parts others h.1.1.1.3 both.1)
+
+-- the names of a script
+pub script_named : (text : List ℕ) (items : Items) → IsScript text items → are_named items ≡ true
+script_named text items s =
+    named_parts items ∙ ap (λ ks. list_all named_kind ks) (sym s.are) ∙ said_parts s.parts (tokens_of (said text)) s.said (plain_said (said text) s.readable)

@@ -1,12 +1,13 @@
-ghost use Rattle.std.specs.Prelude.{◌≡◌, ℕ, List, true, Some, flat_map};
-ghost use Rattle.std.specs.List.{list_all};
-ghost use Rattle.mv_entry.specs.declared.note.Command.{Command};
-ghost use Rattle.mv_script.specs.Scripts.{is_script, is_readable, is_built, script_words, command_words, spoken, commands_of, commands_in};
+ghost use Rattle.std.specs.Prelude.{◌≡◌, ◌⊎◌, ℕ, List};
+ghost use Rattle.mv_script.specs.declared.fault.TextFault.{TextFault};
+ghost use Rattle.mv_script.specs.Faults.{IsFirstFault};
+ghost use Rattle.mv_script.specs.Grammar.{IsScript};
+ghost use Rattle.mv_script.specs.Scripts.{Items as ScriptItems};
 
-/// A script that is accepted has no byte outside its comments but blanks and those that can be seen, and its words but `;` are
-/// those of its commands, one after the other. The words of whichever commands say these commands.
+/// A text is a script of some items or has a first fault, not both, and has one of them alone.
 pub fn script_laws()
-    ensures readable { (text : List ℕ) → is_script text ≡ true → is_readable text ≡ true }
-    ensures words { (text : List ℕ) → is_script text ≡ true → spoken (script_words text) ≡ flat_map command_words (commands_in text) }
-    ensures back { (commands : List Command) → list_all is_built commands ≡ true → commands_of (flat_map command_words commands) ≡ Some commands }
+    ensures judged { (text : List ℕ) → ((items : ScriptItems) × IsScript text items) ⊎ ((f : TextFault) × IsFirstFault text f) }
+    ensures apart { (text : List ℕ) (f : TextFault) (items : ScriptItems) → IsFirstFault text f → IsScript text items → ⊥ }
+    ensures one_script { (text : List ℕ) (a b : ScriptItems) → IsScript text a → IsScript text b → a ≡ b }
+    ensures one_fault { (text : List ℕ) (f g : TextFault) → IsFirstFault text f → IsFirstFault text g → f ≡ g }
 {}

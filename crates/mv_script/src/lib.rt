@@ -1,13 +1,28 @@
-//! Scripts: the commands that a text says.
+//! Scripts: the items that a text says, or its first fault.
 #![tactic(auto)]
 
+mod building;
+mod built;
+mod byte;
 mod command;
+mod count;
+mod fault;
+mod fault_text;
 mod laws;
+mod number;
+mod outermost;
+mod part;
+mod read;
+mod reading;
+mod said;
 mod script;
-mod stop;
-mod word;
+mod token;
+mod turn;
 
+pub use built::built_commands;
+pub use command::Command;
+pub use fault::{FaultKind, ScriptFault, TextFault};
+pub use fault_text::put_text_fault;
 pub use laws::script_laws;
-pub use mv_entry::Command;
-pub use script::read_script;
-pub use stop::ScriptStop;
+pub use read::read_script;
+pub use script::Script;

@@ -1,31 +1,27 @@
-ghost use Rattle.std.specs.Prelude.{◌≡◌, true, false, Err, IfOk, OnOk, All};
-ghost use Rattle.mv_script.specs.Scripts.{commands_in, is_script, IsCommand};
+use crate::Command;
 
-use crate::command::commands_of;
-use crate::word::script_words;
-use crate::{Command, ScriptStop};
-use mv_base::{Items, MAX_SCRIPT_BYTES, MAX_SCRIPT_COMMANDS};
-use std::alloc::Global;
+/// A script: its first item, and the script behind it.
+pub enum Script {
+    /// No item.
+    End,
+    /// A command.
+    Do(Command, Box<Script>),
+    /// `repeat K { .. }`: so many runs of what stands inside, from 1 to 1,000.
+    Repeat(u16, Box<Script>, Box<Script>),
+    /// `better { .. }`: runs of what stands inside, while the literals fall.
+    Better(Box<Script>, Box<Script>),
+}
 
-/// The commands of a script. A text with a word that has no place in a script, or with more bytes or commands than the limits
-/// allow, is refused as NotBuilt.
-#[tactic(auto, using(crate::proofs::Scripts::judged))]
-pub fn read_script(alloc: Global, text: &[u8]) -> Result<Items<Command>, ScriptStop>
-    ensures accepted { OnOk result (is_script text.now ≡ true) }
-    ensures commands { IfOk result (λ commands. commands ≡ commands_in text.now) }
-    ensures lawful { IfOk result (λ commands. All IsCommand commands) }
-    ensures refused { result ≡ Err ScriptStop.NotBuilt → is_script text.now ≡ false }
-{
-    if text.len() as u64 > MAX_SCRIPT_BYTES {
-        return Err(ScriptStop::NotBuilt);
+/// A loop along the items: only braces within braces take stack.
+impl Drop for Script {
+    fn drop(mut self) {
+        loop {
+            match self {
+                Script::End => return,
+                Script::Do(_, rest) => self = Box::into_inner(rest),
+                Script::Repeat(_, _, rest) => self = Box::into_inner(rest),
+                Script::Better(_, rest) => self = Box::into_inner(rest),
+            }
+        }
     }
-    let words = script_words(alloc, text)?;
-    let commands = match commands_of(alloc, words.as_slice()) {
-        Ok(commands) => commands,
-        Err(stop) => return Err(stop),
-    };
-    if commands.len() as u64 > MAX_SCRIPT_COMMANDS {
-        return Err(ScriptStop::NotBuilt);
-    }
-    Ok(commands)
 }

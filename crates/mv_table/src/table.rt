@@ -10,7 +10,7 @@ use crate::columns::{ins, outs};
 use crate::entries::{Columns, in_entries, out_entries};
 use mv_base::{Items, Name};
 use mv_decl::Decls;
-use mv_design::{Entry, FileTable, Row};
+use mv_design::{Entry, FileTable, Row, Rows};
 use mv_fault::ParseFault;
 use mv_lex::LexLine;
 use mv_word::is_text;
@@ -127,7 +127,7 @@ pub fn read_table(
         line: head.number,
         inputs: Items::of_names(alloc, ins)?,
         outputs: Items::of_names(alloc, outs)?,
-        rows,
+        rows: Rows::of(alloc, rows)?,
         default,
     })
 }

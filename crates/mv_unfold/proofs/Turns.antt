@@ -11,7 +11,7 @@ use Rattle.mv_base.specs.declared.number.NetId.{NetId}
 use Rattle.mv_base.proofs.NameLemmas.{among-at, IsDistinct-from_differ}
 use Rattle.mv_graph.specs.Nets.{has_id, row, AllBelow}
 use Rattle.mv_graph.specs.Above.{IsAbove, IsAcyclic, reads_by}
-use Rattle.mv_graph.specs.Cycles.{IsTurning}
+use Rattle.mv_cycles.specs.Cycles.{IsTurning}
 use Rattle.mv_graph.proofs.Paths.{above_mapped, acyclic_mapped}
 use Rattle.mv_graph.proofs.Ranks.{IsRanked}
 use Rattle.mv_design.specs.declared.design.FileModel.{FileModel}
@@ -19,7 +19,8 @@ use Rattle.mv_design.specs.Nets.{nets_of, drivers}
 use Rattle.mv_unfold.specs.Sound.{reads, IsFirstOnCycle, IsDrivenOnce}
 use Rattle.mv_unfold.specs.Numbers.{number_in, net_in, numbers_in}
 use Rattle.mv_unfold.specs.Columns.{columns_by_net}
-use Rattle.mv_graph.proofs.Clear.{ListsEachReader, not_unranked}
+use Rattle.mv_graph.proofs.Clear.{not_unranked}
+use Rattle.mv_cycles.proofs.Covered.{ListsEachReader}
 use Rattle.mv_base.proofs.Lists.{all_from, mapped}
 use Rattle.mv_unfold.proofs.Listed.{IsNumber-among, name_at, has_number}
 use Rattle.mv_unfold.proofs.Entries.{entries, columns_in, columns_are, names_are, reads_are}

@@ -12,9 +12,10 @@ use crate::columns::columns;
 use crate::drivers::check_nets;
 use crate::nets::nets;
 use mv_base::{Items, MAX_FLAT_NETS, NameSet, NetId};
+use mv_cycles::first_turning;
 use mv_design::FileModel;
 use mv_fault::FlatFault;
-use mv_graph::{first_turning, sorted};
+use mv_graph::sorted;
 use std::alloc::Global;
 
 /// The driven nets of the model, if it is sound: each net is driven once, each reset table has its own latch, no net is above

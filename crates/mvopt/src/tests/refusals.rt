@@ -40,52 +40,74 @@ fn words_are_refused_and_files_are_missing(rt: HostRuntime) -> Result<(), Fail> 
     Ok(())
 }
 
-/// The script is refused, whatever the network is.
-fn script_is_refused(rt: &impl Abort, alloc: Global, script: &[u8]) -> Result<(), Fail> {
-    let end = refused(3, b"# fault script 8 NotBuilt\n");
-    ends(rt, alloc, opt(b"", script), end)
+/// The script is refused with the line that ends so, whatever the network is.
+fn script_is_refused(
+    rt: &impl Abort,
+    alloc: Global,
+    script: &[u8],
+    fault: &str,
+) -> Result<(), Fail> {
+    let line = format!(in alloc; "# fault script {fault}\n")?;
+    ends(rt, alloc, opt(b"", script), refused(3, line.as_bytes()))
 }
 
+/// Scripts and the end of the line that tells their first fault, behind the bar.
+const SCRIPTS: &str = "\
+x# | 1 UnknownWord 0
+;;sweep 1 | 1 UnknownWord 8
+Drop | 1 UnknownWord 0
+collapse a b | 1 UnknownWord 11
+drop\u{b} | 1 UnknownWord 0
+collapse a\u{80} | 1 UnknownWord 10
+simplify \u{80} | 1 UnknownWord 9
+collapse | 2 Missing 8
+collapse # a | 2 Missing 12
+collapse ;a | 2 Missing 9
+collapse{ | 2 Missing 8
+simplify 1; 1 | 2 Missing 10
+simplify x\u{80} 1 | 2 Missing 9
+repeat { } | 2 Missing 7
+better { simplify 1 | 2 Missing 19
+simplify 9 x | 3 NumberRange 9
+simplify 08 09 | 3 NumberRange 12
+repeat 0 { } | 3 NumberRange 7
+repeat 1001 { } | 3 NumberRange 7
+drop{ | 4 Brace 4
+eliminate } | 4 Brace 10
+repeat 2 drop | 4 Brace 9
+better { drop | 4 Brace 13
+repeat 10 { repeat 1000 { drop } } ; drop | 6 TooMany 37
+drop; repeat 101 { better { repeat 99 { drop } drop } } | 6 TooMany 6
+kernel | 8 NotBuilt
+drop; simplify 08 1 | 8 NotBuilt
+fill | 8 NotBuilt
+repeat 1000{} | 8 NotBuilt
+";
+
 #[test]
-fn a_script_that_says_more_is_refused(rt: HostRuntime) -> Result<(), Fail> {
-    for script in [
-        "x# ",
-        "# x\ny",
-        "drop x",
-        "dropx",
-        "Drop",
-        "drop{",
-        "dro p",
-        "{",
-        "\\",
-        "\u{b}",
-        "\u{80}",
-        "collapse",
-        "collapse ;a",
-        "collapse # a",
-        "collapse {",
-        "collapse a\u{80}",
-        "collapse a b",
-        "sweep 1",
-        "eliminate }",
-        "kernel",
-        "simplify 1 1",
-        "repeat 2 { sweep }",
-    ] {
-        script_is_refused(&rt, rt.alloc(), script.as_bytes())?;
+fn a_script_is_refused_with_its_first_fault(rt: HostRuntime) -> Result<(), Fail> {
+    for case in SCRIPTS.lines() {
+        let (script, fault) = case.split_once(" | ").ok_or("a case without a bar")?;
+        script_is_refused(&rt, rt.alloc(), script.as_bytes(), fault)?;
     }
     Ok(())
 }
 
 #[test]
-fn a_script_has_a_limit(rt: HostRuntime) -> Result<(), Fail> {
+fn a_script_has_limits(rt: HostRuntime) -> Result<(), Fail> {
     let script = repeated(rt.alloc(), b" ", 65_536)?;
     let given = opt(INVERTER, script.as_slice());
     ends(&rt, rt.alloc(), given, written(INVERTER, b"# done 2 2\n"))?;
-    let longer = repeated(rt.alloc(), b" ", 65_537)?;
-    script_is_refused(&rt, rt.alloc(), longer.as_slice())?;
+    let longer = repeated(rt.alloc(), b"x", 65_537)?;
+    script_is_refused(&rt, rt.alloc(), longer.as_slice(), "5 TooLong 65536")?;
     let commands = repeated(rt.alloc(), b"drop;", 10_001)?;
-    script_is_refused(&rt, rt.alloc(), commands.as_slice())
+    script_is_refused(&rt, rt.alloc(), commands.as_slice(), "6 TooMany 50000")?;
+    let braces = repeated(rt.alloc(), b"better{", 33)?;
+    script_is_refused(&rt, rt.alloc(), braces.as_slice(), "7 TooDeep 230")?;
+    let mut powers = repeated(rt.alloc(), b"repeat 1000{", 32)?;
+    powers.extend_from_slice(b"drop")?;
+    powers.extend_from_slice(repeated(rt.alloc(), b"}", 32)?.as_slice())?;
+    script_is_refused(&rt, rt.alloc(), powers.as_slice(), "6 TooMany 0")
 }
 
 /// The network file is refused with the line that ends so.

@@ -5,7 +5,7 @@ use Rattle.mv_opt.proofs.optimising.optimise.Goals as goal
 
 pub returns-in-Err : goal.returns-in-Err
 returns-in-Err g c =
-    early _ _ _ _ _ _ c.in-Err.stop _ c.status.ensures c.in-Err.ensures.ended (λ f e. c.in-Err.ensures.faulty f (ap Err e)) c.refuse.ensures
+    early _ _ _ _ _ _ c.in-Err.stop _ c.status.ensures c.in-Err.ensures.ended (λ f e. c.in-Err.ensures.faulty f (ap Err e)) c.in-Err.ensures.refused c.refuse.ensures
 
 pub returns-in-Ok-carry_out : goal.returns-in-Ok-carry_out
 returns-in-Ok-carry_out g c =

@@ -1,13 +1,15 @@
--- A script's words say commands, so each of their bytes can be seen, and they are the words of these commands.
-use Rattle.mv_script.proofs.Seen.{readable}
-use Rattle.mv_script.proofs.Spoken.{spoken_words, words_say}
+-- The lemmas say it.
+use Rattle.mv_script.proofs.OneAnswer.{judged, no_script, one_script, one_fault}
 use Rattle.mv_script.proofs.laws.script_laws.Goals as goal
 
-pub returns-clause-readable : goal.returns-clause-readable
-returns-clause-readable c = readable
+pub returns-clause-judged : goal.returns-clause-judged
+returns-clause-judged c = judged
 
-pub returns-clause-words : goal.returns-clause-words
-returns-clause-words c = spoken_words
+pub returns-clause-apart : goal.returns-clause-apart
+returns-clause-apart c = no_script
 
-pub returns-clause-back : goal.returns-clause-back
-returns-clause-back c = words_say
+pub returns-clause-one_script : goal.returns-clause-one_script
+returns-clause-one_script c = one_script
+
+pub returns-clause-one_fault : goal.returns-clause-one_fault
+returns-clause-one_fault c = one_fault

@@ -3,8 +3,8 @@ use Rattle.std.proofs.Common.{◌∙◌, ℕ, ◌<◌, List, Option, All, sym, a
 use Rattle.std.specs.Prelude.{IfNone, IfSome}
 use Rattle.mv_base.specs.declared.number.NetId.{NetId}
 use Rattle.mv_design.specs.Nets.{drivers}
-use Rattle.mv_graph.specs.Cycles.{IsTurning, NoneTurns}
-use Rattle.mv_graph.proofs.Clear.{ListsEachReader, none_turns_acyclic}
+use Rattle.mv_cycles.specs.Cycles.{IsTurning, NoneTurns}
+use Rattle.mv_cycles.proofs.Covered.{ListsEachReader, none_turns_acyclic}
 use Rattle.mv_unfold.proofs.Turns.{model_acyclic, model_below, model_length, order_is, order_below, order_covers, first_on_cycle, place_below}
 use Rattle.mv_unfold.proofs.checking.check_turning.Goals as goal
 

@@ -1,6 +1,0 @@
-use Rattle.std.proofs.Common.{take}
-use Rattle.mv_graph.specs.Cycles.{NoneTurns}
-use Rattle.mv_graph.proofs.cycle.first_turning.Given as goal
-
-abbrev pub invariant-loop-place : goal.invariant-loop-place
-invariant-loop-place l = NoneTurns l.columns (take l.place l.order)

@@ -1,0 +1,3 @@
+pub mod Cuts
+pub mod Lawful
+pub mod Accepted

@@ -1,0 +1,13 @@
+-- The words and the place lie in the line.
+use Rattle.std.proofs.Common.{[], ◌∷◌, ◌∙◌}
+use Rattle.mv_base.proofs.Gains.{appends, start, next, stop, last}
+use Rattle.mv_script.proofs.FaultLines.{place_first}
+use Rattle.mv_script.proofs.fault_text.put_text_fault.Goals as goal
+
+pub returns-in_err-put_both : goal.returns-in_err-put_both
+returns-in_err-put_both g c =
+    stop appends (10 ∷ []) _ _ (start appends _ _) (place_first c.args.fault c.kind_words.result.now c.as_bytes.result.now c.kind_words.ensures (c.as_bytes.ensures.value ∙ c.format.ensures.text)) c.in_err-put_both.ensures c.from_residual.ensures.1
+
+pub returns : goal.returns
+returns g c =
+    last appends (next appends (start appends _ _) (place_first c.args.fault c.kind_words.result.now c.as_bytes.result.now c.kind_words.ensures (c.as_bytes.ensures.value ∙ c.format.ensures.text)) c.in_ok-put_both.ensures) c.put.ensures

@@ -1,0 +1,17 @@
+pub mod Each
+pub mod Told
+pub mod Homes
+pub mod Named
+pub mod Inside
+pub mod Seats
+pub mod Standing
+pub mod Whole
+pub mod Allowing
+pub mod Kept
+pub mod Resets
+pub mod Beginning
+pub mod Same
+pub mod Names
+pub mod Fitting
+pub mod Grammar
+pub mod Models

@@ -1,0 +1,6 @@
+pub mod Tree
+pub mod Places
+pub mod Unfolded
+pub mod Meaning
+pub mod Bound
+pub mod Lawful

@@ -1,0 +1,4 @@
+pub mod Visits
+pub mod Unique
+pub mod Grown
+pub mod Nothing
