@@ -13,11 +13,11 @@ use Rattle.mv_cert.specs.Replay.{FailsAt, rules_in}
 use Rattle.mv_cert.proofs.Replayed.{never_both}
 use Rattle.mv_task.specs.declared.fault.FileFault.{FileFault}
 use Rattle.mv_task.specs.declared.fault.SourceStop.TheVariants.{Fault, Read as unread, Memory as short_source}
-use Rattle.mv_task.specs.Exact.{HoldsAll, Ended}
+use Rattle.mv_task.specs.Exact.{HoldsAll, Ended, Short}
 use Rattle.mv_task.specs.Faults.{RefusesNetwork, TellsFault}
 use Rattle.mv_task.specs.Lines.{TellsLine, read_line, memory_line}
 use Rattle.mv_task.specs.Made.{WasPrepared, Prepared}
-use Rattle.mv_task.specs.Words.{word_at}
+use Rattle.mv_task.specs.Inputs.{File, named}
 use Rattle.mv_task.proofs.Exactness.{ended_exact, ended_complete, taken_exact}
 use Rattle.mv_task.proofs.Networks.{prepared_taken}
 use Rattle.mv_task.proofs.Sources.{replaced}
@@ -64,23 +64,23 @@ short_told (Source (Fault f)) notes notes' t e = absurd (omega arith)
 short_told (Source unread) notes notes' t e = absurd (omega arith)
 short_told (Source short_source) notes notes' t e = t
 
-fault_told : (words : List (List ℕ)) (old : Stored) (stop : Stop) (notes notes' : Written) → TellsLine notes notes' (line_of stop)
-    → ((f : FileFault) → stop ≡ Source (Fault f) → IfSome old.held (RefusesNetwork words f)) → status_of stop ≡ 2 → TellsFault words old notes notes'
-fault_told words old (Text f) notes notes' t faulty e = absurd (omega arith)
-fault_told words old Read notes notes' t faulty e = absurd (omega arith)
-fault_told words old Memory notes notes' t faulty e = absurd (omega arith)
-fault_told words old (Source (Fault f)) notes notes' t faulty e = record { fault = f; refuses = faulty f refl; tells = t }
-fault_told words old (Source unread) notes notes' t faulty e = absurd (omega arith)
-fault_told words old (Source short_source) notes notes' t faulty e = absurd (omega arith)
+fault_told : (net_name : List ℕ) (old : Stored) (stop : Stop) (notes notes' : Written) → TellsLine notes notes' (line_of stop)
+    → ((f : FileFault) → stop ≡ Source (Fault f) → IfSome old.held (RefusesNetwork (File net_name) f)) → status_of stop ≡ 2 → TellsFault (File net_name) old notes notes'
+fault_told net_name old (Text f) notes notes' t faulty e = absurd (omega arith)
+fault_told net_name old Read notes notes' t faulty e = absurd (omega arith)
+fault_told net_name old Memory notes notes' t faulty e = absurd (omega arith)
+fault_told net_name old (Source (Fault f)) notes notes' t faulty e = record { fault = f; refuses = faulty f refl; tells = t }
+fault_told net_name old (Source unread) notes notes' t faulty e = absurd (omega arith)
+fault_told net_name old (Source short_source) notes notes' t faulty e = absurd (omega arith)
 
-text_told : (words : List (List ℕ)) (old : Stored) (stop : Stop) (notes notes' : Written) → TellsLine notes notes' (line_of stop)
-    → ((f : TextFault) → stop ≡ Text f → RefusesCertificate words old f) → status_of stop ≡ 7 → TellsText words old notes notes'
-text_told words old (Text f) notes notes' t refused e = record { fault = f; refuses = refused f refl; tells = t }
-text_told words old Read notes notes' t refused e = absurd (omega arith)
-text_told words old Memory notes notes' t refused e = absurd (omega arith)
-text_told words old (Source (Fault f)) notes notes' t refused e = absurd (omega arith)
-text_told words old (Source unread) notes notes' t refused e = absurd (omega arith)
-text_told words old (Source short_source) notes notes' t refused e = absurd (omega arith)
+text_told : (certificate_name : List ℕ) (old : Stored) (stop : Stop) (notes notes' : Written) → TellsLine notes notes' (line_of stop)
+    → ((f : TextFault) → stop ≡ Text f → RefusesCertificate certificate_name old f) → status_of stop ≡ 7 → TellsText certificate_name old notes notes'
+text_told certificate_name old (Text f) notes notes' t refused e = record { fault = f; refuses = refused f refl; tells = t }
+text_told certificate_name old Read notes notes' t refused e = absurd (omega arith)
+text_told certificate_name old Memory notes notes' t refused e = absurd (omega arith)
+text_told certificate_name old (Source (Fault f)) notes notes' t refused e = absurd (omega arith)
+text_told certificate_name old (Source unread) notes notes' t refused e = absurd (omega arith)
+text_told certificate_name old (Source short_source) notes notes' t refused e = absurd (omega arith)
 
 small_status : (stop : Stop) → status_of stop ≤ 7
 small_status (Text f) = omega arith
@@ -107,47 +107,52 @@ never_three (Source unread) e = omega arith
 never_three (Source short_source) e = omega arith
 
 -- files that hold a certificate that replays hold all that is named
-all_held : (words : List (List ℕ)) (held : Option Held) → IsSomeAnd held (HoldsReplay words) → IsSomeAnd held (HoldsAll IsCertificate words)
-all_held words None h = h
-all_held words (Some o) h = h.all
+all_held : (net_name certificate_name : List ℕ) (held : Option Held) → IsSomeAnd held (HoldsReplay net_name certificate_name) → IsSomeAnd held (HoldsAll IsCertificate (named net_name certificate_name))
+all_held net_name certificate_name None h = h
+all_held net_name certificate_name (Some o) h = h.all
 
 -- an end before the work is complete where they are held only for want of memory
-early_replayed : (words : List (List ℕ)) (old new : Stored) (out out' notes notes' : Written) (status : ℕ) → Ended IsCertificate 7 words old new status
-    → IsSomeAnd old.held (HoldsReplay words) → (Rose out.faults out'.faults → ⊥) → (Rose notes.faults notes'.faults → ⊥) → (status ≡ 0) ⊎ (status ≡ 6)
-early_replayed words old new out out' notes notes' status ended h o n =
-    inr ((ended_complete IsCertificate 7 words (λ s. s ≡ 6) old new out out' notes notes' status (λ e. e) ended).succeeds (all_held words old.held h) o n)
+early_replayed : (net_name certificate_name : List ℕ) (old new : Stored) (out out' notes notes' : Written) (status : ℕ) → Ended IsCertificate 7 (named net_name certificate_name) old new status
+    → IsSomeAnd old.held (HoldsReplay net_name certificate_name) → (Rose out.faults out'.faults → ⊥) → (Rose notes.faults notes'.faults → ⊥) → (status ≡ 0) ⊎ (status ≡ 6)
+early_replayed net_name certificate_name old new out out' notes notes' status ended h o n =
+    inr ((ended_complete IsCertificate 7 (named net_name certificate_name) (λ s. s ≡ 6) old new out out' notes notes' status (λ e. e) ended).succeeds (all_held net_name certificate_name old.held h) o n)
 
-early_of : (words : List (List ℕ)) (old new : Stored) (out notes notes' : Written) (stop : Stop) → Ended IsCertificate 7 words old new (status_of stop)
-    → ((f : TextFault) → stop ≡ Text f → RefusesCertificate words old f) → ((f : FileFault) → stop ≡ Source (Fault f) → IfSome old.held (RefusesNetwork words f))
-    → TellsLine notes notes' (line_of stop) → Checks words old new out out notes notes' (status_of stop)
-early_of words old new out notes notes' stop ended refused faulty tells = record {
+early_of : (net_name certificate_name : List ℕ) (old new : Stored) (out notes notes' : Written) (stop : Stop) → Ended IsCertificate 7 (named net_name certificate_name) old new (status_of stop)
+    → ((f : TextFault) → stop ≡ Text f → RefusesCertificate certificate_name old f) → ((f : FileFault) → stop ≡ Source (Fault f) → IfSome old.held (RefusesNetwork (File net_name) f))
+    → TellsLine notes notes' (line_of stop) → Checks net_name certificate_name old new out out notes notes' (status_of stop)
+early_of net_name certificate_name old new out notes notes' stop ended refused faulty tells = record {
   done = λ e. absurd (ended_not_done own ended e);
-  network = λ e. fault_told words old stop notes notes' tells faulty e;
+  network = λ e. fault_told net_name old stop notes notes' tells faulty e;
   behind = λ e. ended_network own ended e;
   read = λ e. ended_read own ended e;
   read_told = λ e. read_told stop notes notes' tells e;
   cut = λ e. absurd (ended_not_cut own ended e);
   short = λ e. short_told stop notes notes' tells e;
-  certificate = λ e. inl (text_told words old stop notes notes' tells refused e);
+  certificate = λ e. inl (text_told certificate_name old stop notes notes' tells refused e);
   untouched = λ a b. refl;
-  exact = ended_exact IsCertificate 7 words old new (status_of stop) ended;
-  complete = ended_complete IsCertificate 7 words (λ s. (s ≡ 0) ⊎ (s ≡ 6) ⊎ (s ≡ 7)) old new out out notes notes' (status_of stop) (λ e. inr (inl e)) ended;
-  replayed = λ h o n. early_replayed words old new out out notes notes' (status_of stop) ended h o n;
+  exact = ended_exact IsCertificate 7 (named net_name certificate_name) old new (status_of stop) ended;
+  complete = ended_complete IsCertificate 7 (named net_name certificate_name) (λ s. (s ≡ 0) ⊎ (s ≡ 6) ⊎ (s ≡ 7)) old new out out notes notes' (status_of stop) (λ e. inr (inl e)) ended;
+  replayed = λ h o n. early_replayed net_name certificate_name old new out out notes notes' (status_of stop) ended h o n;
   known = small_status stop;
   words_accepted = λ e. never_one stop e;
   no_script = λ e. never_three stop e;
 }
 
-pub early : (words : List (List ℕ)) (old new : Stored) (out notes notes' : Written) (stop : Stop) (status : ℕ) → status ≡ status_of stop → Ended IsCertificate 7 words old new (status_of stop)
-    → ((f : TextFault) → stop ≡ Text f → RefusesCertificate words old f) → ((f : FileFault) → stop ≡ Source (Fault f) → IfSome old.held (RefusesNetwork words f))
-    → TellsLine notes notes' (line_of stop) → Checks words old new out out notes notes' status
-early words old new out notes notes' stop status is ended refused faulty tells =
-    subst (λ s. Checks words old new out out notes notes' s) (sym is) (early_of words old new out notes notes' stop ended refused faulty tells)
+pub early : (net_name certificate_name : List ℕ) (old new : Stored) (out notes notes' : Written) (stop : Stop) (status : ℕ) → status ≡ status_of stop → Ended IsCertificate 7 (named net_name certificate_name) old new (status_of stop)
+    → ((f : TextFault) → stop ≡ Text f → RefusesCertificate certificate_name old f) → ((f : FileFault) → stop ≡ Source (Fault f) → IfSome old.held (RefusesNetwork (File net_name) f))
+    → TellsLine notes notes' (line_of stop) → Checks net_name certificate_name old new out out notes notes' status
+early net_name certificate_name old new out notes notes' stop status is ended refused faulty tells =
+    subst (λ s. Checks net_name certificate_name old new out out notes notes' s) (sym is) (early_of net_name certificate_name old new out notes notes' stop ended refused faulty tells)
+
+-- memory ran out before anything was read
+pub short_at_once : (net_name certificate_name : List ℕ) (files : Stored) (out notes notes' : Written) → TellsLine notes notes' memory_line → Checks net_name certificate_name files files out out notes notes' 6
+short_at_once net_name certificate_name files out notes notes' tells =
+    early_of net_name certificate_name files files out notes notes' Memory (Short refl) (λ f e. absurd cc) (λ f e. absurd cc) tells
 
 -- ---- the work was begun
 
-module _ (words : List (List ℕ)) (old new : Stored) (steps : List Step) (first : NetParts) (made : Prepared words old new first) (has : HasSteps words old steps) where
-  certifies : (net : NetParts) → Replays (rules_in steps) first net → IsCertified words old new first net
+module _ (net_name certificate_name : List ℕ) (old new : Stored) (steps : List Step) (first : NetParts) (made : Prepared (File net_name) old new first) (has : HasSteps certificate_name old steps) where
+  certifies : (net : NetParts) → Replays (rules_in steps) first net → IsCertified net_name certificate_name old new first net
   certifies net replays = record {
     made = made;
     certificate = has.content;
@@ -155,13 +160,13 @@ module _ (words : List (List ℕ)) (old new : Stored) (steps : List Step) (first
     certifies = record { accepted = has.accepted; replays = subst (λ ss. Replays (rules_in ss) first net) has.steps_are replays };
   }
 
-  pub tried_all : (out out' notes notes' : Written) → HasTried steps first out out' notes notes' → Checks words old new out out' notes notes' 0
+  pub tried_all : (out out' notes notes' : Written) → HasTried steps first out out' notes notes' → Checks net_name certificate_name old new out out' notes notes' 0
   tried_all out out' notes notes' w = record {
     done = λ e. record {
       first = first;
       net = w.net;
       certified = certifies w.net w.replays;
-      replaced = replaced words old new first w.net out out' made w.gained w.back w.refines;
+      replaced = replaced net_name old new first w.net out out' made w.gained w.back w.refines;
       noted = w.noted;
     };
     network = λ e. absurd (omega arith);
@@ -172,7 +177,7 @@ module _ (words : List (List ℕ)) (old new : Stored) (steps : List Step) (first
     short = λ e. absurd (omega arith);
     certificate = λ e. absurd (omega arith);
     untouched = λ a b. absurd (a refl);
-    exact = taken_exact IsCertificate 7 words old 0 (steps_taken words old steps has) (prepared_taken words old new first made);
+    exact = taken_exact IsCertificate 7 (named net_name certificate_name) old 0 (steps_taken certificate_name old steps has) (prepared_taken (File net_name) old new first made);
     complete = record { succeeds = λ h o n. inl refl };
     replayed = λ h o n. inl refl;
     known = omega arith;
@@ -188,7 +193,7 @@ module _ (words : List (List ℕ)) (old new : Stored) (steps : List Step) (first
   no_cut out out' notes notes' h o n =
       absurd (⊎_elim (λ (rose : Rose out.faults out'.faults). o rose) (λ (rose : Rose notes.faults notes'.faults). n rose) (cut_cause out out' notes notes' h))
 
-  pub cut_off : (out out' notes notes' : Written) → IsTrialCut steps first out out' notes notes' → Checks words old new out out' notes notes' 5
+  pub cut_off : (out out' notes notes' : Written) → IsTrialCut steps first out out' notes notes' → Checks net_name certificate_name old new out out' notes notes' 5
   cut_off out out' notes notes' h = record {
     done = λ e. absurd (omega arith);
     network = λ e. absurd (omega arith);
@@ -199,7 +204,7 @@ module _ (words : List (List ℕ)) (old new : Stored) (steps : List Step) (first
     short = λ e. absurd (omega arith);
     certificate = λ e. absurd (omega arith);
     untouched = λ a b. absurd (b refl);
-    exact = taken_exact IsCertificate 7 words old 5 (steps_taken words old steps has) (prepared_taken words old new first made);
+    exact = taken_exact IsCertificate 7 (named net_name certificate_name) old 5 (steps_taken certificate_name old steps has) (prepared_taken (File net_name) old new first made);
     complete = record { succeeds = λ a o n. no_cut out out' notes notes' h o n };
     replayed = λ a o n. no_cut out out' notes notes' h o n;
     known = omega arith;
@@ -207,7 +212,7 @@ module _ (words : List (List ℕ)) (old new : Stored) (steps : List Step) (first
     no_script = λ e. omega arith;
   }
 
-  pub ran_short : (out out' notes notes' : Written) → out' ≡ out → TellsLine notes notes' memory_line → Checks words old new out out' notes notes' 6
+  pub ran_short : (out out' notes notes' : Written) → out' ≡ out → TellsLine notes notes' memory_line → Checks net_name certificate_name old new out out' notes notes' 6
   ran_short out out' notes notes' same tells = record {
     done = λ e. absurd (omega arith);
     network = λ e. absurd (omega arith);
@@ -218,7 +223,7 @@ module _ (words : List (List ℕ)) (old new : Stored) (steps : List Step) (first
     short = λ e. tells;
     certificate = λ e. absurd (omega arith);
     untouched = λ a b. same;
-    exact = taken_exact IsCertificate 7 words old 6 (steps_taken words old steps has) (prepared_taken words old new first made);
+    exact = taken_exact IsCertificate 7 (named net_name certificate_name) old 6 (steps_taken certificate_name old steps has) (prepared_taken (File net_name) old new first made);
     complete = record { succeeds = λ a o n. inr (inl refl) };
     replayed = λ a o n. inr refl;
     known = omega arith;
@@ -228,17 +233,17 @@ module _ (words : List (List ℕ)) (old new : Stored) (steps : List Step) (first
 
   module _ (line : ℕ) (fault : RuleFault) (failed : FailsTrial steps first line fault) where
     -- where the files hold a certificate that replays, no rule of it fails
-    held_never : (before after : Option Held) → Still before after (λ b a. WasPrepared words b a first) → IfSome before (λ h. file_named (word_at words 2) h.files ≡ Some has.content) → IsSomeAnd before (HoldsReplay words) → ⊥
+    held_never : (before after : Option Held) → Still before after (λ b a. WasPrepared net_name b a first) → IfSome before (λ h. file_named certificate_name h.files ≡ Some has.content) → IsSomeAnd before (HoldsReplay net_name certificate_name) → ⊥
     held_never None after p named h = h
     held_never (Some b) None p named h = p
     held_never (Some b) (Some a) p named h =
         let network = same_content p.content h.all.network.content (sym p.held ∙ h.all.network.named) in
         let certificate = same_content has.content h.all.second.content (sym named ∙ h.all.second.named) in
-        let replays = h.replays first (subst (λ c. IsNetOf (lines_of c) first) network p.net_of) in
+        let replays = h.replays first (subst (λ c. IsNetOf (lines_of c) first) network p.net_of.net_of) in
         never_both steps first replays.0 failed.net line fault failed.formed
         (subst (λ ss. Replays (rules_in ss) first replays.0) (sym (has.steps_are ∙ ap steps_in certificate)) replays.1.replays) failed.fails
 
-    pub rule_failed : (out out' notes notes' : Written) → out' ≡ out → TellsLine notes notes' (rule_line line fault) → Checks words old new out out' notes notes' 7
+    pub rule_failed : (out out' notes notes' : Written) → out' ≡ out → TellsLine notes notes' (rule_line line fault) → Checks net_name certificate_name old new out out' notes notes' 7
     rule_failed out out' notes notes' same tells = record {
       done = λ e. absurd (omega arith);
       network = λ e. absurd (omega arith);
@@ -260,7 +265,7 @@ module _ (words : List (List ℕ)) (old new : Stored) (steps : List Step) (first
         tells = tells;
       });
       untouched = λ a b. same;
-      exact = taken_exact IsCertificate 7 words old 7 (steps_taken words old steps has) (prepared_taken words old new first made);
+      exact = taken_exact IsCertificate 7 (named net_name certificate_name) old 7 (steps_taken certificate_name old steps has) (prepared_taken (File net_name) old new first made);
       complete = record { succeeds = λ a o n. inr (inr refl) };
       replayed = λ h o n. absurd (held_never old.held new.held made has.named h);
       known = omega arith;

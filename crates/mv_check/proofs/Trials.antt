@@ -1,5 +1,5 @@
 -- The work on a certificate: its rules in turn, then the done line, then the text.
-use Rattle.std.proofs.Common.{◌≡◌, ◌∙◌, ℕ, List, [], subst}
+use Rattle.std.proofs.Common.{◌≡◌, ℕ, List, subst}
 use Rattle.mv_base.specs.Meaning.{SameMeaning}
 use Rattle.mv_base.specs.Outside.{Written, Gained}
 use Rattle.mv_base.proofs.Meanings.{Refines-from_same}

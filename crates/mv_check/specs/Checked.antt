@@ -16,39 +16,39 @@ use Rattle.mv_task.specs.Lines.{TellsLine, read_line, memory_line}
 use Rattle.mv_task.specs.Made.{Prepared}
 use Rattle.mv_task.specs.Replaced.{Replaced}
 use Rattle.mv_task.specs.Taken.{IsTaken}
-use Rattle.mv_task.specs.Words.{word_at}
+use Rattle.mv_task.specs.Inputs.{File, named}
 use Rattle.mv_check.specs.declared.stop.TextFault.{TextFault}
 use Rattle.mv_check.specs.Certificates.{RefusesCertificate, IsNamed}
 use Rattle.mv_check.specs.Tellings.{text_line, rule_line}
 
 -- the named certificate, of which nothing else is assumed, leads from the network of the named file to another one
-pub record IsCertified (words : List (List ℕ)) (old new : Stored) (first net : NetParts) : Type 0 where
-  pub made : Prepared words old new first
+pub record IsCertified (net_name certificate_name : List ℕ) (old new : Stored) (first net : NetParts) : Type 0 where
+  pub made : Prepared (File net_name) old new first
   pub certificate : List ℕ
-  pub named : IsNamed words old certificate
+  pub named : IsNamed certificate_name old certificate
   pub certifies : Certifies certificate first net
 
 -- the work is done: the network to which the certificate leads was written, and takes the place of the one that was read; and the
 -- notes gained the done line alone
-pub record IsChecked (words : List (List ℕ)) (old new : Stored) (out out' notes notes' : Written) : Type 0 where
+pub record IsChecked (net_name certificate_name : List ℕ) (old new : Stored) (out out' notes notes' : Written) : Type 0 where
   pub first : NetParts
   pub net : NetParts
-  pub certified : IsCertified words old new first net
-  pub replaced : Replaced words old new first net out out'
+  pub certified : IsCertified net_name certificate_name old new first net
+  pub replaced : Replaced net_name old new first net out out'
   pub noted : Gained notes notes' (done_line (literals_in first.nets) (literals_in net.nets))
 
 -- the named certificate is refused for a fault of its bytes or of its lines, and the notes tell it
-pub record TellsText (words : List (List ℕ)) (files : Stored) (notes notes' : Written) : Type 0 where
+pub record TellsText (certificate_name : List ℕ) (files : Stored) (notes notes' : Written) : Type 0 where
   pub fault : TextFault
-  pub refuses : RefusesCertificate words files fault
+  pub refuses : RefusesCertificate certificate_name files fault
   pub tells : TellsLine notes notes' (text_line fault)
 
 -- a rule of the named certificate, at some line, doesn't apply where those before it have led, and the notes tell its line and why
-pub record TellsRule (words : List (List ℕ)) (old new : Stored) (notes notes' : Written) : Type 0 where
+pub record TellsRule (net_name certificate_name : List ℕ) (old new : Stored) (notes notes' : Written) : Type 0 where
   pub first : NetParts
-  pub made : Prepared words old new first
+  pub made : Prepared (File net_name) old new first
   pub certificate : List ℕ
-  pub named : IsNamed words old certificate
+  pub named : IsNamed certificate_name old certificate
   pub accepted : IsCertificate certificate
   pub net : NetParts
   pub line : ℕ
@@ -57,32 +57,32 @@ pub record TellsRule (words : List (List ℕ)) (old new : Stored) (notes notes' 
   pub tells : TellsLine notes notes' (rule_line line fault)
 
 -- a write failed at the end
-pub record IsCutOff (words : List (List ℕ)) (old new : Stored) (out out' notes notes' : Written) : Type 0 where
+pub record IsCutOff (net_name certificate_name : List ℕ) (old new : Stored) (out out' notes notes' : Written) : Type 0 where
   pub first : NetParts
   pub net : NetParts
-  pub certified : IsCertified words old new first net
+  pub certified : IsCertified net_name certificate_name old new first net
   pub cut : IsEndCut out out' notes notes' (done_line (literals_in first.nets) (literals_in net.nets)) (text_of net)
 
 -- the files hold a certificate whose rules apply in turn, beginning with any network of the named file
-pub record HoldsReplay (words : List (List ℕ)) (held : Held) : Type 0 where
-  pub all : HoldsAll IsCertificate words held
+pub record HoldsReplay (net_name certificate_name : List ℕ) (held : Held) : Type 0 where
+  pub all : HoldsAll IsCertificate (named net_name certificate_name) held
   pub replays : (first : NetParts) → IsNetOf (lines_of all.network.content) first → (net : NetParts) × Certifies all.second.content first net
 
 -- each status and what it says: 0 the work is done; 2 the network is refused, behind a certificate that was accepted, and the notes
 -- tell why; 4 a read failed; 5 a write failed; 6 memory ran out; 7 the certificate is refused, or a rule of it doesn't apply
-pub record Checks (words : List (List ℕ)) (old new : Stored) (out out' notes notes' : Written) (status : ℕ) : Type 0 where
-  pub done : status ≡ 0 → IsChecked words old new out out' notes notes'
-  pub network : status ≡ 2 → TellsFault words old notes notes'
-  pub behind : status ≡ 2 → IfSome old.held (IsTaken IsCertificate (word_at words 2))
-  pub read : status ≡ 4 → Rose old.faults new.faults × IfSome old.held (LacksFile IsCertificate words)
+pub record Checks (net_name certificate_name : List ℕ) (old new : Stored) (out out' notes notes' : Written) (status : ℕ) : Type 0 where
+  pub done : status ≡ 0 → IsChecked net_name certificate_name old new out out' notes notes'
+  pub network : status ≡ 2 → TellsFault (File net_name) old notes notes'
+  pub behind : status ≡ 2 → IfSome old.held (IsTaken IsCertificate certificate_name)
+  pub read : status ≡ 4 → Rose old.faults new.faults × IfSome old.held (LacksFile IsCertificate (named net_name certificate_name))
   pub read_told : status ≡ 4 → TellsLine notes notes' read_line
-  pub cut : status ≡ 5 → IsCutOff words old new out out' notes notes'
+  pub cut : status ≡ 5 → IsCutOff net_name certificate_name old new out out' notes notes'
   pub short : status ≡ 6 → TellsLine notes notes' memory_line
-  pub certificate : status ≡ 7 → TellsText words old notes notes' ⊎ TellsRule words old new notes notes'
+  pub certificate : status ≡ 7 → TellsText certificate_name old notes notes' ⊎ TellsRule net_name certificate_name old new notes notes'
   pub untouched : (status ≡ 0 → ⊥) → (status ≡ 5 → ⊥) → out' ≡ out
-  pub exact : IsExact IsCertificate 7 words old status
-  pub complete : IsComplete IsCertificate (λ s. (s ≡ 0) ⊎ (s ≡ 6) ⊎ (s ≡ 7)) words old out out' notes notes' status
-  pub replayed : IsSomeAnd old.held (HoldsReplay words) → (Rose out.faults out'.faults → ⊥)
+  pub exact : IsExact IsCertificate 7 (named net_name certificate_name) old status
+  pub complete : IsComplete IsCertificate (λ s. (s ≡ 0) ⊎ (s ≡ 6) ⊎ (s ≡ 7)) (named net_name certificate_name) old out out' notes notes' status
+  pub replayed : IsSomeAnd old.held (HoldsReplay net_name certificate_name) → (Rose out.faults out'.faults → ⊥)
       → (Rose notes.faults notes'.faults → ⊥) → (status ≡ 0) ⊎ (status ≡ 6)
   pub known : status ≤ 7
   pub words_accepted : status ≡ 1 → ⊥

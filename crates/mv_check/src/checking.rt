@@ -1,9 +1,7 @@
-ghost use Rattle.std.specs.Prelude.{◌≡◌, length};
 ghost use Rattle.mv_check.specs.Checked.{Checks};
 ghost use Rattle.mv_check.specs.Stops.{line_of};
 ghost use Rattle.mv_check.specs.Tellings.{rule_line};
 ghost use Rattle.mv_task.specs.Lines.{TellsLine};
-ghost use Rattle.mv_task.specs.Words.{texts};
 
 use crate::stop::{Stop, put_line, status};
 use crate::take::prepare;
@@ -33,22 +31,22 @@ fn refuse_rule<E: Sink>(line: u32, fault: RuleFault, notes: &mut E)
     }
 }
 
-/// Reads the certificate and the network file that the words name, applies the certificate's rules to the network in turn, and
+/// Reads the certificate and the network file of these names, applies the certificate's rules to the network in turn, and
 /// writes to `out` the network that is left, which may take the place of the one read, whatever the certificate is. The line that
 /// says how it ended is put to `notes`: for status 0 before `out` is begun, so that it is there too where `out` fails; status 5 has
-/// no line. The words are three.
+/// no line.
 pub fn check<F: Files, O: Sink, E: Sink>(
     alloc: Global,
-    words: &[String],
+    network: &str,
+    certificate: &str,
     files: &mut F,
     out: &mut O,
     notes: &mut E,
 ) -> u8
-    requires { length words.now ≡ 3 }
-    ensures { Checks (texts words.now) (F.state files.old) (F.state files.new)
+    ensures { Checks network.now certificate.now (F.state files.old) (F.state files.new)
         (O.state out.old) (O.state out.new) (E.state notes.old) (E.state notes.new) result }
 {
-    let trial = match prepare(alloc, words, files) {
+    let trial = match prepare(alloc, network, certificate, files) {
         Ok(trial) => trial,
         Err(stop) => {
             refuse(&stop, notes);

@@ -3,10 +3,12 @@
 #![tactic(auto)]
 
 mod checking;
+mod laws;
 mod stop;
 mod take;
 mod tell;
 mod trial;
 
 pub use checking::check;
+pub use laws::short_at_once;
 pub use stop::TextFault;

@@ -1,11 +1,11 @@
-ghost use Rattle.std.specs.Prelude.{◌≡◌, length, Err, IfOk, IfErr, IfSome};
+ghost use Rattle.std.specs.Prelude.{◌≡◌, Err, IfOk, IfErr, IfSome};
 ghost use Rattle.mv_files.specs.FileReading.{Stay};
 ghost use Rattle.mv_task.specs.declared.fault.FileFault.{FileFault};
 ghost use Rattle.mv_task.specs.declared.fault.SourceStop.TheVariants.{Fault as faulty};
-ghost use Rattle.mv_task.specs.Exact.{Ended};
+ghost use Rattle.mv_task.specs.Exact.{SecondEnded, Ended};
 ghost use Rattle.mv_task.specs.Faults.{RefusesNetwork};
 ghost use Rattle.mv_task.specs.Made.{Prepared};
-ghost use Rattle.mv_task.specs.Words.{texts};
+ghost use Rattle.mv_task.specs.Inputs.{File, named};
 ghost use Rattle.mv_check.specs.declared.stop.TextFault.{TextFault};
 ghost use Rattle.mv_cert.specs.Certificates.{IsCertificate};
 ghost use Rattle.mv_check.specs.Certificates.{HasSteps, RefusesCertificate};
@@ -17,26 +17,21 @@ use mv_cert::{Step, StepFault, read_cert};
 use mv_files::{LinesStop, read_lines};
 use mv_lex::LexFault;
 use mv_net::Network;
-use mv_task::{take_network, word_at};
+use mv_task::take_network;
 use std::alloc::Global;
 
-/// Reads the certificate, and gives its steps.
+/// Reads the certificate of this name, and gives its steps.
 #[tactic(auto, using(crate::proofs::Takes::takes_certificate))]
-fn take_certificate<F: Files>(
-    alloc: Global,
-    words: &[String],
-    files: &mut F,
-) -> Result<Items<Step>, Stop>
-    requires { length words.now ≡ 3 }
-    ensures steps { IfOk result (HasSteps (texts words.now) (F.state files.old)) }
+fn take_certificate<F: Files>(alloc: Global, name: &str, files: &mut F) -> Result<Items<Step>, Stop>
+    ensures steps { IfOk result (HasSteps name.now (F.state files.old)) }
     ensures stay { Stay (F.state files.old) (F.state files.new) }
     ensures text { (fault : TextFault) → result ≡ Err (Stop.Text fault)
-        → RefusesCertificate (texts words.now) (F.state files.old) fault }
+        → RefusesCertificate name.now (F.state files.old) fault }
     ensures own { (fault : FileFault) → result ≡ Err (Stop.Source (faulty fault)) → ⊥ }
     ensures ended { IfErr result (λ stop.
-        Ended IsCertificate 7 (texts words.now) (F.state files.old) (F.state files.new) (status_of stop)) }
+        SecondEnded IsCertificate 7 name.now (F.state files.old) (F.state files.new) (status_of stop)) }
 {
-    let lines = match read_lines(alloc, files, word_at(words, 2), MAX_CERTIFICATE_BYTES) {
+    let lines = match read_lines(alloc, files, name, MAX_CERTIFICATE_BYTES) {
         Ok(lines) => lines,
         Err(LinesStop::Failed) => return Err(Stop::Read),
         Err(LinesStop::Lex(LexFault::Memory)) => return Err(Stop::Memory),
@@ -56,24 +51,28 @@ pub struct Trial {
     pub steps: Items<Step>,
 }
 
-/// What the words ask for: first the certificate is judged, then the network.
+/// The network and the certificate of these names: first the certificate is judged, then the network.
 #[tactic(auto, using(crate::proofs::Takes::prepares))]
-pub fn prepare<F: Files>(alloc: Global, words: &[String], files: &mut F) -> Result<Trial, Stop>
-    requires { length words.now ≡ 3 }
-    ensures steps { IfOk result (λ trial. HasSteps (texts words.now) (F.state files.old) trial.steps) }
-    ensures made { IfOk result (λ trial. Prepared (texts words.now) (F.state files.old) (F.state files.new) trial.net) }
+pub fn prepare<F: Files>(
+    alloc: Global,
+    network: &str,
+    certificate: &str,
+    files: &mut F,
+) -> Result<Trial, Stop>
+    ensures steps { IfOk result (λ trial. HasSteps certificate.now (F.state files.old) trial.steps) }
+    ensures made { IfOk result (λ trial. Prepared (File network.now) (F.state files.old) (F.state files.new) trial.net) }
     ensures text { (fault : TextFault) → result ≡ Err (Stop.Text fault)
-        → RefusesCertificate (texts words.now) (F.state files.old) fault }
+        → RefusesCertificate certificate.now (F.state files.old) fault }
     ensures faulty { (fault : FileFault) → result ≡ Err (Stop.Source (faulty fault))
-        → IfSome (F.state files.old).held (RefusesNetwork (texts words.now) fault) }
+        → IfSome (F.state files.old).held (RefusesNetwork (File network.now) fault) }
     ensures ended { IfErr result (λ stop.
-        Ended IsCertificate 7 (texts words.now) (F.state files.old) (F.state files.new) (status_of stop)) }
+        Ended IsCertificate 7 (named network.now certificate.now) (F.state files.old) (F.state files.new) (status_of stop)) }
 {
-    let steps = match take_certificate(alloc, words, files) {
+    let steps = match take_certificate(alloc, certificate, files) {
         Ok(steps) => steps,
         Err(stop) => return Err(stop),
     };
-    match take_network(alloc, words, files) {
+    match take_network(alloc, network, files) {
         Ok(net) => Ok(Trial { net, steps }),
         Err(stop) => Err(Stop::Source(stop)),
     }

@@ -8,6 +8,7 @@ pub mod Numbered
 pub mod Shapes
 pub mod HasMark
 pub mod Needs
+pub mod Sizes
 pub mod Behinds
 pub mod Blocks
 pub mod Slots
@@ -32,3 +33,4 @@ pub mod Formed
 pub mod ShortNames
 pub mod Whole
 pub mod OneNetwork
+pub mod Refusals

@@ -28,7 +28,7 @@ use Rattle.mv_flat.proofs.Distinct.{places_differ, few_places}
 use Rattle.mv_flat.proofs.Known.{tables_placed}
 use Rattle.mv_unfold.proofs.Commands.{named_is_net}
 use Rattle.mv_flat.specs.Built.{IsBuilt}
-use Rattle.mv_flat.specs.Flat.{IsFlat}
+use Rattle.mv_flat.specs.Flat.{HasSmallNetwork, IsFlat}
 use Rattle.mv_flat.specs.Placed.{IsPlacedTable}
 use Rattle.mv_flat.proofs.Places.{IsModelNet, nets_size}
 use Rattle.mv_flat.proofs.Same.{net_same}
@@ -93,17 +93,18 @@ pub root_proper : (d : Design) (m : FileModel) → m ≡ root_of d → IsProper 
 unfolding root_of
 root_proper d m is proper = subst IsProperModel (sym is) (All-get_or IsProperModel d.models d.root no_model proper.root proper.models)
 
--- the network of a design whose root is a sound model with nets within the limits
+-- the network of a design whose root is a sound model with nets and a network within the limits
 pub flat_design : (d : Design) (net : NetParts) → IsProperModel (root_of d) → IsSoundModel (root_of d) → IsWithinLimits (root_of d)
-    → IsBuilt (with_reset_nets (root_of d)) net → IsFlat net d
+    → HasSmallNetwork (root_of d) → IsBuilt (with_reset_nets (root_of d)) net → IsFlat net d
 unfolding of_design
-flat_design d net proper sound limits built =
+flat_design d net proper sound limits fits built =
     let m = root_of d in
     let nets = with_reset_nets m in
     let are = with_nets m nets proper sound limits refl in
     record {
       sound = record { root = sound };
       limits = limits;
+      fits = fits;
       built = built;
       means = SameMeaning-then (of_net net) (of_nets nets) (of_model m) (same_meaning nets net are.proper are.sound built) (same_with_resets m proper sound);
       short = names_short nets net are.few built;

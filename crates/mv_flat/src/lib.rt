@@ -10,6 +10,7 @@ mod mark;
 mod marks;
 mod nets;
 mod numbers;
+mod size;
 mod tables;
 mod values;
 

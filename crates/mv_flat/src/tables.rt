@@ -1,33 +1,44 @@
 //! The nets of tables.
-ghost use Rattle.std.specs.Prelude.{◌≡◌, ◌+◌, ◌<◌, ◌≤◌, ◌^◌, length, IfOk, OnOk, All};
+ghost use Rattle.std.specs.Prelude.{◌≡◌, ◌+◌, ◌<◌, ◌≤◌, ◌^◌, length, IfErr, IfOk, OnOk};
 ghost use Rattle.mv_flat.specs.Built.{open_nets};
-ghost use Rattle.mv_base.specs.declared.limits.TheConstants.{MAX_NETS};
+ghost use Rattle.mv_base.specs.declared.limits.TheConstants.{MAX_FLAT_NETS};
 ghost use Rattle.mv_flat.specs.Marks.{AddsNets, TableNets};
-ghost use Rattle.mv_resets.specs.NetModels.{HasLawfulValues, IsNetModel};
-ghost use Rattle.mv_flat.specs.Placed.{IsPlacedTable, ArePlaced, AddsTables};
+ghost use Rattle.mv_flat.specs.Numbers.{columns_at, mark_at};
+ghost use Rattle.mv_flat.specs.Size.{FitsLimits};
+ghost use Rattle.mv_flat.specs.Sized.{TellsLimit};
+ghost use Rattle.mv_resets.specs.NetModels.{IsNetModel};
+ghost use Rattle.mv_rows.specs.Flat.{IsMade};
+ghost use Rattle.mv_flat.specs.Placed.{ArePlaced, AddsTables};
 
 use crate::columns::covers;
 use crate::marks::put_mark;
 use crate::nets::{file_net, kind_of, open_nets};
+use crate::size::Size;
 use mv_base::{Items, Memory};
 use mv_decl::Declared;
 use mv_design::{FileModel, FileTable};
+use mv_fault::FlatFault;
 use mv_net::FlatNet;
 use mv_rows::FlatTable;
 use mv_unfold::Numbers;
 use std::alloc::Global;
 
-/// The nets of the model: those of its inputs and of its latches, and those of its tables, table after table. A table is let
-/// go behind its nets.
+/// The nets of the model, of as many nets as its file has: those of its inputs and of its latches, and those of its tables, table
+/// after table. A table is let go behind its nets. The fault is the first limit that is passed, and no table behind the one with
+/// which that comes is looked at.
 #[tactic(auto, using(crate::proofs::Behinds::tabled))]
 pub fn nets(
     alloc: Global,
     model: FileModel,
     names: &Numbers,
-) -> Result<Items<Option<FlatNet>>, Memory>
+    file_nets: u64,
+) -> Result<Items<Option<FlatNet>>, FlatFault>
     requires proper { IsNetModel model }
     requires placed { ArePlaced model names.now }
-    ensures { IfOk result (λ nets. AddsTables model (open_nets model) nets) }
+    requires few { file_nets ≤ MAX_FLAT_NETS }
+    ensures nets { IfOk result (λ nets. AddsTables model (open_nets model) nets) }
+    ensures fits { OnOk result (FitsLimits file_nets model) }
+    ensures fault { IfErr result (TellsLimit file_nets model) }
 {
     let FileModel {
         inputs,
@@ -38,14 +49,20 @@ pub fn nets(
     } = model;
     let decls = Declared::of(alloc, decls.as_slice())?;
     let mut nets = open_nets(alloc, &decls, inputs.as_slice(), latches.as_slice())?;
+    let mut size = Size::of_nets(file_nets);
     let mut last = 0;
     for table in tables.into_vec() {
-        put_table(&mut nets, &mut last, alloc, &decls, names, &table)?;
+        let flat = covers(alloc, &decls, names, &table)?;
+        size = match size.with(&table, &flat) {
+            Ok(size) => size,
+            Err(fault) => return Err(fault),
+        };
+        put_table(&mut nets, &mut last, alloc, &decls, names, &table, flat)?;
     }
     Ok(nets)
 }
 
-/// Adds the nets of a table. `last` is the number of the last made name.
+/// Adds the nets of a table with these covers. `last` is the number of the last made name.
 #[tactic(auto, using(crate::proofs::Behinds::adds_table))]
 fn put_table(
     nets: &mut Items<Option<FlatNet>>,
@@ -54,14 +71,14 @@ fn put_table(
     decls: &Declared,
     names: &Numbers,
     table: &FileTable,
+    flat: FlatTable,
 ) -> Result<(), Memory>
-    requires proper { All HasLawfulValues decls.now }
-    requires placed { IsPlacedTable decls.now names.now table.now }
-    requires few { length names.now ≤ MAX_NETS }
+    requires single { length table.now.outputs ≡ 1 }
+    requires made { IsMade (columns_at decls.now names.now table.now) table.now (mark_at names.now table.now) flat }
     requires later { last.old + length names.now + 2 < 2 ^ 32 }
     ensures { OnOk result (AddsNets (TableNets decls.now names.now table.now) names.now last.old last.new nets.old nets.new) }
 {
-    let FlatTable { cover, mark } = covers(alloc, decls, names, table)?;
+    let FlatTable { cover, mark } = flat;
     put_mark(nets, last, alloc, names, mark)?;
     let output = &table.outputs.as_slice()[0];
     let net = file_net(alloc, decls, kind_of(output), Some(cover), output)?;

@@ -1,8 +1,8 @@
--- What the commands put to the notes is a certificate of what they did.
+-- What a script puts to the notes is a certificate of what it did.
 use Rattle.std.proofs.Common.{◌≡◌, ◌∙◌, ℕ, ◌≤◌, true, nat_eq, is_some, List, [], ◌∷◌, ◌++◌, length, map, All, Option, Some, None, refl, sym, ap, subst, ⊎_elim}
 use Rattle.std.proofs.lemmas.Bool.{and_parts, eq-eqb, false≢true, or_left, or_right}
 use Rattle.std.proofs.lemmas.List.{append-nil}
-use Rattle.std.proofs.lemmas.List.Elements.{All-nil, All-cons, All-head, All-tail, All-append}
+use Rattle.std.proofs.lemmas.List.Elements.{All-nil, All-cons, All-append}
 use Rattle.mv_base.specs.declared.limits.TheConstants.{MAX_CERTIFICATE_BYTES}
 use Rattle.mv_base.specs.declared.number.NetId.{NetId}
 use Rattle.mv_cert.specs.Certificates.{Certifies}
@@ -29,11 +29,17 @@ use Rattle.mv_printed.specs.Notes.{notes_of}
 use Rattle.mv_rules.specs.Replaying.{Replays}
 use Rattle.mv_rules.proofs.Replayed.{replayed_formed}
 use Rattle.mv_rules.proofs.Spoken.{held_visible}
-use Rattle.mv_script.specs.Commands.{IsCommand}
+use Rattle.mv_course.specs.Commands.{CourseOf, DoesCommand, RunsCommand}
+use Rattle.mv_course.specs.Runs.{Course, Runs}
+use Rattle.mv_course.proofs.Inductions.{of_items}
+use Rattle.mv_course.proofs.Rules.{course_replays, does_replays, runs_replays}
+use Rattle.mv_script.specs.declared.command.Command.{Command as ScriptCommand}
+use Rattle.mv_script.specs.Commands.{IsCommand, is_named, are_named}
+use Rattle.mv_script.specs.Scripts.{Items}
+use Rattle.mv_script.proofs.Commands.{built_lawful}
 use Rattle.mv_sweep.specs.Drops.{IsDropStep}
 use Rattle.mv_sweep.specs.Sweeps.{IsSweepStep}
-use Rattle.mv_opt.specs.Runs.{CourseOf, DoesCommand, Runs, IsCertified, all_notes}
-use Rattle.mv_opt.proofs.CommandRuns.{course_replays, does_replays, runs_replays}
+use Rattle.mv_opt.specs.Noted.{IsCertified, all_notes}
 use Rattle.mv_opt.proofs.Seen.{IsSeenNote, seen_certifies}
 
 notes_of-append : (xs ys : List Entry) → notes_of (xs ++ ys) ≡ notes_of xs ++ notes_of ys
@@ -118,22 +124,35 @@ does_seen c a b es is formed d =
     let rest = seen_append d.steps (Noted end ∷ []) (course_seen c a b d.steps is formed' d.course) (numbers_seen end refl) in
     subst AreSeen (sym d.entries_are) (All-cons IsSeenNote (Begin c) (notes_of (d.steps ++ Noted end ∷ [])) is.names rest)
 
-runs_seen : (cs : List Command) (a b : NetParts) (es : List Entry) → All IsCommand cs → WellFormed a → Runs cs a es b → AreSeen es
-runs_seen [] a b es all formed (none, same) = subst AreSeen (sym none) (All-nil IsSeenNote)
-runs_seen (c ∷ cs) a b es all formed (mid, (front, (rest, (is, (first, behind))))) =
-    let formed' = replayed_formed (rules_of front) a mid formed (does_replays c a mid front first) in
-    subst AreSeen (sym is)
-    (seen_append front rest (does_seen c a mid front (All-head IsCommand c cs all) formed first) (runs_seen cs mid b rest (All-tail IsCommand c cs all) formed' behind))
+-- ---- the notes of scripts
+
+-- where a network is well formed, the notes can be seen, and the network that is left is well formed
+abbrev StaysSeen : Course
+StaysSeen a es b = WellFormed a → WellFormed b × AreSeen es
+
+seen_then : (a b c : NetParts) (xs ys : List Entry) → StaysSeen a xs b → StaysSeen b ys c → StaysSeen a (xs ++ ys) c
+seen_then a b c xs ys p q formed =
+    let first = p formed in
+    let second = q first.0 in
+    (second.0, seen_append xs ys first.1 second.1)
+
+command_seen : (c : ScriptCommand) → is_named c ≡ true → (a : NetParts) (es : List Entry) (b : NetParts) → RunsCommand c a es b → StaysSeen a es b
+command_seen c named a es b r formed =
+    (replayed_formed (rules_of es) a b formed (does_replays r.command a b es r.does), does_seen r.command a b es (built_lawful c r.command named r.built) formed r.does)
+
+runs_seen : (items : Items) (a b : NetParts) (es : List Entry) → are_named items ≡ true → WellFormed a → Runs items a es b → AreSeen es
+runs_seen items a b es named formed r =
+    (of_items StaysSeen (λ n formed'. (formed', All-nil IsSeenNote)) seen_then is_named command_seen items named a es b r formed).1
 
 -- ---- the certificate
 
-pub certified : (cs : List Command) (first net : NetParts) (es : List Entry) → All IsCommand cs → WellFormed first → HasWordNames first.nets → Runs cs first es net → IsCertified es first net
-certified cs first net es lawful formed names runs short =
+pub certified : (items : Items) (first net : NetParts) (es : List Entry) → are_named items ≡ true → WellFormed first → HasWordNames first.nets → Runs items first es net → IsCertified es first net
+certified items first net es named formed names runs short =
     let done = Done (literals_in first.nets) (literals_in net.nets) in
     let all = es ++ Noted done ∷ [] in
     let text : print all ≡ all_notes es first net = print-append es (Noted done ∷ []) ∙ ap (λ t. print es ++ t) (print-one (Noted done)) in
     let replays : Replays (rules_of all) first net =
-    subst (λ rs. Replays rs first net) (sym (rules_of-append es (Noted done ∷ []) ∙ append-nil (rules_of es))) (runs_replays cs first net es runs) in
-    let notes = seen_append es (Noted done ∷ []) (runs_seen cs first net es lawful formed runs) (numbers_seen done refl) in
+    subst (λ rs. Replays rs first net) (sym (rules_of-append es (Noted done ∷ []) ∙ append-nil (rules_of es))) (runs_replays items first net es runs) in
+    let notes = seen_append es (Noted done ∷ []) (runs_seen items first net es named formed runs) (numbers_seen done refl) in
     subst (λ t. Certifies t first net) text
     (seen_certifies all first net formed names notes replays (subst (λ t. length t ≤ MAX_CERTIFICATE_BYTES) (sym text) short))

@@ -1,18 +1,21 @@
 -- How a run ends: what was put to the notes and to the output, and what its status says.
 use Rattle.std.proofs.Common.{◌≡◌, ◌⊎◌, ℕ, ◌≤◌, List, [], inl, inr, refl, sym, subst, arith, ⊎_elim}
 use Rattle.std.specs.Prelude.{IfSome}
-use Rattle.mv_base.specs.Outside.{Stored, Written, Rose}
-use Rattle.mv_entry.specs.Entries.{print}
+use Rattle.mv_base.specs.Meaning.{Refines}
+use Rattle.mv_base.specs.Outside.{Stored, Written, Gained, Rose}
+use Rattle.mv_entry.specs.Entries.{Entry, print}
 use Rattle.mv_net.specs.declared.parts.NetParts.{NetParts}
-use Rattle.mv_entry.specs.declared.note.Command.{Command}
+use Rattle.mv_net.specs.Allowed.{of_net}
+use Rattle.mv_back.specs.Back.{ReadsBack}
+use Rattle.mv_script.specs.Scripts.{Items}
 use Rattle.mv_task.specs.declared.fault.FileFault.{FileFault}
 use Rattle.mv_task.specs.declared.fault.SourceStop.TheVariants.{Fault, Read as unread, Memory as short_source}
-use Rattle.mv_task.specs.Exact.{Ended}
+use Rattle.mv_task.specs.Exact.{Ended, Short}
 use Rattle.mv_task.specs.Faults.{RefusesNetwork, TellsFault}
+use Rattle.mv_task.specs.Inputs.{Source as Origin, File, Text, Inputs}
 use Rattle.mv_task.specs.Lines.{TellsLine, read_line, memory_line}
 use Rattle.mv_task.specs.Made.{Prepared}
 use Rattle.mv_task.specs.Taken.{IsTaken}
-use Rattle.mv_task.specs.Words.{word_at}
 use Rattle.mv_task.proofs.Endings.{TellsLine-later}
 use Rattle.mv_task.proofs.Exactness.{ended_exact, ended_complete, taken_exact}
 use Rattle.mv_task.proofs.Networks.{prepared_taken}
@@ -20,9 +23,10 @@ use Rattle.mv_task.proofs.Sources.{replaced}
 use Rattle.mv_task.proofs.Statuses.{IsOwn, ended_second, ended_network, ended_read, ended_not_done, ended_not_cut}
 use Rattle.mv_opt.specs.declared.stop.Stop.{Stop}
 use Rattle.mv_opt.specs.declared.stop.Stop.TheVariants.{Script, Unbuilt, Read, Memory, Source}
-use Rattle.mv_opt.specs.Optimised.{Optimises}
-use Rattle.mv_opt.specs.Outcomes.{HasWorked, HasStoppedAt, IsCut, EndsShort}
-use Rattle.mv_opt.specs.Scripts.{IsScript, TakesCommands, Faulty, NotBuilt, TellsScript}
+use Rattle.mv_opt.specs.Optimised.{Replaces, Optimises}
+use Rattle.mv_opt.specs.Outcomes.{HasWorked, HasStoppedAt, IsCut, EndsRun, Done, Cut, OutOfMemory, EndsShort}
+use Rattle.mv_opt.specs.Outputs.{output_of, output_for}
+use Rattle.mv_opt.specs.Scripts.{IsScript, TakesItems, Faulty, NotBuilt, TellsScript}
 use Rattle.mv_opt.specs.Stops.{status_of, line_of, IsRefusal}
 
 own : IsOwn 3
@@ -36,14 +40,14 @@ own = record {
 
 -- ---- nothing to work on
 
-script_told : (words : List (List ℕ)) (old : Stored) (stop : Stop) (notes notes' : Written) → TellsLine notes notes' (line_of stop) → IsRefusal words old stop → status_of stop ≡ 3 → TellsScript words old notes notes'
-script_told words old (Script fault) notes notes' t why e = record { cause = Faulty fault; refuses = why; tells = t }
-script_told words old Unbuilt notes notes' t why e = record { cause = NotBuilt; refuses = why; tells = t }
-script_told words old Read notes notes' t why e = absurd (omega arith)
-script_told words old Memory notes notes' t why e = absurd (omega arith)
-script_told words old (Source (Fault f)) notes notes' t why e = absurd (omega arith)
-script_told words old (Source unread) notes notes' t why e = absurd (omega arith)
-script_told words old (Source short_source) notes notes' t why e = absurd (omega arith)
+script_told : (name : List ℕ) (old : Stored) (stop : Stop) (notes notes' : Written) → TellsLine notes notes' (line_of stop) → IsRefusal name old stop → status_of stop ≡ 3 → TellsScript name old notes notes'
+script_told name old (Script fault) notes notes' t why e = record { cause = Faulty fault; refuses = why; tells = t }
+script_told name old Unbuilt notes notes' t why e = record { cause = NotBuilt; refuses = why; tells = t }
+script_told name old Read notes notes' t why e = absurd (omega arith)
+script_told name old Memory notes notes' t why e = absurd (omega arith)
+script_told name old (Source (Fault f)) notes notes' t why e = absurd (omega arith)
+script_told name old (Source unread) notes notes' t why e = absurd (omega arith)
+script_told name old (Source short_source) notes notes' t why e = absurd (omega arith)
 
 read_told : (stop : Stop) (notes notes' : Written) → TellsLine notes notes' (line_of stop) → status_of stop ≡ 4 → TellsLine notes notes' read_line
 read_told (Script fault) notes notes' t e = absurd (omega arith)
@@ -55,25 +59,25 @@ read_told (Source unread) notes notes' t e = t
 read_told (Source short_source) notes notes' t e = absurd (omega arith)
 
 -- memory ran out before any command
-short_told : (words : List (List ℕ)) (old new : Stored) (stop : Stop) (notes notes' : Written) → TellsLine notes notes' (line_of stop) → status_of stop ≡ 6 → EndsShort words old new notes notes'
+short_told : (given : Inputs) (old new : Stored) (stop : Stop) (notes notes' : Written) → TellsLine notes notes' (line_of stop) → status_of stop ≡ 6 → EndsShort given old new notes notes'
 unfolding print
-short_told words old new (Script fault) notes notes' t e = absurd (omega arith)
-short_told words old new Unbuilt notes notes' t e = absurd (omega arith)
-short_told words old new Read notes notes' t e = absurd (omega arith)
-short_told words old new Memory notes notes' t e = record { entries = []; ran = inl refl; tells = t }
-short_told words old new (Source (Fault f)) notes notes' t e = absurd (omega arith)
-short_told words old new (Source unread) notes notes' t e = absurd (omega arith)
-short_told words old new (Source short_source) notes notes' t e = record { entries = []; ran = inl refl; tells = t }
+short_told given old new (Script fault) notes notes' t e = absurd (omega arith)
+short_told given old new Unbuilt notes notes' t e = absurd (omega arith)
+short_told given old new Read notes notes' t e = absurd (omega arith)
+short_told given old new Memory notes notes' t e = record { entries = []; ran = inl refl; tells = t }
+short_told given old new (Source (Fault f)) notes notes' t e = absurd (omega arith)
+short_told given old new (Source unread) notes notes' t e = absurd (omega arith)
+short_told given old new (Source short_source) notes notes' t e = record { entries = []; ran = inl refl; tells = t }
 
-fault_told : (words : List (List ℕ)) (old : Stored) (stop : Stop) (notes notes' : Written) → TellsLine notes notes' (line_of stop)
-    → ((f : FileFault) → stop ≡ Source (Fault f) → IfSome old.held (RefusesNetwork words f)) → status_of stop ≡ 2 → TellsFault words old notes notes'
-fault_told words old (Script fault) notes notes' t faulty e = absurd (omega arith)
-fault_told words old Unbuilt notes notes' t faulty e = absurd (omega arith)
-fault_told words old Read notes notes' t faulty e = absurd (omega arith)
-fault_told words old Memory notes notes' t faulty e = absurd (omega arith)
-fault_told words old (Source (Fault f)) notes notes' t faulty e = record { fault = f; refuses = faulty f refl; tells = t }
-fault_told words old (Source unread) notes notes' t faulty e = absurd (omega arith)
-fault_told words old (Source short_source) notes notes' t faulty e = absurd (omega arith)
+fault_told : (source : Origin) (old : Stored) (stop : Stop) (notes notes' : Written) → TellsLine notes notes' (line_of stop)
+    → ((f : FileFault) → stop ≡ Source (Fault f) → IfSome old.held (RefusesNetwork source f)) → status_of stop ≡ 2 → TellsFault source old notes notes'
+fault_told source old (Script fault) notes notes' t faulty e = absurd (omega arith)
+fault_told source old Unbuilt notes notes' t faulty e = absurd (omega arith)
+fault_told source old Read notes notes' t faulty e = absurd (omega arith)
+fault_told source old Memory notes notes' t faulty e = absurd (omega arith)
+fault_told source old (Source (Fault f)) notes notes' t faulty e = record { fault = f; refuses = faulty f refl; tells = t }
+fault_told source old (Source unread) notes notes' t faulty e = absurd (omega arith)
+fault_told source old (Source short_source) notes notes' t faulty e = absurd (omega arith)
 
 small_status : (stop : Stop) → status_of stop ≤ 6
 small_status (Script fault) = omega arith
@@ -93,43 +97,53 @@ never_one (Source (Fault f)) e = omega arith
 never_one (Source unread) e = omega arith
 never_one (Source short_source) e = omega arith
 
-early_of : (words : List (List ℕ)) (old new : Stored) (out notes notes' : Written) (stop : Stop) → Ended IsScript 3 words old new (status_of stop)
-    → ((f : FileFault) → stop ≡ Source (Fault f) → IfSome old.held (RefusesNetwork words f)) → IsRefusal words old stop → TellsLine notes notes' (line_of stop)
-    → Optimises words old new out out notes notes' (status_of stop)
-early_of words old new out notes notes' stop ended faulty why tells = record {
+early_of : (given : Inputs) (old new : Stored) (out notes notes' : Written) (stop : Stop) → Ended IsScript 3 given old new (status_of stop)
+    → ((f : FileFault) → stop ≡ Source (Fault f) → IfSome old.held (RefusesNetwork given.network f)) → IsRefusal given.second old stop → TellsLine notes notes' (line_of stop)
+    → Optimises given old new out out notes notes' (status_of stop)
+early_of given old new out notes notes' stop ended faulty why tells = record {
   done = λ e. absurd (ended_not_done own ended e);
-  network = λ e. fault_told words old stop notes notes' tells faulty e;
+  network = λ e. fault_told given.network old stop notes notes' tells faulty e;
   behind = λ e. ended_network own ended e;
   script = λ e. ended_second own ended e;
-  script_told = λ e. script_told words old stop notes notes' tells why e;
+  script_told = λ e. script_told given.second old stop notes notes' tells why e;
   read = λ e. ended_read own ended e;
   read_told = λ e. read_told stop notes notes' tells e;
   cut = λ e. absurd (ended_not_cut own ended e);
-  short = λ e. short_told words old new stop notes notes' tells e;
+  short = λ e. short_told given old new stop notes notes' tells e;
   untouched = λ a b. refl;
-  exact = ended_exact IsScript 3 words old new (status_of stop) ended;
-  complete = ended_complete IsScript 3 words (λ s. (s ≡ 0) ⊎ (s ≡ 6)) old new out out notes notes' (status_of stop) (λ e. inr e) ended;
+  exact = ended_exact IsScript 3 given old new (status_of stop) ended;
+  complete = ended_complete IsScript 3 given (λ s. (s ≡ 0) ⊎ (s ≡ 6)) old new out out notes notes' (status_of stop) (λ e. inr e) ended;
   known = small_status stop;
   words_accepted = λ e. never_one stop e;
 }
 
-pub early : (words : List (List ℕ)) (old new : Stored) (out notes notes' : Written) (stop : Stop) (status : ℕ) → status ≡ status_of stop → Ended IsScript 3 words old new (status_of stop)
-    → ((f : FileFault) → stop ≡ Source (Fault f) → IfSome old.held (RefusesNetwork words f)) → IsRefusal words old stop → TellsLine notes notes' (line_of stop)
-    → Optimises words old new out out notes notes' status
-early words old new out notes notes' stop status is ended faulty why tells =
-    subst (λ s. Optimises words old new out out notes notes' s) (sym is) (early_of words old new out notes notes' stop ended faulty why tells)
+pub early : (given : Inputs) (old new : Stored) (out notes notes' : Written) (stop : Stop) (status : ℕ) → status ≡ status_of stop → Ended IsScript 3 given old new (status_of stop)
+    → ((f : FileFault) → stop ≡ Source (Fault f) → IfSome old.held (RefusesNetwork given.network f)) → IsRefusal given.second old stop → TellsLine notes notes' (line_of stop)
+    → Optimises given old new out out notes notes' status
+early given old new out notes notes' stop status is ended faulty why tells =
+    subst (λ s. Optimises given old new out out notes notes' s) (sym is) (early_of given old new out notes notes' stop ended faulty why tells)
+
+-- memory ran out before anything was read
+pub short_at_once : (given : Inputs) (files : Stored) (out notes notes' : Written) → TellsLine notes notes' memory_line → Optimises given files files out out notes notes' 6
+short_at_once given files out notes notes' tells = early_of given files files out notes notes' Memory (Short refl) (λ f e. absurd cc) tt tells
 
 -- ---- the work was begun
 
-module _ (words : List (List ℕ)) (old new : Stored) (commands : List Command) (first : NetParts) (made : Prepared words old new first) (script : IfSome old.held (IsTaken IsScript (word_at words 2))) (taken : IfSome old.held (TakesCommands words commands)) where
-  pub worked : (out out' notes notes' : Written) → HasWorked commands first out out' notes notes' → Optimises words old new out out' notes notes' 0
+-- the network of a file is replaced by the text that was written, which is the output; of another no more is said
+replaces : (source : Origin) (old new : Stored) (first net : NetParts) (entries : List Entry) (out out' : Written) → Prepared source old new first → Gained out out' (output_of (output_for source) first entries net) → ReadsBack net → Refines (of_net net) (of_net first) → Replaces source old new first net out out'
+replaces (File name) old new first net entries out out' made gained back refines = replaced name old new first net out out' made gained back refines
+replaces (Text text) old new first net entries out out' made gained back refines = refines
+
+module _ (given : Inputs) (old new : Stored) (items : Items) (first : NetParts) (made : Prepared given.network old new first) (script : IfSome old.held (IsTaken IsScript given.second)) (taken : IfSome old.held (TakesItems given.second items)) where
+  pub worked : (out out' notes notes' : Written) → HasWorked (output_for given.network) items first out out' notes notes' → Optimises given old new out out' notes notes' 0
   worked out out' notes notes' w = record {
     done = λ e. record {
       first = first;
       made = made;
       net = w.net;
-      replaced = replaced words old new first w.net out out' made w.gained w.back w.refines;
-      told = record { commands = commands; taken = taken; entries = w.entries; runs = w.runs; noted = w.noted; certified = w.certified; no_more = w.no_more };
+      replaces = replaces given.network old new first w.net w.entries out out' made w.gained w.back w.refines;
+      output = w.gained;
+      told = record { items = items; taken = taken; entries = w.entries; runs = w.runs; noted = w.noted; certified = w.certified; no_more = w.no_more };
     };
     network = λ e. absurd (omega arith);
     behind = λ e. absurd (omega arith);
@@ -140,17 +154,17 @@ module _ (words : List (List ℕ)) (old new : Stored) (commands : List Command) 
     cut = λ e. absurd (omega arith);
     short = λ e. absurd (omega arith);
     untouched = λ a b. absurd (a refl);
-    exact = taken_exact IsScript 3 words old 0 script (prepared_taken words old new first made);
+    exact = taken_exact IsScript 3 given old 0 script (prepared_taken given.network old new first made);
     complete = record { succeeds = λ h o n. inl refl };
     known = omega arith;
     words_accepted = λ e. omega arith;
   }
 
   -- the cause of a write that failed
-  cut_cause : (out out' notes notes' : Written) → IsCut commands first out out' notes notes' → Rose out.faults out'.faults ⊎ Rose notes.faults notes'.faults
+  cut_cause : (out out' notes notes' : Written) → IsCut (output_for given.network) items first out out' notes notes' → Rose out.faults out'.faults ⊎ Rose notes.faults notes'.faults
   cut_cause out out' notes notes' h = ⊎_elim (λ text. inl text.0) (λ line. inr line.1) h.how
 
-  pub cut_off : (out out' notes notes' : Written) → IsCut commands first out out' notes notes' → Optimises words old new out out' notes notes' 5
+  pub cut_off : (out out' notes notes' : Written) → IsCut (output_for given.network) items first out out' notes notes' → Optimises given old new out out' notes notes' 5
   cut_off out out' notes notes' h = record {
     done = λ e. absurd (omega arith);
     network = λ e. absurd (omega arith);
@@ -159,10 +173,10 @@ module _ (words : List (List ℕ)) (old new : Stored) (commands : List Command) 
     script_told = λ e. absurd (omega arith);
     read = λ e. absurd (omega arith);
     read_told = λ e. absurd (omega arith);
-    cut = λ e. record { first = first; made = made; commands = commands; taken = taken; cut = h };
+    cut = λ e. record { first = first; made = made; items = items; taken = taken; cut = h };
     short = λ e. absurd (omega arith);
     untouched = λ a b. absurd (b refl);
-    exact = taken_exact IsScript 3 words old 5 script (prepared_taken words old new first made);
+    exact = taken_exact IsScript 3 given old 5 script (prepared_taken given.network old new first made);
     complete = record {
       succeeds = λ a o n. absurd (⊎_elim (λ (rose : Rose out.faults out'.faults). o rose) (λ (rose : Rose notes.faults notes'.faults). n rose) (cut_cause out out' notes notes' h));
     };
@@ -170,7 +184,7 @@ module _ (words : List (List ℕ)) (old new : Stored) (commands : List Command) 
     words_accepted = λ e. omega arith;
   }
 
-  pub ran_short : (out out' notes mid notes' : Written) → HasStoppedAt commands first notes mid → notes.faults ≤ mid.faults → out' ≡ out → TellsLine mid notes' memory_line → Optimises words old new out out' notes notes' 6
+  pub ran_short : (out out' notes mid notes' : Written) → HasStoppedAt items first notes mid → notes.faults ≤ mid.faults → out' ≡ out → TellsLine mid notes' memory_line → Optimises given old new out out' notes notes' 6
   ran_short out out' notes mid notes' h later same tells = record {
     done = λ e. absurd (omega arith);
     network = λ e. absurd (omega arith);
@@ -182,12 +196,19 @@ module _ (words : List (List ℕ)) (old new : Stored) (commands : List Command) 
     cut = λ e. absurd (omega arith);
     short = λ e. record {
       entries = h.stopped.entries;
-      ran = inr (record { first = first; made = made; commands = commands; taken = taken; net = h.net; stops = h.stopped.stops });
+      ran = inr (record { first = first; made = made; items = items; taken = taken; net = h.net; stops = h.stopped.stops });
       tells = TellsLine-later notes mid notes' (print h.stopped.entries) memory_line h.stopped.gained later tells;
     };
     untouched = λ a b. same;
-    exact = taken_exact IsScript 3 words old 6 script (prepared_taken words old new first made);
+    exact = taken_exact IsScript 3 given old 6 script (prepared_taken given.network old new first made);
     complete = record { succeeds = λ a o n. inr refl };
     known = omega arith;
     words_accepted = λ e. omega arith;
   }
+
+  -- however the work ends
+  pub run_ends : (out out' notes notes' : Written) (status : ℕ) → EndsRun (output_for given.network) items first out out' notes notes' status → Optimises given old new out out' notes notes' status
+  run_ends out out' notes notes' status (Done is w) = subst (λ s. Optimises given old new out out' notes notes' s) (sym is) (worked out out' notes notes' w)
+  run_ends out out' notes notes' status (Cut is h) = subst (λ s. Optimises given old new out out' notes notes' s) (sym is) (cut_off out out' notes notes' h)
+  run_ends out out' notes notes' status (OutOfMemory is mid h later same tells) =
+      subst (λ s. Optimises given old new out out' notes notes' s) (sym is) (ran_short out out' notes mid notes' h later same tells)

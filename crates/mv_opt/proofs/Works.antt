@@ -1,5 +1,5 @@
--- The work on a network: its commands, then the done line, then the text, each as far as it came.
-use Rattle.std.proofs.Common.{◌≡◌, ℕ, ◌≤◌, All, List, Result, Ok, Err, OnOk, inl, inr, ap, subst, ⊎_elim}
+-- The work on a network: the script, then the done line, then the output, each as far as it came.
+use Rattle.std.proofs.Common.{◌≡◌, ◌∙◌, ℕ, ◌≤◌, true, List, inl, inr, ap, subst, ⊎_elim}
 use Rattle.mv_base.specs.Meaning.{Refines}
 use Rattle.mv_base.specs.Outside.{Written, Gained, GainedPart, Rose}
 use Rattle.mv_base.proofs.Gains.{Gained-then, GainedPart-then}
@@ -9,31 +9,36 @@ use Rattle.mv_net.specs.Allowed.{of_net}
 use Rattle.mv_net.specs.Formed.{WellFormed}
 use Rattle.mv_printed.specs.Names.{HasWordNames}
 use Rattle.mv_opt.proofs.Certified.{certified}
-use Rattle.mv_opt.proofs.NoMore.{runs_no_more}
+use Rattle.mv_course.proofs.NoMore.{runs_no_more}
 use Rattle.mv_net.specs.Nets.{literals_in}
-use Rattle.mv_text.specs.Text.{text_of}
 use Rattle.mv_back.specs.Back.{ReadsBack}
-use Rattle.mv_entry.specs.declared.note.Command.{Command}
-use Rattle.mv_entry.specs.Tallies.{Journaled}
+use Rattle.mv_entry.specs.declared.journal.Tally.{Tally}
+use Rattle.mv_entry.specs.Tallies.{Journaled, with_entries}
 use Rattle.mv_pass.specs.Taking.{Took, TookPart}
-use Rattle.mv_opt.specs.Outcomes.{HasRun, HasStopped, IsNoteCut, HasWorked, IsCut}
-use Rattle.mv_pass.specs.declared.stop.Stop.{Stop}
-use Rattle.mv_opt.specs.Runs.{Runs, StopsIn}
-use Rattle.mv_script.specs.Commands.{IsCommand}
+use Rattle.mv_opt.specs.declared.output.Output.{Output}
+use Rattle.mv_opt.specs.Outcomes.{HasRun, HasStopped, IsNoteCut, HasWorked, IsDoneCut, IsOutputCut, IsCut}
+use Rattle.mv_opt.specs.Outputs.{no_tally, output_text, output_of}
+use Rattle.mv_course.specs.Runs.{Runs, RunsTo}
+use Rattle.mv_script.specs.Commands.{are_named}
+use Rattle.mv_script.specs.Scripts.{Items}
 use Rattle.mv_task.specs.Ending.{IsEndCut, done_line}
 
--- ---- the commands
+-- ---- the script
 
--- what a journal took of the commands, as its sink gained it
-module _ (commands : List Command) (a b : NetParts) (j k : Journaled) where
-  pub ran : (r : Result (Unit {0}) Stop) → OnOk r (Took (λ es. Runs commands a es b) j k) → OnOk r (HasRun commands a b j.written k.written)
-  ran (Ok u) t = record { entries = t.entries; runs = t.are; gained = t.gained }
-  ran (Err e) t = tt
+-- what a journal took of the script, as its sink gained it
+module _ (items : Items) (a b : NetParts) (j k : Journaled) where
+  pub ran : (tally : Tally) → j.tally ≡ no_tally → tally ≡ k.tally → Took (λ es. Runs items a es b) j k → HasRun items a b j.written k.written tally
+  ran tally none e t = record {
+    entries = t.entries;
+    runs = t.are;
+    gained = t.gained;
+    counted = e ∙ (t.counted ∙ ap (λ n. with_entries n t.entries) none);
+  }
 
-  pub stopped : Took (λ es. StopsIn commands a es b) j k → HasStopped commands a b j.written k.written
+  pub stopped : Took (λ es. RunsTo items a es b) j k → HasStopped items a b j.written k.written
   stopped t = record { entries = t.entries; stops = t.are; gained = t.gained }
 
-  pub note_cut : TookPart (λ es. StopsIn commands a es b) j k → IsNoteCut commands a b j.written k.written
+  pub note_cut : TookPart (λ es. RunsTo items a es b) j k → IsNoteCut items a b j.written k.written
   note_cut t = record { entries = t.entries; stops = t.are; gained = t.gained }
 
 pub ruleset noted = (ran, stopped, note_cut)
@@ -44,49 +49,58 @@ pub ruleset noted = (ran, stopped, note_cut)
 same_line : (first net : NetParts) (before : ℕ) → before ≡ literals_in first.nets → done_line before (literals_in net.nets) ≡ done_line (literals_in first.nets) (literals_in net.nets)
 same_line first net before e = ap (λ n. done_line n (literals_in net.nets)) e
 
-pub work_done : (commands : List Command) (first net : NetParts) (before : ℕ) (out out' notes mid notes' : Written) → before ≡ literals_in first.nets → HasRun commands first net notes mid → Refines (of_net net) (of_net first) → ReadsBack net → All IsCommand commands → WellFormed first → HasWordNames first.nets → Gained out out' (text_of net) → Gained mid notes' (done_line before (literals_in net.nets)) → HasWorked commands first out out' notes notes'
-work_done commands first net before out out' notes mid notes' e ran refines back lawful formed names text line =
-    let P : List ℕ → Type 0 = λ z. Gained mid notes' z in
-    record {
-      entries = ran.entries;
-      net = net;
-      runs = ran.runs;
-      noted = Gained-then notes mid notes' _ _ ran.gained (subst P (same_line first net before e) line);
-      certified = certified commands first net ran.entries lawful formed names ran.runs;
-      no_more = runs_no_more commands first net ran.entries formed ran.runs;
-      gained = text;
-      back = back;
-      refines = refines;
-    }
+module _ (output : Output) (items : Items) (first net : NetParts) (before : ℕ) (tally : Tally) (notes mid : Written) (same : before ≡ literals_in first.nets) (ran : HasRun items first net notes mid tally) where
+  -- what was counted and the literals are those of the entries and of the first network
+  same_output : output_text output before tally net ≡ output_of output first ran.entries net
+  same_output = ap (λ n. output_text output n tally net) same ∙ ap (λ t. output_text output (literals_in first.nets) t net) ran.counted
 
-pub work_cut : (commands : List Command) (first net : NetParts) (before : ℕ) (out out' notes mid notes' : Written) → before ≡ literals_in first.nets → HasRun commands first net notes mid → notes.faults ≤ mid.faults → IsEndCut out out' mid notes' (done_line before (literals_in net.nets)) (text_of net) → IsCut commands first out out' notes notes'
-work_cut commands first net before out out' notes mid notes' same ran later cut =
-    record {
-      how =
-          ⊎_elim
-          (λ (text : Rose out.faults out'.faults × (Gained mid notes' (done_line before (literals_in net.nets)) × GainedPart out out' (text_of net))).
-          let P : List ℕ → Type 0 = λ z. Gained mid notes' z in
-          inl (
-            text.0,
-            record {
-              entries = ran.entries;
-              net = net;
-              runs = ran.runs;
-              noted = Gained-then notes mid notes' _ _ ran.gained (subst P (same_line first net before same) text.1.0);
-              part = text.1.1;
-            },
-          ))
-          (λ (line : (out' ≡ out) × Rose mid.faults notes'.faults × GainedPart mid notes' (done_line before (literals_in net.nets))).
-          let Q : List ℕ → Type 0 = λ z. GainedPart mid notes' z in
-          inr (
-            line.0,
-            Rose-earlier notes.faults mid.faults notes'.faults later line.1,
-            inl (record {
-              entries = ran.entries;
-              net = net;
-              runs = ran.runs;
-              noted = GainedPart-then notes mid notes' _ _ ran.gained (subst Q (same_line first net before same) line.2);
-            }),
-          ))
-          cut.how;
-    }
+  pub work_done : (out out' notes' : Written) → Refines (of_net net) (of_net first) → ReadsBack net → are_named items ≡ true → WellFormed first → HasWordNames first.nets → Gained out out' (output_text output before tally net) → Gained mid notes' (done_line before (literals_in net.nets)) → HasWorked output items first out out' notes notes'
+  work_done out out' notes' refines back named formed names text line =
+      let P : List ℕ → Type 0 = λ z. Gained mid notes' z in
+      let Q : List ℕ → Type 0 = λ z. Gained out out' z in
+      record {
+        entries = ran.entries;
+        net = net;
+        runs = ran.runs;
+        noted = Gained-then notes mid notes' _ _ ran.gained (subst P (same_line first net before same) line);
+        certified = certified items first net ran.entries named formed names ran.runs;
+        no_more = runs_no_more items first net ran.entries formed ran.runs;
+        gained = subst Q same_output text;
+        back = back;
+        refines = refines;
+      }
+
+  -- the output failed behind the notes
+  output_cut : (out out' notes' : Written) → Gained mid notes' (done_line before (literals_in net.nets)) → GainedPart out out' (output_text output before tally net) → IsOutputCut output items first out out' notes notes'
+  output_cut out out' notes' line part =
+      let P : List ℕ → Type 0 = λ z. Gained mid notes' z in
+      let Q : List ℕ → Type 0 = λ z. GainedPart out out' z in
+      record {
+        entries = ran.entries;
+        net = net;
+        runs = ran.runs;
+        noted = Gained-then notes mid notes' _ _ ran.gained (subst P (same_line first net before same) line);
+        part = subst Q same_output part;
+      }
+
+  -- the notes failed at the done line
+  done_cut : (notes' : Written) → GainedPart mid notes' (done_line before (literals_in net.nets)) → IsDoneCut items first notes notes'
+  done_cut notes' part =
+      let P : List ℕ → Type 0 = λ z. GainedPart mid notes' z in
+      record {
+        entries = ran.entries;
+        net = net;
+        runs = ran.runs;
+        noted = GainedPart-then notes mid notes' _ _ ran.gained (subst P (same_line first net before same) part);
+      }
+
+  pub work_cut : (out out' notes' : Written) → notes.faults ≤ mid.faults → IsEndCut out out' mid notes' (done_line before (literals_in net.nets)) (output_text output before tally net) → IsCut output items first out out' notes notes'
+  work_cut out out' notes' later cut = record {
+    how =
+        ⊎_elim
+        (λ (text : Rose out.faults out'.faults × (Gained mid notes' (done_line before (literals_in net.nets)) × GainedPart out out' (output_text output before tally net))).
+        inl (text.0, output_cut out out' notes' text.1.0 text.1.1))
+        (λ (line : (out' ≡ out) × Rose mid.faults notes'.faults × GainedPart mid notes' (done_line before (literals_in net.nets))).
+        inr (line.0, Rose-earlier notes.faults mid.faults notes'.faults later line.1, inl (done_cut notes' line.2)))
+        cut.how;
+  }

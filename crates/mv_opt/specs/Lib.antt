@@ -1,5 +1,7 @@
+pub mod Drawn
+pub mod Outputs
 pub mod Scripts
-pub mod Runs
+pub mod Noted
 pub mod Outcomes
 pub mod Optimised
 pub mod Stops

@@ -1,4 +1,4 @@
--- How the work on a network ends: its commands, then the done line, then its text.
+-- How the work on a network ends: the script, then the done line, then the output.
 use Rattle.std.specs.Prelude.{◌≡◌, ◌⊎◌, ℕ, ◌≤◌, IfSome, List, [], ◌++◌}
 use Rattle.mv_base.specs.Meaning.{Refines}
 use Rattle.mv_base.specs.Outside.{Stored, Written, Gained, GainedPart, Rose}
@@ -6,90 +6,104 @@ use Rattle.mv_net.specs.declared.parts.NetParts.{NetParts}
 use Rattle.mv_net.specs.Allowed.{of_net}
 use Rattle.mv_net.specs.Nets.{literals_in}
 use Rattle.mv_entry.specs.Entries.{Entry, print}
-use Rattle.mv_text.specs.Text.{text_of}
 use Rattle.mv_back.specs.Back.{ReadsBack}
-use Rattle.mv_entry.specs.declared.note.Command.{Command}
+use Rattle.mv_entry.specs.declared.journal.Tally.{Tally}
+use Rattle.mv_entry.specs.Tallies.{with_entries}
+use Rattle.mv_course.specs.Runs.{Runs, RunsTo}
+use Rattle.mv_script.specs.Scripts.{Items}
+use Rattle.mv_task.specs.Inputs.{Inputs}
 use Rattle.mv_task.specs.Made.{Prepared}
 use Rattle.mv_task.specs.Lines.{TellsLine, memory_line}
-use Rattle.mv_opt.specs.Runs.{Runs, StopsIn, all_notes, IsCertified}
-use Rattle.mv_opt.specs.Scripts.{TakesCommands}
+use Rattle.mv_opt.specs.declared.output.Output.{Output}
+use Rattle.mv_opt.specs.Outputs.{no_tally, output_of, output_for}
+use Rattle.mv_opt.specs.Noted.{all_notes, IsCertified}
+use Rattle.mv_opt.specs.Scripts.{TakesItems}
 
--- the commands ran, and the notes gained their entries
-pub record HasRun (commands : List Command) (old new : NetParts) (notes notes' : Written) : Type 0 where
+-- the script ran, and the notes gained its entries, which were counted
+pub record HasRun (items : Items) (old new : NetParts) (notes notes' : Written) (tally : Tally) : Type 0 where
   pub entries : List Entry
-  pub runs : Runs commands old entries new
+  pub runs : Runs items old entries new
+  pub gained : Gained notes notes' (print entries)
+  pub counted : tally ≡ with_entries no_tally entries
+
+-- the script stopped, and the notes gained the entries that came
+pub record HasStopped (items : Items) (old new : NetParts) (notes notes' : Written) : Type 0 where
+  pub entries : List Entry
+  pub stops : RunsTo items old entries new
   pub gained : Gained notes notes' (print entries)
 
--- the commands stopped, and the notes gained the entries that came
-pub record HasStopped (commands : List Command) (old new : NetParts) (notes notes' : Written) : Type 0 where
-  pub entries : List Entry
-  pub stops : StopsIn commands old entries new
-  pub gained : Gained notes notes' (print entries)
-
--- the commands stopped at some network, and the notes gained the entries that came
-pub record HasStoppedAt (commands : List Command) (old : NetParts) (notes notes' : Written) : Type 0 where
+-- the script stopped at some network, and the notes gained the entries that came
+pub record HasStoppedAt (items : Items) (old : NetParts) (notes notes' : Written) : Type 0 where
   pub net : NetParts
-  pub stopped : HasStopped commands old net notes notes'
+  pub stopped : HasStopped items old net notes notes'
 
--- the commands stopped, and the notes gained some first part of the lines of the entries that came
-pub record IsNoteCut (commands : List Command) (old new : NetParts) (notes notes' : Written) : Type 0 where
+-- the script stopped, and the notes gained some first part of the lines of the entries that came
+pub record IsNoteCut (items : Items) (old new : NetParts) (notes notes' : Written) : Type 0 where
   pub entries : List Entry
-  pub stops : StopsIn commands old entries new
+  pub stops : RunsTo items old entries new
   pub gained : GainedPart notes notes' (print entries)
 
--- the work is done: the network that was left may take the place of the first, has no more literals, and its text, which reads
--- back, was written
-pub record HasWorked (commands : List Command) (first : NetParts) (out out' notes notes' : Written) : Type 0 where
+-- the work is done: the network that was left may take the place of the first, has no more literals, and its text reads back; and
+-- the output was written
+pub record HasWorked (output : Output) (items : Items) (first : NetParts) (out out' notes notes' : Written) : Type 0 where
   pub entries : List Entry
   pub net : NetParts
-  pub runs : Runs commands first entries net
+  pub runs : Runs items first entries net
   pub noted : Gained notes notes' (all_notes entries first net)
   pub certified : IsCertified entries first net
   pub no_more : literals_in net.nets ≤ literals_in first.nets
-  pub gained : Gained out out' (text_of net)
+  pub gained : Gained out out' (output_of output first entries net)
   pub back : ReadsBack net
   pub refines : Refines (of_net net) (of_net first)
 
 -- the notes failed at the done line
-pub record IsDoneCut (commands : List Command) (first : NetParts) (notes notes' : Written) : Type 0 where
+pub record IsDoneCut (items : Items) (first : NetParts) (notes notes' : Written) : Type 0 where
   pub entries : List Entry
   pub net : NetParts
-  pub runs : Runs commands first entries net
+  pub runs : Runs items first entries net
   pub noted : GainedPart notes notes' (all_notes entries first net)
 
--- the output failed at the text
-pub record IsTextCut (commands : List Command) (first : NetParts) (out out' notes notes' : Written) : Type 0 where
+-- the output failed
+pub record IsOutputCut (output : Output) (items : Items) (first : NetParts) (out out' notes notes' : Written) : Type 0 where
   pub entries : List Entry
   pub net : NetParts
-  pub runs : Runs commands first entries net
+  pub runs : Runs items first entries net
   pub noted : Gained notes notes' (all_notes entries first net)
-  pub part : GainedPart out out' (text_of net)
+  pub part : GainedPart out out' (output_of output first entries net)
 
 -- a write failed: one to the output, which the notes stand before, or one to the notes, which leaves the output as it was
-pub record IsCut (commands : List Command) (first : NetParts) (out out' notes notes' : Written) : Type 0 where
-  pub how : (Rose out.faults out'.faults × IsTextCut commands first out out' notes notes')
+pub record IsCut (output : Output) (items : Items) (first : NetParts) (out out' notes notes' : Written) : Type 0 where
+  pub how : (Rose out.faults out'.faults × IsOutputCut output items first out out' notes notes')
       ⊎ ((out' ≡ out) × Rose notes.faults notes'.faults
-      × (IsDoneCut commands first notes notes' ⊎ ((net : NetParts) × IsNoteCut commands first net notes notes')))
+      × (IsDoneCut items first notes notes' ⊎ ((net : NetParts) × IsNoteCut items first net notes notes')))
 
--- the same of a run, whose network and commands are those of the named files
-pub record EndsCut (words : List (List ℕ)) (before after : Stored) (out out' notes notes' : Written) : Type 0 where
-  pub first : NetParts
-  pub made : Prepared words before after first
-  pub commands : List Command
-  pub taken : IfSome before.held (TakesCommands words commands)
-  pub cut : IsCut commands first out out' notes notes'
+-- how the work ends, by its status: it is done; a write failed; or memory ran out, which leaves the output as it was, and the notes
+-- tell so behind the entries that came
+pub data EndsRun (output : Output) (items : Items) (first : NetParts) (out out' notes notes' : Written) (status : ℕ) : Type 0 where
+  Done : (is : status ≡ 0) → (worked : HasWorked output items first out out' notes notes') → EndsRun output items first out out' notes notes' status
+  Cut : (is : status ≡ 5) → (cut : IsCut output items first out out' notes notes') → EndsRun output items first out out' notes notes' status
+  OutOfMemory : (is : status ≡ 6) → (mid : Written) → (stopped : HasStoppedAt items first notes mid) → (later : notes.faults ≤ mid.faults)
+      → (untouched : out' ≡ out) → (tells : TellsLine mid notes' memory_line) → EndsRun output items first out out' notes notes' status
 
--- commands of the named script stopped on the network of the named file
-pub record HasStoppedOn (words : List (List ℕ)) (before after : Stored) (entries : List Entry) : Type 0 where
+-- the same of a run, whose network comes from where it is to, and whose script is the named one
+pub record EndsCut (given : Inputs) (before after : Stored) (out out' notes notes' : Written) : Type 0 where
   pub first : NetParts
-  pub made : Prepared words before after first
-  pub commands : List Command
-  pub taken : IfSome before.held (TakesCommands words commands)
+  pub made : Prepared given.network before after first
+  pub items : Items
+  pub taken : IfSome before.held (TakesItems given.second items)
+  pub cut : IsCut (output_for given.network) items first out out' notes notes'
+
+-- the named script stopped on the network
+pub record HasStoppedOn (given : Inputs) (before after : Stored) (entries : List Entry) : Type 0 where
+  pub first : NetParts
+  pub made : Prepared given.network before after first
+  pub items : Items
+  pub taken : IfSome before.held (TakesItems given.second items)
   pub net : NetParts
-  pub stops : StopsIn commands first entries net
+  pub stops : RunsTo items first entries net
 
 -- memory ran out, before any command or within one, and the notes tell so behind the entries that came
-pub record EndsShort (words : List (List ℕ)) (before after : Stored) (notes notes' : Written) : Type 0 where
+pub record EndsShort (given : Inputs) (before after : Stored) (notes notes' : Written) : Type 0 where
   pub entries : List Entry
-  pub ran : (entries ≡ []) ⊎ HasStoppedOn words before after entries
+  pub ran : (entries ≡ []) ⊎ HasStoppedOn given before after entries
   pub tells : TellsLine notes notes' (print entries ++ memory_line)

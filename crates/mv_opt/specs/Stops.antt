@@ -24,9 +24,9 @@ line_of Memory = memory_line
 line_of (Source stop) = source_line stop
 
 -- where the script is refused, the named one is, and for this cause
-abbrev pub IsRefusal : List (List ℕ) → Stored → Stop → Type 0
-IsRefusal words files (Script fault) = IfSome files.held (RefusesScript words (Faulty fault))
-IsRefusal words files Unbuilt = IfSome files.held (RefusesScript words NotBuilt)
-IsRefusal words files Read = Unit {0}
-IsRefusal words files Memory = Unit {0}
-IsRefusal words files (Source stop) = Unit {0}
+abbrev pub IsRefusal : List ℕ → Stored → Stop → Type 0
+IsRefusal name files (Script fault) = IfSome files.held (RefusesScript name (Faulty fault))
+IsRefusal name files Unbuilt = IfSome files.held (RefusesScript name NotBuilt)
+IsRefusal name files Read = Unit {0}
+IsRefusal name files Memory = Unit {0}
+IsRefusal name files (Source stop) = Unit {0}

@@ -1,12 +1,13 @@
-//! The task of optimising: a script and a network are read, the script's commands run, and the network that is left is written.
+//! The task of optimising: a script and a network are read, the script runs, and the network that is left is written; and
+//! the same on a network that is drawn, of which a summary is written.
 #![tactic(auto)]
 
-mod commands;
 mod laws;
 mod optimising;
+mod output;
 mod stop;
 mod take;
-mod work;
+mod working;
 
-pub use laws::{entries_replay, no_more_literals};
-pub use optimising::optimise;
+pub use laws::short_at_once;
+pub use optimising::{optimise, work};

@@ -1,12 +1,19 @@
-ghost use Rattle.std.specs.Prelude.{◌≡◌, length};
+ghost use Rattle.std.specs.Prelude.{◌≡◌, ◌≤◌, true};
+ghost use Rattle.mv_printed.specs.Names.{HasWordNames};
+ghost use Rattle.mv_script.specs.Commands.{are_built, are_named};
+ghost use Rattle.mv_script.specs.Scripts.{items_of};
 ghost use Rattle.mv_opt.specs.Optimised.{Optimises};
 ghost use Rattle.mv_opt.specs.Stops.{line_of};
 ghost use Rattle.mv_task.specs.Lines.{TellsLine};
-ghost use Rattle.mv_task.specs.Words.{texts};
+ghost use Rattle.mv_task.specs.Inputs.{named};
+ghost use Rattle.mv_work.specs.declared.work.TheConstants.{MAX_WORK_TABLES, MIN_WORK_TABLES};
+ghost use Rattle.mv_opt.specs.Drawn.{drawn};
+ghost use Rattle.mv_opt.specs.Outcomes.{EndsRun};
 
+use crate::output::Output;
 use crate::stop::{Stop, put_line, status};
-use crate::take::prepare;
-use crate::work::{WorkStop, carry_out};
+use crate::take::{Work, prepare, prepare_drawn};
+use crate::working::{WorkStop, carry_out};
 use mv_base::{Files, Sink};
 use std::alloc::Global;
 
@@ -20,34 +27,74 @@ fn refuse<E: Sink>(stop: &Stop, notes: &mut E)
     }
 }
 
-/// Reads the script and the network file that the words name, runs the script's commands on the network, and writes to `out` a
-/// network that may take the place of the one read. What the commands do is put to `notes` as they do it, and then the line that
-/// says how it ended: for status 0 before `out` is begun, so that it is there too where `out` fails; status 5 has no line. The words
-/// are three.
-pub fn optimise<F: Files, O: Sink, E: Sink>(
+/// Does the work, and tells how it ended. The answer is the status.
+fn finish_run<O: Sink, E: Sink>(
     alloc: Global,
-    words: &[String],
-    files: &mut F,
+    work: Work,
+    output: Output,
     out: &mut O,
     notes: &mut E,
 ) -> u8
-    requires { length words.now ≡ 3 }
-    ensures { Optimises (texts words.now) (F.state files.old) (F.state files.new)
-        (O.state out.old) (O.state out.new) (E.state notes.old) (E.state notes.new) result }
+    requires names { HasWordNames work.net.nets }
+    requires built { are_built (items_of work.script) ≡ true }
+    requires named { are_named (items_of work.script) ≡ true }
+    ensures { EndsRun output (items_of work.script) work.net (O.state out.old) (O.state out.new) (E.state notes.old) (E.state notes.new) result }
 {
-    let work = match prepare(alloc, words, files) {
-        Ok(work) => work,
-        Err(stop) => {
-            refuse(&stop, notes);
-            return status(&stop);
-        }
-    };
-    match carry_out(alloc, work, out, notes) {
+    match carry_out(alloc, work, output, out, notes) {
         Ok(()) => 0,
         Err(WorkStop::Write) => 5,
         Err(WorkStop::Memory) => {
             refuse(&Stop::Memory, notes);
             6
+        }
+    }
+}
+
+/// Reads the script and the network file of these names, runs the script on the network, and writes to `out` a network
+/// that may take the place of the one read. What the commands do is put to `notes` as they do it, and then the line that says how it
+/// ended: for status 0 before `out` is begun, so that it is there too where `out` fails; status 5 has no line.
+pub fn optimise<F: Files, O: Sink, E: Sink>(
+    alloc: Global,
+    network: &str,
+    script: &str,
+    files: &mut F,
+    out: &mut O,
+    notes: &mut E,
+) -> u8
+    ensures { Optimises (named network.now script.now) (F.state files.old) (F.state files.new)
+        (O.state out.old) (O.state out.new) (E.state notes.old) (E.state notes.new) result }
+{
+    match prepare(alloc, network, script, files) {
+        Ok(work) => finish_run(alloc, work, Output::Network, out, notes),
+        Err(stop) => {
+            refuse(&stop, notes);
+            status(&stop)
+        }
+    }
+}
+
+/// Draws a network of `size` tables from `seed`, and runs the named script on it, as `optimise` does on that of a
+/// file; but what is written to `out` is a summary: how many nets are left, the literals before and after, and how many commands
+/// began, rules applied and steps were dropped. The network is for measuring: `mv_work` says how it is drawn.
+pub fn work<F: Files, O: Sink, E: Sink>(
+    alloc: Global,
+    size: u32,
+    seed: u64,
+    script: &str,
+    files: &mut F,
+    out: &mut O,
+    notes: &mut E,
+) -> u8
+    requires least { MIN_WORK_TABLES ≤ size }
+    requires most { size ≤ MAX_WORK_TABLES }
+    ensures { Optimises (drawn size seed script.now) (F.state files.old) (F.state files.new)
+        (O.state out.old) (O.state out.new) (E.state notes.old) (E.state notes.new) result }
+{
+    match prepare_drawn(alloc, size, seed, script, files) {
+        Ok(work) => finish_run(alloc, work, Output::Summary, out, notes),
+        Err(stop) => {
+            refuse(&stop, notes);
+            status(&stop)
         }
     }
 }

@@ -1,44 +1,43 @@
-ghost use Rattle.std.specs.Prelude.{◌≡◌, length, All, Err, IfOk, IfErr, IfSome, OnOk};
+ghost use Rattle.std.specs.Prelude.{◌≡◌, ◌≤◌, true, Err, IfOk, IfErr, IfSome, OnOk};
 ghost use Rattle.mv_files.specs.FileReading.{Stay};
 ghost use Rattle.mv_printed.specs.Names.{HasWordNames};
-ghost use Rattle.mv_script.specs.Commands.{IsCommand};
+ghost use Rattle.mv_script.specs.Commands.{are_built, are_named};
+ghost use Rattle.mv_script.specs.Scripts.{items_of};
 ghost use Rattle.mv_task.specs.declared.fault.FileFault.{FileFault};
 ghost use Rattle.mv_task.specs.declared.fault.SourceStop.TheVariants.{Fault as faulty};
-ghost use Rattle.mv_task.specs.Exact.{Ended};
+ghost use Rattle.mv_task.specs.Exact.{SecondEnded, Ended};
 ghost use Rattle.mv_task.specs.Faults.{RefusesNetwork};
 ghost use Rattle.mv_task.specs.Made.{Prepared};
 ghost use Rattle.mv_task.specs.Taken.{IsTaken};
-ghost use Rattle.mv_task.specs.Words.{texts, word_at};
-ghost use Rattle.mv_opt.specs.Scripts.{IsScript, TakesCommands};
+ghost use Rattle.mv_task.specs.Inputs.{File, Text, named};
+ghost use Rattle.mv_work.specs.declared.work.TheConstants.{MAX_WORK_TABLES, MIN_WORK_TABLES};
+ghost use Rattle.mv_work.specs.Work.{work_text};
+ghost use Rattle.mv_opt.specs.Scripts.{IsScript, TakesItems};
+ghost use Rattle.mv_opt.specs.Drawn.{drawn};
 ghost use Rattle.mv_opt.specs.Stops.{status_of, IsRefusal};
 
 use crate::stop::Stop;
-use mv_base::{Files, Items, MAX_SCRIPT_BYTES};
-use mv_entry::Command;
+use mv_base::{Files, MAX_SCRIPT_BYTES};
 use mv_files::{ReadStop, read_file};
 use mv_net::Network;
-use mv_script::{ScriptFault, built_commands, read_script};
-use mv_task::{take_network, word_at};
+use mv_script::{Script, ScriptFault, is_built, read_script};
+use mv_task::{network_of_text, take_network};
+use mv_work::work_text;
 use std::alloc::Global;
 
-/// Reads the script file, and gives its commands.
+/// Reads the script file of this name.
 #[tactic(auto, using(crate::proofs::Takes::takes_script))]
-fn take_script<F: Files>(
-    alloc: Global,
-    words: &[String],
-    files: &mut F,
-) -> Result<Items<Command>, Stop>
-    requires { length words.now ≡ 3 }
-    ensures taken { OnOk result (IfSome (F.state files.old).held (IsTaken IsScript (word_at (texts words.now) 2))) }
-    ensures commands { IfOk result (λ commands.
-        IfSome (F.state files.old).held (TakesCommands (texts words.now) commands)) }
-    ensures lawful { IfOk result (λ commands. All IsCommand commands) }
+fn take_script<F: Files>(alloc: Global, name: &str, files: &mut F) -> Result<Script, Stop>
+    ensures taken { OnOk result (IfSome (F.state files.old).held (IsTaken IsScript name.now)) }
+    ensures items { IfOk result (λ script. IfSome (F.state files.old).held (TakesItems name.now (items_of script))) }
+    ensures built { IfOk result (λ script. are_built (items_of script) ≡ true) }
+    ensures named { IfOk result (λ script. are_named (items_of script) ≡ true) }
     ensures stay { Stay (F.state files.old) (F.state files.new) }
     ensures own { (fault : FileFault) → result ≡ Err (Stop.Source (faulty fault)) → ⊥ }
-    ensures refused { IfErr result (IsRefusal (texts words.now) (F.state files.old)) }
-    ensures ended { IfErr result (λ stop. Ended IsScript 3 (texts words.now) (F.state files.old) (F.state files.new) (status_of stop)) }
+    ensures refused { IfErr result (IsRefusal name.now (F.state files.old)) }
+    ensures ended { IfErr result (λ stop. SecondEnded IsScript 3 name.now (F.state files.old) (F.state files.new) (status_of stop)) }
 {
-    let text = match read_file(alloc, files, word_at(words, 2), MAX_SCRIPT_BYTES) {
+    let text = match read_file(alloc, files, name, MAX_SCRIPT_BYTES) {
         Ok(text) => text,
         Err(ReadStop::Failed) => return Err(Stop::Read),
         Err(ReadStop::Memory) => return Err(Stop::Memory),
@@ -48,41 +47,83 @@ fn take_script<F: Files>(
         Err(ScriptFault::Text(fault)) => return Err(Stop::Script(fault)),
         Err(ScriptFault::Memory) => return Err(Stop::Memory),
     };
-    match built_commands(alloc, &script) {
-        Ok(Some(commands)) => Ok(commands),
-        Ok(None) => Err(Stop::Unbuilt),
-        Err(_memory) => Err(Stop::Memory),
+    if is_built(&script) {
+        Ok(script)
+    } else {
+        Err(Stop::Unbuilt)
     }
 }
 
-/// What a run works on: the network of the network file, and the commands of the script.
+/// What a run works on: a network and a script.
 #[derive(Drop)]
 pub struct Work {
     pub net: Network,
-    pub commands: Items<Command>,
+    pub script: Script,
 }
 
-/// What the words ask for: first the script is judged, then the network.
+/// The network and the script of these names: first the script is judged, then the network.
 #[tactic(auto, using(crate::proofs::Takes::prepares))]
-pub fn prepare<F: Files>(alloc: Global, words: &[String], files: &mut F) -> Result<Work, Stop>
-    requires { length words.now ≡ 3 }
-    ensures taken { OnOk result (IfSome (F.state files.old).held (IsTaken IsScript (word_at (texts words.now) 2))) }
-    ensures commands { IfOk result (λ work.
-        IfSome (F.state files.old).held (TakesCommands (texts words.now) work.commands)) }
-    ensures lawful { IfOk result (λ work. All IsCommand work.commands) }
-    ensures made { IfOk result (λ work. Prepared (texts words.now) (F.state files.old) (F.state files.new) work.net) }
+pub fn prepare<F: Files>(
+    alloc: Global,
+    network: &str,
+    script: &str,
+    files: &mut F,
+) -> Result<Work, Stop>
+    ensures taken { OnOk result (IfSome (F.state files.old).held (IsTaken IsScript script.now)) }
+    ensures items { IfOk result (λ work. IfSome (F.state files.old).held (TakesItems script.now (items_of work.script))) }
+    ensures built { IfOk result (λ work. are_built (items_of work.script) ≡ true) }
+    ensures named { IfOk result (λ work. are_named (items_of work.script) ≡ true) }
+    ensures made { IfOk result (λ work. Prepared (File network.now) (F.state files.old) (F.state files.new) work.net) }
     ensures names { IfOk result (λ work. HasWordNames work.net.nets) }
     ensures faulty { (fault : FileFault) → result ≡ Err (Stop.Source (faulty fault))
-        → IfSome (F.state files.old).held (RefusesNetwork (texts words.now) fault) }
-    ensures refused { IfErr result (IsRefusal (texts words.now) (F.state files.old)) }
-    ensures ended { IfErr result (λ stop. Ended IsScript 3 (texts words.now) (F.state files.old) (F.state files.new) (status_of stop)) }
+        → IfSome (F.state files.old).held (RefusesNetwork (File network.now) fault) }
+    ensures refused { IfErr result (IsRefusal script.now (F.state files.old)) }
+    ensures ended { IfErr result (λ stop.
+        Ended IsScript 3 (named network.now script.now) (F.state files.old) (F.state files.new) (status_of stop)) }
 {
-    let commands = match take_script(alloc, words, files) {
-        Ok(commands) => commands,
+    let script = match take_script(alloc, script, files) {
+        Ok(script) => script,
         Err(stop) => return Err(stop),
     };
-    match take_network(alloc, words, files) {
-        Ok(net) => Ok(Work { net, commands }),
+    match take_network(alloc, network, files) {
+        Ok(net) => Ok(Work { net, script }),
+        Err(stop) => Err(Stop::Source(stop)),
+    }
+}
+
+/// A network of so many tables that is drawn from the seed, and the script of this name, which is judged first.
+#[tactic(auto, using(crate::proofs::Takes::prepares))]
+pub fn prepare_drawn<F: Files>(
+    alloc: Global,
+    size: u32,
+    seed: u64,
+    script: &str,
+    files: &mut F,
+) -> Result<Work, Stop>
+    requires least { MIN_WORK_TABLES ≤ size }
+    requires most { size ≤ MAX_WORK_TABLES }
+    ensures taken { OnOk result (IfSome (F.state files.old).held (IsTaken IsScript script.now)) }
+    ensures items { IfOk result (λ work. IfSome (F.state files.old).held (TakesItems script.now (items_of work.script))) }
+    ensures built { IfOk result (λ work. are_built (items_of work.script) ≡ true) }
+    ensures named { IfOk result (λ work. are_named (items_of work.script) ≡ true) }
+    ensures made { IfOk result (λ work. Prepared (Text (work_text size seed)) (F.state files.old) (F.state files.new) work.net) }
+    ensures names { IfOk result (λ work. HasWordNames work.net.nets) }
+    ensures faulty { (fault : FileFault) → result ≡ Err (Stop.Source (faulty fault))
+        → IfSome (F.state files.old).held (RefusesNetwork (Text (work_text size seed)) fault) }
+    ensures refused { IfErr result (IsRefusal script.now (F.state files.old)) }
+    ensures ended { IfErr result (λ stop.
+        Ended IsScript 3 (drawn size seed script.now) (F.state files.old) (F.state files.new) (status_of stop)) }
+{
+    let script = match take_script(alloc, script, files) {
+        Ok(script) => script,
+        Err(stop) => return Err(stop),
+    };
+    let text = match work_text(alloc, size, seed) {
+        Ok(text) => text,
+        Err(_memory) => return Err(Stop::Memory),
+    };
+    match network_of_text(alloc, text.as_slice()) {
+        Ok(net) => Ok(Work { net, script }),
         Err(stop) => Err(Stop::Source(stop)),
     }
 }

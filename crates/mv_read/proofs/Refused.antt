@@ -1,5 +1,5 @@
 -- Lines that are refused, and those that have a network.
-use Rattle.std.proofs.Common.{◌≡◌, ◌⊎◌, List, [], inl, inr, refl, sym, ap, subst, ◌∙◌}
+use Rattle.std.proofs.Common.{◌≡◌, ◌⊎◌, true, List, [], inl, inr, refl, sym, ap, subst, ◌∙◌}
 use Rattle.std.specs.Prelude.{Some, None}
 use Rattle.mv_lex.specs.declared.lines.LexLine.{LexLine}
 use Rattle.mv_design.specs.declared.design.Design.{Design}
@@ -11,12 +11,15 @@ use Rattle.mv_net.specs.declared.parts.NetParts.{NetParts}
 use Rattle.mv_fault.specs.declared.flat.FlatFault.{FlatFault}
 use Rattle.mv_fault.specs.declared.flat.FlatFault.TheVariants.{Memory as NoFlatMemory}
 use Rattle.mv_design.specs.Nets.{root_of}
-use Rattle.mv_unfold.specs.Sound.{IsSoundModel, IsWithinLimits, IsFault}
-use Rattle.mv_unfold.proofs.Soundness.{fault-excludes}
-use Rattle.mv_flat.specs.Flat.{IsFlat}
+use Rattle.mv_unfold.specs.Sound.{IsSoundModel, IsWithinLimits}
+use Rattle.mv_flat.specs.Flat.{HasSmallNetwork, IsFlat, IsRefused}
+use Rattle.mv_flat.proofs.Whole.{root_proper}
+use Rattle.mv_flat.proofs.Refusals.{refused_excludes}
 use Rattle.mv_read.specs.declared.network.NetFault.{NetFault}
 use Rattle.mv_read.specs.declared.network.NetFault.TheVariants.{Parse, Flat, Memory}
 use Rattle.mv_read.specs.Reads.{IsNetOf, SaySoundDesign, IsUnsound, IsFaultOf, parse_refused, flat_refused}
+use Rattle.mv_design.specs.Proper.{numbers_ascend}
+use Rattle.mv_proper.specs.Lines.{numbers_of}
 use Rattle.mv_proper.proofs.Proper.{no-faults, proper}
 
 -- ---- what is told
@@ -26,7 +29,7 @@ parse-told lines NoParseMemory told = tt
 parse-told lines _ (inl e) = cc
 parse-told lines _ (inr told) = told
 
-pub flat-told : (lines : List LexLine) (d : Design) (f : FlatFault) → IsDesign lines d → IsWithin lines → IsFault (root_of d) f → IsFaultOf lines (flat_refused f)
+pub flat-told : (lines : List LexLine) (d : Design) (f : FlatFault) → IsDesign lines d → IsWithin lines → IsRefused (root_of d) f → IsFaultOf lines (flat_refused f)
 flat-told lines d NoFlatMemory is within fault = tt
 flat-told lines d _ is within fault = record { design = d; is = is; within = within; fault = fault; cause = λ e. cc }
 
@@ -43,14 +46,16 @@ parse-excludes lines f told h =
     let e : None ≡ Some f = ap first (sym none) ∙ told.first in
     cc
 
-flat-excludes : (lines : List LexLine) (f : FlatFault) → IsUnsound lines f → SaySoundDesign lines → ⊥
-flat-excludes lines f u h =
+flat-excludes : (lines : List LexLine) (f : FlatFault) → numbers_ascend (numbers_of lines) ≡ true → IsUnsound lines f → SaySoundDesign lines → ⊥
+flat-excludes lines f up u h =
     let same : h.design ≡ u.design = h.is.is ∙ sym u.is.is in
     let P : Design → Type 0 = λ d. IsSoundModel (root_of d) in
     let Q : Design → Type 0 = λ d. IsWithinLimits (root_of d) in
-    fault-excludes (root_of u.design) f u.fault u.cause (subst P same h.sound.root) (subst Q same h.limits)
+    let R : Design → Type 0 = λ d. HasSmallNetwork (root_of d) in
+    refused_excludes (root_of u.design) f (root_proper u.design (root_of u.design) refl (proper lines u.design up u.is u.within)) u.fault u.cause
+    (subst P same h.sound.root) (subst Q same h.limits) (subst R same h.fits)
 
-pub refused-excludes : (lines : List LexLine) (f : NetFault) → IsFaultOf lines f → (f ≡ Memory → ⊥) → SaySoundDesign lines → ⊥
-refused-excludes lines (Parse f) told some h = parse-excludes lines f told h
-refused-excludes lines (Flat f) told some h = flat-excludes lines f told h
-refused-excludes lines Memory told some h = some refl
+pub refused-excludes : (lines : List LexLine) (f : NetFault) → numbers_ascend (numbers_of lines) ≡ true → IsFaultOf lines f → (f ≡ Memory → ⊥) → SaySoundDesign lines → ⊥
+refused-excludes lines (Parse f) up told some h = parse-excludes lines f told h
+refused-excludes lines (Flat f) up told some h = flat-excludes lines f up told h
+refused-excludes lines Memory up told some h = some refl

@@ -1,1 +1,1 @@
-pub mod Ends
+mod Sizes

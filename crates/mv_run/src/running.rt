@@ -1,37 +1,38 @@
-ghost use Rattle.std.specs.Prelude.{◌≡◌, ◌≤◌, ◌⊎◌, None, Some};
+ghost use Rattle.std.specs.Prelude.{◌≡◌, ◌≤◌, ◌⊎◌, map, string_bytes, None, Some, IfSome};
 ghost use Rattle.mv_base.specs.Outside.{Rose};
 ghost use Rattle.mv_check.specs.Checked.{Checks};
 ghost use Rattle.mv_opt.specs.Optimised.{Optimises};
-ghost use Rattle.mv_task.specs.declared.words.Task.TheVariants.{Opt as opt_task, Check as check_task};
-ghost use Rattle.mv_task.specs.Lines.{TellsLine, words_line};
-ghost use Rattle.mv_task.specs.Words.{texts, task_of};
-ghost use Rattle.mv_run.specs.Replacing.{IsReplaced};
+ghost use Rattle.mv_opt.specs.Drawn.{drawn};
+ghost use Rattle.mv_task.specs.Lines.{TellsLine, words_line, memory_line};
+ghost use Rattle.mv_task.specs.Inputs.{named};
+ghost use Rattle.mv_words.specs.CommandLine.{Files as FilesAsked, Draw as DrawAsked, opt as opt_asked, check as check_asked, work as work_asked, task_of};
+ghost use Rattle.mv_run.specs.Replacing.{IsReplaced, network_asked};
 
 use mv_base::{Files, Sink};
 use mv_check::check;
-use mv_opt::optimise;
-use mv_task::{Task, task_asked};
+use mv_opt::{optimise, work};
+use mv_words::{Task, WordsStop, read_words};
 use std::alloc::Global;
 
-/// Puts the line of refused words to the notes, as far as they take it.
-fn refuse<E: Sink>(notes: &mut E)
-    ensures { TellsLine (E.state notes.old) (E.state notes.new) words_line }
+/// Puts a line to the notes, as far as they take it.
+fn tell<E: Sink>(line: &[u8], notes: &mut E)
+    ensures { TellsLine (E.state notes.old) (E.state notes.new) line.now }
 {
-    match notes.put(b"# fault words\n") {
+    match notes.put(line) {
         Ok(()) => {}
         Err(_failed) => {}
     }
 }
 
-/// Does what the words ask for: `opt NET SCRIPT` reads a script and a network file, runs the script's commands on the network, and
-/// writes to `out` a network that may take the place of the one read; `check NET CERT` reads a certificate in place of the script,
-/// and applies its rules in turn.
+/// Does what the words ask for. `opt NET SCRIPT` reads a script and a network file, runs the script on the network, and writes to
+/// `out` a network that may take the place of the one read; `check NET CERT` reads a certificate in place of the script, and applies
+/// its rules in turn; `work SIZE SEED SCRIPT` runs the script on a network that it draws, and writes a summary of the run. The option
+/// `--budget N` says how many nodes a diagram may have; nothing that is built makes one yet.
 ///
 /// The answer is the status that a process ends with: 0 where the work is done, 1 where the words are refused, 2 the network, 3 the
 /// script, 4 where a file couldn't be read, 5 where the output or the notes couldn't be written, 6 for want of memory, 7 where the
 /// certificate is refused. What the commands do is put to `notes` as they do it, and then the line that says how it ended: for 0
 /// before `out` is begun, so that it is there too where `out` fails; 5 has no line.
-#[tactic(auto, using(crate::proofs::Ends::runs))]
 pub fn run<F: Files, O: Sink, E: Sink>(
     alloc: Global,
     words: &[String],
@@ -39,25 +40,51 @@ pub fn run<F: Files, O: Sink, E: Sink>(
     out: &mut O,
     notes: &mut E,
 ) -> u8
-    ensures replaced { result ≡ 0 → IsReplaced (texts words.now) (F.state files.old) (F.state files.new)
-        (O.state out.old) (O.state out.new) }
-    ensures words { result ≡ 1 → task_of (texts words.now) ≡ None }
-    ensures refused { task_of (texts words.now) ≡ None → result ≡ 1 }
+    ensures replaced { result ≡ 0 → IfSome (network_asked (task_of (map string_bytes words.now)))
+        (IsReplaced (F.state files.old) (F.state files.new) (O.state out.old) (O.state out.new)) }
+    ensures words { result ≡ 1 → task_of (map string_bytes words.now) ≡ None }
+    ensures refused { task_of (map string_bytes words.now) ≡ None → (result ≡ 1) ⊎ (result ≡ 6) }
     ensures words_told { result ≡ 1 → TellsLine (E.state notes.old) (E.state notes.new) words_line }
-    ensures optimises { task_of (texts words.now) ≡ Some opt_task → Optimises (texts words.now) (F.state files.old)
-        (F.state files.new) (O.state out.old) (O.state out.new) (E.state notes.old) (E.state notes.new) result }
-    ensures checks { task_of (texts words.now) ≡ Some check_task → Checks (texts words.now) (F.state files.old)
-        (F.state files.new) (O.state out.old) (O.state out.new) (E.state notes.old) (E.state notes.new) result }
+    ensures short { task_of (map string_bytes words.now) ≡ None → result ≡ 6 → TellsLine (E.state notes.old) (E.state notes.new) memory_line }
+    ensures optimises { (f : FilesAsked) → task_of (map string_bytes words.now) ≡ Some (opt_asked f)
+        → Optimises (named f.net f.other) (F.state files.old) (F.state files.new)
+        (O.state out.old) (O.state out.new) (E.state notes.old) (E.state notes.new) result }
+    ensures checks { (f : FilesAsked) → task_of (map string_bytes words.now) ≡ Some (check_asked f)
+        → Checks f.net f.other (F.state files.old) (F.state files.new)
+        (O.state out.old) (O.state out.new) (E.state notes.old) (E.state notes.new) result }
+    ensures works { (d : DrawAsked) → task_of (map string_bytes words.now) ≡ Some (work_asked d)
+        → Optimises (drawn d.size d.seed d.script) (F.state files.old) (F.state files.new)
+        (O.state out.old) (O.state out.new) (E.state notes.old) (E.state notes.new) result }
     ensures read { result ≡ 4 → Rose (F.state files.old).faults (F.state files.new).faults }
     ensures untouched { (result ≡ 0 → ⊥) → (result ≡ 5 → ⊥) → O.state out.new ≡ O.state out.old }
     ensures known { result ≤ 7 }
 {
-    match task_asked(words) {
-        None => {
-            refuse(notes);
+    match read_words(alloc, words) {
+        Ok(Task::Opt { net, script, .. }) => optimise(alloc, net, script, files, out, notes),
+        Ok(
+            Task::Check {
+                net,
+                certificate,
+                ..
+            },
+        ) => { check(alloc, net, certificate, files, out, notes) }
+        Ok(
+            Task::Work {
+                size,
+                seed,
+                script,
+                ..
+            },
+        ) => { work(alloc, size, seed, script, files, out, notes) }
+        Err(WordsStop::Refused) => {
+            tell(b"# fault words\n", notes);
             1
         }
-        Some(Task::Opt) => optimise(alloc, words, files, out, notes),
-        Some(Task::Check) => check(alloc, words, files, out, notes),
+        Err(WordsStop::Memory) => {
+            mv_opt::short_at_once();
+            mv_check::short_at_once();
+            tell(b"# fault memory\n", notes);
+            6
+        }
     }
 }

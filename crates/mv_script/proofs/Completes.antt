@@ -1,5 +1,5 @@
 -- Tokens that say parts have no fault, and the parts are those that are read.
-use Rattle.std.proofs.Common.{◌≡◌, ℕ, ◌+◌, ◌-◌, ◌<◌, true, false, ◌==◌, Option, Some, None, Result, Ok, Err, List, [], ◌∷◌, ◌++◌, map, refl, sym, ◌∙◌, ap, subst, arith}
+use Rattle.std.proofs.Common.{◌≡◌, ℕ, ◌+◌, ◌-◌, ◌<◌, true, false, ◌==◌, Some, None, Result, Ok, Err, List, [], ◌∷◌, ◌++◌, map, refl, sym, ◌∙◌, ap, arith}
 use Rattle.std.specs.Prelude.{codes, nat_lt}
 use Rattle.std.specs.Prelude.{if◌then◌else◌}
 use Rattle.std.proofs.lemmas.List.{append-nil}
@@ -9,8 +9,7 @@ use Rattle.mv_base.specs.Names.{same_word}
 use Rattle.mv_base.specs.declared.limits.TheConstants.{MAX_SCRIPT_BRACES}
 use Rattle.mv_script.specs.declared.command.Command.{Command}
 use Rattle.mv_script.specs.declared.command.Command.TheVariants.{Drop, Sweep, Eliminate, Collapse, Kernel, Cube, Simplify, Merge, Default, Determinize, Encode, Fill}
-use Rattle.mv_script.specs.declared.fault.FaultKind.{FaultKind}
-use Rattle.mv_script.specs.declared.fault.FaultKind.TheVariants.{Missing, Brace, TooDeep}
+use Rattle.mv_script.specs.declared.fault.FaultKind.TheVariants.{Brace, TooDeep}
 use Rattle.mv_script.specs.declared.fault.TextFault.{TextFault}
 use Rattle.mv_script.specs.declared.part.Braces.{Braces}
 use Rattle.mv_script.specs.declared.part.Braces.TheVariants.{Repeat, Better}
@@ -22,10 +21,10 @@ use Rattle.mv_script.specs.declared.turn.Waits.{Waits}
 use Rattle.mv_script.specs.declared.turn.Waits.TheVariants.{Item, Name, Down, Up, Times, Open as OpenBrace}
 use Rattle.mv_script.specs.declared.turn.State.{State}
 use Rattle.mv_script.specs.declared.turn.Turn.{Turn}
-use Rattle.mv_script.specs.Grammar.{SaysNumber, SaysCommand, SaysKind, SaysPart, SayParts, AreSemicolons, first_place}
+use Rattle.mv_script.specs.Grammar.{SaysNumber, SaysCommand, SaysKind, SayParts, AreSemicolons, first_place}
 use Rattle.mv_script.specs.Numbers.{number_from}
 use Rattle.mv_script.specs.Parts.{kinds, IsBalanced, MayStand, depth_behind}
-use Rattle.mv_script.specs.Reading.{fault, waiting, ended, is_name, plain_command, item_waits, begun, close_turn, item_turn, name_turn, with_number, down_turn, up_turn, times_turn, brace_turn, turn_by, turn_at, behind_part, after_turn, parts_from}
+use Rattle.mv_script.specs.Reading.{fault, waiting, ended, is_name, plain_command, item_waits, close_turn, item_turn, name_turn, with_number, down_turn, up_turn, times_turn, brace_turn, turn_at, behind_part, after_turn, parts_from}
 use Rattle.mv_base.proofs.NameLemmas.{same_word_is}
 
 abbrev words_of : List Token → List (List ℕ)

@@ -4,7 +4,7 @@ use Rattle.std.specs.List.{list_all, position, position_from}
 use Rattle.std.proofs.lemmas.Iterator.Adapters.{position_from-zero}
 use Rattle.std.proofs.lemmas.Bool.{cond-true, cond-false, cases_Bool, and_from}
 use Rattle.std.proofs.lemmas.List.{append-nil}
-use Rattle.mv_base.specs.declared.limits.TheConstants.{MAX_SCRIPT_BYTES, MAX_SCRIPT_COMMANDS, MAX_SCRIPT_BRACES}
+use Rattle.mv_base.specs.declared.limits.TheConstants.{MAX_SCRIPT_BYTES}
 use Rattle.mv_script.specs.declared.fault.FaultKind.TheVariants.{UnknownWord}
 use Rattle.mv_script.specs.declared.fault.TextFault.{TextFault}
 use Rattle.mv_script.specs.declared.part.Part.{Part}
@@ -12,8 +12,8 @@ use Rattle.mv_script.specs.Faults.{earlier, parts_in}
 use Rattle.mv_script.specs.Grammar.{IsScript}
 use Rattle.mv_script.specs.Parts.{parts_of, kinds, outermost, IsBalanced}
 use Rattle.mv_script.specs.Reading.{fault, parts_from, at_start}
-use Rattle.mv_script.specs.Scripts.{Items, commands_in, item_counts, passing}
-use Rattle.mv_script.specs.Texts.{is_strange, is_readable, said, tokens_of}
+use Rattle.mv_script.specs.Scripts.{Items, item_counts, passing}
+use Rattle.mv_script.specs.Texts.{is_strange, said, tokens_of}
 use Rattle.mv_script.proofs.Counts.{passes_none, total-item_counts}
 use Rattle.mv_script.proofs.Shapes.{shallow, places_size}
 use Rattle.mv_script.proofs.Sounds.{Sounds, sound}

@@ -1,11 +1,11 @@
 -- A text is one script or has one first fault.
-use Rattle.std.proofs.Common.{◌≡◌, ℕ, ◌+◌, ◌≤◌, ◌<◌, true, false, not, Option, Some, None, Result, Ok, Err, List, [], ◌∷◌, ◌++◌, length, inl, inr, refl, sym, ◌∙◌, ap, subst, ⊎_elim, arith}
+use Rattle.std.proofs.Common.{◌≡◌, ℕ, ◌+◌, ◌≤◌, true, false, not, Option, Some, None, Result, Ok, Err, List, [], ◌∷◌, ◌++◌, length, inl, inr, refl, sym, ◌∙◌, ap, subst, ⊎_elim, arith}
 use Rattle.std.specs.Prelude.{◌⊎◌, nat_le}
 use Rattle.std.specs.List.{list_all, position, position_from}
 use Rattle.std.proofs.lemmas.Iterator.Adapters.{position_from-zero}
-use Rattle.std.proofs.lemmas.Bool.{cond-true, cond-false, cases_Bool, and_parts, leb-true, leb-false, false≢true}
+use Rattle.std.proofs.lemmas.Bool.{cond-false, cases_Bool, and_parts, leb-true, leb-false, false≢true}
 use Rattle.std.proofs.lemmas.List.{append-nil}
-use Rattle.mv_base.specs.declared.limits.TheConstants.{MAX_SCRIPT_BYTES, MAX_SCRIPT_COMMANDS, MAX_SCRIPT_BRACES}
+use Rattle.mv_base.specs.declared.limits.TheConstants.{MAX_SCRIPT_BYTES}
 use Rattle.mv_script.specs.declared.fault.FaultKind.TheVariants.{TooLong, TooMany}
 use Rattle.mv_script.specs.declared.fault.TextFault.{TextFault}
 use Rattle.mv_script.specs.declared.part.Part.{Part}
@@ -13,7 +13,7 @@ use Rattle.mv_script.specs.Faults.{earlier, parts_in, PassesAt, IsFaultOf, IsFir
 use Rattle.mv_script.specs.Grammar.{IsScript}
 use Rattle.mv_script.specs.Parts.{parts_of, kinds, outermost, IsBalanced}
 use Rattle.mv_script.specs.Reading.{fault, parts_from, at_start}
-use Rattle.mv_script.specs.Scripts.{Items, commands_in, item_counts, passing}
+use Rattle.mv_script.specs.Scripts.{Items, item_counts, passing}
 use Rattle.mv_script.specs.Texts.{is_strange, said, tokens_of}
 use Rattle.mv_script.proofs.Completes.{complete}
 use Rattle.mv_script.proofs.Counts.{total-item_counts, few_pass}

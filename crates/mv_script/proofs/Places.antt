@@ -1,5 +1,5 @@
 -- The places of the items that stand in no braces, part by part.
-use Rattle.std.proofs.Common.{◌≡◌, ℕ, ◌+◌, ◌<◌, List, [], ◌∷◌, ◌++◌, length, get_or, drop, drop-cons, add-one, refl, sym, ◌∙◌, ap, append_assoc}
+use Rattle.std.proofs.Common.{◌≡◌, ℕ, List, ◌∷◌, ◌++◌, sym, append_assoc}
 use Rattle.mv_script.specs.declared.part.Part.{Part}
 use Rattle.mv_script.specs.Parts.{outside, outermost, depth_behind}
 

@@ -1,5 +1,5 @@
 -- The names in a script can be seen.
-use Rattle.std.proofs.Common.{◌≡◌, ℕ, Bool, true, false, not, ◌&&◌, ◌||◌, List, [], ◌∷◌, ◌++◌, length, map, take, drop, take-append-drop, slice_index, take_while, refl, sym, ◌∙◌, ap, subst}
+use Rattle.std.proofs.Common.{◌≡◌, ℕ, Bool, true, false, not, ◌&&◌, ◌||◌, List, [], ◌∷◌, ◌++◌, length, map, take, drop, take-append-drop, slice_index, refl, sym, ◌∙◌, ap}
 use Rattle.std.specs.Prelude.{codes, nat_lt, flat_map}
 use Rattle.std.specs.List.{list_all, range_with_len}
 use Rattle.std.proofs.lemmas.Bool.{and_parts, and_from, cond_both, false≢true}
@@ -9,7 +9,6 @@ use Rattle.mv_base.specs.Names.{is_visible}
 use Rattle.mv_entry.specs.Entries.{is_visible_name}
 use Rattle.mv_script.specs.declared.command.Command.{Command}
 use Rattle.mv_script.specs.declared.command.Command.TheVariants.{Drop, Sweep, Eliminate, Collapse, Kernel, Cube, Simplify, Merge, Default, Determinize, Encode, Fill}
-use Rattle.mv_script.specs.declared.part.Braces.TheVariants.{Repeat as RepeatBraces, Better as BetterBraces}
 use Rattle.mv_script.specs.declared.part.Part.{Part}
 use Rattle.mv_script.specs.declared.part.PartKind.{PartKind}
 use Rattle.mv_script.specs.declared.part.PartKind.TheVariants.{Do as DoPart, Open, Close}

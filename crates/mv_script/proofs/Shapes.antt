@@ -9,7 +9,7 @@ use Rattle.mv_script.specs.declared.part.Braces.TheVariants.{Repeat as RepeatBra
 use Rattle.mv_script.specs.declared.part.Part.{Part}
 use Rattle.mv_script.specs.declared.part.PartKind.{PartKind}
 use Rattle.mv_script.specs.declared.part.PartKind.TheVariants.{Do as DoPart, Open, Close}
-use Rattle.mv_script.specs.Parts.{parts_of, kinds, outside, outermost, depth_behind, IsBalanced}
+use Rattle.mv_script.specs.Parts.{parts_of, kinds, outermost, depth_behind, IsBalanced}
 use Rattle.mv_script.specs.Scripts.{Items, End, Do, Repeat, Better, deepest, item_counts}
 
 -- the parts of an item with braces and of those behind it, before others

@@ -1,28 +1,26 @@
 -- Tokens without a fault say the parts that are read.
-use Rattle.std.proofs.Common.{◌≡◌, ℕ, ◌+◌, ◌-◌, ◌<◌, Bool, true, false, ◌&&◌, ◌==◌, Option, Some, None, Result, Ok, Err, List, [], ◌∷◌, ◌++◌, length, map, refl, sym, ◌∙◌, ap, subst, append_assoc, ⊎_elim, arith}
-use Rattle.std.specs.Prelude.{codes, nat_lt, if◌then◌else◌}
-use Rattle.std.specs.List.{list_all}
+use Rattle.std.proofs.Common.{◌≡◌, ℕ, true, false, ◌==◌, Option, Some, None, Result, Ok, Err, List, [], ◌∷◌, ◌++◌, map, refl, sym, ◌∙◌, ap, subst, append_assoc, arith}
+use Rattle.std.specs.Prelude.{codes, nat_lt}
 use Rattle.std.proofs.lemmas.Bool.Decides.{nat_tests}
-use Rattle.std.proofs.lemmas.Bool.{cond_both, and_parts, and_from, cases_Bool, ltb-true}
+use Rattle.std.proofs.lemmas.Bool.{cond_both, and_from, ltb-true}
 use Rattle.mv_base.specs.Names.{same_word}
 use Rattle.mv_base.proofs.NameLemmas.{same_word_is}
 use Rattle.mv_base.specs.declared.limits.TheConstants.{MAX_SCRIPT_BRACES}
 use Rattle.mv_script.specs.declared.command.Command.{Command}
 use Rattle.mv_script.specs.declared.command.Command.TheVariants.{Drop, Sweep, Eliminate, Collapse, Kernel, Cube, Simplify, Merge, Default, Determinize, Encode, Fill}
 use Rattle.mv_script.specs.declared.fault.FaultKind.{FaultKind}
-use Rattle.mv_script.specs.declared.fault.FaultKind.TheVariants.{UnknownWord, Missing, Brace, TooDeep}
+use Rattle.mv_script.specs.declared.fault.FaultKind.TheVariants.{Missing, Brace}
 use Rattle.mv_script.specs.declared.fault.TextFault.{TextFault}
 use Rattle.mv_script.specs.declared.part.Braces.{Braces}
 use Rattle.mv_script.specs.declared.part.Braces.TheVariants.{Repeat, Better}
 use Rattle.mv_script.specs.declared.part.Part.{Part}
-use Rattle.mv_script.specs.declared.part.PartKind.{PartKind}
 use Rattle.mv_script.specs.declared.part.PartKind.TheVariants.{Do, Open, Close}
 use Rattle.mv_script.specs.declared.token.Token.{Token}
 use Rattle.mv_script.specs.declared.turn.Waits.{Waits}
 use Rattle.mv_script.specs.declared.turn.Waits.TheVariants.{Item, Name, Down, Up, Times, Open as OpenBrace}
 use Rattle.mv_script.specs.declared.turn.State.{State}
 use Rattle.mv_script.specs.declared.turn.Turn.{Turn}
-use Rattle.mv_script.specs.Grammar.{SaysNumber, SaysCommand, SaysKind, SaysPart, SayParts, AreSemicolons, first_place}
+use Rattle.mv_script.specs.Grammar.{SaysNumber, SaysCommand, SaysPart, SayParts, first_place}
 use Rattle.mv_script.specs.Numbers.{number_from}
 use Rattle.mv_script.specs.Parts.{kinds, IsBalanced, MayStand, depth_behind}
 use Rattle.mv_script.specs.Reading.{fault, waiting, ended, is_name, plain_command, item_waits, begun, close_turn, item_turn, name_turn, with_number, down_turn, up_turn, times_turn, brace_turn, turn_by, turn_at, end_fault, at_end, before, behind_part, after_turn, parts_from}

@@ -1,7 +1,6 @@
 -- The parts of scripts that are put together from their end.
-use Rattle.std.proofs.Common.{◌≡◌, ℕ, ◌+◌, ◌-◌, ◌<◌, List, [], ◌∷◌, ◌++◌, length, map, flat_map, reverse, refl, sym, ◌∙◌, ap, subst, append_assoc, arith}
+use Rattle.std.proofs.Common.{◌≡◌, ℕ, ◌+◌, ◌-◌, ◌<◌, List, [], ◌∷◌, ◌++◌, length, flat_map, reverse, refl, sym, ◌∙◌, ap, subst, append_assoc, arith}
 use Rattle.std.proofs.lemmas.List.{append-nil, reverse-append}
-use Rattle.mv_base.specs.declared.limits.TheConstants.{MAX_SCRIPT_BRACES}
 use Rattle.mv_script.specs.declared.part.Braces.{Braces}
 use Rattle.mv_script.specs.declared.part.Braces.TheVariants.{Repeat as RepeatBraces, Better as BetterBraces}
 use Rattle.mv_script.specs.declared.part.Part.{Part}

@@ -1,12 +1,12 @@
 -- Parts and items are one to one, where each brace is closed.
-use Rattle.std.proofs.Common.{◌≡◌, ℕ, ◌+◌, ◌-◌, ◌≤◌, ◌<◌, List, [], ◌∷◌, ◌++◌, length, map, max, flat_map, refl, sym, ◌∙◌, ap, subst, append_assoc, arith}
+use Rattle.std.proofs.Common.{◌≡◌, ℕ, ◌+◌, ◌-◌, ◌≤◌, ◌<◌, List, [], ◌∷◌, ◌++◌, length, flat_map, refl, sym, ◌∙◌, ap, subst, append_assoc, arith}
 use Rattle.std.proofs.lemmas.List.{append-nil}
 use Rattle.mv_base.specs.declared.limits.TheConstants.{MAX_SCRIPT_BRACES}
 use Rattle.mv_script.specs.declared.part.Braces.{Braces}
 use Rattle.mv_script.specs.declared.part.Braces.TheVariants.{Repeat as RepeatBraces, Better as BetterBraces}
 use Rattle.mv_script.specs.declared.part.PartKind.{PartKind}
 use Rattle.mv_script.specs.declared.part.PartKind.TheVariants.{Do as DoPart, Open, Close}
-use Rattle.mv_script.specs.Parts.{parts_of, braced, IsBalanced, depth_behind}
+use Rattle.mv_script.specs.Parts.{parts_of, braced, IsBalanced}
 use Rattle.mv_script.specs.Scripts.{Items, End, Do, Repeat, Better, deepest}
 
 -- ---- items of parts

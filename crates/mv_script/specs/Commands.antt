@@ -1,6 +1,5 @@
 -- The commands of scripts, and those that are built in this version.
-use Rattle.std.specs.Prelude.{◌≡◌, ℕ, Bool, true, false, ◌&&◌, Option, Some, None, List, [], ◌∷◌}
-use Rattle.std.specs.Option.{option_map}
+use Rattle.std.specs.Prelude.{◌≡◌, Bool, true, false, ◌&&◌, ◌||◌, Option, Some, None, is_some}
 use Rattle.mv_entry.specs.declared.note.Command.{Command as BuiltCommand}
 use Rattle.mv_entry.specs.declared.note.Command.TheVariants.{Drop as DropBuilt, Sweep as SweepBuilt, Eliminate as EliminateBuilt, Collapse as CollapseBuilt}
 use Rattle.mv_entry.specs.declared.note.Note.TheVariants.{Begin}
@@ -17,17 +16,23 @@ built_of Eliminate = Some EliminateBuilt
 built_of (Collapse net) = Some (CollapseBuilt net)
 built_of _ = None
 
--- a command before others, where there are both
-abbrev pub put_before : Option BuiltCommand → Option (List BuiltCommand) → Option (List BuiltCommand)
-put_before None others = None
-put_before (Some command) others = option_map (λ commands. command ∷ commands) others
+-- each command in items is such
+abbrev pub all_commands : (Command → Bool) → Items → Bool
+all_commands is End = true
+all_commands is (Do command rest) = is command && all_commands is rest
+all_commands is (Repeat times inside rest) = all_commands is inside && all_commands is rest
+all_commands is (Better inside rest) = all_commands is inside && all_commands is rest
 
--- the commands that items are as they run in this version, if each item is a command that is built
-abbrev pub built_commands : Items → Option (List BuiltCommand)
-built_commands End = Some []
-built_commands (Do command rest) = put_before (built_of command) (built_commands rest)
-built_commands (Repeat times inside rest) = None
-built_commands (Better inside rest) = None
+-- there is a command in items
+abbrev pub has_command : Items → Bool
+has_command End = false
+has_command (Do command rest) = true
+has_command (Repeat times inside rest) = has_command inside || has_command rest
+has_command (Better inside rest) = has_command inside || has_command rest
+
+-- each command in items is built
+abbrev pub are_built : Items → Bool
+are_built items = all_commands (λ command. is_some (built_of command)) items
 
 -- ---- names
 
@@ -38,10 +43,7 @@ is_named _ = true
 
 -- all names in items are such
 abbrev pub are_named : Items → Bool
-are_named End = true
-are_named (Do command rest) = is_named command && are_named rest
-are_named (Repeat times inside rest) = are_named inside && are_named rest
-are_named (Better inside rest) = are_named inside && are_named rest
+are_named items = all_commands is_named items
 
 -- the command is one of those that run in this version
 abbrev pub is_built : BuiltCommand → Bool

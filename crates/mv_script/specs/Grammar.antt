@@ -1,5 +1,5 @@
 -- What a text says: the tokens of its parts, one part after the other.
-use Rattle.std.specs.Prelude.{◌≡◌, ◌≤◌, ◌<◌, ℕ, true, Option, Some, None, Ok, List, [], ◌∷◌, ◌++◌, map, codes, length}
+use Rattle.std.specs.Prelude.{◌≡◌, ◌≤◌, ℕ, true, Option, Some, None, Ok, List, [], ◌∷◌, ◌++◌, map, codes, length}
 use Rattle.std.specs.List.{list_all}
 use Rattle.mv_base.specs.Names.{same_word}
 use Rattle.mv_base.specs.declared.limits.TheConstants.{MAX_SCRIPT_BYTES, MAX_SCRIPT_COMMANDS, MAX_SCRIPT_BRACES}

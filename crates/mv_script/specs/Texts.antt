@@ -1,5 +1,5 @@
 -- The text of a script: its bytes, its comments and its tokens.
-use Rattle.std.specs.Prelude.{ℕ, ◌+◌, ◌-◌, Bool, false, not, ◌&&◌, ◌||◌, ◌==◌, if◌then◌else◌, List, [], ◌∷◌, length, take, drop, take_while, slice_index, flat_map}
+use Rattle.std.specs.Prelude.{ℕ, ◌-◌, Bool, false, not, ◌&&◌, ◌||◌, ◌==◌, if◌then◌else◌, List, [], ◌∷◌, length, take, drop, take_while, slice_index, flat_map}
 use Rattle.std.specs.List.{list_all, range_with_len}
 use Rattle.mv_base.specs.Names.{is_visible}
 use Rattle.mv_script.specs.declared.token.Token.{Token}

@@ -1,32 +1,60 @@
-ghost use Rattle.std.specs.Prelude.{◌≡◌, true, All, IfOk, IfSome};
-ghost use Rattle.mv_script.specs.Commands.{IsCommand, are_named, built_commands};
+ghost use Rattle.std.specs.Prelude.{◌≡◌};
+ghost use Rattle.mv_script.specs.Commands.{are_built, has_command};
 ghost use Rattle.mv_script.specs.Scripts.{items_of};
 
 use crate::Script;
-use mv_base::{Items, Memory};
-use mv_entry::Command;
-use std::alloc::Global;
 
-/// The commands of the script in order, if each of its items is a command that is built in this version.
-#[tactic(auto, using(crate::proofs::Commands::builds))]
-pub fn built_commands(alloc: Global, script: &Script) -> Result<Option<Items<Command>>, Memory>
-    requires { are_named (items_of script.now) ≡ true }
-    ensures commands { IfOk result (λ commands. commands ≡ built_commands (items_of script.now)) }
-    ensures lawful { IfOk result (λ commands. IfSome commands (All IsCommand)) }
+/// Whether each command in the script, also one within braces, is built in this version.
+pub fn is_built(script: &Script) -> bool
+    ensures { result ≡ are_built (items_of script.now) }
 {
-    let mut commands = Items::new(alloc);
     let mut items = script;
     loop {
         match items {
-            Script::End => return Ok(Some(commands)),
+            Script::End => return true,
             Script::Do(command, rest) => {
-                let Some(command) = command.built()? else {
-                    return Ok(None);
-                };
-                commands.push(command)?;
+                if !command.is_built() {
+                    return false;
+                }
                 items = rest;
             }
-            Script::Repeat(..) | Script::Better(..) => return Ok(None),
+            Script::Repeat(_, inside, rest) => {
+                if !is_built(inside) {
+                    return false;
+                }
+                items = rest;
+            }
+            Script::Better(inside, rest) => {
+                if !is_built(inside) {
+                    return false;
+                }
+                items = rest;
+            }
+        }
+    }
+}
+
+/// Whether there is a command in the script, be it within braces.
+pub fn has_command(script: &Script) -> bool
+    ensures { result ≡ has_command (items_of script.now) }
+{
+    let mut items = script;
+    loop {
+        match items {
+            Script::End => return false,
+            Script::Do(_, _) => return true,
+            Script::Repeat(_, inside, rest) => {
+                if has_command(inside) {
+                    return true;
+                }
+                items = rest;
+            }
+            Script::Better(inside, rest) => {
+                if has_command(inside) {
+                    return true;
+                }
+                items = rest;
+            }
         }
     }
 }

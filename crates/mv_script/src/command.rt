@@ -1,4 +1,4 @@
-ghost use Rattle.std.specs.Prelude.{◌≡◌, IfOk};
+ghost use Rattle.std.specs.Prelude.{◌≡◌, is_some, IfOk};
 ghost use Rattle.mv_script.specs.Commands.{built_of};
 
 use mv_base::{Memory, Name};
@@ -21,6 +21,16 @@ pub enum Command {
 }
 
 impl Command {
+    /// Whether the command is built in this version.
+    pub fn is_built(&self) -> bool
+        ensures { result ≡ is_some (built_of self.now) }
+    {
+        match self {
+            Command::Drop | Command::Sweep | Command::Eliminate | Command::Collapse(_) => true,
+            _ => false,
+        }
+    }
+
     /// The command as it runs in this version, if it is built.
     pub fn built(&self) -> Result<Option<mv_entry::Command>, Memory>
         ensures { IfOk result (λ command. command ≡ built_of self.now) }

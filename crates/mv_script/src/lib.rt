@@ -19,7 +19,7 @@ mod script;
 mod token;
 mod turn;
 
-pub use built::built_commands;
+pub use built::{has_command, is_built};
 pub use command::Command;
 pub use fault::{FaultKind, ScriptFault, TextFault};
 pub use fault_text::put_text_fault;

@@ -6,3 +6,4 @@ pub mod NumberLines
 pub mod Sources
 pub mod Seconds
 pub mod Statuses
+pub mod Texts

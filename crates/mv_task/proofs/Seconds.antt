@@ -4,13 +4,13 @@ use Rattle.std.specs.Prelude.{IsTrue, IfSome}
 use Rattle.std.proofs.lemmas.List.{append-nil}
 use Rattle.mv_base.specs.Outside.{Held, Stored, Still, file_named}
 use Rattle.mv_base.proofs.OutsideLemmas.{Rose-earlier}
-use Rattle.mv_files.specs.FileReading.{WasRead, StaySame, Stay, Lacks}
+use Rattle.mv_files.specs.FileReading.{WasRead, StaySame, Stay}
+use Rattle.mv_task.specs.Inputs.{Inputs, Misses}
 use Rattle.mv_task.specs.declared.fault.SourceStop.{SourceStop}
 use Rattle.mv_task.specs.declared.fault.SourceStop.TheVariants.{Fault, Read, Memory}
-use Rattle.mv_task.specs.Exact.{LacksFile, Ended, Network, Unread, Short}
+use Rattle.mv_task.specs.Exact.{LacksFile, SecondEnded, Refused, Missing, NoMemory, Ended, Second, Network, Unread, Short}
 use Rattle.mv_task.specs.Faults.{IsNetworkCause, source_status}
 use Rattle.mv_task.specs.Taken.{IsTaken, IsRefused}
-use Rattle.mv_task.specs.Words.{word_at}
 use Rattle.mv_task.proofs.Networks.{missing_earlier, faulty_earlier}
 
 -- ---- what was read is the whole content, where that is within the limit
@@ -38,23 +38,25 @@ refused_read Accepts before after name limit bytes short r never =
 
 -- ---- the second file isn't there, or no network comes behind it
 
-module _ (Accepts : List ℕ → Type 0) (words : List (List ℕ)) where
-  lacks_second_of : (old : Option Held) → IfSome old (λ h. IsTrue h.sound → file_named (word_at words 2) h.files ≡ None) → IfSome old (LacksFile Accepts words)
+module _ (Accepts : List ℕ → Type 0) (given : Inputs) where
+  lacks_second_of : (old : Option Held) → IfSome old (λ h. IsTrue h.sound → file_named given.second h.files ≡ None) → IfSome old (LacksFile Accepts given)
   lacks_second_of None l = tt
   lacks_second_of (Some o) l = λ s. inl (l s)
 
-  -- the second file isn't there
-  pub lacks_second : (old : Stored) → Lacks old (word_at words 2) → IfSome old.held (LacksFile Accepts words)
-  lacks_second old l = lacks_second_of old.held l
+  -- a run that ends before it has a second file ends before it has both
+  pub ended_second_file : (refused : ℕ) (old new : Stored) (status : ℕ) → SecondEnded Accepts refused given.second old new status → Ended Accepts refused given old new status
+  ended_second_file refused old new status (Refused is cause) = Second is cause
+  ended_second_file refused old new status (Missing is rose lacks) = Unread is rose (lacks_second_of old.held lacks)
+  ended_second_file refused old new status (NoMemory is) = Short is
 
-  lacks_network : (a b : Option Held) → Still a b StaySame → IfSome a (IsTaken Accepts (word_at words 2)) → IfSome b (λ h. IsTrue h.sound → file_named (word_at words 1) h.files ≡ None) → IfSome a (LacksFile Accepts words)
+  lacks_network : (a b : Option Held) → Still a b StaySame → IfSome a (IsTaken Accepts given.second) → IfSome b (λ h. IsTrue h.sound → Misses given.network h) → IfSome a (LacksFile Accepts given)
   lacks_network None b s t l = tt
   lacks_network (Some a) None s t l = absurd s
-  lacks_network (Some a) (Some b) s t l = λ sound. inr (t, missing_earlier (word_at words 1) a b s (l (s.sound sound)))
+  lacks_network (Some a) (Some b) s t l = λ sound. inr (t, missing_earlier given.network a b s (l (s.sound sound)))
 
   -- no network comes, behind a second file that was taken
-  pub ended_behind : (refused : ℕ) (a b c : Stored) (stop : SourceStop) → Stay a b → IfSome a.held (IsTaken Accepts (word_at words 2)) → IsNetworkCause words b c stop → Ended Accepts refused words a c (source_status stop)
-  ended_behind refused a b c (Fault f) s t h = Network refl f t (faulty_earlier words f a.held b.held s.same h)
+  pub ended_behind : (refused : ℕ) (a b c : Stored) (stop : SourceStop) → Stay a b → IfSome a.held (IsTaken Accepts given.second) → IsNetworkCause given.network b c stop → Ended Accepts refused given a c (source_status stop)
+  ended_behind refused a b c (Fault f) s t h = Network refl f t (faulty_earlier given.network f a.held b.held s.same h)
   ended_behind refused a b c Read s t h =
       Unread refl (Rose-earlier a.faults b.faults c.faults s.later h.0) (lacks_network a.held b.held s.same t h.1)
   ended_behind refused a b c Memory s t h = Short refl

@@ -9,15 +9,17 @@ use Rattle.mv_design.specs.declared.design.Design.{Design}
 use Rattle.mv_design.specs.Meaning.{of_design}
 use Rattle.mv_text.specs.Text.{text_of}
 use Rattle.mv_back.specs.Back.{ReadsBack}
+use Rattle.mv_task.specs.Inputs.{File}
 use Rattle.mv_task.specs.Made.{WasPrepared, Prepared}
 use Rattle.mv_task.specs.Replaced.{IsSource, Replaced}
 use Rattle.mv_task.proofs.NetFiles.{reads_as}
 
-source : (words : List (List ℕ)) (before after : Option Held) (first : NetParts) (written : Design) → Refines (of_design written) (of_net first) → Still before after (λ b a. WasPrepared words b a first) → Still before after (λ b a. IsSource words b a first written)
-source words None after first written refines p = tt
-source words (Some b) None first written refines p = absurd p
-source words (Some b) (Some a) first written refines p =
-    let design = p.net_of.design in
+source : (name : List ℕ) (before after : Option Held) (first : NetParts) (written : Design) → Refines (of_design written) (of_net first) → Still before after (λ b a. WasPrepared name b a first) → Still before after (λ b a. IsSource name b a first written)
+source name None after first written refines p = tt
+source name (Some b) None first written refines p = absurd p
+source name (Some b) (Some a) first written refines p =
+    let of = p.net_of.net_of in
+    let design = of.design in
     record {
       content = p.content;
       held = p.held;
@@ -25,17 +27,17 @@ source words (Some b) (Some a) first written refines p =
       current = p.current;
       ended = p.ended;
       design = design;
-      read = reads_as p.content design p.lexed p.net_of.is p.net_of.flat.sound;
-      flat = p.net_of.flat;
-      refines = Refines-then (of_design written) (of_net first) (of_design design) refines (Refines-from_same (of_net first) (of_design design) p.net_of.flat.means);
+      read = reads_as p.content design p.net_of.lexed of.is of.flat.sound;
+      flat = of.flat;
+      refines = Refines-then (of_design written) (of_net first) (of_design design) refines (Refines-from_same (of_net first) (of_design design) of.flat.means);
     }
 
-pub replaced : (words : List (List ℕ)) (old new : Stored) (first net : NetParts) (out out' : Written) → Prepared words old new first → Gained out out' (text_of net) → ReadsBack net → Refines (of_net net) (of_net first) → Replaced words old new first net out out'
-replaced words old new first net out out' p gained back refines = record {
+pub replaced : (name : List ℕ) (old new : Stored) (first net : NetParts) (out out' : Written) → Prepared (File name) old new first → Gained out out' (text_of net) → ReadsBack net → Refines (of_net net) (of_net first) → Replaced name old new first net out out'
+replaced name old new first net out out' p gained back refines = record {
   gained = gained;
   written = back.design;
   back = back.reads;
   source =
-      source words old.held new.held first back.design
+      source name old.held new.held first back.design
       (Refines-then (of_design back.design) (of_net net) (of_net first) (Refines-from_same (of_design back.design) (of_net net) back.means) refines) p;
 }

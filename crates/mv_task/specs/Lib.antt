@@ -1,4 +1,4 @@
-pub mod Words
+pub mod Inputs
 pub mod Lines
 pub mod Taken
 pub mod Faults

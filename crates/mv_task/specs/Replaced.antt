@@ -8,15 +8,14 @@ use Rattle.mv_design.specs.Meaning.{of_design}
 use Rattle.mv_flat.specs.Flat.{IsFlat}
 use Rattle.mv_text.specs.Text.{text_of}
 use Rattle.mv_back.specs.Back.{ReadsAs}
-use Rattle.mv_task.specs.Words.{word_at}
 
 -- the named network file was read to its end, and its design became the first network; and the design that was written may take
 -- the place of the one that was read
-pub record IsSource (words : List (List ℕ)) (before after : Held) (first : NetParts) (written : Design) : Type 0 where
+pub record IsSource (name : List ℕ) (before after : Held) (first : NetParts) (written : Design) : Type 0 where
   pub content : List ℕ
-  pub held : file_named (word_at words 1) before.files ≡ Some content
+  pub held : file_named name before.files ≡ Some content
   pub files : after.files ≡ before.files
-  pub current : after.current ≡ Some (word_at words 1)
+  pub current : after.current ≡ Some name
   pub ended : after.rest ≡ []
   pub design : Design
   pub read : ReadsAs content design
@@ -25,8 +24,8 @@ pub record IsSource (words : List (List ℕ)) (before after : Held) (first : Net
 
 -- the output gained the text of a network, which reads back as a design; and, where the files tell of themselves, that is a design
 -- that may take the place of the one read, of which the first network is
-pub record Replaced (words : List (List ℕ)) (old new : Stored) (first net : NetParts) (out out' : Written) : Type 0 where
+pub record Replaced (name : List ℕ) (old new : Stored) (first net : NetParts) (out out' : Written) : Type 0 where
   pub gained : Gained out out' (text_of net)
   pub written : Design
   pub back : ReadsAs (text_of net) written
-  pub source : StillTell old new (λ before after. IsSource words before after first written)
+  pub source : StillTell old new (λ before after. IsSource name before after first written)

@@ -4,7 +4,7 @@ use Rattle.mv_base.specs.Outside.{Held, file_named}
 use Rattle.mv_base.specs.declared.limits.TheConstants.{MAX_NETWORK_BYTES}
 use Rattle.mv_lex.specs.Lines.{lines_of, lex_fault}
 use Rattle.mv_read.specs.Reads.{SaySoundDesign}
-use Rattle.mv_task.specs.Words.{word_at}
+use Rattle.mv_task.specs.Inputs.{Source, File, Text}
 
 -- the named file's content is accepted
 pub record IsTaken (Accepts : List ℕ → Type 0) (name : List ℕ) (held : Held) : Type 0 where
@@ -23,13 +23,15 @@ pub record IsAccepted (bytes : List ℕ) : Type 0 where
   pub lexed : lex_fault MAX_NETWORK_BYTES bytes ≡ None
   pub form : SaySoundDesign (lines_of bytes)
 
--- the named network is accepted
-abbrev pub TakesNetwork : List (List ℕ) → Held → Type 0
-TakesNetwork words held = IsTaken IsAccepted (word_at words 1) held
+-- what the network comes from is accepted
+abbrev pub TakesNetwork : Source → Held → Type 0
+TakesNetwork (File name) held = IsTaken IsAccepted name held
+TakesNetwork (Text text) held = IsAccepted text
 
--- the named network is refused
-abbrev pub RefusesSomehow : List (List ℕ) → Held → Type 0
-RefusesSomehow words held = IsRefused IsAccepted (word_at words 1) held
+-- and it is refused
+abbrev pub RefusesSomehow : Source → Held → Type 0
+RefusesSomehow (File name) held = IsRefused IsAccepted name held
+RefusesSomehow (Text text) held = IsAccepted text → ⊥
 
 -- no read failed, and memory was there
 pub record IsUnhindered (status : ℕ) : Type 0 where

@@ -1,4 +1,4 @@
-//! What the tasks of a run share: the words that ask for them, the network that is read, the lines that tell how a run ends, and
+//! What the tasks of a run share: the network that is read, the lines that tell how a run ends, and
 //! the end, where the network that is left is written.
 #![tactic(auto)]
 
@@ -6,10 +6,10 @@ mod ending;
 mod fault;
 mod network;
 mod numbers;
-mod words;
+mod text;
 
 pub use ending::finish;
 pub use fault::{FileFault, SourceStop, put_source_line, source_status};
 pub use network::take_network;
 pub use numbers::{put_number, put_numbers};
-pub use words::{Task, task_asked, word_at};
+pub use text::network_of_text;

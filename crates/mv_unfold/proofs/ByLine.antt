@@ -35,7 +35,7 @@ before_stop line at xs i d lt e =
 pub ruleset front = (before_more, before_stop)
 
 -- behind those before the line stand the others
-drop_before : {X : Type 0} (line : X → ℕ) (at : ℕ) (xs : List X) (done : ℕ)
+pub drop_before : {X : Type 0} (line : X → ℕ) (at : ℕ) (xs : List X) (done : ℕ)
     → drop (done + length (before_line line at (drop done xs))) xs ≡ from_line line at (drop done xs)
 drop_before line at xs done =
     let front = before_line line at (drop done xs) in

@@ -13,5 +13,7 @@ mod numbers;
 mod resets;
 
 pub use checking::check;
-pub use nets::{add_net, add_nets};
+pub use naming::{Naming, front_before, namings};
+pub use nets::{add_named, add_net, add_nets};
 pub use numbers::Numbers;
+pub use resets::check_resets;

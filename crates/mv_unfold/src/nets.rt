@@ -22,7 +22,7 @@ pub fn nets(alloc: Global, model: &FileModel) -> Result<NameSet, Memory>
 }
 
 /// Adds the nets that commands name and that aren't there yet.
-fn add_named(nets: &mut NameSet, namings: &[Naming<'_>]) -> Result<(), Memory>
+pub fn add_named(nets: &mut NameSet, namings: &[Naming<'_>]) -> Result<(), Memory>
     ensures { OnOk result (nets.new ≡ with_named nets.old namings.now) }
 {
     for naming in namings {

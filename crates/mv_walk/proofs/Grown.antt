@@ -8,9 +8,9 @@ use Rattle.mv_design.specs.declared.design.Part.{Part}
 use Rattle.mv_design.specs.Nets.{root_of}
 use Rattle.mv_tree.specs.Tree.{Instances, NoMore, Unfolds, IsWithinDepth, size_of}
 use Rattle.mv_tree.specs.Bound.{AreBound}
-use Rattle.mv_walk.specs.Walk.{Level, Visit, root_level, level_in, visits_at, visits, visit_faults, visits_faults, walk_faults, HasTree}
+use Rattle.mv_walk.specs.Walk.{Level, Visit, root_level, level_in, visit, visits_at, visits, visit_faults, visits_faults, walk_faults, HasTree}
 use Rattle.mv_walk.specs.Trees.{trees, tree_of, HasSomeTree}
-use Rattle.mv_walk.proofs.Visits.{visit, insides, insides-cons, visits_faults-append, passes, fits-bound}
+use Rattle.mv_walk.proofs.Visits.{insides, insides-cons, visits_faults-append, passes, fits-bound}
 
 -- the instances that the commands of a level make, and how many these are, down to so many levels
 pub record Grown (n : ℕ) (d : Design) (l : Level) : Type 0 where
@@ -27,7 +27,7 @@ record GrownOf (n : ℕ) (d : Design) (l : Level) (ps : List Part) (tree : Insta
   size : length ps + length (insides n d l ps) ≡ size_of tree
 
 -- no command stands too deep
-none_deep : (d : Design) (c : ℕ) (l : Level) (ps : List Part) → length l.round ≡ suc MAX_DEPTH → visits_faults d c (map (visit l) ps) ≡ []
+pub none_deep : (d : Design) (c : ℕ) (l : Level) (ps : List Part) → length l.round ≡ suc MAX_DEPTH → visits_faults d c (map (visit l) ps) ≡ []
     → ps ≡ []
 none_deep d c l [] deep e = refl
 none_deep d c l (p ∷ ps) deep e =
@@ -82,7 +82,7 @@ grown (suc n) d l c deep e =
     }
 
 -- there are no more commands than there may be instances
-few_visits : (d : Design) (c : ℕ) (vs : List Visit) → c ≤ MAX_INSTANCES → visits_faults d c vs ≡ [] → c + length vs ≤ MAX_INSTANCES
+pub few_visits : (d : Design) (c : ℕ) (vs : List Visit) → c ≤ MAX_INSTANCES → visits_faults d c vs ≡ [] → c + length vs ≤ MAX_INSTANCES
 few_visits d c [] h e = omega arith
 few_visits d c (v ∷ vs) h e =
     let one = (passes d c v.level v.part (left-nothing (visit_faults d c v) _ e)).1 in

@@ -2,3 +2,11 @@ pub mod Visits
 pub mod Unique
 pub mod Grown
 pub mod Nothing
+pub mod Misfits
+pub mod Lookups
+pub mod Placed
+pub mod Listed
+pub mod Trails
+pub mod Checks
+pub mod Steps
+pub mod Roots

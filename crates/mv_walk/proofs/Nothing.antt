@@ -12,10 +12,10 @@ use Rattle.mv_design.specs.declared.design.Part.{Part}
 use Rattle.mv_design.specs.Nets.{root_of}
 use Rattle.mv_tree.specs.Tree.{Instances, NoMore, Instance, model_named, Unfolds, IsWithinDepth, size_of}
 use Rattle.mv_tree.specs.Bound.{AreBound, IsBound}
-use Rattle.mv_walk.specs.Walk.{Level, root_level, level_in, visits_at, visits, visit_faults, visits_faults, walk_faults, HasTree}
+use Rattle.mv_walk.specs.Walk.{Level, root_level, level_in, visit, visits_at, visits, visit_faults, visits_faults, walk_faults, HasTree}
 use Rattle.mv_walk.specs.Trees.{IsRootNamed}
 use Rattle.mv_walk.proofs.Unique.{one_tree}
-use Rattle.mv_walk.proofs.Visits.{visit, insides, insides-cons, visits_faults-append, passing, bound-fits}
+use Rattle.mv_walk.proofs.Visits.{insides, insides-cons, visits_faults-append, passing, bound-fits}
 
 -- a model that is found has the name
 pub named_is : (ms : List FileModel) (name : List ℕ) (m : FileModel) → model_named ms name ≡ Some m → m.name ≡ name
@@ -52,7 +52,7 @@ many_inside d l size p m inside many e u less = record { each = each }
         (or_cases (same_word name m.name) (among name l.round) a)
 
 -- how many instances are inside those of a level
-abbrev inner : Instances → ℕ
+abbrev pub inner : Instances → ℕ
 inner NoMore = 0
 inner (Instance part model inside rest) = size_of inside + inner rest
 

@@ -22,7 +22,7 @@ use Rattle.mv_design.specs.Values.{count_of}
 use Rattle.mv_tree.specs.Tree.{model_named}
 use Rattle.mv_tree.specs.Places.{path_in, is_bound}
 use Rattle.mv_tree.specs.Bound.{formals_of, IsBound}
-use Rattle.mv_walk.specs.Walk.{Level, Visit, level_in, levels_in, visits, bind_faults, open_faults, port_faults, visit_faults, visits_faults}
+use Rattle.mv_walk.specs.Walk.{Level, Visit, level_in, levels_in, visit, visits, bind_faults, open_faults, port_faults, visit_faults, visits_faults}
 
 -- ---- commands one after another
 
@@ -35,10 +35,6 @@ visits_faults-append d c (u ∷ us) vs =
     let e : suc c + length us ≡ c + length (u ∷ us) = omega arith in
     ap (λ fs. visit_faults d c u ++ fs) (visits_faults-append d (suc c) us vs ∙ ap (λ n. visits_faults d (suc c) us ++ visits_faults d n vs) e)
     ∙ grouped (visit_faults d c u) (visits_faults d (suc c) us) (visits_faults d (c + length (u ∷ us)) vs)
-
--- a command on a level
-abbrev pub visit : Level → Part → Visit
-visit l p = record { level = l; part = p }
 
 -- the commands inside the instances of these
 abbrev pub insides : ℕ → Design → Level → List Part → List Visit

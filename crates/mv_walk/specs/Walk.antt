@@ -38,9 +38,13 @@ root_level m = record { model = m; round = m.name ∷ []; path = [] }
 abbrev pub level_in : Level → Part → FileModel → Level
 level_in l p m = record { model = m; round = m.name ∷ l.round; path = path_in l.path p.instance }
 
+-- a command on a level
+abbrev pub visit : Level → Part → Visit
+visit l p = record { level = l; part = p }
+
 -- the commands on a level
 abbrev pub visits_at : Level → List Visit
-visits_at l = map (λ p. record { level = l; part = p }) l.model.parts
+visits_at l = map (visit l) l.model.parts
 
 -- the level inside the instance of a command, if it has a model
 abbrev pub levels_in : Design → Level → Part → List Level

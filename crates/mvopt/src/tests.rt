@@ -6,6 +6,7 @@ mod faults;
 mod refusals;
 mod states;
 mod texts;
+mod works;
 
 use mv_base::{MemoryFiles, MemorySink};
 use mv_run::run;

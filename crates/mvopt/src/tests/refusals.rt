@@ -15,6 +15,13 @@ const WORDS: &[(&str, u8, &[u8])] = &[
     ("opts n s", 1, b"# fault words\n"),
     ("opt -x s", 1, b"# fault words\n"),
     ("opt n --", 1, b"# fault words\n"),
+    ("opt --help", 1, b"# fault words\n"),
+    ("opt n s --budget", 1, b"# fault words\n"),
+    ("opt n s --budget 999", 1, b"# fault words\n"),
+    ("opt n s --budget 12345678", 1, b"# fault words\n"),
+    ("opt n s --budget=4000001", 1, b"# fault words\n"),
+    ("opt --budget 1000 n s --budget=1000", 1, b"# fault words\n"),
+    ("opt n -- s --budget=1000", 1, b"# fault words\n"),
     ("opt x s", 4, b"# fault read\n"),
     ("opt n x", 4, b"# fault read\n"),
     ("opt - s", 4, b"# fault read\n"),
@@ -26,6 +33,11 @@ const WORDS: &[(&str, u8, &[u8])] = &[
     ("checks n s", 1, b"# fault words\n"),
     ("check n x", 4, b"# fault read\n"),
     ("check x s", 4, b"# fault read\n"),
+    ("work 1 1", 1, b"# fault words\n"),
+    ("work 0 1 s", 1, b"# fault words\n"),
+    ("work 20001 1 s", 1, b"# fault words\n"),
+    ("work 1 18446744073709551616 s", 1, b"# fault words\n"),
+    ("work 1 18446744073709551615 x", 4, b"# fault read\n"),
 ];
 
 #[test]
@@ -36,6 +48,18 @@ fn words_are_refused_and_files_are_missing(rt: HostRuntime) -> Result<(), Fail> 
             ..opt(INVERTER, b"")
         };
         ends(&rt, rt.alloc(), given, refused(*status, line))?;
+    }
+    Ok(())
+}
+
+#[test]
+fn the_option_stands_anywhere_before_two_dashes(rt: HostRuntime) -> Result<(), Fail> {
+    for words in ["opt --budget=1000 n -- s", "opt n --budget 4000000 s"] {
+        let given = Given {
+            words,
+            ..opt(INVERTER, b"")
+        };
+        ends(&rt, rt.alloc(), given, written(INVERTER, b"# done 2 2\n"))?;
     }
     Ok(())
 }
@@ -55,6 +79,7 @@ fn script_is_refused(
 const SCRIPTS: &str = "\
 x# | 1 UnknownWord 0
 ;;sweep 1 | 1 UnknownWord 8
+sweep; fold | 1 UnknownWord 7
 Drop | 1 UnknownWord 0
 collapse a b | 1 UnknownWord 11
 drop\u{b} | 1 UnknownWord 0
@@ -69,6 +94,7 @@ simplify x\u{80} 1 | 2 Missing 9
 repeat { } | 2 Missing 7
 better { simplify 1 | 2 Missing 19
 simplify 9 x | 3 NumberRange 9
+simplify 9 0 | 3 NumberRange 9
 simplify 08 09 | 3 NumberRange 12
 repeat 0 { } | 3 NumberRange 7
 repeat 1001 { } | 3 NumberRange 7
@@ -76,12 +102,13 @@ drop{ | 4 Brace 4
 eliminate } | 4 Brace 10
 repeat 2 drop | 4 Brace 9
 better { drop | 4 Brace 13
+repeat 2 { sweep | 4 Brace 16
 repeat 10 { repeat 1000 { drop } } ; drop | 6 TooMany 37
 drop; repeat 101 { better { repeat 99 { drop } drop } } | 6 TooMany 6
 kernel | 8 NotBuilt
 drop; simplify 08 1 | 8 NotBuilt
 fill | 8 NotBuilt
-repeat 1000{} | 8 NotBuilt
+sweep; eliminate; better { simplify 1 1; kernel; cube } | 8 NotBuilt
 ";
 
 #[test]
@@ -105,6 +132,10 @@ fn a_script_has_limits(rt: HostRuntime) -> Result<(), Fail> {
     let braces = repeated(rt.alloc(), b"better{", 33)?;
     script_is_refused(&rt, rt.alloc(), braces.as_slice(), "7 TooDeep 230")?;
     let mut powers = repeated(rt.alloc(), b"repeat 1000{", 32)?;
+    let mut idle = powers.clone()?;
+    idle.extend_from_slice(repeated(rt.alloc(), b"}", 32)?.as_slice())?;
+    let given = opt(INVERTER, idle.as_slice());
+    ends(&rt, rt.alloc(), given, written(INVERTER, b"# done 2 2\n"))?;
     powers.extend_from_slice(b"drop")?;
     powers.extend_from_slice(repeated(rt.alloc(), b"}", 32)?.as_slice())?;
     script_is_refused(&rt, rt.alloc(), powers.as_slice(), "6 TooMany 0")
@@ -437,12 +468,18 @@ fn long_name(alloc: Global, bytes: usize) -> Result<Vec<u8>, Fail> {
     Ok(text)
 }
 
-/// A table of so many inputs, with one row.
-fn wide_table(alloc: Global, inputs: usize) -> Result<Vec<u8>, Fail> {
+/// The names of so many inputs, each behind a blank.
+fn input_names(alloc: Global, inputs: usize) -> Result<Vec<u8>, Fail> {
     let mut names = Vec::new(alloc);
     for input in 0..inputs {
         names.extend_from_slice(format!(in alloc; " i{input}")?.as_bytes())?;
     }
+    Ok(names)
+}
+
+/// A table of so many inputs, with one row.
+fn wide_table(alloc: Global, inputs: usize) -> Result<Vec<u8>, Fail> {
+    let names = input_names(alloc, inputs)?;
     let mut text = Vec::from_slice(alloc, b".model m\n.inputs")?;
     text.extend_from_slice(names.as_slice())?;
     text.extend_from_slice(b"\n.outputs z\n.table")?;
@@ -450,6 +487,30 @@ fn wide_table(alloc: Global, inputs: usize) -> Result<Vec<u8>, Fail> {
     text.extend_from_slice(b" -> z\n")?;
     text.extend_from_slice(repeated(alloc, b"1 ", inputs)?.as_slice())?;
     text.extend_from_slice(b"1\n.end\n")?;
+    Ok(text)
+}
+
+/// The head of a table of an input that its output is equal to, two of 100 values, and so many more.
+fn split_head(alloc: Global, inputs: usize) -> Result<Vec<u8>, Fail> {
+    let names = input_names(alloc, inputs)?;
+    let mut text = Vec::from_slice(alloc, b".model m\n.inputs x a b")?;
+    text.extend_from_slice(names.as_slice())?;
+    text.extend_from_slice(b"\n.mv x, z 128\n.mv a, b 100\n.table x a b")?;
+    text.extend_from_slice(names.as_slice())?;
+    text.extend_from_slice(b" -> z\n")?;
+    Ok(text)
+}
+
+/// So many rows of such a table, all different. Each becomes 128 lines, of a literal for each input.
+fn split_rows(alloc: Global, inputs: usize, rows: u32) -> Result<Vec<u8>, Fail> {
+    let ones = repeated(alloc, b" 1", inputs)?;
+    let mut text = split_head(alloc, inputs)?;
+    for row in 0..rows {
+        text.extend_from_slice(format!(in alloc; "- {} {}", row % 100, row / 100)?.as_bytes())?;
+        text.extend_from_slice(ones.as_slice())?;
+        text.extend_from_slice(b" =x\n")?;
+    }
+    text.extend_from_slice(b".end\n")?;
     Ok(text)
 }
 
@@ -461,13 +522,15 @@ fn long_table(alloc: Global, rows: usize) -> Result<Vec<u8>, Fail> {
     Ok(text)
 }
 
-/// A model of so many inputs.
-fn many_inputs(alloc: Global, count: u64) -> Result<Vec<u8>, Fail> {
+/// A model of so many inputs, with these lines behind them.
+fn many_inputs(alloc: Global, count: u64, more: &[u8]) -> Result<Vec<u8>, Fail> {
     let mut text = Vec::from_slice(alloc, b".model m\n.inputs")?;
     for input in 0..count {
         text.extend_from_slice(format!(in alloc; " {input}")?.as_bytes())?;
     }
-    text.extend_from_slice(b"\n.end\n")?;
+    text.extend_from_slice(b"\n")?;
+    text.extend_from_slice(more)?;
+    text.extend_from_slice(b".end\n")?;
     Ok(text)
 }
 
@@ -517,6 +580,35 @@ fn a_file_has_a_limit_of_models(rt: HostRuntime) -> Result<(), Fail> {
 
 #[test]
 fn a_network_has_a_limit_of_nets(rt: HostRuntime) -> Result<(), Fail> {
-    let net = many_inputs(rt.alloc(), 200_001)?;
-    is_past(&rt, rt.alloc(), net, "35 Limit Nets 200001")
+    let nets = "35 Limit Nets 200001";
+    is_past(
+        &rt,
+        rt.alloc(),
+        many_inputs(rt.alloc(), 200_001, b"")?,
+        nets,
+    )?;
+    // A mark and a reset net count, behind as many nets of the file as there may be.
+    let mark: &[u8] = b".table 0 -> z\n0 1\n.default =0\n";
+    is_past(
+        &rt,
+        rt.alloc(),
+        many_inputs(rt.alloc(), 199_999, mark)?,
+        nets,
+    )?;
+    let reset: &[u8] = b".latch 0 s\n.reset 0 -> s\n1 1\n";
+    is_past(
+        &rt,
+        rt.alloc(),
+        many_inputs(rt.alloc(), 199_999, reset)?,
+        nets,
+    )
+}
+
+#[test]
+fn a_network_has_limits_of_lines_and_literals(rt: HostRuntime) -> Result<(), Fail> {
+    let alloc = rt.alloc();
+    let lines = "35 Limit FlatLines 1000001";
+    is_past(&rt, alloc, split_rows(alloc, 0, 7_813)?, lines)?;
+    let literals = "35 Limit FlatEntries 8000001";
+    is_past(&rt, alloc, split_rows(alloc, 97, 626)?, literals)
 }

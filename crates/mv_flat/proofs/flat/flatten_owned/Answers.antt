@@ -8,10 +8,11 @@ use Rattle.mv_resets.proofs.Nets.{resets_single}
 use Rattle.mv_unfold.specs.Sound.{IsSoundModel, IsWithinLimits}
 use Rattle.mv_unfold.proofs.Distinct.{few_drivers}
 use Rattle.mv_flat.specs.Built.{IsBuilt}
-use Rattle.mv_flat.specs.Flat.{IsFlat}
+use Rattle.mv_flat.specs.Flat.{HasSmallNetwork, IsFlat}
 use Rattle.mv_flat.specs.Placed.{IsPlacedTable}
 use Rattle.mv_flat.proofs.Distinct.{places_differ}
 use Rattle.mv_flat.proofs.Whole.{AreNetsOf, with_nets, well_formed, places_few, nets_few, flat_design, root_proper}
+use Rattle.mv_flat.proofs.Refusals.{small_by}
 use Rattle.mv_flat.proofs.flat.flatten_owned.Goals as goal
 use Rattle.mv_flat.proofs.flat.flatten_owned.Goals.{In_ok-model}
 
@@ -64,15 +65,22 @@ built-requires-clause-few c =
     let l = places_few c.in_ok-model.model are.proper are.few in
     omega (arith, e, l)
 
+pub built-requires-clause-few_nets : goal.built-requires-clause-few_nets
+built-requires-clause-few_nets c =
+    let e = c.len-file_nets.ensures ∙ ap length c.in_ok-driven.ensures.driven in
+    let l = few_drivers c.root-model.result c.in_ok-driven.ensures.sound.driven in
+    let f = c.in_ok-driven.ensures.limits.few in
+    omega (arith, e, l, f)
+
 pub make-requires-clause-few : goal.make-requires-clause-few
 make-requires-clause-few c =
     let are = nets_are (goal.at.make-requires-clause-few c).In_ok-model in
-    nets_few c.in_ok-model.model c.in_ok-parts.parts are.proper are.sound are.few c.in_ok-parts.ensures
+    nets_few c.in_ok-model.model c.in_ok-parts.parts are.proper are.sound are.few c.in_ok-parts.ensures.built
 
 pub make-requires-clause-formed : goal.make-requires-clause-formed
 make-requires-clause-formed c =
     let are = nets_are (goal.at.make-requires-clause-formed c).In_ok-model in
-    well_formed c.in_ok-model.model c.in_ok-parts.parts are.proper are.sound c.in_ok-parts.ensures
+    well_formed c.in_ok-model.model c.in_ok-parts.parts are.proper are.sound c.in_ok-parts.ensures.built
 
 pub returns-clause-ok : goal.returns-clause-ok
 returns-clause-ok c =
@@ -83,4 +91,5 @@ returns-clause-ok c =
     let Q : NetParts → Type 0 = λ net. IsFlat net c.args.design in
     subst Q (sym c.in_ok-make.ensures)
     (flat_design c.args.design c.in_ok-parts.parts (root_proper c.args.design (root_of c.args.design) refl c.requires) sound limits
-    (subst P (c.in_ok-model.ensures ∙ ap with_reset_nets root) c.in_ok-parts.ensures))
+    (subst HasSmallNetwork root (small_by c.root-model.result c.in_ok-model.model _ c.in_ok-model.ensures (c.len-file_nets.ensures ∙ ap length c.in_ok-driven.ensures.driven) c.in_ok-parts.ensures.fits))
+    (subst P (c.in_ok-model.ensures ∙ ap with_reset_nets root) c.in_ok-parts.ensures.built))

@@ -1,22 +1,97 @@
--- The iterator gives the tables in order: the one of this turn is among them, and behind the last turn stand all.
-use Rattle.std.proofs.Common.{◌∙◌, ap, length, arith}
+-- A table's nets come behind those of the tables before it, and its covers count beside theirs.
+use Rattle.std.proofs.Common.{◌≡◌, ◌<◌, ◌≤◌, ℕ, List, ◌∷◌, [], ◌++◌, ◌∙◌, sym, subst, ap, length, get_or, arith}
+use Rattle.std.proofs.lemmas.List.{length_push}
 use Rattle.std.proofs.lemmas.Iterator.Adapters.{YieldsList-from_vec}
 use Rattle.std.proofs.lemmas.Iterator.Consumers.{YieldsList-turn, YieldsList-end}
-use Rattle.mv_flat.proofs.Behinds.{tables_last, tables_room}
+use Rattle.mv_design.specs.declared.design.FileModel.{FileModel}
+use Rattle.mv_design.specs.declared.table.FileTable.{FileTable}
+use Rattle.mv_design.specs.declared.design.Decl.{Decl}
+use Rattle.mv_rows.specs.Flat.{IsMade}
+use Rattle.mv_flat.specs.Built.{open_nets}
+use Rattle.mv_flat.specs.Numbers.{columns_at, mark_at}
+use Rattle.mv_flat.specs.Marks.{AddsNets, TableNets}
+use Rattle.mv_flat.specs.Sized.{AreSized}
+use Rattle.mv_flat.proofs.Behinds.{TablesMade, tables_more, tables_last, tables_room}
+use Rattle.mv_flat.proofs.Sizes.{sized_more, sized_last, past_limit, limit_told}
 use Rattle.mv_flat.proofs.tables.nets.Goals as goal
+use Rattle.mv_flat.proofs.tables.nets.Goals.{In-Some, In-None, In_ok-flat, In_ok-put_table}
 
-pub put_table-requires-clause-later : goal.put_table-requires-clause-later
-put_table-requires-clause-later c =
+-- the table behind the first i ones
+record IsTableAt (m : FileModel) (i : ℕ) (t : FileTable) : Type 0 where
+  low : i < length m.tables
+  is : t ≡ get_or m.tables i t
+
+next : (c : In-Some) → IsTableAt c.args.model (length c.loop-table.yielded) c.in-Some.table
+next c =
     let gives = c.into_iter-table-iterator.ensures.into_iter_gives in
     let road = YieldsList-from_vec {s = c.into_iter-table-iterator.result} _ gives.0 (gives.1 ∙ c.into_vec-table-items.result.ok.0) in
     let turn = YieldsList-turn road c.loop-table.yielded c.loop-table.table-iterator c.loop-table.yielded_by c.next.result c.next.new.self c.in-Some.table c.in-Some.is c.next.ensures.steps in
     let all = ap length c.into_vec-table-items.ensures in
-    tables_room c.args.model _ _ _ _ _ c.requires.placed (omega (arith, all, turn.0)) c.loop-table.invariant
+    record {
+      low = omega (arith, all, turn.0);
+      is = turn.1 ∙ ap (λ (ts : List FileTable). get_or ts (length c.loop-table.yielded) c.in-Some.table) c.into_vec-table-items.ensures;
+    }
 
-pub returns : goal.returns
-returns c =
+pub put_table-requires-clause-later : goal.put_table-requires-clause-later
+put_table-requires-clause-later c =
+    let at = next (goal.at.put_table-requires-clause-later c).In-Some in
+    tables_room c.args.model _ _ _ _ _ c.requires.placed at.low c.loop-table.invariant.made
+
+-- its covers, over the model's nets
+covered : (c : In_ok-flat) → IsMade (columns_at c.args.model.decls c.args.names.now c.in-Some.table) c.in-Some.table (mark_at c.args.names.now c.in-Some.table) c.in_ok-flat.flat
+covered c =
+    let P : List Decl → Type 0 =
+    λ ds. IsMade (columns_at ds c.args.names.now c.in-Some.table) c.in-Some.table (mark_at c.args.names.now c.in-Some.table) c.in_ok-flat.flat in
+    subst P (c.in_ok-decls.ensures ∙ c.as_slice.ensures) c.in_ok-flat.ensures
+
+pub returns-in-Err-clause-fault : goal.returns-in-Err-clause-fault
+returns-in-Err-clause-fault c =
+    let at = next (goal.at.returns-in-Err-clause-fault c).In-Some in
+    limit_told c.args.file_nets c.args.model c.in-Err.fault
+    (past_limit c.args.file_nets c.args.model c.args.names.now (length c.loop-table.yielded) c.loop-table.size c.in-Some.table c.in_ok-flat.flat c.in-Err.fault
+    c.requires.placed.are c.loop-table.invariant.sized at.low at.is (covered (goal.at.returns-in-Err-clause-fault c).In_ok-flat) c.in-Err.ensures.fault)
+
+-- the nets with those of the table behind them
+made_more : (c : In_ok-put_table) → IsTableAt c.args.model (length c.loop-table.yielded) c.in-Some.table
+    → TablesMade c.args.model c.args.names.now (length (c.loop-table.yielded ++ c.in-Some.table ∷ [])) c.put_table.new.last (open_nets c.args.model) c.put_table.new.nets
+made_more c at =
+    let P : ℕ → Type 0 = λ i. TablesMade c.args.model c.args.names.now i c.put_table.new.last (open_nets c.args.model) c.put_table.new.nets in
+    let Q : List Decl → Type 0 =
+    λ ds. AddsNets (TableNets ds c.args.names.now c.in-Some.table) c.args.names.now c.loop-table.last c.put_table.new.last c.loop-table.nets c.put_table.new.nets in
+    subst P (sym (length_push c.loop-table.yielded c.in-Some.table))
+    (tables_more c.args.model c.args.names.now (length c.loop-table.yielded) c.loop-table.last c.put_table.new.last c.in-Some.table (open_nets c.args.model) c.loop-table.nets
+    c.put_table.new.nets at.low at.is c.loop-table.invariant.made (subst Q (c.in_ok-decls.ensures ∙ c.as_slice.ensures) c.in_ok-put_table.ensures))
+
+-- the size with the covers of the table
+sized_with : (c : In_ok-put_table) → IsTableAt c.args.model (length c.loop-table.yielded) c.in-Some.table
+    → IsMade (columns_at c.args.model.decls c.args.names.now c.in-Some.table) c.in-Some.table (mark_at c.args.names.now c.in-Some.table) c.in_ok-flat.flat
+    → AreSized c.args.file_nets c.args.model c.args.names.now (length (c.loop-table.yielded ++ c.in-Some.table ∷ [])) c.in-Ok.size
+sized_with c at covers =
+    let P : ℕ → Type 0 = λ i. AreSized c.args.file_nets c.args.model c.args.names.now i c.in-Ok.size in
+    subst P (sym (length_push c.loop-table.yielded c.in-Some.table))
+    (sized_more c.args.file_nets c.args.model c.args.names.now (length c.loop-table.yielded) c.loop-table.size c.in-Ok.size c.in-Some.table c.in_ok-flat.flat
+    c.loop-table.invariant.sized at.low at.is covers c.in-Ok.ensures.size c.in-Ok.ensures.within)
+
+pub loop-table-preserved-in_ok-put_table : goal.loop-table-preserved-in_ok-put_table
+loop-table-preserved-in_ok-put_table c =
+    let to = goal.at.loop-table-preserved-in_ok-put_table c in
+    record { made = made_more to.In_ok-put_table (next to.In-Some); sized = sized_with to.In_ok-put_table (next to.In-Some) (covered to.In_ok-flat) }
+
+pub loop-table-preserved : goal.loop-table-preserved
+loop-table-preserved c =
+    let to = goal.at.loop-table-preserved c in
+    record { made = made_more to.In_ok-put_table (next to.In-Some); sized = sized_with to.In_ok-put_table (next to.In-Some) (covered to.In_ok-flat) }
+
+end : (c : In-None) → length c.args.model.tables ≤ length c.loop-table.yielded
+end c =
     let gives = c.into_iter-table-iterator.ensures.into_iter_gives in
     let road = YieldsList-from_vec {s = c.into_iter-table-iterator.result} _ gives.0 (gives.1 ∙ c.into_vec-table-items.result.ok.0) in
     let end = YieldsList-end road c.loop-table.yielded c.loop-table.table-iterator c.loop-table.yielded_by c.next.result c.next.new.self c.in-None.is c.next.ensures.steps in
     let all = ap length c.into_vec-table-items.ensures in
-    tables_last c.args.model _ _ _ _ _ c.requires.placed (omega (arith, all, end.1)) c.loop-table.invariant
+    omega (arith, all, end.1)
+
+pub returns-clause-nets : goal.returns-clause-nets
+returns-clause-nets c = tables_last c.args.model _ _ _ _ _ c.requires.placed (end (goal.at.returns-clause-nets c).In-None) c.loop-table.invariant.made
+
+pub returns-clause-fits : goal.returns-clause-fits
+returns-clause-fits c = sized_last _ c.args.model _ _ _ c.requires.placed.are (end (goal.at.returns-clause-fits c).In-None) c.loop-table.invariant.sized

@@ -1,0 +1,8 @@
+pub mod Inductions
+pub mod Idle
+pub mod Rounds
+pub mod Toward
+pub mod Commands
+pub mod Coming
+pub mod Rules
+pub mod NoMore

@@ -1,0 +1,17 @@
+-- What is put to the notes where a whole script ran.
+use Rattle.std.specs.Prelude.{ℕ, ◌≤◌, List, ◌++◌, length}
+use Rattle.mv_base.specs.declared.limits.TheConstants.{MAX_CERTIFICATE_BYTES}
+use Rattle.mv_cert.specs.Certificates.{Certifies}
+use Rattle.mv_entry.specs.Entries.{Entry, print}
+use Rattle.mv_net.specs.declared.parts.NetParts.{NetParts}
+use Rattle.mv_net.specs.Nets.{literals_in}
+use Rattle.mv_task.specs.Ending.{done_line}
+
+-- the entries of the script, and the done line
+abbrev pub all_notes : List Entry → NetParts → NetParts → List ℕ
+all_notes entries first net = print entries ++ done_line (literals_in first.nets) (literals_in net.nets)
+
+-- they are a certificate of what the script did, where they aren't longer than one may be
+abbrev pub IsCertified : List Entry → NetParts → NetParts → Type 0
+IsCertified entries first net =
+    length (all_notes entries first net) ≤ MAX_CERTIFICATE_BYTES → Certifies (all_notes entries first net) first net

@@ -1,0 +1,89 @@
+ghost use Rattle.std.specs.Prelude.{◌≡◌, ◌≤◌, true, Err, IfOk, OnOk};
+ghost use Rattle.mv_printed.specs.Names.{HasWordNames};
+ghost use Rattle.mv_base.specs.Meaning.{Refines};
+ghost use Rattle.mv_base.specs.Outside.{Rose};
+ghost use Rattle.mv_net.specs.Allowed.{of_net};
+ghost use Rattle.mv_script.specs.Commands.{are_built, are_named};
+ghost use Rattle.mv_script.specs.Scripts.{items_of};
+ghost use Rattle.mv_opt.specs.Outcomes.{HasRun, HasStopped, HasStoppedAt, HasWorked, IsCut, IsNoteCut};
+
+use crate::output::{Output, end_run};
+use crate::take::Work;
+use mv_back::reads_back;
+use mv_base::Sink;
+use mv_cert::NoteJournal;
+use mv_course::run_script;
+use mv_entry::{Journal, Tally};
+use mv_net::Network;
+use mv_pass::Stop;
+use mv_script::Script;
+use std::alloc::Global;
+
+/// Why the work on a network ends early.
+#[derive(Clone, Copy, Debug, PartialEq, Eq)]
+pub enum WorkStop {
+    Write,
+    Memory,
+}
+
+/// Runs the script on the network, puts what it does to the notes, and counts it.
+#[tactic(auto, using(crate::proofs::Works::noted))]
+fn run_noted<E: Sink>(
+    alloc: Global,
+    net: &mut Network,
+    script: &Script,
+    notes: &mut E,
+) -> Result<Tally, Stop>
+    requires built { are_built (items_of script.now) ≡ true }
+    requires named { are_named (items_of script.now) ≡ true }
+    ensures ok { IfOk result (HasRun (items_of script.now) net.old net.new (E.state notes.old) (E.state notes.new)) }
+    ensures memory { result ≡ Err Stop.Memory
+        → HasStopped (items_of script.now) net.old net.new (E.state notes.old) (E.state notes.new) }
+    ensures note { result ≡ Err Stop.Note
+        → IsNoteCut (items_of script.now) net.old net.new (E.state notes.old) (E.state notes.new) }
+    ensures cause { result ≡ Err Stop.Note → Rose (E.state notes.old).faults (E.state notes.new).faults }
+    ensures refines { Refines (of_net net.new) (of_net net.old) }
+    ensures later { (E.state notes.old).faults ≤ (E.state notes.new).faults }
+{
+    let mut journal = NoteJournal::new(notes);
+    match run_script(alloc, net, script, &mut journal) {
+        Ok(()) => Ok(journal.tally()),
+        Err(stop) => Err(stop),
+    }
+}
+
+/// Runs the script on the network, and puts what it does and the done line to the notes, and then what is to be written to the
+/// output. From the done line on it takes no memory.
+pub fn carry_out<O: Sink, E: Sink>(
+    alloc: Global,
+    work: Work,
+    output: Output,
+    out: &mut O,
+    notes: &mut E,
+) -> Result<(), WorkStop>
+    requires names { HasWordNames work.net.nets }
+    requires built { are_built (items_of work.script) ≡ true }
+    requires named { are_named (items_of work.script) ≡ true }
+    ensures ok { OnOk result (HasWorked output (items_of work.script) work.net
+        (O.state out.old) (O.state out.new) (E.state notes.old) (E.state notes.new)) }
+    ensures write { result ≡ Err WorkStop.Write → IsCut output (items_of work.script) work.net
+        (O.state out.old) (O.state out.new) (E.state notes.old) (E.state notes.new) }
+    ensures memory { result ≡ Err WorkStop.Memory
+        → HasStoppedAt (items_of work.script) work.net (E.state notes.old) (E.state notes.new) }
+    ensures untouched { result ≡ Err WorkStop.Memory → O.state out.new ≡ O.state out.old }
+    ensures later { result ≡ Err WorkStop.Memory → (E.state notes.old).faults ≤ (E.state notes.new).faults }
+{
+    let Work { mut net, script } = work;
+    net.well_formed();
+    let before = net.literals();
+    let tally = match run_noted(alloc, &mut net, &script, notes) {
+        Ok(tally) => tally,
+        Err(Stop::Note) => return Err(WorkStop::Write),
+        Err(Stop::Memory) => return Err(WorkStop::Memory),
+    };
+    reads_back(&net);
+    match end_run(output, &net, before, tally, out, notes) {
+        Ok(()) => Ok(()),
+        Err(_failed) => Err(WorkStop::Write),
+    }
+}

@@ -1,0 +1,73 @@
+-- How large a network may be that is to be drawn.
+use Rattle.std.proofs.Common.{◌≡◌, ◌≤◌, ℕ, Bool, true, false, ◌&&◌, nat_lt, nat_le, List, [], ◌∷◌, length, Option, Some, None, refl, ap, subst}
+use Rattle.std.specs.Prelude.{option_map, option_and_then, if◌then◌else◌}
+use Rattle.std.specs.Char.{is_ascii_digit}
+use Rattle.std.specs.List.{list_all}
+use Rattle.std.specs.Str.Parse.{digits_value}
+use Rattle.std.proofs.lemmas.Bool.{false≢true, leb-true}
+use Rattle.mv_words.specs.CommandLine.{Files, Draw, Parts, opt, check, work, number_of, size_of, seed_of, budget_given, draw_in, draw_asked, files_asked, parts_of, task_of}
+
+-- of five tests that hold the last two hold
+last_two : (a b c d e : Bool) → (a && b && c && d && e) ≡ true → (d ≡ true) × (e ≡ true)
+last_two false b c d e is = absurd (false≢true is)
+last_two true false c d e is = absurd (false≢true is)
+last_two true true false d e is = absurd (false≢true is)
+last_two true true true false e is = absurd (false≢true is)
+last_two true true true true false is = absurd (false≢true is)
+last_two true true true true true is = (refl, refl)
+
+-- a number that a word says is one of those it may be
+module _ (most least greatest : ℕ) (w : List ℕ) (n : ℕ) where
+  value_bounds : (b : Bool) → (nat_lt 0 (length w) && nat_le (length w) most && list_all is_ascii_digit w && nat_le least (digits_value 10 w) && nat_le (digits_value 10 w) greatest) ≡ b
+      → (if b then Some (digits_value 10 w) else None) ≡ Some n → (least ≤ n) × (n ≤ greatest)
+  value_bounds false is e = let bad : None ≡ Some n = e in absurd cc
+  value_bounds true is e =
+      let value : digits_value 10 w ≡ n = cc in
+      let last = last_two (nat_lt 0 (length w)) (nat_le (length w) most) (list_all is_ascii_digit w) (nat_le least (digits_value 10 w)) (nat_le (digits_value 10 w) greatest) is in
+      (subst (λ x. least ≤ x) value (leb-true least (digits_value 10 w) last.0), subst (λ x. x ≤ greatest) value (leb-true (digits_value 10 w) greatest last.1))
+
+  number_bounds : number_of most least greatest w ≡ Some n → (least ≤ n) × (n ≤ greatest)
+  unfolding number_of
+  number_bounds e = value_bounds (nat_lt 0 (length w) && nat_le (length w) most && list_all is_ascii_digit w && nat_le least (digits_value 10 w) && nat_le (digits_value 10 w) greatest) refl e
+
+-- the size is the number that the first word says
+drawn_size : (size seed : Option ℕ) (script : List ℕ) (budget : Option (Option ℕ)) (d : Draw)
+    → option_and_then (λ n. option_and_then (λ s. option_map (λ b. record { size = n; seed = s; script = script; budget = b }) budget) seed) size ≡ Some d
+    → size ≡ Some d.size
+drawn_size None seed script budget d e = absurd cc
+drawn_size (Some n) None script budget d e = absurd cc
+drawn_size (Some n) (Some s) script None d e = absurd cc
+drawn_size (Some n) (Some s) script (Some b) d e =
+    let P : Draw = record { size = n; seed = s; script = script; budget = b } in
+    let same : P ≡ d = cc in
+    ap (λ (x : Draw). Some x.size) same
+
+draw_bounds : (words : List (List ℕ)) (budget : Option (Option ℕ)) (d : Draw) → draw_in words budget ≡ Some d → (1 ≤ d.size) × (d.size ≤ 20000)
+draw_bounds [] budget d e = absurd cc
+draw_bounds (a ∷ []) budget d e = absurd cc
+draw_bounds (a ∷ b ∷ []) budget d e = absurd cc
+draw_bounds (a ∷ b ∷ c ∷ []) budget d e = number_bounds 5 1 20000 a d.size (drawn_size (size_of a) (seed_of b) c budget d e)
+draw_bounds (a ∷ b ∷ c ∷ f ∷ ws) budget d e = absurd cc
+
+parts_bounds : (parts : Option Parts) (d : Draw) → option_and_then draw_asked parts ≡ Some d → (1 ≤ d.size) × (d.size ≤ 20000)
+parts_bounds None d e = absurd cc
+parts_bounds (Some p) d e = draw_bounds p.words (budget_given p.values) d e
+
+-- where a network is to be drawn, the third of three tasks is asked for
+asked_third : (x y z : Bool) (o c : Option Files) (w : Option Draw) (d : Draw)
+    → (if x then option_map opt o else if y then option_map check c else if z then option_map work w else None) ≡ Some (work d) → w ≡ Some d
+asked_third true y z None c w d e = absurd cc
+asked_third true y z (Some f) c w d e = absurd cc
+asked_third false true z o None w d e = absurd cc
+asked_third false true z o (Some f) w d e = absurd cc
+asked_third false false true o c None d e = absurd cc
+asked_third false false true o c (Some v) d e = cc
+asked_third false false false o c w d e = absurd cc
+
+-- a network that is asked for has from 1 to 20,000 tables
+pub sizes : (words : List (List ℕ)) (d : Draw) → task_of words ≡ Some (work d) → (1 ≤ d.size) × (d.size ≤ 20000)
+unfolding task_of
+sizes [] d e = absurd cc
+sizes (first ∷ rest) d e =
+    parts_bounds (parts_of false rest) d
+    (asked_third _ _ _ (option_and_then files_asked (parts_of false rest)) (option_and_then files_asked (parts_of false rest)) (option_and_then draw_asked (parts_of false rest)) d e)

@@ -1,0 +1,57 @@
+-- The commands of models, put into lists one by one.
+use Rattle.std.proofs.Common.{◌≡◌, ℕ, ◌+◌, ◌<◌, ◌≤◌, List, [], ◌∷◌, ◌++◌, length, map, take, drop, get_or, All, sym, ◌∙◌, ap, subst, arith}
+use Rattle.std.proofs.lemmas.List.{map-append, length-map, take_more, drop_more}
+use Rattle.std.proofs.lemmas.List.Elements.{All-push}
+use Rattle.std.proofs.Math.ListN.{get_or-map}
+use Rattle.mv_design.specs.declared.design.FileModel.{FileModel}
+use Rattle.mv_design.specs.declared.design.Part.{Part}
+use Rattle.mv_walk.specs.declared.command.Command.{Command}
+use Rattle.mv_walk.specs.Commands.{AreCommands, IsCommand, model_at, part_of}
+
+-- ---- the commands of one model
+
+-- the commands so far
+pub record AreSome (ms : List FileModel) (round : FileModel) (ps : List Part) (cs : List Command) : Type 0 where
+  pub parts : map part_of cs ≡ ps
+  pub each : All (IsCommand ms round) cs
+
+pub some_more : (ms : List FileModel) (round : FileModel) (ps : List Part) (i : ℕ) (p : Part) (now new : List Command) (c : Command) → AreSome ms round (take i ps) now → i < length ps
+    → p ≡ get_or ps i p → part_of c ≡ p → IsCommand ms round c → new ≡ now ++ c ∷ [] → AreSome ms round (take (i + 1) ps) new
+some_more ms round ps i p now new c h within is part command e = subst (AreSome ms round (take (i + 1) ps)) (sym e) (record {
+  parts = map-append part_of now (c ∷ []) ∙ (ap (λ xs. xs ++ part_of c ∷ []) h.parts ∙ (ap (λ x. take i ps ++ x ∷ []) (part ∙ is) ∙ sym (take_more ps i p within)));
+  each = All-push (IsCommand ms round) now c h.each command;
+})
+
+-- ---- those of all models
+
+-- the lists so far, one for each of so many models
+pub record AreLists (ms : List FileModel) (n : ℕ) (all : List (List Command)) : Type 0 where
+  pub many : length all ≡ n
+  pub each : (k : ℕ) → k < n → AreCommands ms (model_at ms k) (get_or all k [])
+
+-- ---- one of the commands of a model
+
+-- the command at a place
+pub record IsNth (ms : List FileModel) (round : FileModel) (i : ℕ) (c : Command) : Type 0 where
+  pub command : IsCommand ms round c
+  pub within : i < length round.parts
+  pub is : get_or round.parts i (part_of c) ≡ part_of c
+  pub rest : drop i round.parts ≡ part_of c ∷ drop (i + 1) round.parts
+
+pub nth_command : (ms : List FileModel) (round : FileModel) (cs : List Command) (i : ℕ) (c : Command) → AreCommands ms round cs → i < length cs → c ≡ get_or cs i c → IsNth ms round i c
+nth_command ms round cs i c h below is = record {
+  command = subst (IsCommand ms round) (sym is) (h.each i c below);
+  within = within;
+  is = at;
+  rest = drop_more round.parts i (part_of c) within ∙ ap (λ p. p ∷ drop (i + 1) round.parts) at;
+}
+  where
+    within : i < length round.parts
+    within = let a = ap length h.parts in let b = length-map cs part_of in omega arith
+
+    at : get_or round.parts i (part_of c) ≡ part_of c
+    at = ap (λ ps. get_or ps i (part_of c)) (sym h.parts) ∙ (get_or-map part_of cs i c ∙ ap part_of (sym is))
+
+-- behind the last command there are no parts
+pub behind_commands : (ms : List FileModel) (round : FileModel) (cs : List Command) (i : ℕ) → AreCommands ms round cs → length cs ≤ i → length round.parts ≤ i
+behind_commands ms round cs i h end = let a = ap length h.parts in let b = length-map cs part_of in omega arith

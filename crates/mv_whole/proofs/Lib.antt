@@ -1,0 +1,14 @@
+pub mod Placed
+pub mod Gathered
+pub mod Between
+pub mod Owned
+pub mod Named
+pub mod ByName
+pub mod Rows
+pub mod Laid
+pub mod Counting
+pub mod Filled
+pub mod Wholly
+pub mod AtPlaces
+pub mod Looked
+pub mod Checked

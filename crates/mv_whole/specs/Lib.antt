@@ -1,0 +1,9 @@
+pub mod Whole
+pub mod Placed
+pub mod Locals
+pub mod Named
+pub mod Commands
+pub mod Laid
+pub mod Driven
+pub mod Driving
+pub mod Resets

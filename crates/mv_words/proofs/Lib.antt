@@ -1,0 +1,13 @@
+pub mod Digits
+pub mod Commands
+pub mod Looks
+pub mod Finds
+pub mod Walks
+pub mod Turns
+pub mod Stands
+pub mod Counts
+pub mod Steps
+pub mod Agreement
+pub mod Matched
+pub mod Said
+pub mod Named

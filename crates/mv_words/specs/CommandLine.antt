@@ -1,0 +1,151 @@
+-- What the words of a command line ask for. A word is the list of its bytes.
+use Rattle.std.specs.Prelude.{ℕ, Bool, true, false, ◌&&◌, ◌==◌, nat_lt, nat_le, List, [], ◌∷◌, length, codes}
+use Rattle.std.specs.Prelude.{Option, Some, None, option_map, option_and_then, if◌then◌else◌}
+use Rattle.std.specs.Char.{is_ascii_digit}
+use Rattle.std.specs.List.{list_all}
+use Rattle.std.specs.Str.Parse.{digits_value}
+use Rattle.mv_base.specs.Names.{same_word}
+
+-- a word that begins with `-` and isn't `-` alone
+abbrev pub is_dashed : List ℕ → Bool
+is_dashed [] = false
+is_dashed (b ∷ []) = false
+is_dashed (b ∷ c ∷ bs) = b == 45
+
+-- what stands in a word behind this beginning, if it has it
+abbrev pub behind : List ℕ → List ℕ → Option (List ℕ)
+behind [] w = Some w
+behind (a ∷ start) [] = None
+behind (a ∷ start) (b ∷ w) = if b == a then behind start w else None
+
+-- what a word is, where options may stand: a positional word, `--` which ends options, `--budget` whose value is the next word,
+-- `--budget=` with its value, or a word that is refused
+pub data Sort : Type 0 where
+  positional : Sort
+  ends : Sort
+  apart : Sort
+  attached : List ℕ → Sort
+  refused : Sort
+
+-- the sort of a dashed word by what stands in it behind `--budget`; 61 is `=`
+abbrev pub option_sort : Option (List ℕ) → Sort
+option_sort None = refused
+option_sort (Some []) = apart
+option_sort (Some (b ∷ bs)) = if b == 61 then attached bs else refused
+
+-- the sort of a word where options may stand
+unfoldable pub sort_of : List ℕ → Sort
+sort_of w =
+    if is_dashed w then (if same_word w (codes "--") then ends else option_sort (behind (codes "--budget") w)) else positional
+
+-- the words behind the first one: those that are positional, and the values of the option
+pub record Parts : Type 0 where
+  pub words : List (List ℕ)
+  pub values : List (List ℕ)
+
+-- with one more positional word in front, and with one more value
+abbrev pub with_word : List ℕ → Option Parts → Option Parts
+with_word w None = None
+with_word w (Some p) = Some (record p { words = w ∷ p.words })
+
+abbrev pub with_value : List ℕ → Option Parts → Option Parts
+with_value v None = None
+with_value v (Some p) = Some (record p { values = v ∷ p.values })
+
+-- what a word of this sort and the words behind it are, by what those are where options may stand, and where a value has to
+abbrev pub parts_by : Sort → List ℕ → List (List ℕ) → Option Parts → Option Parts → Option Parts
+parts_by positional w ws free held = with_word w free
+parts_by ends w ws free held = Some (record { words = ws; values = [] })
+parts_by apart w ws free held = held
+parts_by (attached v) w ws free held = with_value v free
+parts_by refused w ws free held = None
+
+-- the parts of these words, none where one is refused. Where the first is to be the value of the option it is no dashed word,
+-- since no number is
+abbrev pub parts_of : Bool → List (List ℕ) → Option Parts
+parts_of false [] = Some (record { words = []; values = [] })
+parts_of true [] = None
+parts_of false (w ∷ ws) = parts_by (sort_of w) w ws (parts_of false ws) (parts_of true ws)
+parts_of true (w ∷ ws) = if is_dashed w then None else with_value w (parts_of false ws)
+
+-- the number that a word says: of one digit up to `most`, and from `least` to `greatest`
+unfoldable pub number_of : ℕ → ℕ → ℕ → List ℕ → Option ℕ
+number_of most least greatest w =
+    if nat_lt 0 (length w) && nat_le (length w) most && list_all is_ascii_digit w && nat_le least (digits_value 10 w)
+    && nat_le (digits_value 10 w) greatest then Some (digits_value 10 w) else None
+
+-- a budget of diagram nodes, the size of a drawn network, and the seed of its drawing
+abbrev pub budget_of : List ℕ → Option ℕ
+budget_of = number_of 7 1000 4000000
+
+abbrev pub size_of : List ℕ → Option ℕ
+size_of = number_of 5 1 20000
+
+abbrev pub seed_of : List ℕ → Option ℕ
+seed_of = number_of 20 0 18446744073709551615
+
+-- the budget that the values of the option give: none without a value; more than one value are refused
+abbrev pub budget_given : List (List ℕ) → Option (Option ℕ)
+budget_given [] = Some None
+budget_given (v ∷ []) = option_map (λ n. Some n) (budget_of v)
+budget_given (v ∷ u ∷ vs) = None
+
+-- two names of files and a budget; what is drawn, the name of a script and a budget
+pub record Files : Type 0 where
+  pub net : List ℕ
+  pub other : List ℕ
+  pub budget : Option ℕ
+
+pub record Draw : Type 0 where
+  pub size : ℕ
+  pub seed : ℕ
+  pub script : List ℕ
+  pub budget : Option ℕ
+
+-- what a command line asks for: that a network is optimised by a script, that a certificate is checked on it, or that a network
+-- is drawn and optimised by a script
+pub data Asked : Type 0 where
+  opt : Files → Asked
+  check : Files → Asked
+  work : Draw → Asked
+
+-- the word is `-`, which names standard input
+abbrev pub is_stdin : List ℕ → Bool
+is_stdin w = same_word w (codes "-")
+
+abbrev pub files_with : List ℕ → List ℕ → Option ℕ → Files
+files_with net other budget = record { net = net; other = other; budget = budget }
+
+abbrev pub draw_with : ℕ → ℕ → List ℕ → Option ℕ → Draw
+draw_with size seed script budget = record { size = size; seed = seed; script = script; budget = budget }
+
+-- exactly two names of files, of which one at most is standard input
+abbrev pub files_in : List (List ℕ) → Option (Option ℕ) → Option Files
+files_in (net ∷ other ∷ []) budget =
+    if is_stdin net && is_stdin other then None else option_map (files_with net other) budget
+files_in _ budget = None
+
+-- exactly a size, a seed and the name of a script
+abbrev pub draw_in : List (List ℕ) → Option (Option ℕ) → Option Draw
+draw_in (size ∷ seed ∷ script ∷ []) budget =
+    option_and_then (λ n. option_and_then (λ s. option_map (draw_with n s script) budget) (seed_of seed)) (size_of size)
+draw_in _ budget = None
+
+abbrev pub files_asked : Parts → Option Files
+files_asked p = files_in p.words (budget_given p.values)
+
+abbrev pub draw_asked : Parts → Option Draw
+draw_asked p = draw_in p.words (budget_given p.values)
+
+-- what the words behind the first one ask for
+abbrev pub asked_by : List ℕ → Option Parts → Option Asked
+asked_by first parts =
+    if same_word first (codes "opt") then option_map opt (option_and_then files_asked parts)
+    else if same_word first (codes "check") then option_map check (option_and_then files_asked parts)
+    else if same_word first (codes "work") then option_map work (option_and_then draw_asked parts)
+    else None
+
+-- what the words of a command line ask for, without the program's name; None where they are refused
+unfoldable pub task_of : List (List ℕ) → Option Asked
+task_of [] = None
+task_of (first ∷ rest) = asked_by first (parts_of false rest)

@@ -1,0 +1,28 @@
+-- The command that reads the words behind a task's name.
+use Rattle.std.specs.Prelude.{Bool, true, [], ◌∷◌, ◌++◌, Some, codes, if◌then◌else◌}
+use Rattle.clap.specs.Walk.{Rule, Text}
+use Rattle.clap.specs.Simple.{App, new_rule, new_shape}
+use Rattle.clap.specs.declared.builder.action.ArgAction.TheVariants.{Set}
+
+-- the option, and a positional word
+abbrev pub budget_given : Rule
+budget_given = record (new_rule (codes "budget")) { long = Some (codes "budget"); action = Some Set }
+
+abbrev pub word_given : Text → Rule
+word_given id = record (new_rule id) { action = Some Set; required = true }
+
+-- two positional words, the option, and no flag for help
+abbrev pub two_given : App
+two_given = record {
+  top = record (new_shape (codes "mvopt")) {
+    disable_help_flag = true;
+    rules = budget_given ∷ word_given (codes "first") ∷ word_given (codes "second") ∷ [];
+  };
+  subs = [];
+}
+
+-- the same with a third word or without
+abbrev pub command_given : Bool → App
+command_given third = record two_given {
+  top = record two_given.top { rules = two_given.top.rules ++ (if third then word_given (codes "third") ∷ [] else []) };
+}

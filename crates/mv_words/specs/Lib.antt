@@ -1,0 +1,4 @@
+pub mod CommandLine
+pub mod Answers
+pub mod Given
+pub mod Commands

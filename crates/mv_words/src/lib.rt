@@ -1,0 +1,13 @@
+//! The words of a command line, and the task that they ask for.
+#![tactic(auto)]
+
+mod given;
+mod number;
+mod reading;
+mod task;
+
+pub use reading::read_words;
+pub use task::{Task, WordsStop};
+
+#[cfg(test)]
+mod tests;

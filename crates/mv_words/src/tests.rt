@@ -1,0 +1,108 @@
+use crate::{Task, WordsStop, read_words};
+use std::alloc::Global;
+use std::process::Abort;
+use std::test::Fail;
+
+/// The words, parted by `|`.
+fn words_of(alloc: Global, line: &str) -> Result<Vec<String>, Fail> {
+    let mut words = Vec::new(alloc);
+    for word in line.split('|') {
+        words.push(String::from_str(alloc, word)?)?;
+    }
+    Ok(words)
+}
+
+/// Each line asks for its task.
+fn are_asked(rt: &impl Abort, alloc: Global, lines: &[(&str, Task<'_>)]) -> Result<(), Fail> {
+    for (line, task) in lines {
+        let words = words_of(alloc, line)?;
+        assert!(rt; read_words(alloc, words.as_slice()) == Ok(*task), "{line}");
+    }
+    Ok(())
+}
+
+/// Each line is refused.
+fn are_refused(rt: &impl Abort, alloc: Global, lines: &[&str]) -> Result<(), Fail> {
+    for line in lines {
+        let words = words_of(alloc, line)?;
+        assert!(rt;
+            read_words(alloc, words.as_slice()) == Err(WordsStop::Refused),
+            "{line}"
+        );
+    }
+    Ok(())
+}
+
+fn opt(net: &'static str, script: &'static str, budget: Option<u32>) -> Task<'static> {
+    Task::Opt {
+        net,
+        script,
+        budget,
+    }
+}
+
+#[test]
+fn tasks_are_asked_for(rt: HostRuntime) -> Result<(), Fail> {
+    let check = Task::Check {
+        net: "-",
+        certificate: "c",
+        budget: Some(4_000_000),
+    };
+    let work = Task::Work {
+        size: 20_000,
+        seed: 18_446_744_073_709_551_615,
+        script: "-",
+        budget: Some(1_000),
+    };
+    let lines = [
+        ("opt|n|s", opt("n", "s", None)),
+        ("opt||s", opt("", "s", None)),
+        ("opt|--budget|1000|n|s", opt("n", "s", Some(1_000))),
+        ("opt|n|--budget=0001000|s", opt("n", "s", Some(1_000))),
+        ("opt|n|s|--", opt("n", "s", None)),
+        ("opt|n|--|--budget=1000", opt("n", "--budget=1000", None)),
+        ("opt|--|--|-x", opt("--", "-x", None)),
+        ("opt|n|-", opt("n", "-", None)),
+        ("check|-|c|--budget|4000000", check),
+        ("work|20000|18446744073709551615|-|--budget=1000", work),
+    ];
+    are_asked(&rt, rt.alloc(), lines.as_slice())
+}
+
+#[test]
+fn words_are_refused(rt: HostRuntime) -> Result<(), Fail> {
+    let lines = [
+        "",
+        "opt",
+        "opt|n",
+        "opt|n|s|x",
+        "help",
+        "Opt|n|s",
+        "opt|-|-",
+        "check|-|--|-",
+        "--|opt|n|s",
+        "opt|n|s|-x",
+        "opt|n|s|--help",
+        "opt|n|s|-h",
+        "opt|n|s|--budgets=1000",
+        "opt|n|s|--budget",
+        "opt|n|s|--budget=",
+        "opt|n|s|--budget|",
+        "opt|n|s|--budget|--|1000",
+        "opt|n|s|--budget|-1",
+        "opt|n|s|--budget|999",
+        "opt|n|s|--budget=4000001",
+        "opt|n|s|--budget=00001000",
+        "opt|n|s|--budget=+1000",
+        "opt|n|s|--budget=1000|--budget=1000",
+        "work|0|1|s",
+        "work|20001|1|s",
+        "work|000001|1|s",
+        "work|1|18446744073709551616|s",
+        "work|1|000000000000000000001|s",
+        "work|1||s",
+        "work|1|s",
+        "work|1|1|s|s",
+    ];
+    are_refused(&rt, rt.alloc(), lines.as_slice())
+}
