@@ -17,7 +17,7 @@ use Rattle.mv_fault.proofs.Firsts.{first-append, first-behind}
 use Rattle.mv_fault.proofs.Nothing.{left-nothing, right-nothing, when-nothing}
 use Rattle.mv_design.specs.declared.design.Design.{Design}
 use Rattle.mv_design.specs.declared.design.FileModel.{FileModel}
-use Rattle.mv_design.specs.Nets.{root_of, drivers_of}
+use Rattle.mv_design.specs.Nets.{drivers_of}
 use Rattle.mv_tree.specs.Tree.{Instances}
 use Rattle.mv_tree.specs.Places.{Place, places, homes}
 use Rattle.mv_tree.specs.Unfolded.{unfolded}
@@ -28,10 +28,8 @@ use Rattle.mv_walk.specs.Walk.{HasTree}
 use Rattle.mv_walk.specs.Openings.{AreOpened, openings}
 use Rattle.mv_whole.specs.declared.layout.Layout.{Layout}
 use Rattle.mv_whole.specs.Driven.{driving_faults}
-use Rattle.mv_whole.specs.Laid.{places_of}
 use Rattle.mv_whole.specs.Whole.{name_faults, home_faults, place_faults, whole_faults, HasGoodNets, HasShortNames}
 use Rattle.mv_whole.proofs.Looked.{none_placed}
-use Rattle.mv_whole.proofs.Placed.{places_of_tree}
 
 -- ---- the faults of the whole, part by part
 
@@ -50,11 +48,6 @@ held_list l d list e f h = record {
   has = subst (λ (x : Design). HasTree x h.tree) (sym e) h.has;
   is = f ∙ (h.is ∙ ap (λ (x : Design). openings x 0 1 0 h.tree) (sym e));
 }
-
-pub held_places : (l : Layout) (d : Design) (list : List Opened) (e : l.design.now ≡ d) (f : l.opened.now ≡ list) (h : AreOpened d list)
-    → places_of l ≡ places (root_of d) h.tree
-held_places l d list e f h =
-    places_of_tree l.design.now l.opened.now (held_list l d list e f h) ∙ ap (λ (x : Design). places (root_of x) h.tree) e
 
 pub first_of_names : (root : FileModel) (tree : Instances) (ps : List Place) (fault : FlatFault) → ps ≡ places root tree → first (home_faults (homes ps)) ≡ Some fault
     → first (whole_faults root tree) ≡ Some fault

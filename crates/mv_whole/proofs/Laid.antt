@@ -15,6 +15,7 @@ use Rattle.mv_tree.proofs.Inside.{through-own}
 use Rattle.mv_walk.specs.declared.opened.Opened.{Opened}
 use Rattle.mv_whole.specs.declared.layout.Layout.{Layout}
 use Rattle.mv_whole.specs.declared.spans.Span.{Span}
+use Rattle.mv_whole.specs.ByName.{FindsFirst, formals_bound}
 use Rattle.mv_whole.specs.Commands.{no_command}
 use Rattle.mv_whole.specs.Locals.{AreOwn, cut}
 use Rattle.mv_whole.specs.Named.{under}
@@ -67,6 +68,7 @@ pub record IsOfPlace (l : Layout) (n r : ℕ) : Type 0 where
   pub made : (place_at (places_of l) n).model ≡ model_at l.design.now (get_or (get_or l.commands r []) (opened_at l n).part no_command).model
   pub binds : (place_at (places_of l) n).binds ≡ (part_of l n).binds
   pub own : AreOwn (all_nets (place_at (places_of l) n).model) (place_at (places_of l) n).binds (get_or (get_or l.commands r []) (opened_at l n).part no_command).own
+  pub formals : FindsFirst (get_or (get_or l.commands r []) (opened_at l n).part no_command).formals (formals_bound (part_of l n).binds)
 
 pub of_place : (l : Layout) (n r : ℕ) → IsLaid l → 0 < n → n ≤ length l.opened.now → IsModelOf l (opened_at l n).round r → IsOfPlace l n r
 of_place l n r h some low m =
@@ -99,6 +101,7 @@ of_place l n r h some low m =
       own =
           subst (λ (x : FileModel). AreOwn (all_nets x) (place_at ps n).binds made.own) (sym model)
           (subst (λ bs. AreOwn (all_nets (model_at d made.model)) bs made.own) (ap (λ (x : Part). x.binds) command ∙ sym binds) cmd.own);
+      formals = subst (λ (x : Part). FindsFirst made.formals (formals_bound x.binds)) command cmd.formals;
     }
 
 -- what is read of a list that is another

@@ -12,3 +12,8 @@ pub mod Wholly
 pub mod AtPlaces
 pub mod Looked
 pub mod Checked
+pub mod OneModel
+pub mod Found
+pub mod Nets
+pub mod Before
+pub mod Wholes

@@ -1,35 +1,24 @@
 -- What the commands of models make, each said once however often its model is instanced. For private functions.
-use Rattle.std.specs.Prelude.{◌≡◌, ℕ, ◌<◌, Option, List, [], length, slice_index_or}
-use Rattle.std.specs.Option.{option_map}
-use Rattle.mv_base.specs.Names.{place_of}
+use Rattle.std.specs.Prelude.{◌≡◌, ℕ, ◌<◌, List, [], length, slice_index_or}
 use Rattle.mv_design.specs.declared.design.FileModel.{FileModel}
 use Rattle.mv_design.specs.declared.design.Part.{Part}
 use Rattle.mv_design.specs.Nets.{no_model}
 use Rattle.mv_tree.specs.Places.{all_nets}
-use Rattle.mv_walk.specs.Commands.{names_of}
 use Rattle.mv_whole.specs.declared.commands.Command.{Command}
-use Rattle.mv_whole.specs.declared.by_name.ModelNames.{ModelNames}
+use Rattle.mv_whole.specs.ByName.{FindsFirst, formals_bound}
 use Rattle.mv_whole.specs.Locals.{AreOwn}
 use Rattle.mv_whole.specs.Placed.{model_place, no_part}
 
--- what is found of a name: the number that stands at its place
-abbrev pub found_of : ModelNames → List ℕ → Option ℕ
-found_of n w = option_map (λ k. slice_index_or n.numbers k 0) (place_of w n.names)
-
--- each name leads to the first model that has it
-pub record FindsModels (n : ModelNames) (ms : List FileModel) : Type 0 where
-  pub long : length n.numbers ≡ length n.names
-  pub each : (w : List ℕ) → found_of n w ≡ place_of w (names_of ms)
-
 -- a command that makes nothing
 abbrev pub no_command : Command
-no_command = record { model = 0; own = [] }
+no_command = record { model = 0; own = []; formals = record { names = []; numbers = [] } }
 
--- the command makes an instance of the model with this number, of whose nets these are its own
+-- the command makes an instance of the model with this number, of whose nets these are its own, and these are the formals that it binds
 pub record IsCommand (ms : List FileModel) (p : Part) (c : Command) : Type 0 where
   pub model : c.model ≡ model_place ms p.model
   pub below : c.model < length ms
   pub own : AreOwn (all_nets (slice_index_or ms c.model no_model)) p.binds c.own
+  pub formals : FindsFirst c.formals (formals_bound p.binds)
 
 -- what the commands of a model make
 pub record AreCommandsOf (ms : List FileModel) (parts : List Part) (row : List Command) : Type 0 where

@@ -18,6 +18,7 @@ use Rattle.mv_fault.specs.declared.flat.FlatFault.TheVariants.{DrivenTwice, Undr
 use Rattle.mv_unfold.specs.Driving.{with_name}
 use Rattle.mv_unfold.specs.Sound.{twice_at, undriven_at}
 use Rattle.mv_whole.specs.declared.commands.Command.{Command}
+use Rattle.mv_whole.specs.Commands.{no_command}
 use Rattle.mv_whole.specs.declared.layout.Layout.{Layout}
 use Rattle.mv_whole.specs.declared.spans.Span.{Span}
 use Rattle.mv_whole.specs.Laid.{places_of}
@@ -130,7 +131,7 @@ IsKnown slots k = is_some (slice_index_or slots k None) ≡ true
 pub record AreTallies (l : Layout) (slots : List (Option (List ℕ))) : Type 0 where
   pub long : length slots ≡ length l.design.now.models
   pub right : (k : ℕ) (counts : List ℕ) → slice_index_or slots k None ≡ Some counts → IsTally l.design.now k counts
-  pub closed : (k j : ℕ) → IsKnown slots k → j < length (slice_index_or l.commands k []) → IsKnown slots (slice_index_or (slice_index_or l.commands k []) j (record { model = 0; own = [] })).model
+  pub closed : (k j : ℕ) → IsKnown slots k → j < length (slice_index_or l.commands k []) → IsKnown slots (slice_index_or (slice_index_or l.commands k []) j no_command).model
 
 -- no more is forgotten
 pub record AreMore (old new : List (Option (List ℕ))) : Type 0 where

@@ -2,8 +2,10 @@ pub mod Whole
 pub mod Placed
 pub mod Locals
 pub mod Named
+pub mod ByName
 pub mod Commands
 pub mod Laid
+pub mod Joined
 pub mod Driven
 pub mod Driving
 pub mod Resets

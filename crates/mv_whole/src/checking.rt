@@ -1,29 +1,27 @@
 //! What is wrong with the nets and the reset tables of a design with instances.
-ghost use Rattle.std.specs.Prelude.{◌<◌, length};
 ghost use Rattle.mv_fault.specs.Tells.{TellsFirst};
 ghost use Rattle.mv_design.specs.Nets.{root_of};
 ghost use Rattle.mv_walk.specs.Openings.{AreOpened};
+ghost use Rattle.mv_whole.specs.Laid.{IsLaid};
 ghost use Rattle.mv_whole.specs.Whole.{whole_faults};
 
 use crate::driving::check_driven;
 use crate::home_names::home_names;
 use crate::layout::Layout;
 use crate::resets::check_all;
-use mv_design::Design;
 use mv_fault::FlatFault;
-use mv_walk::Opened;
 use std::alloc::Global;
 
-/// Tells the first fault of the nets and the reset tables of a design with these instances, but for what is above what: a limit
-/// is passed, or two nets have one name; a net is driven twice; nothing drives a net; a reset table has no latch, or isn't the
-/// only one of its latch. The time grows with the design, with its instances, and with the nets that are at home in them.
-pub fn check_whole(alloc: Global, design: &Design, opened: &[Opened]) -> Result<(), FlatFault>
-    requires rooted { design.now.root < length design.now.models }
-    requires opened { AreOpened design.now opened.now }
-    ensures faults { (h : AreOpened design.now opened.now) → TellsFirst FlatFault.Memory result (whole_faults (root_of design.now) h.tree) }
+/// Tells the first fault of the nets and the reset tables of a design, but for what is above what: a limit is passed, or two
+/// nets have one name; a net is driven twice; nothing drives a net; a reset table has no latch, or isn't the only one of its
+/// latch. The time grows with the design, with its instances, and with the nets that are at home in them.
+pub fn check_layout(alloc: Global, layout: &Layout<'_>) -> Result<(), FlatFault>
+    requires laid { IsLaid layout.now }
+    requires opened { AreOpened layout.now.design.now layout.now.opened.now }
+    ensures faults { (h : AreOpened layout.now.design.now layout.now.opened.now)
+        → TellsFirst FlatFault.Memory result (whole_faults (root_of layout.now.design.now) h.tree) }
 {
-    let layout = Layout::of(alloc, design, opened)?;
-    let names = home_names(alloc, &layout)?;
-    check_driven(alloc, &layout, &names)?;
-    check_all(alloc, &layout)
+    let names = home_names(alloc, layout)?;
+    check_driven(alloc, layout, &names)?;
+    check_all(alloc, layout)
 }

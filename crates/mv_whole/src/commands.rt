@@ -1,19 +1,23 @@
 //! What the commands of models make, looked at once a command.
 ghost use Rattle.std.specs.Prelude.{◌≡◌, ◌<◌, map, length, IfOk};
 ghost use Rattle.mv_tree.specs.Places.{all_nets};
-ghost use Rattle.mv_whole.specs.Commands.{AreCommands, AreCommandsOf, FindsModels, IsCommand};
+ghost use Rattle.mv_walk.specs.Commands.{names_of};
+ghost use Rattle.mv_whole.specs.ByName.{FindsFirst};
+ghost use Rattle.mv_whole.specs.Commands.{AreCommands, AreCommandsOf, IsCommand};
 
-use crate::by_name::ModelNames;
+use crate::by_name::FirstPlaces;
 use crate::spans::{Span, own_spans};
 use mv_base::{Items, Memory, NameSet};
 use mv_design::{FileModel, Part};
 use std::alloc::Global;
 
-/// What a command makes: an instance of the model with this number, of whose nets these are its own.
+/// What a command makes: an instance of the model with this number, of whose nets these are its own,
+/// and the formals that it binds, by name.
 #[derive(Drop)]
 pub struct Command {
     pub model: usize,
     pub own: Items<Span>,
+    pub formals: FirstPlaces,
 }
 
 /// What the commands of each model make.
@@ -25,7 +29,7 @@ pub fn commands(
     requires { nets.now ≡ map all_nets models.now }
     ensures { IfOk result (λ all. AreCommands models.now all) }
 {
-    let names = ModelNames::of(alloc, models)?;
+    let names = FirstPlaces::of_models(alloc, models)?;
     let mut all = Items::with_room(alloc, models.len())?;
     for model in models {
         all.push(commands_of(alloc, models, nets, &names, model.parts.as_slice())?)?;
@@ -38,12 +42,12 @@ fn commands_of(
     alloc: Global,
     models: &[FileModel],
     nets: &[NameSet],
-    names: &ModelNames,
+    names: &FirstPlaces,
     parts: &[Part],
 ) -> Result<Items<Command>, Memory>
     requires some { 0 < length models.now }
     requires nets { nets.now ≡ map all_nets models.now }
-    requires names { FindsModels names.now models.now }
+    requires names { FindsFirst names.now (names_of models.now) }
     ensures { IfOk result (λ row. AreCommandsOf models.now parts.now row) }
 {
     let mut row = Items::with_room(alloc, parts.len())?;
@@ -58,15 +62,20 @@ fn made_by(
     alloc: Global,
     models: &[FileModel],
     nets: &[NameSet],
-    names: &ModelNames,
+    names: &FirstPlaces,
     part: &Part,
 ) -> Result<Command, Memory>
     requires some { 0 < length models.now }
     requires nets { nets.now ≡ map all_nets models.now }
-    requires names { FindsModels names.now models.now }
+    requires names { FindsFirst names.now (names_of models.now) }
     ensures { IfOk result (λ command. IsCommand models.now part.now command) }
 {
     let model = names.number(&part.model);
     let own = own_spans(alloc, &nets[model], part.binds.as_slice())?;
-    Ok(Command { model, own })
+    let formals = FirstPlaces::of_binds(alloc, part.binds.as_slice())?;
+    Ok(Command {
+        model,
+        own,
+        formals,
+    })
 }

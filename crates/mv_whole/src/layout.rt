@@ -1,8 +1,9 @@
 //! A design with its instances, and what is known of the place of each by number: the root has the number 0, and the instance
 //! at place k of the walk's list the number k + 1.
-ghost use Rattle.std.specs.Prelude.{◌≡◌, ◌+◌, ◌<◌, ◌≤◌, ◌++◌, length, IfOk, OnOk};
-ghost use Rattle.mv_tree.specs.Places.{all_nets};
+ghost use Rattle.std.specs.Prelude.{◌≡◌, ◌+◌, ◌<◌, ◌≤◌, ◌++◌, length, option_copied, IfOk, OnOk};
+ghost use Rattle.mv_tree.specs.Places.{actual_of, all_nets};
 ghost use Rattle.mv_walk.specs.Openings.{AreOpened};
+ghost use Rattle.mv_whole.specs.ByName.{FindsFirst, formals_bound};
 ghost use Rattle.mv_whole.specs.Laid.{IsLaid, model_numbers, part_of, places_of};
 ghost use Rattle.mv_whole.specs.Locals.{AreOwn};
 ghost use Rattle.mv_whole.specs.Placed.{model_at, place_at};
@@ -10,8 +11,8 @@ ghost use Rattle.mv_whole.specs.Placed.{model_at, place_at};
 use crate::commands::{Command, commands};
 use crate::gather::local_nets;
 use crate::spans::{Span, own_spans};
-use mv_base::{Items, Memory, NameSet};
-use mv_design::{Design, Part};
+use mv_base::{Items, Memory, Name, NameSet};
+use mv_design::{Design, FileModel, Part};
 use mv_walk::Opened;
 use std::alloc::Global;
 
@@ -60,6 +61,15 @@ impl<'a> Layout<'a> {
         self.models.as_slice()[number]
     }
 
+    /// The model of a place.
+    pub fn file(&self, number: usize) -> &FileModel
+        requires laid { IsLaid self.now }
+        requires number { number ≤ length self.now.opened.now }
+        ensures { result.now ≡ (place_at (places_of self.now) number).model }
+    {
+        &self.design.models.as_slice()[self.model(number)]
+    }
+
     /// The nets of the model of a place.
     pub fn nets(&self, number: usize) -> &NameSet
         requires laid { IsLaid self.now }
@@ -86,7 +96,8 @@ impl<'a> Layout<'a> {
         requires laid { IsLaid self.now }
         requires some { 0 < number }
         requires number { number ≤ length self.now.opened.now }
-        ensures { AreOwn (all_nets (place_at (places_of self.now) number).model) (place_at (places_of self.now) number).binds result.now.own }
+        ensures own { AreOwn (all_nets (place_at (places_of self.now) number).model) (place_at (places_of self.now) number).binds result.now.own }
+        ensures formals { FindsFirst result.now.formals (formals_bound (part_of self.now number).binds) }
     {
         let opened = &self.opened[number - 1];
         let round = self.model(opened.round as usize);
@@ -103,6 +114,19 @@ impl<'a> Layout<'a> {
         let opened = &self.opened[number - 1];
         let round = self.model(opened.round as usize);
         &self.design.models.as_slice()[round].parts.as_slice()[opened.part as usize]
+    }
+
+    /// The net to which a formal of an instance is bound.
+    pub fn actual(&self, number: usize, net: &Name) -> Option<&Name>
+        requires laid { IsLaid self.now }
+        requires some { 0 < number }
+        requires number { number ≤ length self.now.opened.now }
+        ensures { option_copied result ≡ actual_of (part_of self.now number).binds net.now }
+    {
+        match self.command(number).formals.place(net) {
+            Some(place) => Some(&self.part(number).binds.as_slice()[place].actual),
+            None => None,
+        }
     }
 
     /// Adds the path of the nets of a place to what stands before it.

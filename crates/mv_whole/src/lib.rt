@@ -5,16 +5,23 @@ mod by_name;
 mod checking;
 mod commands;
 mod counts;
+mod decls;
 mod driving;
 mod gather;
 mod home_counts;
 mod home_names;
+mod joined;
 mod laws;
 mod layout;
+mod model;
 mod naming;
+mod reset_tables;
 mod resets;
 mod spans;
+mod tables;
 mod tallies;
+#[cfg(test)]
+mod tests;
 
-pub use checking::check_whole;
 pub use laws::whole_laws;
+pub use model::whole;

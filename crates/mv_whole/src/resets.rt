@@ -1,8 +1,7 @@
 //! The faults of reset tables.
-ghost use Rattle.std.specs.Prelude.{◌≡◌, ◌≤◌, length, replicate, false, option_copied, IfOk};
+ghost use Rattle.std.specs.Prelude.{◌≡◌, ◌≤◌, length, replicate, false, IfOk};
 ghost use Rattle.std.specs.List.{flat_map};
 ghost use Rattle.mv_fault.specs.Tells.{TellsFirst};
-ghost use Rattle.mv_tree.specs.Places.{actual_of};
 ghost use Rattle.mv_whole.specs.Laid.{IsLaid, places_of};
 ghost use Rattle.mv_whole.specs.Placed.{place_at};
 ghost use Rattle.mv_whole.specs.Resets.{at_home};
@@ -11,7 +10,6 @@ ghost use Rattle.mv_whole.specs.Whole.{place_faults};
 use crate::layout::Layout;
 use crate::naming::name_under;
 use mv_base::{Memory, Name};
-use mv_design::Bind;
 use mv_fault::FlatFault;
 use mv_unfold::check_resets;
 use std::alloc::Global;
@@ -77,7 +75,7 @@ fn placed_fault(
 }
 
 /// The name of a place's net in the whole.
-fn home(alloc: Global, layout: &Layout<'_>, number: usize, net: &Name) -> Result<Name, Memory>
+pub fn home(alloc: Global, layout: &Layout<'_>, number: usize, net: &Name) -> Result<Name, Memory>
     requires laid { IsLaid layout.now }
     requires number { number ≤ length layout.now.opened.now }
     ensures { IfOk result (λ name. name ≡ (place_at (places_of layout.now) number).home net.now) }
@@ -85,7 +83,7 @@ fn home(alloc: Global, layout: &Layout<'_>, number: usize, net: &Name) -> Result
     if number == 0 {
         return net.copy();
     }
-    match actual(layout.part(number).binds.as_slice(), net) {
+    match layout.actual(number, net) {
         Some(actual) => home(
             alloc,
             layout,
@@ -98,16 +96,4 @@ fn home(alloc: Global, layout: &Layout<'_>, number: usize, net: &Name) -> Result
             name_under(alloc, path.as_slice(), net)
         }
     }
-}
-
-/// The net to which a formal is bound.
-fn actual<'a>(binds: &'a [Bind], net: &Name) -> Option<&'a Name>
-    ensures { option_copied result ≡ actual_of binds.now net.now }
-{
-    for bind in binds {
-        if *net == bind.formal {
-            return Some(&bind.actual);
-        }
-    }
-    None
 }

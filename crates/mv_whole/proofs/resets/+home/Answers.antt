@@ -1,8 +1,6 @@
 -- The net is at home here, or round the instance.
 use Rattle.std.proofs.Common.{◌≡◌, ◌++◌, sym, ◌∙◌, ap, arith}
 use Rattle.std.proofs.lemmas.Result.{IfOk-weaker}
-use Rattle.mv_design.specs.declared.design.Part.{Part}
-use Rattle.mv_tree.specs.Places.{actual_of}
 use Rattle.mv_whole.specs.Laid.{places_of, opened_at}
 use Rattle.mv_whole.specs.Placed.{place_at}
 use Rattle.mv_whole.proofs.Laid.{instance_at}
@@ -21,9 +19,8 @@ returns-in-Some t c =
     let n = c.args.number in
     let p = instance_at l n c.requires.laid (omega arith) c.requires.number in
     let net = c.args.net.now in
-    let bound = ap (λ bs. actual_of bs net) (sym (c.as_slice.ensures ∙ ap (λ (x : Part). x.binds) c.part.ensures)) in
     IfOk-weaker c.home.result (λ name. name ≡ (place_at (places_of l) (opened_at l n).round).home c.in-Some.actual.now) (λ name. name ≡ (place_at (places_of l) n).home net)
-    (λ name e. e ∙ home_bound l n net c.in-Some.actual.now p (bound ∙ sym c.in-Some.ensures)) c.home.ensures
+    (λ name e. e ∙ home_bound l n net c.in-Some.actual.now p (sym c.in-Some.ensures)) c.home.ensures
 
 pub returns-in_ok-add_path-in-None : goal.returns-in_ok-add_path-in-None
 returns-in_ok-add_path-in-None t c =
@@ -31,7 +28,6 @@ returns-in_ok-add_path-in-None t c =
     let n = c.args.number in
     let p = instance_at l n c.requires.laid (omega arith) c.requires.number in
     let net = c.args.net.now in
-    let free = ap (λ bs. actual_of bs net) (sym (c.as_slice.ensures ∙ ap (λ (x : Part). x.binds) c.part.ensures)) in
-    let path = c.as_slice-in-None.ensures.value ∙ (c.in_ok-add_path-in-None.ensures ∙ ap (λ w. w ++ (place_at (places_of l) n).path) c.new-path.ensures.items) in
-    IfOk-weaker c.name_under.result (λ name. name ≡ c.as_slice-in-None.result.now ++ net) (λ name. name ≡ (place_at (places_of l) n).home net)
-    (λ name e. e ∙ (ap (λ w. w ++ net) path ∙ home_own l n net p (free ∙ sym c.in-None.ensures))) c.name_under.ensures
+    let path = c.as_slice.ensures.value ∙ (c.in_ok-add_path-in-None.ensures ∙ ap (λ w. w ++ (place_at (places_of l) n).path) c.new-path.ensures.items) in
+    IfOk-weaker c.name_under.result (λ name. name ≡ c.as_slice.result.now ++ net) (λ name. name ≡ (place_at (places_of l) n).home net)
+    (λ name e. e ∙ (ap (λ w. w ++ net) path ∙ home_own l n net p (sym c.in-None.ensures))) c.name_under.ensures

@@ -1,8 +1,9 @@
 -- The command stands in its model's row.
 use Rattle.std.proofs.Common.{◌<◌, [], length, get_or, sym, ◌∙◌, subst, arith}
 use Rattle.mv_whole.specs.declared.commands.Command.{Command}
+use Rattle.mv_whole.specs.ByName.{FindsFirst, formals_bound}
 use Rattle.mv_whole.specs.Commands.{no_command}
-use Rattle.mv_whole.specs.Laid.{opened_at, places_of}
+use Rattle.mv_whole.specs.Laid.{opened_at, part_of, places_of}
 use Rattle.mv_whole.specs.Locals.{AreOwn}
 use Rattle.mv_whole.specs.Placed.{place_at}
 use Rattle.mv_tree.specs.Places.{all_nets}
@@ -24,8 +25,8 @@ bounds-as_slice-opened c =
     (sym (c.as_slice-2.ensures ∙ read_as c.as_slice.result.now l.commands r c.index-as_slice-round.result [] c.as_slice.ensures p.row c.index-as_slice-round.is))
     p.part
 
-pub returns : goal.returns
-returns c =
+pub returns-clause-own : goal.returns-clause-own
+returns-clause-own c =
     let l = c.args.self.now in
     let n = c.args.number in
     let r = c.model-round.result in
@@ -33,3 +34,13 @@ returns c =
     let row = c.as_slice-2.ensures ∙ read_as c.as_slice.result.now l.commands r c.index-as_slice-round.result [] c.as_slice.ensures p.row c.index-as_slice-round.is in
     let read = read_as c.as_slice-2.result.now (get_or l.commands r []) (opened_at l n).part c.index-as_slice-opened.result no_command row p.part c.index-as_slice-opened.is in
     subst (λ (x : Command). AreOwn (all_nets (place_at (places_of l) n).model) (place_at (places_of l) n).binds x.own) (sym read) p.own
+
+pub returns-clause-formals : goal.returns-clause-formals
+returns-clause-formals c =
+    let l = c.args.self.now in
+    let n = c.args.number in
+    let r = c.model-round.result in
+    let p = of_place l n r c.requires.laid c.requires.some c.requires.number (record { below = c.model-round.ensures.below; is = c.model-round.ensures.is }) in
+    let row = c.as_slice-2.ensures ∙ read_as c.as_slice.result.now l.commands r c.index-as_slice-round.result [] c.as_slice.ensures p.row c.index-as_slice-round.is in
+    let read = read_as c.as_slice-2.result.now (get_or l.commands r []) (opened_at l n).part c.index-as_slice-opened.result no_command row p.part c.index-as_slice-opened.is in
+    subst (λ (x : Command). FindsFirst x.formals (formals_bound (part_of l n).binds)) (sym read) p.formals
