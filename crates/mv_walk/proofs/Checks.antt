@@ -119,30 +119,30 @@ told_deep d m w c f count h deep =
     first-deep d count (level_of d m (trail_of w)) c.part.now (model_at d.models f.place) h (let e : length (level_of d m (trail_of w)).round ≡ suc (length (trail_of w)) = level_deep d m (trail_of w) in omega arith)
 
 -- it stands within the limits
-pub record Fits (d : Design) (m : FileModel) (w : Walker) (c : Command) (f : Found) (count : ℕ) : Type 0 where
+pub record Fits (d : Design) (m : FileModel) (w : Walker) (c : Command) (f : Found) : Type 0 where
   pub found : IsFound d.models m c.part.now f
   pub new : IsNew d (level_of d m (trail_of w)) c.part.now (model_at d.models f.place)
   pub shallow : length (trail_of w) < MAX_DEPTH
 
-pub told_many : (d : Design) (m : FileModel) (w : Walker) (c : Command) (f : Found) (count : ℕ) → Fits d m w c f count → MAX_INSTANCES ≤ count
+pub told_many : (d : Design) (m : FileModel) (w : Walker) (c : Command) (f : Found) (count : ℕ) → Fits d m w c f → MAX_INSTANCES ≤ count
     → first (visit_faults d count (visit (level_of d m (trail_of w)) c.part.now)) ≡ Some (Limit Instances (MAX_INSTANCES + 1))
 told_many d m w c f count h many =
     let shallow : length (trail_of w) < MAX_DEPTH = h.shallow in
     first-many d count (level_of d m (trail_of w)) c.part.now (model_at d.models f.place) h.new (let e : length (level_of d m (trail_of w)).round ≡ suc (length (trail_of w)) = level_deep d m (trail_of w) in omega arith) many
 
-alone : (d : Design) (m : FileModel) (w : Walker) (c : Command) (f : Found) (count : ℕ) → Fits d m w c f count → count < MAX_INSTANCES
+alone : (d : Design) (m : FileModel) (w : Walker) (c : Command) (f : Found) (count : ℕ) → Fits d m w c f → count < MAX_INSTANCES
     → visit_faults d count (visit (level_of d m (trail_of w)) c.part.now) ≡ port_faults (level_of d m (trail_of w)) c.part.now (model_at d.models f.place)
 alone d m w c f count h few =
     let shallow : length (trail_of w) < MAX_DEPTH = h.shallow in
     ports_alone d count (level_of d m (trail_of w)) c.part.now (model_at d.models f.place) h.new (let e : length (level_of d m (trail_of w)).round ≡ suc (length (trail_of w)) = level_deep d m (trail_of w) in omega arith) few
 
-pub told_misfit : (d : Design) (m : FileModel) (w : Walker) (c : Command) (f : Found) (count : ℕ) (fault : PortFault) → Fits d m w c f count → count < MAX_INSTANCES → f.fault ≡ Some fault
+pub told_misfit : (d : Design) (m : FileModel) (w : Walker) (c : Command) (f : Found) (count : ℕ) (fault : PortFault) → Fits d m w c f → count < MAX_INSTANCES → f.fault ≡ Some fault
     → first (visit_faults d count (visit (level_of d m (trail_of w)) c.part.now))
     ≡ Some (told (path_from [] (trail_of w)) (path_in (path_from [] (trail_of w)) c.part.now.instance) (misfit_of fault))
 told_misfit d m w c f count fault h few e =
     ap first (alone d m w c f count h few) ∙ first-port (level_of d m (trail_of w)) c.part.now (model_at d.models f.place) (Some (misfit_of fault)) (sym (ap misfit_in e) ∙ h.found.fault)
 
-pub told_none : (d : Design) (m : FileModel) (w : Walker) (c : Command) (f : Found) (count : ℕ) → Fits d m w c f count → count < MAX_INSTANCES → f.fault ≡ None
+pub told_none : (d : Design) (m : FileModel) (w : Walker) (c : Command) (f : Found) (count : ℕ) → Fits d m w c f → count < MAX_INSTANCES → f.fault ≡ None
     → visit_faults d count (visit (level_of d m (trail_of w)) c.part.now) ≡ []
 told_none d m w c f count h few e =
     alone d m w c f count h few ∙ no-port (level_of d m (trail_of w)) c.part.now (model_at d.models f.place) (sym (ap misfit_in e) ∙ h.found.fault)
