@@ -1,9 +1,9 @@
 -- Where the bytes of a name stand. No public clause cites this module.
 use Rattle.std.specs.Prelude.{ℕ, List}
 use Rattle.mv_base.specs.declared.name.Storage.{Storage}
-use Rattle.mv_base.specs.declared.name.Storage.TheVariants.{Inline, Heap}
+use Rattle.mv_base.specs.declared.name.Storage.TheVariants.{Inline, Shared}
 
 -- the bytes in a storage
 abbrev pub bytes_of : Storage → List ℕ
 bytes_of (Inline b) = b
-bytes_of (Heap b) = b.value.items
+bytes_of (Shared b) = b.value.items

@@ -38,6 +38,16 @@ impl InlineBytes {
         }
     }
 
+    /// Equal bytes.
+    pub fn copy(&self) -> InlineBytes
+        ensures { result ≡ self.now }
+    {
+        InlineBytes {
+            len: self.len,
+            room: self.room,
+        }
+    }
+
     /// The bytes.
     pub fn as_slice(&self) -> &[u8]
         ensures { result.now ≡ self.now }

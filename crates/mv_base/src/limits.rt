@@ -1,6 +1,4 @@
-//! The limits of the program. The grammar of the files has none: what passes a limit is refused by name. This version asks
-//! the first ones, on files and scripts, words, nets, tables, kernels and complements. The last ones are of parts that
-//! aren't built yet.
+//! The limits of the program. The grammar of the files has none: what passes a limit is refused by name.
 
 /// Bytes of a network file.
 pub const MAX_NETWORK_BYTES: u64 = 16_777_216;
@@ -18,7 +16,7 @@ pub const MAX_VALUES: u16 = 128;
 pub const MAX_COLUMNS: u64 = 256;
 /// Rows of a table.
 pub const MAX_TABLE_LINES: u64 = 65_536;
-/// The nets that a file names. (So in this version: made nets and reset nets belong to it too, and aren't counted yet.)
+/// Nets of an unfolded network, with those that are made for it.
 pub const MAX_FLAT_NETS: u64 = 200_000;
 /// Net numbers ever used in one run.
 pub const MAX_NETS: u64 = 16_000_000;
@@ -26,9 +24,6 @@ pub const MAX_NETS: u64 = 16_000_000;
 pub const MAX_KERNELS: u64 = 4_096;
 /// Cubes of a complement.
 pub const MAX_COMPLEMENT_CUBES: u64 = 4_096;
-
-// The limits of parts that aren't built yet: nothing asks them in this version.
-
 /// Bytes of a certificate.
 pub const MAX_CERTIFICATE_BYTES: u64 = 67_108_864;
 /// Braces of a script that are open at one place.
@@ -45,12 +40,15 @@ pub const MAX_FLAT_NAME_BYTES: u64 = 1_000;
 pub const MAX_FLAT_LINES: u64 = 1_000_000;
 /// Literals of all tables of an unfolded network.
 pub const MAX_FLAT_LITERALS: u64 = 8_000_000;
-/// Rows of a table with several outputs.
-pub const MAX_JOINT_ROWS: u64 = 128;
 /// Lines of a table that a rule composes or encodes.
 pub const MAX_COMPOSED_LINES: u64 = 4_096;
 /// Fanins of a table that a rule composes or encodes.
 pub const MAX_FANINS: u64 = 255;
+
+// The limits of parts that aren't built yet: no command asks them in this version.
+
+/// Distinct rows of outputs of a table with several.
+pub const MAX_JOINT_ROWS: u64 = 128;
 /// Points of a window that is decided point by point.
 pub const MAX_WINDOW_POINTS: u64 = 4_096;
 /// Levels of a window that is decided by diagrams: the sum over its nets of the values less one.

@@ -8,9 +8,10 @@ use std::alloc::Global;
 use std::cmp::Ordering;
 use std::hash::{Hash, Hasher};
 use std::marker::Model;
+use std::rc::Rc;
 
-/// A text, seen as its list of bytes. A short one stands in the name itself, of which there are very many, and a long one
-/// in memory of its own.
+/// A text, seen as its list of bytes. A short one stands in the name itself, of which there are very many; a long one stands
+/// in memory once, for all its copies.
 #[derive(Debug, Drop)]
 pub struct Name {
     alloc: Global,
@@ -21,7 +22,7 @@ pub struct Name {
 #[derive(Debug, Drop)]
 enum Storage {
     Inline(InlineBytes),
-    Heap(Box<Vec<u8>>),
+    Shared(Rc<Vec<u8>>),
 }
 
 impl Model for Name {
@@ -51,15 +52,22 @@ impl Name {
     {
         match &self.storage {
             Storage::Inline(inline) => inline.as_slice(),
-            Storage::Heap(heap) => heap.as_slice(),
+            Storage::Shared(shared) => shared.as_ref().as_slice(),
         }
     }
 
-    /// An equal name.
+    /// An equal name. It takes no memory.
     pub fn copy(&self) -> Result<Name, Memory>
         ensures { IfOk result (λ n. n ≡ self.now) }
     {
-        Name::new(self.alloc, self.bytes())
+        let storage = match &self.storage {
+            Storage::Inline(inline) => Storage::Inline(inline.copy()),
+            Storage::Shared(shared) => Storage::Shared(shared.clone()?),
+        };
+        Ok(Name {
+            alloc: self.alloc,
+            storage,
+        })
     }
 }
 
@@ -70,8 +78,8 @@ fn stored(alloc: Global, bytes: &[u8]) -> Result<Storage, Memory>
     if bytes.len() <= INLINE {
         return Ok(Storage::Inline(InlineBytes::of(bytes)));
     }
-    let heap = Vec::from_slice(alloc, bytes)?;
-    Ok(Storage::Heap(Box::new(alloc, heap)?))
+    let long = Vec::from_slice(alloc, bytes)?;
+    Ok(Storage::Shared(Rc::new(alloc, long)?))
 }
 
 impl PartialEq for Name {

@@ -1,4 +1,4 @@
-use Rattle.std.proofs.Common.{◌≡◌, ◌++◌, Some, rules, sym, ap, take, drop, arith}
+use Rattle.std.proofs.Common.{◌≡◌, ◌++◌, Some, rules, sym, ap, take, drop}
 use Rattle.std.proofs.lemmas.List.{take-append-drop}
 use Rattle.mv_base.proofs.memory_sink.MemorySinkSink.put.Goals as goal
 
