@@ -1,5 +1,6 @@
 // Plain Rust for comparison with `mvopt opt NET SCRIPT`; nothing is proved of it. Scripts have the commands sweep, eliminate and
-// collapse NET; a network file has one model, and its tables one output, values, sets of values, `-` and rows with `=x`. It ends with
+// collapse NET; a network file has models with instances, the first of which is the root, and their tables one output, values, sets of
+// values, `-` and rows with `=x`. It ends with
 // 2 or 3 where it can't read the network or the script, and checks less of a file than the format asks. What is known of a net and
 // its readers is kept until a change touches one of their tables.
 use std::collections::HashMap;
@@ -1378,6 +1379,14 @@ struct FileNet {
     names: Option<Vec<Vec<u8>>>,
 }
 
+/// An instance: its model, its name, and each formal with the net to which it is bound.
+struct Part {
+    line: usize,
+    model: &'static [u8],
+    name: &'static [u8],
+    binds: Vec<(&'static [u8], u32)>,
+}
+
 /// One model as its lines say it.
 #[derive(Default)]
 struct File {
@@ -1390,6 +1399,7 @@ struct File {
     /// the net of each reset value, and its latch
     resets: Vec<(u32, u32)>,
     tables: Vec<FileTable>,
+    parts: Vec<Part>,
     entries: Vec<&'static [u8]>,
     sizes: Vec<(Vec<&'static [u8]>, u32, Vec<Vec<u8>>)>,
     ended: bool,
@@ -1441,9 +1451,6 @@ impl File {
     }
 
     fn read_line(&mut self, line: usize, words: &[&'static [u8]]) {
-        if self.ended {
-            bad("more than one model", line);
-        }
         match words[0] {
             b".model" if self.root.is_empty() && words.len() == 2 => self.root = words[1].to_vec(),
             b".inputs" => {
@@ -1468,6 +1475,14 @@ impl File {
             b".latch" if words.len() == 3 => {
                 let ids = self.ids_of(&words[1..]);
                 self.latches.push((ids[0], ids[1]));
+            }
+            b".subckt" if words.len() >= 3 => {
+                let mut binds = vec![];
+                for word in &words[3..] {
+                    let at = word.iter().position(|&b| b == b'=').unwrap_or_else(|| bad("binding", line));
+                    binds.push((&word[..at], self.id(&word[at + 1..])));
+                }
+                self.parts.push(Part { line, model: words[1], name: words[2], binds });
             }
             b".end" => self.ended = true,
             word => {
@@ -1556,50 +1571,193 @@ fn distinct(c: &mut Cover) {
     *c = new;
 }
 
-/// The cover of a table, whose literals are of the nets' numbers.
-fn cover_of(t: &FileTable, file: &File, number: &[u32]) -> Cover {
-    let net = |id: u32| &file.nets[id as usize];
-    let mut cover = Cover { default: t.default.map_or(0, |w| set_of(net(t.out), w, t.line)), ..Cover::default() };
-    let mut by: Vec<usize> = (0..t.ins.len()).collect();
-    by.sort_by_key(|&k| number[t.ins[k] as usize]);
-    if by.windows(2).any(|w| t.ins[w[0]] == t.ins[w[1]]) {
-        bad("a column twice", t.line);
+/// The columns of a table by the number of their net, each net once with its places in the rows.
+fn columns_of(t: &FileTable, number: &[u32]) -> Vec<(u32, Vec<usize>)> {
+    let mut by: Vec<(u32, Vec<usize>)> = vec![];
+    for (k, &id) in t.ins.iter().enumerate() {
+        by.push((number[id as usize], vec![k]));
     }
+    by.sort_by_key(|c| c.0);
+    by.dedup_by(|c, kept| c.0 == kept.0 && { kept.1.extend(&c.1); true });
+    by
+}
+
+/// The place of the input column that an entry `=x` names.
+fn named_column(t: &FileTable, file: &File, word: &[u8]) -> Option<usize> {
+    let name = word.strip_prefix(b"=")?;
+    Some(t.ins.iter().position(|&id| file.nets[id as usize].name == name).unwrap_or_else(|| bad("value", t.line)))
+}
+
+/// Whether the table's default names a column, and no row is without literals.
+fn has_mark(t: &FileTable, file: &File) -> bool {
+    let all = |row: &[&'static [u8]]| t.ins.iter().zip(row).all(|(&id, w)| set_of(&file.nets[id as usize], w, t.line) == full(file.nets[id as usize].count));
+    t.default.is_some_and(|d| d.first() == Some(&b'=')) && !file.entries[t.rows.clone()].chunks_exact(t.ins.len() + 1).any(all)
+}
+
+/// The covers of a table and of its mark, if it has one, whose literals are of the nets' numbers.
+fn cover_of(t: &FileTable, file: &File, number: &[u32], mark: Option<u32>) -> (Cover, Option<Cover>) {
+    let net = |k: usize| &file.nets[t.ins[k] as usize];
+    let out_net = &file.nets[t.out as usize];
+    let default = t.default.filter(|d| d[0] != b'=').map_or(0, |w| set_of(out_net, w, t.line));
+    let mut cover = Cover { default, ..Cover::default() };
+    let mut marked = Cover { default: 2, ..Cover::default() };
+    let by = columns_of(t, number);
+    let mut met: Vec<Set> = vec![0; by.len()];
     for row in file.entries[t.rows.clone()].chunks_exact(t.ins.len() + 1) {
+        for (c, set) in by.iter().zip(&mut met) {
+            *set = c.1.iter().fold(full(net(c.1[0]).count), |s, &k| s & set_of(net(k), row[k], t.line));
+        }
+        if met.contains(&0) {
+            continue;
+        }
         let out = row[t.ins.len()];
-        let named = out.strip_prefix(b"=").map(|x| t.ins.iter().position(|&id| net(id).name == x).unwrap_or_else(|| bad("value", t.line)));
-        let mut rest = named.map_or(1, |k| set_of(net(t.ins[k]), row[k], t.line));
+        let named = named_column(t, file, out).map(|k| by.iter().position(|c| c.1.contains(&k)).unwrap());
+        let mut rest = named.map_or(1, |c| met[c]);
         while rest != 0 {
             let one = rest & rest.wrapping_neg();
             rest &= rest - 1;
-            for &k in &by {
-                let set = if named == Some(k) { one } else { set_of(net(t.ins[k]), row[k], t.line) };
-                if set != full(net(t.ins[k]).count) {
-                    cover.cubes.lits.push(Lit { net: number[t.ins[k] as usize], set });
+            for (c, column) in by.iter().enumerate() {
+                let set = if named == Some(c) { one } else { met[c] };
+                if set != full(net(column.1[0]).count) {
+                    cover.cubes.lits.push(Lit { net: column.0, set });
                 }
             }
             cover.cubes.close();
-            cover.outs.push(if named.is_some() { one } else { set_of(net(t.out), out, t.line) });
+            cover.outs.push(if named.is_some() { one } else { set_of(out_net, out, t.line) });
+        }
+        if mark.is_some() {
+            for (column, &set) in by.iter().zip(&met) {
+                if set != full(net(column.1[0]).count) {
+                    marked.cubes.lits.push(Lit { net: column.0, set });
+                }
+            }
+            marked.cubes.close();
+            marked.outs.push(1);
         }
     }
     if (0..cover.cubes.len()).any(|i| cover.cubes.get(i).is_empty()) {
         cover.default = 0;
     }
+    if let Some(mark) = mark {
+        let k = named_column(t, file, t.default.unwrap()).unwrap();
+        for value in 0..net(k).count {
+            let mut lits = vec![Lit { net: mark, set: 2 }];
+            if net(k).count > 1 {
+                lits.push(Lit { net: number[t.ins[k] as usize], set: 1 << value });
+            }
+            lits.sort_by_key(|l| l.net);
+            cover.cubes.lits.extend(lits);
+            cover.cubes.close();
+            cover.outs.push(1 << value);
+        }
+        distinct(&mut marked);
+    }
     distinct(&mut cover);
-    cover
+    (cover, mark.map(|_| marked))
+}
+
+/// An instance of a model, or the root: the net of the whole that each net of the model is.
+struct Instance {
+    model: usize,
+    home: Vec<u32>,
+}
+
+/// The nets of the whole, and the instances in unfolding order, the root first.
+struct Whole<'a> {
+    files: &'a [File],
+    by_name: FxMap<&'a [u8], usize>,
+    nets: Vec<FileNet>,
+    instances: Vec<Instance>,
+}
+
+impl Whole<'_> {
+    /// Adds an instance with nets of this path, of which these are bound, and those inside it.
+    fn add(&mut self, model: usize, path: &[u8], bound: &FxMap<u32, u32>, depth: usize) {
+        let file = &self.files[model];
+        let mut home = Vec::with_capacity(file.nets.len());
+        for (id, net) in file.nets.iter().enumerate() {
+            home.push(bound.get(&(id as u32)).copied().unwrap_or(self.nets.len() as u32));
+            if home[id] as usize == self.nets.len() {
+                self.nets.push(FileNet { name: [path, &net.name].concat(), count: net.count, names: net.names.clone() });
+            }
+        }
+        for &(reset, latch) in &file.resets {
+            self.nets[home[reset as usize] as usize].name = [b".", self.nets[home[latch as usize] as usize].name.as_slice()].concat();
+        }
+        self.instances.push(Instance { model, home });
+        let at = self.instances.len() - 1;
+        for part in &file.parts {
+            let inner = *self.by_name.get(part.model).filter(|_| depth < 64).unwrap_or_else(|| bad("no such model", part.line));
+            let ids = &self.files[inner].ids;
+            let home = &self.instances[at].home;
+            let bound = part.binds.iter().map(|&(f, a)| (*ids.get(f).unwrap_or_else(|| bad("no formal", part.line)), home[a as usize])).collect();
+            self.add(inner, &[path, part.name, b"."].concat(), &bound, depth + 1);
+        }
+    }
+}
+
+/// The models of the file.
+fn read_models(text: &'static [u8]) -> Vec<File> {
+    let mut files: Vec<File> = vec![];
+    scan(text, &mut |line, words| {
+        if files.last().is_none_or(|f| f.ended) {
+            files.push(File::default());
+        }
+        files.last_mut().unwrap().read_line(line, words);
+    });
+    if !files.last().is_some_and(|f| f.ended) || files.iter().any(|f| f.root.is_empty()) {
+        bad("no end", 0);
+    }
+    files.iter_mut().for_each(File::set_sizes);
+    files
+}
+
+/// The nets and the instances of the root.
+fn unfold(files: &mut [File]) -> (Vec<FileNet>, Vec<Instance>) {
+    if files[0].parts.is_empty() {
+        let nets = std::mem::take(&mut files[0].nets);
+        let home = (0..nets.len() as u32).collect();
+        return (nets, vec![Instance { model: 0, home }]);
+    }
+    let by_name = files.iter().enumerate().map(|(k, f)| (f.root.as_slice(), k)).collect();
+    let mut whole = Whole { files, by_name, nets: vec![], instances: vec![] };
+    whole.add(0, b"", &FxMap::default(), 0);
+    (whole.nets, whole.instances)
 }
 
 fn read_network(text: &'static [u8]) -> Network {
-    let mut file = File::default();
-    scan(text, &mut |line, words| file.read_line(line, words));
-    if !file.ended || file.root.is_empty() {
-        bad("no end", 0);
-    }
-    file.set_sizes();
+    let mut files = read_models(text);
+    let (mut nets, instances) = unfold(&mut files);
     // numbers: the inputs, then the latches' outputs, then the nets of tables and reset tables in order
-    let states = file.latches.iter().map(|l| l.1);
-    let order: Vec<u32> = file.inputs.iter().copied().chain(states).chain(file.tables.iter().map(|t| t.out)).collect();
-    let mut number = vec![u32::MAX; file.nets.len()];
+    let root = &instances[0].home;
+    let latches: Vec<(u32, u32)> =
+        instances.iter().flat_map(|i| files[i.model].latches.iter().map(|l| (i.home[l.0 as usize], i.home[l.1 as usize]))).collect();
+    let inputs = files[0].inputs.iter().map(|&n| root[n as usize]);
+    let mut order: Vec<u32> = inputs.chain(latches.iter().map(|l| l.1)).collect();
+    // a root without instances has the nets of the whole
+    let alone = files[0].nets.is_empty();
+    if alone {
+        files[0].nets = std::mem::take(&mut nets);
+    }
+    let held: FxSet<Vec<u8>> = files[0].nets.iter().chain(&nets).filter(|n| n.name.starts_with(b"_m")).map(|n| n.name.clone()).collect();
+    let mut last = 0;
+    // the net of each mark, and the table's net behind it
+    let mut marks: FxMap<u32, u32> = FxMap::default();
+    let mut made = vec![];
+    let count = if alone { files[0].nets.len() } else { nets.len() } as u32;
+    for i in &instances {
+        for t in &files[i.model].tables {
+            let out = i.home[t.out as usize];
+            if has_mark(t, &files[i.model]) {
+                last = (last + 1..).find(|k| !held.contains(format!("_m{k}").as_bytes())).unwrap();
+                marks.insert(out, count + made.len() as u32);
+                order.push(count + made.len() as u32);
+                made.push(FileNet { name: format!("_m{last}").into_bytes(), count: 2, names: None });
+            }
+            order.push(out);
+        }
+    }
+    let mut number = vec![u32::MAX; count as usize + made.len()];
     for (k, &id) in order.iter().enumerate() {
         if number[id as usize] != u32::MAX {
             bad("driven twice", 0);
@@ -1609,15 +1767,29 @@ fn read_network(text: &'static [u8]) -> Network {
     if number.contains(&u32::MAX) {
         bad("undriven", 0);
     }
-    let covers: Vec<Cover> = file.tables.iter().map(|t| cover_of(t, &file, &number)).collect();
+    let mut covers = vec![];
+    for i in &instances {
+        let numbers: Vec<u32> = i.home.iter().map(|&id| number[id as usize]).collect();
+        let file = &files[i.model];
+        for t in &file.tables {
+            let mark = marks.get(&i.home[t.out as usize]).map(|&m| number[m as usize]);
+            let (cover, marked) = cover_of(t, file, &numbers, mark);
+            covers.extend(marked.map(|m| (mark.unwrap(), m)));
+            covers.push((numbers[t.out as usize], cover));
+        }
+    }
     let size = order.len();
+    if alone {
+        nets = std::mem::take(&mut files[0].nets);
+    }
+    nets.extend(made);
     let mut net = Network {
-        root: std::mem::take(&mut file.root),
-        inputs: file.inputs.iter().map(|&n| number[n as usize]).collect(),
-        outputs: file.outputs.iter().map(|&n| number[n as usize]).collect(),
-        latches: file.latches.iter().map(|l| (number[l.0 as usize], number[l.1 as usize])).collect(),
+        root: vec![],
+        inputs: files[0].inputs.iter().map(|&n| number[root[n as usize] as usize]).collect(),
+        outputs: files[0].outputs.iter().map(|&n| number[root[n as usize] as usize]).collect(),
+        latches: latches.iter().map(|l| (number[l.0 as usize], number[l.1 as usize])).collect(),
         nets: vec![],
-        counts: order.iter().map(|&id| file.nets[id as usize].count).collect(),
+        counts: order.iter().map(|&id| nets[id as usize].count).collect(),
         literals: 0,
         heap: MinSet::new(size),
         scratch: Scratch::new(size),
@@ -1625,16 +1797,16 @@ fn read_network(text: &'static [u8]) -> Network {
         by_name: FxMap::default(),
     };
     for &id in &order {
-        let f = std::mem::take(&mut file.nets[id as usize]);
+        let f = std::mem::take(&mut nets[id as usize]);
         net.nets.push(Net { name: f.name, names: f.names, held: true, all_dirty: true, ..Net::default() });
     }
-    for (t, cover) in file.tables.iter().zip(covers) {
-        let n = number[t.out as usize] as usize;
-        net.nets[n].driven = true;
-        net.set_table(n, cover, Told::Unknown, Told::Unknown);
-        net.nets[n].absorbed = false;
+    net.root = std::mem::take(&mut files[0].root);
+    for (n, cover) in covers {
+        net.nets[n as usize].driven = true;
+        net.set_table(n as usize, cover, Told::Unknown, Told::Unknown);
+        net.nets[n as usize].absorbed = false;
     }
-    let resets = file.resets.iter().map(|r| number[r.0 as usize]);
+    let resets = instances.iter().flat_map(|i| files[i.model].resets.iter().map(|r| number[i.home[r.0 as usize] as usize]));
     for o in net.outputs.iter().copied().chain(net.latches.iter().map(|l| l.0)).chain(resets) {
         net.nets[o as usize].seen = true;
     }

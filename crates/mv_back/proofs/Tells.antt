@@ -9,10 +9,10 @@ use Rattle.mv_design.specs.declared.design.Decl.{Decl}
 use Rattle.mv_decl.specs.Nets.{with_decls}
 use Rattle.mv_table.specs.Tables.{behind_first}
 use Rattle.mv_parse.specs.declared.command.Command.{Command}
-use Rattle.mv_parse.specs.declared.command.Command.TheVariants.{Inputs, Outputs, Mv, Table, Latch, Reset, Default, Row}
+use Rattle.mv_parse.specs.declared.command.Command.TheVariants.{Inputs, Outputs, Mv, Table, Latch, Reset, Default, Row, Part}
 use Rattle.mv_parse.specs.Commands.{command_at, is_table}
 use Rattle.mv_parse.specs.Known.{inputs_at, inputs_of, outputs_at, outputs_of, decls_at, decls_of, latch_at, latches_of}
-use Rattle.mv_parse.specs.Known.{table_at, tables_of, reset_at, resets_of}
+use Rattle.mv_parse.specs.Known.{table_at, tables_of, reset_at, resets_of, part_at, parts_of}
 use Rattle.mv_parse.specs.Grammar.{table_value_faults, tables_faults}
 use Rattle.mv_back.proofs.Opened.{stays, goes_on}
 
@@ -88,7 +88,7 @@ tables-no_mv ls e = all-weaker _ _ (λ l y. table_no_mv (command_at l) y) ls e
 pub tables-no_latch : (ls : List LexLine) → all_pass is_of_table ls ≡ true → all_pass is_other_than_latch ls ≡ true
 tables-no_latch ls e = all-weaker _ _ (λ l y. table_no_latch (command_at l) y) ls e
 
--- ---- ports, and the end
+-- ---- ports, instances, and the end
 
 inner_goes : (c : Command) → is_inner c ≡ true → stays c ≡ true
 inner_goes Mv e = refl
@@ -120,6 +120,13 @@ pub inner-outputs : (ls : List LexLine) → all_pass is_inner ls ≡ true → ou
 inner-outputs ls e =
     let F = λ (l : LexLine). outputs_at (command_at l) (behind_first l) in
     flat_map-nothing F (λ l. is_inner (command_at l)) (λ l y. no_outputs (command_at l) (behind_first l) y) ls e
+
+no_parts : (c : Command) (l : LexLine) → is_inner c ≡ true → part_at c l ≡ []
+no_parts Part l e = cc
+no_parts _ l e = refl
+
+pub inner-parts : (ls : List LexLine) → all_pass is_inner ls ≡ true → parts_of ls ≡ []
+inner-parts ls e = flat_map-nothing (λ l. part_at (command_at l) l) (λ l. is_inner (command_at l)) (λ l y. no_parts (command_at l) l y) ls e
 
 -- ---- declarations and latches
 

@@ -4,8 +4,7 @@ use Rattle.mv_base.specs.Meaning.{SameMeaning}
 use Rattle.mv_lex.specs.Lines.{lines_of, is_clean}
 use Rattle.mv_design.specs.declared.design.Design.{Design}
 use Rattle.mv_parse.specs.Grammar.{IsDesign}
-use Rattle.mv_unfold.specs.Sound.{IsSound}
-use Rattle.mv_design.specs.Meaning.{of_design}
+use Rattle.mv_whole.specs.Sound.{IsSound, of_sound}
 use Rattle.mv_net.specs.declared.parts.NetParts.{NetParts}
 use Rattle.mv_net.specs.Allowed.{of_net}
 use Rattle.mv_text.specs.Text.{text_of}
@@ -21,4 +20,4 @@ pub record ReadsAs (bytes : List ℕ) (d : Design) : Type 0 where
 pub record ReadsBack (net : NetParts) : Type 0 where
   pub design : Design
   pub reads : ReadsAs (text_of net) design
-  pub means : SameMeaning (of_design design) (of_net net)
+  pub means : SameMeaning (of_sound design reads.sound) (of_net net)

@@ -1,6 +1,5 @@
--- What a design means, after the description of BLIF-MV by Kukimoto: a valuation gives each net of the root one of its
+-- What a model without instances means, after the description of BLIF-MV by Kukimoto: a valuation gives each net one of its
 -- values, and it is allowed where each table allows the values of its columns. Nothing is said of an order of evaluation.
--- The models are without instances: the grammar gives no others.
 use Rattle.std.specs.Prelude.{◌≡◌, ℕ, Bool, true, false, ◌&&◌, ◌||◌, not, nat_lt, List, [], ◌∷◌, map}
 use Rattle.std.specs.List.{list_all, list_any}
 use Rattle.mv_base.specs.Names.{among}
@@ -8,11 +7,10 @@ use Rattle.mv_base.specs.Meaning.{Port, LatchPort, Meaning}
 use Rattle.mv_design.specs.declared.design.Decl.{Decl}
 use Rattle.mv_design.specs.declared.design.FileLatch.{FileLatch}
 use Rattle.mv_design.specs.declared.design.FileModel.{FileModel}
-use Rattle.mv_design.specs.declared.design.Design.{Design}
 use Rattle.mv_design.specs.declared.table.FileTable.{FileTable}
 use Rattle.mv_design.specs.Values.{values_of, count_of}
 use Rattle.mv_design.specs.Tables.{table_allows}
-use Rattle.mv_design.specs.Nets.{root_of, nets_named, latch_inputs, latch_outputs}
+use Rattle.mv_design.specs.Nets.{nets_named, latch_inputs, latch_outputs}
 
 -- the value of each of these nets is one of the net's
 abbrev pub in_values : List Decl → (List ℕ → ℕ) → List (List ℕ) → Bool
@@ -69,7 +67,3 @@ latch_port m l = record { name = l.output; values = values_of m.decls l.output; 
 unfoldable pub of_model : FileModel → Meaning
 of_model m =
     record { interface = record { inputs = map (port m) m.inputs; outputs = map (port m) m.outputs; latches = map (latch_port m) m.latches }; allows = AllowsModel m }
-
--- what a design means: what its root means
-unfoldable pub of_design : Design → Meaning
-of_design d = of_model (root_of d)

@@ -1,5 +1,5 @@
--- The nets of a model as it names them, and what drives them. These are models without instances: the grammar gives no others.
-use Rattle.std.specs.Prelude.{ℕ, Bool, Option, List, [], ◌∷◌, ◌++◌, map, count_by, slice_index_or}
+-- The nets of a model without instances as it names them, and what drives them.
+use Rattle.std.specs.Prelude.{ℕ, List, [], ◌∷◌, ◌++◌, map, count_by, slice_index_or}
 use Rattle.std.specs.List.{flat_map}
 use Rattle.mv_base.specs.Firsts.{firsts_by}
 use Rattle.mv_base.specs.Names.{same_word}

@@ -1,5 +1,5 @@
 -- What the grammar makes sure of in a design, line by line: lawful names, values that the nets have, entries that fit, and
--- the order of lines. In this version models are without instances, and their tables have one output.
+-- the order of lines. In this version tables have one output.
 use Rattle.std.specs.Prelude.{◌≡◌, ℕ, ◌<◌, ◌≤◌, Bool, true, not, ◌&&◌, nat_eq, nat_lt, Some}
 use Rattle.std.specs.Prelude.{List, [], ◌∷◌, length, map, slice_index_or, All}
 use Rattle.std.specs.List.{list_all, list_any}
@@ -12,10 +12,10 @@ use Rattle.mv_design.specs.declared.table.Row.{Row}
 use Rattle.mv_design.specs.declared.table.FileTable.{FileTable}
 use Rattle.mv_design.specs.declared.design.Decl.{Decl}
 use Rattle.mv_design.specs.declared.design.FileLatch.{FileLatch}
+use Rattle.mv_design.specs.declared.design.Bind.{Bind}
 use Rattle.mv_design.specs.declared.design.Part.{Part}
 use Rattle.mv_design.specs.declared.design.FileModel.{FileModel}
 use Rattle.mv_design.specs.declared.design.Design.{Design}
-use Rattle.mv_design.specs.Nets.{root_of}
 use Rattle.mv_design.specs.Values.{count_of}
 
 -- a set for each column, of values that its net has
@@ -69,6 +69,18 @@ pub record IsFileDecl (d : Decl) : Type 0 where
   pub lawful : list_all is_value_name d.values ≡ true
   pub differ : names_differ d.values ≡ true
 
+-- a binding has lawful names
+pub record IsFileBind (b : Bind) : Type 0 where
+  pub formal : is_net_name b.formal ≡ true
+  pub actual : is_net_name b.actual ≡ true
+
+-- an instance has lawful names, and binds no formal twice
+pub record IsFilePart (p : Part) : Type 0 where
+  pub model : is_model_name p.model ≡ true
+  pub instance : is_model_name p.instance ≡ true
+  pub binds : All IsFileBind p.binds
+  pub differ : names_differ (map (λ b. b.formal) p.binds) ≡ true
+
 -- ---- the order of lines
 
 -- numbers that ascend: each is less than the next
@@ -114,9 +126,9 @@ pub record StandsByLine (m : FileModel) : Type 0 where
 
 -- ---- models and designs
 
--- a model: its names are lawful, no input and no output stands twice, its declarations, tables, latches and reset tables are
--- such as above, and it stands by line. It has no instances
-pub record IsProperModel (m : FileModel) : Type 0 where
+-- a model: its names are lawful, no input and no output stands twice, and its declarations, tables, latches, reset tables and
+-- instances are such as above
+pub record IsLawful (m : FileModel) : Type 0 where
   pub name : is_model_name m.name ≡ true
   pub inputs : list_all is_net_name m.inputs ≡ true
   pub inputs_differ : names_differ m.inputs ≡ true
@@ -124,12 +136,17 @@ pub record IsProperModel (m : FileModel) : Type 0 where
   pub outputs_differ : names_differ m.outputs ≡ true
   pub decls : All IsFileDecl m.decls
   pub tables : All (IsFileTable m.decls) m.tables
-  pub order : StandsByLine m
   pub latches : All (IsFileLatch m.decls) m.latches
   pub resets : All (IsFileTable m.decls) m.resets
-  pub parts : m.parts ≡ []
+  pub parts : All IsFilePart m.parts
 
--- a design: each of its models is such, and its root is one of them
+-- a model of a file: it stands by line besides
+pub record IsProperModel (m : FileModel) : Type 0 where
+  pub lawful : IsLawful m
+  pub order : StandsByLine m
+
+-- a design: each of its models is such, no two have one name, and its root is one of them
 pub record IsProper (d : Design) : Type 0 where
   pub models : All IsProperModel d.models
+  pub differ : names_differ (map (λ m. m.name) d.models) ≡ true
   pub root : d.root < length d.models

@@ -3,11 +3,13 @@ pub mod Lawful
 pub mod Distinct
 pub mod Known
 pub mod Counts
+pub mod Counted
 pub mod MadeNames
 pub mod Numbered
 pub mod Shapes
 pub mod HasMark
 pub mod Needs
+pub mod Unmarked
 pub mod Sizes
 pub mod Behinds
 pub mod Blocks
@@ -31,6 +33,8 @@ pub mod FormedRanks
 pub mod FormedAlone
 pub mod Formed
 pub mod ShortNames
-pub mod Whole
+pub mod Models
+pub mod Told
+pub mod Designs
 pub mod OneNetwork
 pub mod Refusals

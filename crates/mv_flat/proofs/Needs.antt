@@ -1,8 +1,8 @@
 -- What a look at a table's rows tells of its mark.
-use Rattle.std.proofs.Common.{◌≡◌, ℕ, zero, suc, ◌<◌, ◌≤◌, Bool, true, false, ◌&&◌, ◌||◌, not, ◌⊎◌, inl, inr, List, [], ◌∷◌, map, Some, None, refl, sym, ◌∙◌, ap, subst, arith, length, drop, ⊎_elim, All}
+use Rattle.std.proofs.Common.{◌≡◌, ℕ, zero, suc, ◌<◌, ◌≤◌, Bool, true, false, ◌&&◌, ◌||◌, not, ◌⊎◌, inl, inr, List, [], ◌∷◌, map, Option, Some, None, refl, sym, ◌∙◌, ap, subst, arith, length, drop, ⊎_elim, All}
 use Rattle.std.specs.Prelude.{nat_eq, nat_lt, min, slice_index, slice_set}
 use Rattle.std.specs.List.{list_any}
-use Rattle.std.proofs.lemmas.Bool.{and_from, and_left, and_parts, and_right, cases_lt, eq-eqb, eqb-true, false≢true, false_from_ne_true, lt-ltb, ltb-true, or_cases, or_from, or_left, or_parts, or_right}
+use Rattle.std.proofs.lemmas.Bool.{and_from, and_left, and_parts, and_right, cases_lt, eq-eqb, eqb-true, false≢true, false_from_ne_true, lt-ltb, ltb-true, not-true, or_cases, or_from, or_left, or_parts, or_right}
 use Rattle.std.proofs.lemmas.List.{drop_all}
 use Rattle.std.proofs.lemmas.List.Elements.{All-head, All-tail}
 use Rattle.mv_base.specs.Set.{has, full, meet, one, Within}
@@ -24,7 +24,7 @@ use Rattle.mv_rows.proofs.Matching.{matched_everywhere, alone, alone-at, alone_r
 use Rattle.mv_rows.proofs.Values.{fit_narrowed}
 use Rattle.mv_flat.specs.Numbers.{column_of, columns_at}
 use Rattle.mv_flat.specs.Places.{has_mark}
-use Rattle.mv_flat.specs.Gathered.{some_silent, has_all, some_has_all}
+use Rattle.mv_flat.specs.Gathered.{some_silent, has_all, some_has_all, can_stand, none_or_stands, is_plain}
 use Rattle.mv_flat.specs.Placed.{IsPlacedTable}
 use Rattle.mv_flat.proofs.Known.{known}
 use Rattle.mv_flat.proofs.Shapes.{table_columns, table_is}
@@ -136,19 +136,17 @@ all_at_end ds ws sets n high =
 own_placed : (ds : List Decl) (t : FileTable) → IsNetTable ds t → IsPlacedTable ds t.inputs t
 own_placed ds t f = record { fits = f; known = known t.inputs t.inputs (λ w h. h) }
 
-pub none_told : (ds : List Decl) (t : FileTable) → t.default ≡ None → false ≡ has_mark ds t
-unfolding has_mark is_marked
-none_told ds t e = sym (ap (default_marked (columns_at ds t.inputs t) t.rows) e)
+stands_unmarked : (cs : List Column) (rows : List Row) (e : Entry) → can_stand rows e ≡ true → needs_mark cs rows e ≡ false
+stands_unmarked cs rows (Set s) h = none_silent cs rows (not-true (some_silent rows) h)
+stands_unmarked cs rows (Same k) h = absurd (false≢true h)
 
-set_marked : (cs : List Column) (rows : List Row) (entries : List Entry) (s : ℕ) → only_entry entries ≡ Set s → some_silent rows ≡ false → default_marked cs rows (Some entries) ≡ false
-set_marked cs rows entries s e h =
-    and_right _ _ (ap (needs_mark cs rows) e ∙ none_silent cs rows h)
+plain_unmarked : (cs : List Column) (rows : List Row) (o : Option (List Entry)) → none_or_stands rows o ≡ true → default_marked cs rows o ≡ false
+plain_unmarked cs rows None h = refl
+plain_unmarked cs rows (Some entries) h = and_right _ _ (stands_unmarked cs rows (only_entry entries) h)
 
-pub set_told : (ds : List Decl) (t : FileTable) (entries : List Entry) (s : ℕ) → t.default ≡ Some entries → only_entry entries ≡ Set s → some_silent t.rows ≡ false → false ≡ has_mark ds t
+pub plain_told : (ds : List Decl) (t : FileTable) → is_plain t ≡ true → false ≡ has_mark ds t
 unfolding has_mark is_marked
-set_told ds t entries s e o h =
-    let cs = columns_at ds t.inputs t in
-    sym (ap (default_marked cs t.rows) e ∙ set_marked cs t.rows entries s o h)
+plain_told ds t h = sym (plain_unmarked (columns_at ds t.inputs t) t.rows t.default h)
 
 same_marked : (cs : List Column) (rows : List Row) (entries : List Entry) (k : ℕ) → only_entry entries ≡ Same k → some_row_bare cs rows ≡ false → default_marked cs rows (Some entries) ≡ true
 same_marked cs rows entries k e h =
@@ -161,4 +159,4 @@ same_told ds t entries k all f e o h =
     let cs = columns_at ds t.inputs t in
     sym (ap (default_marked cs t.rows) e ∙ same_marked cs t.rows entries k o (none_bare ds t all (own_placed ds t f) h))
 
-pub ruleset told = (none_told, set_told, same_told)
+pub ruleset told = (plain_told, same_told)

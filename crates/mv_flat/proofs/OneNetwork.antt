@@ -12,17 +12,23 @@ use Rattle.mv_rows.specs.declared.table.FlatTable.{FlatTable}
 use Rattle.mv_rows.proofs.OneTable.{one_made}
 use Rattle.mv_net.specs.declared.parts.FlatNet.{FlatNet}
 use Rattle.mv_net.specs.declared.parts.NetParts.{NetParts}
+use Rattle.mv_tree.specs.Tree.{Instances}
+use Rattle.mv_tree.specs.Unfolded.{unfolded}
+use Rattle.mv_walk.proofs.Unique.{one_tree}
+use Rattle.mv_unfold.specs.Sound.{IsSoundModel, IsWithinLimits}
+use Rattle.mv_whole.specs.Sound.{model_of}
 use Rattle.mv_design.specs.Nets.{root_of, drivers, output_of}
 use Rattle.mv_flat.specs.Places.{places}
 use Rattle.mv_resets.specs.NetModels.{HasLawfulValues}
-use Rattle.mv_design.specs.Proper.{IsProper}
+use Rattle.mv_design.specs.Proper.{IsLawful, IsProper}
 use Rattle.mv_flat.specs.Numbers.{columns_at, mark_at, made_name}
 use Rattle.mv_flat.specs.Built.{file_net, fresh_net, kind_of, open_nets, IsFreshName, IsMark, AreTableNets, AreTables, IsBuilt}
 use Rattle.mv_flat.specs.Flat.{IsFlat}
 use Rattle.mv_flat.specs.Placed.{IsPlacedTable, ArePlaced}
 use Rattle.mv_flat.proofs.Behinds.{placed}
 use Rattle.mv_resets.specs.Resets.{with_reset_nets}
-use Rattle.mv_flat.proofs.Whole.{with_nets, places_few, root_proper}
+use Rattle.mv_flat.proofs.Models.{with_nets, places_few}
+use Rattle.mv_flat.proofs.Designs.{model_sound}
 use Rattle.mv_flat.proofs.Shapes.{table_columns, marked_columns}
 
 -- ---- made nets
@@ -93,11 +99,19 @@ one_built m a b proper known p q =
     same_parts a b (p.root ∙ sym q.root) (p.inputs ∙ sym q.inputs) (p.outputs ∙ sym q.outputs) (p.latches ∙ sym q.latches)
     (p.nets_are ∙ (ap (λ fs. open_nets m ++ fs) tables ∙ sym q.nets_are))
 
+-- a sound model has at most one network
+one_of_model : (m : FileModel) (one other : NetParts) → IsLawful m → IsSoundModel m → IsWithinLimits m → IsBuilt (with_reset_nets m) one → IsBuilt (with_reset_nets m) other
+    → one ≡ other
+one_of_model m one other lawful sound limits p q =
+    let nets = with_reset_nets m in
+    let are = with_nets m nets lawful sound limits refl in
+    let known = placed nets (places nets) are.proper are.sound refl (places_few nets are.proper are.few) in
+    one_built nets one other are.proper.decls known p q
+
 -- a design has at most one network
 pub one_network : (d : Design) (one other : NetParts) → IsProper d → IsFlat one d → IsFlat other d → one ≡ other
 one_network d one other proper p q =
-    let m = root_of d in
-    let nets = with_reset_nets m in
-    let are = with_nets m nets (root_proper d m refl proper) p.sound.root p.limits refl in
-    let known = placed nets (places nets) are.proper are.sound refl (places_few nets are.proper are.few) in
-    one_built nets one other are.proper.decls known p.built q.built
+    let h = model_sound d proper p.sound p.limits in
+    let same : q.sound.tree ≡ p.sound.tree = one_tree d (root_of d).parts q.sound.tree p.sound.tree q.sound.unfolds p.sound.unfolds in
+    let P : Instances → Type 0 = λ t. IsBuilt (with_reset_nets (unfolded (root_of d) t)) other in
+    one_of_model (model_of d p.sound) one other h.one.lawful h.sound h.one.limits p.built (subst P same q.built)

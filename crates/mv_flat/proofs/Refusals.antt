@@ -1,14 +1,14 @@
 -- A model whose network is within the limits isn't refused: the covers of its tables are those that they have, and with more
 -- tables a network is no smaller.
-use Rattle.std.proofs.Common.{◌≡◌, ℕ, List, [], ◌∷◌, ◌++◌, length, inl, inr, refl, sym, ◌∙◌, ap, subst, ⊎_elim, All}
-use Rattle.std.specs.Prelude.{Some}
+use Rattle.std.proofs.Common.{◌≡◌, ◌⊎◌, ℕ, List, [], ◌∷◌, ◌++◌, length, inl, inr, refl, sym, ◌∙◌, ap, subst, ⊎_elim, All}
+use Rattle.std.specs.Prelude.{Result, Some, Ok, Err, IfErr}
 use Rattle.std.proofs.lemmas.List.{append_assoc}
 use Rattle.std.proofs.lemmas.List.Elements.{All-head, All-tail}
 use Rattle.mv_design.specs.declared.design.Decl.{Decl}
 use Rattle.mv_design.specs.declared.design.FileModel.{FileModel}
 use Rattle.mv_design.specs.declared.table.FileTable.{FileTable}
 use Rattle.mv_design.specs.Nets.{drivers}
-use Rattle.mv_design.specs.Proper.{IsProperModel}
+use Rattle.mv_design.specs.Proper.{IsLawful}
 use Rattle.mv_fault.specs.Tells.{first}
 use Rattle.mv_fault.specs.declared.flat.FlatFault.{FlatFault}
 use Rattle.mv_fault.specs.declared.flat.FlatFault.TheVariants.{Memory}
@@ -16,8 +16,19 @@ use Rattle.mv_rows.specs.declared.table.FlatTable.{FlatTable}
 use Rattle.mv_rows.proofs.OneTable.{one_made}
 use Rattle.mv_resets.specs.NetModels.{HasLawfulValues}
 use Rattle.mv_resets.specs.Resets.{with_reset_nets}
-use Rattle.mv_unfold.specs.Sound.{IsSoundModel, IsWithinLimits, IsFault}
-use Rattle.mv_unfold.proofs.Soundness.{fault-excludes}
+use Rattle.mv_design.specs.declared.design.Design.{Design}
+use Rattle.mv_design.specs.Nets.{root_of}
+use Rattle.mv_tree.specs.Tree.{Instances}
+use Rattle.mv_tree.specs.Unfolded.{unfolded}
+use Rattle.mv_walk.proofs.Unique.{one_tree}
+use Rattle.mv_unfold.specs.Sound.{reads, IsSoundModel, IsWithinLimits, StandsAlone, TellsAbove}
+use Rattle.mv_walk.specs.Walk.{walk_faults}
+use Rattle.mv_graph.specs.Above.{IsAcyclic}
+use Rattle.mv_whole.specs.Sound.{IsSound, IsFault, IsWithinDesignLimits, model_of}
+use Rattle.mv_whole.specs.Whole.{HasWholeFault}
+use Rattle.mv_whole.proofs.Faultless.{no_faults}
+use Rattle.mv_whole.proofs.Sound.{fault_excludes}
+use Rattle.mv_design.specs.Proper.{IsProper}
 use Rattle.mv_flat.specs.Numbers.{columns_at, mark_at}
 use Rattle.mv_flat.specs.Places.{places}
 use Rattle.mv_flat.specs.Placed.{IsPlacedTable}
@@ -27,7 +38,9 @@ use Rattle.mv_flat.specs.Flat.{HasSmallNetwork, HasLargeNetwork, IsRefused}
 use Rattle.mv_flat.proofs.Behinds.{placed}
 use Rattle.mv_flat.proofs.Shapes.{table_columns, marked_columns}
 use Rattle.mv_flat.proofs.Sizes.{none_past, within_limits, within_front}
-use Rattle.mv_flat.proofs.Whole.{with_nets, places_few}
+use Rattle.mv_flat.proofs.Models.{with_nets, places_few}
+use Rattle.mv_flat.proofs.Designs.{IsModelOf, design_sound, model_sound, root_named}
+use Rattle.mv_flat.proofs.Told.{above_is_fault, walk_is_fault, whole_is_fault}
 
 -- the first of some covers are those of the first tables
 record AreFront (ds : List Decl) (names : List (List ℕ)) (ts : List FileTable) (flats : List FlatTable) : Type 0 where
@@ -73,42 +86,75 @@ past_excludes nets m f proper known p fits =
     let size : size_of nets ts front.front ≡ p.size = ap (size_of nets ts) same ∙ sym p.has.is in
     none_told (size_faults p.size) f (none_past p.size (subst IsWithin size within)) p.told
 
-large_excludes : (m : FileModel) (f : FlatFault) → IsProperModel m → HasLargeNetwork m f → HasSmallNetwork m → ⊥
-large_excludes m f proper large small =
+-- a sound model whose network passes a limit has no small one
+past_of_model : (m : FileModel) (f : FlatFault) → IsLawful m → IsSoundModel m → IsWithinLimits m → IsPastLimit (length (drivers m)) (with_reset_nets m) f → HasSmallNetwork m → ⊥
+past_of_model m f lawful sound limits past small =
     let nets = with_reset_nets m in
-    let are = with_nets m nets proper large.sound large.limits refl in
+    let are = with_nets m nets lawful sound limits refl in
     let known = placed nets (places nets) are.proper are.sound refl (places_few nets are.proper are.few) in
-    past_excludes _ nets f are.proper.decls known.tables large.past small
+    past_excludes _ nets f are.proper.decls known.tables past small
 
--- why a model is refused excludes that it is sound and within all limits
-pub refused_excludes : (m : FileModel) (f : FlatFault) → IsProperModel m → IsRefused m f → (f ≡ Memory → ⊥) → IsSoundModel m → IsWithinLimits m → HasSmallNetwork m → ⊥
-refused_excludes m f proper refused cause sound limits small =
-    ⊎_elim (λ (h : IsFault m f). fault-excludes m f h cause sound limits) (λ (h : HasLargeNetwork m f). large_excludes m f proper h small) refused
+large_excludes : (d : Design) (f : FlatFault) → IsProper d → HasLargeNetwork d f → (s : IsSound d) → HasSmallNetwork (model_of d s) → ⊥
+large_excludes d f proper large s small =
+    let h = model_sound d proper large.sound large.limits in
+    let same : s.tree ≡ large.sound.tree = one_tree d (root_of d).parts s.tree large.sound.tree s.unfolds large.sound.unfolds in
+    let P : Instances → Type 0 = λ t. HasSmallNetwork (unfolded (root_of d) t) in
+    past_of_model (model_of d large.sound) f h.one.lawful h.sound h.one.limits large.past (subst P same small)
 
--- ---- what is told
+-- why a design is refused excludes that it is sound and within all limits
+pub refused_excludes : (d : Design) (f : FlatFault) → IsProper d → IsRefused d f → (f ≡ Memory → ⊥) → (s : IsSound d) → IsWithinDesignLimits d s.tree → HasSmallNetwork (model_of d s) → ⊥
+refused_excludes d f proper refused cause s limits small =
+    ⊎_elim (λ (h : IsFault d f). fault_excludes d (root_named d proper) s limits f h cause) (λ (h : HasLargeNetwork d f). large_excludes d f proper h s small) refused
 
-pub fault_refused : (m : FileModel) (f : FlatFault) → IsFault m f → IsRefused m f
-fault_refused m f h = inl h
+-- ---- what is told of a design
 
-pub memory_refused : (m : FileModel) (f : FlatFault) → f ≡ Memory → IsRefused m f
-memory_refused m f e = let P : FlatFault → Type 0 = IsRefused m in subst P (sym e) (inl tt)
+pub memory_refused : (d : Design) (f : FlatFault) → f ≡ Memory → IsRefused d f
+memory_refused d f e = let P : FlatFault → Type 0 = IsRefused d in subst P (sym e) (inl tt)
 
-pub limit_refused : (m : FileModel) (f : FlatFault) → IsSoundModel m → IsWithinLimits m → TellsLimit (length (drivers m)) (with_reset_nets m) f → IsRefused m f
-limit_refused m Memory sound limits h = inl tt
-limit_refused m _ sound limits h = inr (record { sound = sound; limits = limits; past = h })
+pub walk_refused : (d : Design) (f : FlatFault) → (f ≡ Memory) ⊎ (first (walk_faults d) ≡ Some f) → IsRefused d f
+walk_refused d f told = inl (walk_is_fault d f told)
+
+pub whole_refused : (d : Design) (f : FlatFault) → (f ≡ Memory) ⊎ HasWholeFault d f → IsRefused d f
+whole_refused d f told = inl (whole_is_fault d f told)
+
+pub above_refused : (d : Design) (m : FileModel) (nets : List (List ℕ)) (f : FlatFault) → IsModelOf d m nets → TellsAbove nets m f → IsRefused d f
+above_refused d m nets f h told =
+    let P : FileModel → Type 0 = λ n. TellsAbove nets n f in
+    let Q : List (List ℕ) → Type 0 = λ ws. TellsAbove ws (unfolded (root_of d) h.tree) f in
+    inl (above_is_fault d h.tree f h.has (no_faults (root_of d) h.tree h.good h.short) (subst Q h.nets_are (subst P h.model_is told)))
+
+limit_refused : (d : Design) (s : IsSound d) (f : FlatFault) → IsWithinDesignLimits d s.tree → TellsLimit (length (drivers (model_of d s))) (with_reset_nets (model_of d s)) f
+    → IsRefused d f
+limit_refused d s Memory limits told = inl tt
+limit_refused d s _ limits told = inr (record { sound = s; limits = limits; past = told })
+
+pub network_refused : (d : Design) (m : FileModel) (nets : List (List ℕ)) (f : FlatFault) → IsModelOf d m nets → IsAcyclic (reads m) → All (StandsAlone m) m.resets
+    → TellsLimit (length (drivers m)) (with_reset_nets m) f → IsRefused d f
+network_refused d m nets f h acyclic alone told =
+    let s = design_sound d m nets h acyclic alone in
+    let P : FileModel → Type 0 = λ n. TellsLimit (length (drivers n)) (with_reset_nets n) f in
+    limit_refused d s.sound f s.limits (subst P s.model_is told)
+
+-- the same of an answer
+pub answered_refused : {T : Type 0} (r : Result T FlatFault) (d : Design) (m : FileModel) (nets : List (List ℕ)) → IsModelOf d m nets → IsAcyclic (reads m) → All (StandsAlone m) m.resets
+    → IfErr r (TellsLimit (length (drivers m)) (with_reset_nets m)) → IfErr r (IsRefused d)
+answered_refused (Ok x) d m nets h acyclic alone told = tt
+answered_refused (Err f) d m nets h acyclic alone told = network_refused d m nets f h acyclic alone told
+
+-- ---- what is told of its one model
 
 -- the same by the model with a net for each reset value, and by how many nets the file has
-pub small_by : (root m : FileModel) (nets : ℕ) → m ≡ with_reset_nets root → nets ≡ length (drivers root) → FitsLimits nets m → HasSmallNetwork root
-small_by root m nets is count fits =
-    let P : FileModel → Type 0 = FitsLimits (length (drivers root)) in
-    let Q : ℕ → Type 0 = λ n. FitsLimits n m in
-    subst P is (subst Q count fits)
+pub small_by : (m nets : FileModel) (count : ℕ) → nets ≡ with_reset_nets m → count ≡ length (drivers m) → FitsLimits count nets → HasSmallNetwork m
+small_by m nets count is many fits =
+    let P : FileModel → Type 0 = FitsLimits (length (drivers m)) in
+    let Q : ℕ → Type 0 = λ n. FitsLimits n nets in
+    subst P is (subst Q many fits)
 
-pub told_by : (root m : FileModel) (nets : ℕ) (f : FlatFault) → m ≡ with_reset_nets root → nets ≡ length (drivers root) → IsSoundModel root → IsWithinLimits root
-    → TellsLimit nets m f → IsRefused root f
-told_by root m nets f is count sound limits told =
-    let P : FileModel → Type 0 = λ n. TellsLimit (length (drivers root)) n f in
-    let Q : ℕ → Type 0 = λ n. TellsLimit n m f in
-    limit_refused root f sound limits (subst P is (subst Q count told))
+pub told_by : (m nets : FileModel) (count : ℕ) (f : FlatFault) → nets ≡ with_reset_nets m → count ≡ length (drivers m) → TellsLimit count nets f
+    → TellsLimit (length (drivers m)) (with_reset_nets m) f
+told_by m nets count f is many told =
+    let P : FileModel → Type 0 = λ n. TellsLimit (length (drivers m)) n f in
+    let Q : ℕ → Type 0 = λ n. TellsLimit n nets f in
+    subst P is (subst Q many told)
 
-pub ruleset refusals = (fault_refused, memory_refused, told_by)
+pub ruleset refusals = (memory_refused, walk_refused, whole_refused, above_refused, network_refused)

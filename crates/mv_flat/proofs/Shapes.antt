@@ -6,6 +6,7 @@ use Rattle.std.proofs.lemmas.Bool.Decides.{nat_tests}
 use Rattle.std.proofs.lemmas.List.{length-map}
 use Rattle.std.proofs.lemmas.List.Elements.{All-nil, All-cons, All-append, All-weaker}
 use Rattle.mv_base.specs.Names.{among, place_of, is_net_name}
+use Rattle.mv_base.specs.declared.number.NetId.{NetId}
 use Rattle.mv_base.proofs.NameLemmas.{IsPlace-from_place}
 use Rattle.mv_design.specs.declared.design.Decl.{Decl}
 use Rattle.mv_design.specs.declared.table.Entry.{Entry}
@@ -43,13 +44,20 @@ place_other names w out (Some k) e known lawful same =
     let P : List ℕ → Type 0 = λ x. is_net_name x ≡ true in
     false≢true (sym (lawful_unspaced (mark_name out) (subst P is lawful)))
 
-mark_other : (names : List (List ℕ)) (t : FileTable) (w : List ℕ) → among w names ≡ true → is_net_name w ≡ true → number_in names w ≡ (mark_at names t).0 → ⊥
-mark_other names t w known lawful same = place_other names w (output_of t) (place_of (mark_name (output_of t)) names) refl known lawful same
+-- no lawful name has this number
+abbrev IsApart : List (List ℕ) → ℕ → Type 0
+IsApart names mark = (w : List ℕ) → among w names ≡ true → is_net_name w ≡ true → number_in names w ≡ mark → ⊥
 
-column_counts : (ds : List Decl) (names : List (List ℕ)) (t : FileTable) (w : List ℕ) → among w names ≡ true → is_net_name w ≡ true → count_of ds w ≡ count_by ds names (mark_at names t).0 (number_in names w)
-column_counts ds names t w known lawful =
+mark_apart : (names : List (List ℕ)) (t : FileTable) → IsApart names (mark_at names t).0
+mark_apart names t w known lawful same = place_other names w (output_of t) (place_of (mark_name (output_of t)) names) refl known lawful same
+
+past_apart : (names : List (List ℕ)) → IsApart names (length names)
+past_apart names w known lawful same = let l = (IsNumber-among names w known).within in omega (arith, same)
+
+column_counts : (ds : List Decl) (names : List (List ℕ)) (mark : ℕ) (w : List ℕ) → IsApart names mark → among w names ≡ true → is_net_name w ≡ true → count_of ds w ≡ count_by ds names mark (number_in names w)
+column_counts ds names mark w apart known lawful =
     ap (count_of ds) (sym (name_at names w known))
-    ∙ sym (cond-false (number_in names w == (mark_at names t).0) 2 _ (unequal (number_in names w) _ (mark_other names t w known lawful)))
+    ∙ sym (cond-false (number_in names w == mark) 2 _ (unequal (number_in names w) _ (apart w known lawful)))
   where
     unequal : (m n : ℕ) → (m ≡ n → ⊥) → (m == n) ≡ false
     unequal m n apart = false_from_ne_true (m == n) (λ y. apart (is_equal m n y))
@@ -57,12 +65,13 @@ column_counts ds names t w known lawful =
         is_equal : (a b : ℕ) → (a == b) ≡ true → a ≡ b
         is_equal a b y = grind (arith, nat_tests)
 
-columns_count : (ds : List Decl) (names : List (List ℕ)) (t : FileTable) (ws : List (List ℕ)) → are_known names ws ≡ true → list_all is_net_name ws ≡ true → CountBy (count_by ds names (mark_at names t).0) (map (column_of ds names) ws)
-columns_count ds names t [] known lawful = All-nil _
-columns_count ds names t (w ∷ ws) known lawful =
+columns_count : (ds : List Decl) (names : List (List ℕ)) (mark : ℕ) (ws : List (List ℕ)) → IsApart names mark → are_known names ws ≡ true → list_all is_net_name ws ≡ true → CountBy (count_by ds names mark) (map (column_of ds names) ws)
+columns_count ds names mark [] apart known lawful = All-nil _
+columns_count ds names mark (w ∷ ws) apart known lawful =
     let k = and_parts (among w names) _ known in
     let l = and_parts (is_net_name w) _ lawful in
-    All-cons (λ (c : Column). c.count ≡ count_by ds names (mark_at names t).0 c.net.0) (column_of ds names w) (map (column_of ds names) ws) (column_counts ds names t w k.0 l.0) (columns_count ds names t ws k.1 l.1)
+    All-cons (λ (c : Column). c.count ≡ count_by ds names mark c.net.0) (column_of ds names w) (map (column_of ds names) ws) (column_counts ds names mark w apart k.0 l.0)
+    (columns_count ds names mark ws apart k.1 l.1)
 
 mark_counts : (ds : List Decl) (names : List (List ℕ)) (mark : ℕ) → 2 ≡ count_by ds names mark mark
 mark_counts ds names mark = sym (cond-true (mark == mark) 2 _ (equal mark))
@@ -83,18 +92,27 @@ pub table_columns : (ds : List Decl) (names : List (List ℕ)) (t : FileTable) �
 table_columns ds names t all p = record {
   each = columns_are ds names t.inputs all;
   count = count_by ds names (mark_at names t).0;
-  counts = columns_count ds names t t.inputs p.known p.fits.inputs;
+  counts = columns_count ds names (mark_at names t).0 t.inputs (mark_apart names t) p.known p.fits.inputs;
+}
+
+behind_columns : (ds : List Decl) (names : List (List ℕ)) (t : FileTable) (mark : NetId) → IsApart names mark.0 → All HasLawfulValues ds → IsPlacedTable ds names t
+    → AreColumns (with_mark (columns_at ds names t) mark)
+behind_columns ds names t mark apart all p = record {
+  each = All-append IsColumn (columns_at ds names t) _ (columns_are ds names t.inputs all) (All-cons IsColumn _ [] (record { some = omega arith; few = omega arith }) (All-nil _));
+  count = count_by ds names mark.0;
+  counts =
+      let P : Column → Type 0 = λ (c : Column). c.count ≡ count_by ds names mark.0 c.net.0 in
+      All-append P (columns_at ds names t) _ (columns_count ds names mark.0 t.inputs apart p.known p.fits.inputs) (All-cons P _ [] (mark_counts ds names mark.0) (All-nil P));
 }
 
 pub marked_columns : (ds : List Decl) (names : List (List ℕ)) (t : FileTable) → All HasLawfulValues ds → IsPlacedTable ds names t
     → AreColumns (with_mark (columns_at ds names t) (mark_at names t))
-marked_columns ds names t all p = record {
-  each = All-append IsColumn (columns_at ds names t) _ (columns_are ds names t.inputs all) (All-cons IsColumn _ [] (record { some = omega arith; few = omega arith }) (All-nil _));
-  count = count_by ds names (mark_at names t).0;
-  counts =
-      let P : Column → Type 0 = λ (c : Column). c.count ≡ count_by ds names (mark_at names t).0 c.net.0 in
-      All-append P (columns_at ds names t) _ (columns_count ds names t t.inputs p.known p.fits.inputs) (All-cons P _ [] (mark_counts ds names (mark_at names t).0) (All-nil P));
-}
+marked_columns ds names t all p = behind_columns ds names t (mark_at names t) (mark_apart names t) all p
+
+-- the same with a number past all others
+pub past_columns : (ds : List Decl) (names : List (List ℕ)) (t : FileTable) → All HasLawfulValues ds → IsPlacedTable ds names t
+    → AreColumns (with_mark (columns_at ds names t) (record { 0 = length names }))
+past_columns ds names t all p = behind_columns ds names t (record { 0 = length names }) (past_apart names) all p
 
 -- ---- the rows
 

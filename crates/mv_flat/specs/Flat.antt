@@ -8,9 +8,8 @@ use Rattle.mv_fault.specs.declared.flat.FlatFault.{FlatFault}
 use Rattle.mv_net.specs.declared.parts.FlatNet.{FlatNet}
 use Rattle.mv_net.specs.declared.parts.NetParts.{NetParts}
 use Rattle.mv_net.specs.Allowed.{of_net}
-use Rattle.mv_design.specs.Nets.{root_of, drivers}
-use Rattle.mv_unfold.specs.Sound.{IsSound, IsSoundModel, IsWithinLimits, IsFault}
-use Rattle.mv_design.specs.Meaning.{of_design}
+use Rattle.mv_design.specs.Nets.{drivers}
+use Rattle.mv_whole.specs.Sound.{IsSound, IsFault, IsWithinDesignLimits, model_of, of_sound}
 use Rattle.mv_resets.specs.Resets.{with_reset_nets}
 use Rattle.mv_flat.specs.Built.{IsBuilt}
 use Rattle.mv_flat.specs.Size.{FitsLimits, IsPastLimit}
@@ -23,22 +22,22 @@ AreShort nets = All (λ (o : Option FlatNet). IfSome o (λ (f : FlatNet). length
 abbrev pub HasSmallNetwork : FileModel → Type 0
 HasSmallNetwork m = FitsLimits (length (drivers m)) (with_reset_nets m)
 
--- a sound model whose nets are within the limits, but whose network passes one, and this is the first limit that it does
-pub record HasLargeNetwork (m : FileModel) (f : FlatFault) : Type 0 where
-  pub sound : IsSoundModel m
-  pub limits : IsWithinLimits m
-  pub past : IsPastLimit (length (drivers m)) (with_reset_nets m) f
-
--- why a model has no network: for the fault of its nets and reset tables, or for the limit that its network passes
-abbrev pub IsRefused : FileModel → FlatFault → Type 0
-IsRefused m f = IsFault m f ⊎ HasLargeNetwork m f
-
 -- a sound design whose nets and whose network are within the limits, and this network, which means the same; no name of it is
 -- too long
 pub record IsFlat (net : NetParts) (d : Design) : Type 0 where
   pub sound : IsSound d
-  pub limits : IsWithinLimits (root_of d)
-  pub fits : HasSmallNetwork (root_of d)
-  pub built : IsBuilt (with_reset_nets (root_of d)) net
-  pub means : SameMeaning (of_net net) (of_design d)
+  pub limits : IsWithinDesignLimits d sound.tree
+  pub fits : HasSmallNetwork (model_of d sound)
+  pub built : IsBuilt (with_reset_nets (model_of d sound)) net
+  pub means : SameMeaning (of_net net) (of_sound d sound)
   pub short : AreShort net.nets
+
+-- a sound design whose nets are within the limits, but whose network passes one, and this is the first limit that it does
+pub record HasLargeNetwork (d : Design) (f : FlatFault) : Type 0 where
+  pub sound : IsSound d
+  pub limits : IsWithinDesignLimits d sound.tree
+  pub past : IsPastLimit (length (drivers (model_of d sound))) (with_reset_nets (model_of d sound)) f
+
+-- why a design has no network: for the fault of its instances, nets and reset tables, or for the limit that its network passes
+abbrev pub IsRefused : Design → FlatFault → Type 0
+IsRefused d f = IsFault d f ⊎ HasLargeNetwork d f

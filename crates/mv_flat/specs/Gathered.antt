@@ -1,16 +1,19 @@
--- How the nets of a model are gathered by number, table by table, and what a look at the rows tells of its mark.
+-- How the nets of a model are gathered by number, table by table, and what a look at the rows tells of a table's mark.
 -- For private functions.
-use Rattle.std.specs.Prelude.{ℕ, Bool, true, ◌&&◌, nat_eq, List, [], ◌∷◌, if◌then◌else◌}
+use Rattle.std.specs.Prelude.{◌≡◌, ℕ, Bool, true, false, not, ◌&&◌, nat_eq, Option, Some, None, List, [], ◌∷◌, length, map, if◌then◌else◌}
 use Rattle.std.specs.List.{list_any}
 use Rattle.mv_design.specs.declared.design.Decl.{Decl}
+use Rattle.mv_design.specs.declared.table.Entry.{Entry}
+use Rattle.mv_design.specs.declared.table.Entry.TheVariants.{Set, Same}
 use Rattle.mv_design.specs.declared.table.Row.{Row}
 use Rattle.mv_design.specs.declared.table.FileTable.{FileTable}
 use Rattle.mv_base.specs.Set.{full}
+use Rattle.mv_base.specs.declared.number.NetId.{NetId}
 use Rattle.mv_design.specs.Nets.{output_of}
 use Rattle.mv_design.specs.Values.{count_of}
 use Rattle.mv_rows.specs.Flat.{only_entry, says_nothing}
 use Rattle.mv_unfold.specs.Driving.{with_name, with_names}
-use Rattle.mv_flat.specs.Numbers.{mark_name}
+use Rattle.mv_flat.specs.Numbers.{mark_at, mark_name}
 use Rattle.mv_flat.specs.Places.{has_mark}
 
 -- names with that of a table's mark, if it gets one
@@ -35,3 +38,25 @@ has_all ds (w ∷ ws) (s ∷ sets) = nat_eq s (full (count_of ds w)) && has_all 
 -- some row has all values of each of these nets
 abbrev pub some_has_all : List Decl → List (List ℕ) → List Row → Bool
 some_has_all ds ins rows = list_any (λ (r : Row). has_all ds ins r.ins) rows
+
+-- a default can stand beside rows: it is a set, and each row says a value
+abbrev pub can_stand : List Row → Entry → Bool
+can_stand rows (Set s) = not (some_silent rows)
+can_stand rows (Same k) = false
+
+-- a default can stand beside rows, if there is one
+abbrev pub none_or_stands : List Row → Option (List Entry) → Bool
+none_or_stands rows None = true
+none_or_stands rows (Some entries) = can_stand rows (only_entry entries)
+
+-- a table gets no mark, as a look at it tells: it has no default, or one that can stand beside its rows
+abbrev pub is_plain : FileTable → Bool
+is_plain t = none_or_stands t.rows t.default
+
+-- how many values each of these nets has
+abbrev pub counts_of : List Decl → List (List ℕ) → List ℕ
+counts_of ds names = map (count_of ds) names
+
+-- the number of a table's mark; where a look at the table tells that it gets none, the number past all others
+abbrev pub IsMarkNumber : List (List ℕ) → FileTable → NetId → Type 0
+IsMarkNumber names t mark = mark ≡ (if is_plain t then record { 0 = length names } else mark_at names t)

@@ -7,8 +7,10 @@ use Rattle.mv_design.specs.declared.design.Decl.{Decl}
 use Rattle.mv_design.specs.declared.design.FileModel.{FileModel}
 use Rattle.mv_design.specs.declared.table.FileTable.{FileTable}
 use Rattle.mv_design.specs.Nets.{drivers}
-use Rattle.mv_resets.specs.NetModels.{IsNetTable}
+use Rattle.mv_rows.specs.declared.column.Column.{Column}
+use Rattle.mv_resets.specs.NetModels.{HasLawfulValues, IsNetTable}
 use Rattle.mv_net.specs.declared.parts.FlatNet.{FlatNet}
+use Rattle.mv_flat.specs.Numbers.{columns_at}
 use Rattle.mv_flat.specs.Places.{places}
 use Rattle.mv_flat.specs.Built.{AreTables}
 
@@ -20,6 +22,13 @@ are_known names nets = list_all (λ net. among net names) nets
 pub record IsPlacedTable (ds : List Decl) (names : List (List ℕ)) (t : FileTable) : Type 0 where
   pub fits : IsNetTable ds t
   pub known : are_known names t.inputs ≡ true
+
+-- the columns of such a table, by these numbers
+pub record AreColumnsOf (names : List (List ℕ)) (t : FileTable) (columns : List Column) : Type 0 where
+  pub decls : List Decl
+  pub proper : All HasLawfulValues decls
+  pub placed : IsPlacedTable decls names t
+  pub are : columns ≡ columns_at decls names t
 
 -- the names are those of a model's nets by number, with the columns of its tables among them
 pub record ArePlaced (m : FileModel) (names : List (List ℕ)) : Type 0 where

@@ -1,17 +1,20 @@
 ghost use Rattle.std.specs.Prelude.{◌≡◌, ◌≤◌, length, IfOk, IfErr, OnOk};
 ghost use Rattle.mv_base.specs.declared.limits.TheConstants.{MAX_FLAT_NETS, MAX_NETS};
-ghost use Rattle.mv_design.specs.Nets.{root_of};
+ghost use Rattle.mv_design.specs.Nets.{drivers};
 ghost use Rattle.mv_flat.specs.Places.{places};
-ghost use Rattle.mv_design.specs.Proper.{IsProper};
+ghost use Rattle.mv_design.specs.Proper.{IsLawful, IsProper};
 ghost use Rattle.mv_flat.specs.Built.{IsBuilt};
-ghost use Rattle.mv_flat.specs.Flat.{IsFlat, IsRefused};
+ghost use Rattle.mv_flat.specs.Gathered.{counts_of};
+ghost use Rattle.mv_flat.specs.Flat.{HasSmallNetwork, IsFlat, IsRefused};
 ghost use Rattle.mv_resets.specs.NetModels.{HasSoundNets, IsNetModel};
+ghost use Rattle.mv_resets.specs.Resets.{with_reset_nets};
+ghost use Rattle.mv_unfold.specs.Sound.{IsSoundModel, IsWithinLimits};
 ghost use Rattle.mv_flat.specs.Placed.{ArePlaced};
 ghost use Rattle.mv_flat.specs.Size.{FitsLimits};
 ghost use Rattle.mv_flat.specs.Sized.{TellsLimit};
 
 use crate::latches::flat_latches;
-use crate::numbers::numbered;
+use crate::numbers::{NumberedNets, numbered};
 use crate::tables::nets;
 use mv_base::Memory;
 use mv_design::{Design, FileModel};
@@ -19,46 +22,58 @@ use mv_fault::FlatFault;
 use mv_net::{NetParts, Network};
 use mv_resets::with_reset_nets;
 use mv_unfold::{Numbers, check};
+use mv_walk::walk;
+use mv_whole::{Whole, whole};
 use std::alloc::Global;
 
-/// The network of a sound design: a net for each input and for each latch, and for each table and reset table a net for its
-/// output, and before that one for the mark, if its default needs one. The fault is the first of the design's nets and reset
-/// tables, and where there is none, the first limit that the network passes, table by table. It works on a copy of the design,
-/// which `flatten_owned` spares.
+/// The network of a sound design, over all nets of its instances: a net for each input of the root and for each latch, and for
+/// each table and reset table a net for its output, and before that one for the mark, if its default needs one. The fault is the
+/// first of the design's instances, nets and reset tables, and where there is none, the first limit that the network passes, table
+/// by table. It works on a copy of the design, which `flatten_owned` spares.
 pub fn flatten(alloc: Global, design: &Design) -> Result<Network, FlatFault>
     requires { IsProper design.now }
     ensures ok { IfOk result (λ net. IsFlat net design.now) }
-    ensures fault { IfErr result (IsRefused (root_of design.now)) }
+    ensures fault { IfErr result (IsRefused design.now) }
 {
     flatten_owned(alloc, design.copy()?)
 }
 
-/// The same for a design that isn't needed any more: each of its tables is let go as soon as its nets are made, so that
-/// the whole design never stands in memory beside the whole network.
+/// The same for a design that isn't needed any more: the design is let go as soon as its instances are one model, and each table
+/// of this model as soon as its nets are made, so that the whole model never stands in memory beside the whole network.
 #[tactic(auto, using(crate::proofs::Refusals::refusals))]
 pub fn flatten_owned(alloc: Global, design: Design) -> Result<Network, FlatFault>
     requires { IsProper design }
     ensures ok { IfOk result (λ net. IsFlat net design) }
-    ensures fault { IfErr result (IsRefused (root_of design)) }
+    ensures fault { IfErr result (IsRefused design) }
 {
-    let model = root(design);
-    let driven = check(alloc, &model)?;
-    let model = with_reset_nets(alloc, model)?;
-    let names = numbered(alloc, &model, &driven)?;
-    let file_nets = driven.len() as u64;
-    drop(driven);
-    let parts = built(alloc, model, &names, file_nets)?;
-    drop(names);
-    Ok(Network::make(alloc, parts)?)
+    let opened = walk(alloc, &design)?;
+    let Whole { model, nets } = whole(alloc, design, opened.as_slice())?;
+    drop(opened);
+    let driven = check(alloc, &model, nets.as_slice())?;
+    drop(nets);
+    network(alloc, model, driven)
 }
 
-/// The root of the design.
-fn root(design: Design) -> FileModel
-    requires { IsProper design }
-    ensures { result ≡ root_of design }
+/// The network of a sound model whose nets are within the limits, where `driven` are its driven nets. The fault is the first limit
+/// that the network passes, table by table.
+#[tactic(auto, using(crate::proofs::Refusals::told_by))]
+fn network(alloc: Global, model: FileModel, driven: Numbers) -> Result<Network, FlatFault>
+    requires lawful { IsLawful model }
+    requires sound { IsSoundModel model }
+    requires limits { IsWithinLimits model }
+    requires driven { driven ≡ drivers model }
+    ensures built { IfOk result (λ net. IsBuilt (with_reset_nets model) net) }
+    ensures fits { OnOk result (HasSmallNetwork model) }
+    ensures fault { IfErr result (TellsLimit (length (drivers model)) (with_reset_nets model)) }
 {
-    let mut models = design.models.into_vec();
-    models.swap_remove(design.root as usize)
+    let model = with_reset_nets(alloc, model)?;
+    let NumberedNets { names, counts } = numbered(alloc, &model, &driven)?;
+    let file_nets = driven.len() as u64;
+    drop(driven);
+    let parts = built(alloc, model, &names, counts.as_slice(), file_nets)?;
+    drop(names);
+    drop(counts);
+    Ok(Network::make(alloc, parts)?)
 }
 
 /// The parts of the network of a model with sound nets, of as many nets as its file has.
@@ -67,18 +82,20 @@ fn built(
     alloc: Global,
     model: FileModel,
     names: &Numbers,
+    counts: &[u16],
     file_nets: u64,
 ) -> Result<NetParts, FlatFault>
     requires proper { IsNetModel model }
     requires sound { HasSoundNets model }
     requires names { names.now ≡ places model }
+    requires counts { counts.now ≡ counts_of model.decls names.now }
     requires few { length names.now ≤ MAX_NETS }
     requires few_nets { file_nets ≤ MAX_FLAT_NETS }
     ensures built { IfOk result (λ net. IsBuilt model net) }
     ensures fits { OnOk result (FitsLimits file_nets model) }
     ensures fault { IfErr result (TellsLimit file_nets model) }
 {
-    parts(alloc, model, names, file_nets)
+    parts(alloc, model, names, counts, file_nets)
 }
 
 /// The parts of the network of a model whose nets have numbers.
@@ -86,10 +103,12 @@ fn parts(
     alloc: Global,
     model: FileModel,
     names: &Numbers,
+    counts: &[u16],
     file_nets: u64,
 ) -> Result<NetParts, FlatFault>
     requires proper { IsNetModel model }
     requires placed { ArePlaced model names.now }
+    requires counts { counts.now ≡ counts_of model.decls names.now }
     requires few_nets { file_nets ≤ MAX_FLAT_NETS }
     ensures built { IfOk result (λ net. IsBuilt model net) }
     ensures fits { OnOk result (FitsLimits file_nets model) }
@@ -100,6 +119,6 @@ fn parts(
         inputs: names.list(alloc, model.inputs.as_slice())?,
         outputs: names.list(alloc, model.outputs.as_slice())?,
         latches: flat_latches(alloc, names, model.latches.as_slice())?,
-        nets: nets(alloc, model, names, file_nets)?,
+        nets: nets(alloc, model, names, counts, file_nets)?,
     })
 }

@@ -1,4 +1,4 @@
-//! A design to the network of its root. In this version models are without instances, and their tables have one output.
+//! A design to the network of its root with all instances. In this version tables have one output.
 #![tactic(auto)]
 
 mod columns;

@@ -6,9 +6,9 @@ ghost use Rattle.mv_flat.specs.Numbers.{mark_name};
 ghost use Rattle.mv_flat.specs.Places.{has_mark};
 ghost use Rattle.mv_resets.specs.NetModels.{HasLawfulValues, IsNetTable};
 ghost use Rattle.mv_flat.specs.Placed.{IsPlacedTable};
-ghost use Rattle.mv_flat.specs.Gathered.{has_all, some_has_all, some_silent};
+ghost use Rattle.mv_flat.specs.Gathered.{can_stand, has_all, is_plain, some_has_all, some_silent};
 
-use crate::columns::covers;
+use crate::columns::{covers, declared_columns};
 use crate::values::count_of;
 use mv_base::{Items, Memory, Name, ValueSet};
 use mv_decl::Declared;
@@ -42,7 +42,8 @@ pub fn has_mark(
     if let Some(told) = told_mark(decls, table) {
         return Ok(told);
     }
-    let flat = covers(alloc, decls, names, table)?;
+    let columns = declared_columns(alloc, decls, names, table)?;
+    let flat = covers(alloc, columns.as_slice(), names, table)?;
     Ok(flat.mark.is_some())
 }
 
@@ -54,14 +55,36 @@ fn told_mark(decls: &Declared, table: &FileTable) -> Option<bool>
     requires fits { IsNetTable decls.now table.now }
     ensures { IfSome result (λ b. b ≡ has_mark decls.now table.now) }
 {
-    let Some(entries) = &table.default else {
+    if is_plain(table) {
         return Some(false);
+    }
+    let Some(entries) = &table.default else {
+        return None;
     };
     let rows = table.rows.as_slice();
     match first_entry(entries) {
-        Entry::Set(_) if !some_row_is_silent(rows) => Some(false),
         Entry::Same(_) if !some_row_has_all(decls, table.inputs.as_slice(), rows) => Some(true),
         _ => None,
+    }
+}
+
+/// Whether the table has no default, or one that can stand beside its rows. Such a table gets no mark.
+pub fn is_plain(table: &FileTable) -> bool
+    ensures { result ≡ is_plain table.now }
+{
+    match &table.default {
+        None => true,
+        Some(entries) => can_stand(table.rows.as_slice(), &first_entry(entries)),
+    }
+}
+
+/// Whether the default can stand beside the rows: it is a set, and each row says a value.
+fn can_stand(rows: &[Row], default: &Entry) -> bool
+    ensures { result ≡ can_stand rows.now default.now }
+{
+    match default {
+        Entry::Set(_) => !some_row_is_silent(rows),
+        Entry::Same(_) => false,
     }
 }
 

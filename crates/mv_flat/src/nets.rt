@@ -3,7 +3,7 @@ ghost use Rattle.std.specs.Prelude.{◌≡◌, ◌++◌, Some, IfOk, OnOk, None,
 ghost use Rattle.mv_net.specs.declared.parts.Kind.TheVariants.{Input, Latch};
 ghost use Rattle.mv_flat.specs.Built.{file_net, fresh_net, kind_of};
 
-use crate::values::{count_of, kept_names};
+use crate::values::kept_names;
 use mv_base::{Items, Memory, Name};
 use mv_cover::Cover;
 use mv_decl::Declared;
@@ -21,11 +21,11 @@ pub fn file_net(
 ) -> Result<FlatNet, Memory>
     ensures { IfOk result (λ made. Some made ≡ file_net decls.now kind table net.now) }
 {
-    let value_names = kept_names(alloc, decls.values_of(net))?;
+    let values = decls.values_of(net);
     Ok(FlatNet {
         name: net.copy()?,
-        values: count_of(decls, net),
-        value_names,
+        values: values.len() as u16,
+        value_names: kept_names(alloc, values)?,
         kind,
         table,
     })

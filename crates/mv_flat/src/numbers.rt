@@ -6,32 +6,56 @@ ghost use Rattle.mv_resets.specs.NetModels.{HasLawfulValues, IsNetModel};
 ghost use Rattle.mv_flat.specs.Placed.{IsPlacedTable};
 ghost use Rattle.mv_flat.specs.Places.{places};
 ghost use Rattle.mv_unfold.specs.Driving.{with_names};
-ghost use Rattle.mv_flat.specs.Gathered.{with_mark, with_places};
+ghost use Rattle.mv_flat.specs.Gathered.{counts_of, with_mark, with_places};
 
 use crate::mark::{has_mark, mark_name};
-use mv_base::{Memory, NameSet};
+use crate::values::count_of;
+use mv_base::{Memory, Name, NameSet};
 use mv_decl::Declared;
 use mv_design::{FileLatch, FileModel, FileTable};
 use mv_unfold::{Numbers, add_net, add_nets};
 use std::alloc::Global;
 
+/// Nets by number, and how many values each has.
+#[derive(Drop)]
+pub struct NumberedNets {
+    pub names: Numbers,
+    pub counts: Vec<u16>,
+}
+
 /// The nets of the model by number: the inputs, the outputs of the latches, then those of the tables in order. Before the output
 /// of a table that gets a mark there is the mark, which stands here by a space and the output's name. `driven` are nets among
 /// which the columns of the tables are.
 #[tactic(auto, using(crate::proofs::Names::with_places_of), unfolding(crate::specs::Places::places))]
-pub fn numbered(alloc: Global, model: &FileModel, driven: &Numbers) -> Result<Numbers, Memory>
+pub fn numbered(alloc: Global, model: &FileModel, driven: &Numbers) -> Result<NumberedNets, Memory>
     requires proper { IsNetModel model.now }
     requires placed { All (IsPlacedTable model.now.decls driven.now) model.now.tables }
     requires few { length driven.now ≤ MAX_NETS }
     requires differ { names_differ (places model.now) ≡ true }
-    ensures { IfOk result (λ n. n ≡ places model.now) }
+    ensures names { IfOk result (λ n. n.names ≡ places model.now) }
+    ensures counts { IfOk result (λ n. n.counts.items ≡ counts_of model.now.decls n.names) }
 {
     let decls = Declared::of(alloc, model.decls.as_slice())?;
-    let mut names = NameSet::new(alloc);
+    let mut names = NameSet::with_room(alloc, driven.len())?;
     add_nets(&mut names, model.inputs.as_slice())?;
     add_states(&mut names, model.latches.as_slice())?;
     add_places(alloc, &mut names, &decls, driven, model.tables.as_slice())?;
-    Ok(Numbers::of_names(names))
+    let counts = counts(alloc, &decls, names.as_slice())?;
+    Ok(NumberedNets {
+        names: Numbers::of_names(names),
+        counts,
+    })
+}
+
+/// How many values each of the nets has.
+fn counts(alloc: Global, decls: &Declared, nets: &[Name]) -> Result<Vec<u16>, Memory>
+    ensures { IfOk result (λ counts. counts.items ≡ counts_of decls.now nets.now) }
+{
+    let mut counts = Vec::with_capacity(alloc, nets.len())?;
+    for net in nets {
+        counts.push(count_of(decls, net))?;
+    }
+    Ok(counts)
 }
 
 /// Adds the outputs of latches.

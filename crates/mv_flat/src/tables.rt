@@ -2,6 +2,7 @@
 ghost use Rattle.std.specs.Prelude.{◌≡◌, ◌+◌, ◌<◌, ◌≤◌, ◌^◌, length, IfErr, IfOk, OnOk};
 ghost use Rattle.mv_flat.specs.Built.{open_nets};
 ghost use Rattle.mv_base.specs.declared.limits.TheConstants.{MAX_FLAT_NETS};
+ghost use Rattle.mv_flat.specs.Gathered.{counts_of};
 ghost use Rattle.mv_flat.specs.Marks.{AddsNets, TableNets};
 ghost use Rattle.mv_flat.specs.Numbers.{columns_at, mark_at};
 ghost use Rattle.mv_flat.specs.Size.{FitsLimits};
@@ -10,7 +11,7 @@ ghost use Rattle.mv_resets.specs.NetModels.{IsNetModel};
 ghost use Rattle.mv_rows.specs.Flat.{IsMade};
 ghost use Rattle.mv_flat.specs.Placed.{ArePlaced, AddsTables};
 
-use crate::columns::covers;
+use crate::columns::{columns, covers};
 use crate::marks::put_mark;
 use crate::nets::{file_net, kind_of, open_nets};
 use crate::size::Size;
@@ -31,10 +32,12 @@ pub fn nets(
     alloc: Global,
     model: FileModel,
     names: &Numbers,
+    counts: &[u16],
     file_nets: u64,
 ) -> Result<Items<Option<FlatNet>>, FlatFault>
     requires proper { IsNetModel model }
     requires placed { ArePlaced model names.now }
+    requires counts { counts.now ≡ counts_of model.decls names.now }
     requires few { file_nets ≤ MAX_FLAT_NETS }
     ensures nets { IfOk result (λ nets. AddsTables model (open_nets model) nets) }
     ensures fits { OnOk result (FitsLimits file_nets model) }
@@ -52,7 +55,8 @@ pub fn nets(
     let mut size = Size::of_nets(file_nets);
     let mut last = 0;
     for table in tables.into_vec() {
-        let flat = covers(alloc, &decls, names, &table)?;
+        let columns = columns(alloc, names, counts, &table)?;
+        let flat = covers(alloc, columns.as_slice(), names, &table)?;
         size = match size.with(&table, &flat) {
             Ok(size) => size,
             Err(fault) => return Err(fault),

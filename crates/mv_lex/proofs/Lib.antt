@@ -6,3 +6,4 @@ pub mod Longs
 pub mod After
 pub mod Facts
 pub mod Letters
+pub mod Table

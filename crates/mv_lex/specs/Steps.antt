@@ -1,5 +1,5 @@
 -- How one more byte changes what the lexer keeps. For private functions.
-use Rattle.std.specs.Prelude.{◌≡◌, ℕ, ◌+◌, ◌≤◌, Bool, true, false, not, ◌&&◌, ◌||◌, ◌==◌, nat_le, nat_lt}
+use Rattle.std.specs.Prelude.{◌≡◌, ℕ, ◌+◌, ◌≤◌, ◌<◌, Bool, true, false, not, ◌&&◌, ◌||◌, ◌==◌, nat_le, nat_lt}
 use Rattle.std.specs.Prelude.{List, [], ◌∷◌, ◌++◌, length, Option, Some, None, if◌then◌else◌}
 use Rattle.std.specs.List.{list_all}
 use Rattle.mv_base.specs.Names.{is_visible}
@@ -178,6 +178,31 @@ pub record TakesLetters (r : Reading) (letters : List ℕ) : Type 0 where
 -- what is kept behind them
 abbrev pub with_letters : Reading → List ℕ → Reading
 with_letters r letters = record r { size = r.size + length letters; cut = record r.cut { word = r.cut.word ++ letters } }
+
+-- ---- a whole word at once
+
+-- a word that begins with these bytes is a plain one from its first byte on
+abbrev pub begins_plain : List ℕ → Bool
+begins_plain [] = false
+begins_plain (b ∷ _) = not (opens b) && not (is_bang b)
+
+-- a byte that ends a plain word: a blank or a line feed
+abbrev pub ends_plain : ℕ → Bool
+ends_plain b = is_line_feed b || is_blank b
+
+-- these bytes are a plain word between words, within its limit, and with one byte more within the limit of the file
+pub record TakesWord (r : Reading) (word : List ℕ) : Type 0 where
+  pub place : r.place ≡ Text
+  pub kind : r.cut.kind ≡ Start
+  pub none : r.cut.word ≡ []
+  pub begins : begins_plain word ≡ true
+  pub all : list_all is_letter word ≡ true
+  pub short : length word ≤ MAX_WORD_BYTES
+  pub within : r.size + length word < r.limit
+
+-- what is kept behind it, where it has ended
+abbrev pub with_whole : Reading → List ℕ → Reading
+with_whole r word = record r { size = r.size + length word; cut = ended_word r.cut.words word }
 
 -- ---- the end of the bytes
 

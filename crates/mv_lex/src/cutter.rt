@@ -7,9 +7,32 @@ ghost use Rattle.mv_lex.specs.Words.{is_blank as blank, opens as opens_word, clo
 
 use crate::LexFault;
 use crate::parts::Kind;
-use mv_base::{Items, MAX_BRACKETED_BYTES, MAX_WORD_BYTES, Name};
+use mv_base::{Items, MAX_BRACKETED_BYTES, MAX_WORD_BYTES, Memory, Name};
 use std::alloc::Global;
 use std::marker::Model;
+
+/// Which bytes are ordinary ones of a word.
+const LETTERS: [bool; 256] = [
+    false, false, false, false, false, false, false, false, false, false, false, false, false,
+    false, false, false, false, false, false, false, false, false, false, false, false, false,
+    false, false, false, false, false, false, false, true, true, false, true, true, true, true,
+    true, true, true, true, true, true, true, true, true, true, true, true, true, true, true, true,
+    true, true, true, true, true, true, true, true, true, true, true, true, true, true, true, true,
+    true, true, true, true, true, true, true, true, true, true, true, true, true, true, true, true,
+    true, true, true, true, false, true, true, true, true, true, true, true, true, true, true,
+    true, true, true, true, true, true, true, true, true, true, true, true, true, true, true, true,
+    true, true, true, true, true, true, true, true, false, false, false, false, false, false,
+    false, false, false, false, false, false, false, false, false, false, false, false, false,
+    false, false, false, false, false, false, false, false, false, false, false, false, false,
+    false, false, false, false, false, false, false, false, false, false, false, false, false,
+    false, false, false, false, false, false, false, false, false, false, false, false, false,
+    false, false, false, false, false, false, false, false, false, false, false, false, false,
+    false, false, false, false, false, false, false, false, false, false, false, false, false,
+    false, false, false, false, false, false, false, false, false, false, false, false, false,
+    false, false, false, false, false, false, false, false, false, false, false, false, false,
+    false, false, false, false, false, false, false, false, false, false, false, false, false,
+    false, false, false, false, false, false,
+];
 
 /// Cuts a text, which comes byte by byte, into words.
 #[derive(Drop)]
@@ -32,7 +55,7 @@ impl Model for Cutter {
 }
 
 impl Cutter {
-    ghost use Rattle.mv_lex.specs.Steps.{ended_word, start_byte, plain_byte, bracketed_byte, with_byte, kind_long, long_with, end_fault_of};
+    ghost use Rattle.mv_lex.specs.Steps.{ended_word, start_byte, plain_byte, bracketed_byte, with_byte, kind_long, long_with, end_fault_of, begins_plain};
 
     /// Nothing cut yet. It takes no memory.
     pub fn new(alloc: Global) -> Self
@@ -158,6 +181,37 @@ impl Cutter {
         letters_at_front(&bytes[..left.min(bytes.len())])
     }
 
+    /// How many bytes at the front of these make a plain word, within its limit: none where the last word has a byte.
+    pub fn word_in(&self, bytes: &[u8]) -> usize
+        ensures within { result ≤ length bytes.now }
+        ensures kind { 0 < result → self.now.kind ≡ Kind.Start }
+        ensures none { 0 < result → self.now.word ≡ [] }
+        ensures begins { 0 < result → begins_plain (take result bytes.now) ≡ true }
+        ensures letters { list_all letter (take result bytes.now) ≡ true }
+        ensures short { result ≤ MAX_WORD_BYTES }
+    {
+        if self.kind != Kind::Start || !self.word.is_empty() || bytes.is_empty() {
+            return 0;
+        }
+        if is_opening(bytes[0]) || bytes[0] == b'!' {
+            return 0;
+        }
+        letters_at_front(&bytes[..bytes.len().min(MAX_WORD_BYTES as usize)])
+    }
+
+    /// Puts a word to those that have ended, behind no other one.
+    pub fn add_word(&mut self, word: &[u8]) -> Result<(), LexFault>
+        requires kind { self.old.kind ≡ Kind.Start }
+        requires none { self.old.word ≡ [] }
+        requires some { 0 < length word.now }
+        ensures ok { OnOk result (self.new ≡ ended_word self.old.words word.now) }
+        ensures err { IfErr result (λ f. f ≡ LexFault.Memory) }
+    {
+        let word = name_of(self.alloc, word)?;
+        self.words.push(word)?;
+        Ok(())
+    }
+
     /// Adds these bytes to the last word.
     pub fn add_letters(&mut self, letters: &[u8]) -> Result<(), LexFault>
         ensures ok { OnOk result (self.new ≡ record self.old { word = self.old.word ++ letters.now }) }
@@ -217,6 +271,16 @@ impl Cutter {
     }
 }
 
+/// The name with these bytes. Most words of a table's rows are of one byte, which is copied as a byte where its count is known.
+fn name_of(alloc: Global, bytes: &[u8]) -> Result<Name, Memory>
+    ensures { IfOk result (λ name. name ≡ bytes.now) }
+{
+    if bytes.len() == 1 {
+        return Name::new(alloc, &bytes[..1]);
+    }
+    Name::new(alloc, bytes)
+}
+
 /// Whether the byte parts words.
 pub fn is_blank(b: u8) -> bool
     ensures { result ≡ blank b }
@@ -242,7 +306,7 @@ fn closer(b: u8) -> u8
 fn is_letter(b: u8) -> bool
     ensures { result ≡ letter b }
 {
-    b >= b'!' && b <= b'~' && b != b'#' && b != b'\\'
+    LETTERS[b as usize]
 }
 
 /// How many of the bytes up to the first other one are letters.

@@ -1,5 +1,6 @@
 ghost use Rattle.std.specs.Prelude.{◌≡◌, ◌++◌, OnOk, OnErr, IfErr, IfOk};
 ghost use Rattle.mv_lex.specs.Lines.{is_acceptable as acceptable, line_at};
+ghost use Rattle.mv_lex.specs.Steps.{ends_plain as ends_plain_word};
 
 use crate::cutter::{Cutter, is_blank};
 use crate::parts::Place;
@@ -44,7 +45,7 @@ impl Lexer {
     ghost use Rattle.mv_lex.specs.Words.{finished, no_words};
     ghost use Rattle.mv_lex.specs.Lines.{complete, lines_of, first_fault, end_fault, IsTold};
     ghost use Rattle.mv_lex.specs.Reading.{Reading, IsAfter, GainsLines};
-    ghost use Rattle.mv_lex.specs.Steps.{HasRead, TakesLetters, with_letters, long_with, end_fault_of, held, long_with_bytes, settled};
+    ghost use Rattle.mv_lex.specs.Steps.{HasRead, TakesLetters, with_letters, TakesWord, with_whole, ends_plain, long_with, end_fault_of, held, long_with_bytes, settled};
     ghost use Rattle.mv_lex.specs.Steps.{text_fault, text_step, new_line, next_line, fault_now, stepped, ended, end_now, end_cut};
 
     /// A lexer that has read nothing yet, and will read so many bytes at most. It takes no memory.
@@ -126,9 +127,71 @@ impl Lexer {
         Ok(())
     }
 
-    /// Reads the first byte of the rest of a piece, or at once all letters at its front, and answers how many bytes it
-    /// read.
+    /// Reads at once a whole word at the front of the rest of a piece with the byte that ends it, or all letters there, or
+    /// the first byte, and answers how many bytes it read.
     fn read_some(&mut self, rest: &[u8], lines: &mut Lines) -> Result<usize, LexFault>
+        requires { 0 < length rest.now }
+        ensures some { IfOk result (λ count. (0 < count) × (count ≤ length rest.now)) }
+        ensures ok { IfOk result (λ count. HasRead self.old self.new lines.old lines.new (take count rest.now)) }
+        ensures fault { (bytes : List ℕ) → IsAfter self.old bytes → IfErr result (IsTold (first_fault self.old.limit [] (bytes ++ rest.now))) }
+        ensures unchanged { OnErr result (lines.new ≡ lines.old) }
+    {
+        let count = self.word_in(rest);
+        if count == 0 || !ends_word(rest[count]) {
+            return self.read_part(rest, lines);
+        }
+        match self.read_word(&rest[..count], rest[count], lines) {
+            Ok(()) => Ok(count + 1),
+            Err(fault) => Err(fault),
+        }
+    }
+
+    /// How many bytes at the front of these are a plain word between words, with a byte behind it, within its limit and
+    /// the limit of the file.
+    fn word_in(&self, bytes: &[u8]) -> usize
+        ensures behind { 0 < result → result < length bytes.now }
+        ensures word { 0 < result → TakesWord self.now (take result bytes.now) }
+    {
+        if self.place != Place::Text {
+            return 0;
+        }
+        let left = self.limit - self.size;
+        if left < bytes.len() as u64 {
+            return 0;
+        }
+        let count = self.text.word_in(bytes);
+        if count == bytes.len() { 0 } else { count }
+    }
+
+    /// Reads a plain word between words and the byte that ends it.
+    fn read_word(&mut self, word: &[u8], end: u8, lines: &mut Lines) -> Result<(), LexFault>
+        requires word { TakesWord self.old word.now }
+        requires end { ends_plain end ≡ true }
+        ensures ok { OnOk result (HasRead self.old self.new lines.old lines.new (word.now ++ end ∷ [])) }
+        ensures err { IfErr result (λ f. f ≡ LexFault.Memory) }
+        ensures unchanged { OnErr result (lines.new ≡ lines.old) }
+    {
+        self.add_word(word)?;
+        if end == b'\n' {
+            self.pass_line(lines)?;
+            return Ok(());
+        }
+        self.pass()
+    }
+
+    /// Puts a plain word between words to those that have ended.
+    fn add_word(&mut self, word: &[u8]) -> Result<(), LexFault>
+        requires { TakesWord self.old word.now }
+        ensures ok { OnOk result (self.new ≡ with_whole self.old word.now) }
+        ensures err { IfErr result (λ f. f ≡ LexFault.Memory) }
+    {
+        self.text.add_word(word)?;
+        self.size += word.len() as u64;
+        Ok(())
+    }
+
+    /// Reads all letters at the front of the rest of a piece, or the first byte, and answers how many bytes it read.
+    fn read_part(&mut self, rest: &[u8], lines: &mut Lines) -> Result<usize, LexFault>
         requires { 0 < length rest.now }
         ensures some { IfOk result (λ count. (0 < count) × (count ≤ length rest.now)) }
         ensures ok { IfOk result (λ count. HasRead self.old self.new lines.old lines.new (take count rest.now)) }
@@ -196,7 +259,7 @@ impl Lexer {
         }
     }
 
-    /// Reads a byte of a comment.
+    /// Reads a byte that changes nothing but how many were read, as one of a comment.
     fn pass(&mut self) -> Result<(), LexFault>
         requires { self.old.size < self.old.limit }
         ensures ok { OnOk result (self.new ≡ record self.old { size = self.old.size + 1 }) }
@@ -341,6 +404,13 @@ fn put_line(lines: &mut Lines, number: u32, words: Items<Name>) -> Result<(), Le
     }
     lines.list.push(LexLine { number, words })?;
     Ok(())
+}
+
+/// Whether the byte ends a plain word.
+fn ends_word(b: u8) -> bool
+    ensures { result ≡ ends_plain_word b }
+{
+    b == b'\n' || is_blank(b)
 }
 
 /// Whether the byte may stand outside a comment.

@@ -1,4 +1,4 @@
--- The values of a model's tables and latches: those of the line at a place, and those behind.
+-- The values of a model's tables and latches, and its instances: those of the line at a place, and those behind.
 use Rattle.std.proofs.Common.{◌≡◌, ℕ, zero, suc, ◌+◌, Bool, true, false, List, [], ◌∷◌, ◌++◌, length, drop, refl, sym, ap, ◌∙◌, append_assoc, arith}
 use Rattle.std.specs.Prelude.{Some, nat_lt, ◌==◌, slice_get, slice_set}
 use Rattle.std.proofs.lemmas.Bool.{lt-ltb}
@@ -9,12 +9,13 @@ use Rattle.mv_fault.specs.declared.fault.ParseFault.{ParseFault}
 use Rattle.mv_fault.specs.declared.fault.ParseFault.TheVariants.{Extra}
 use Rattle.mv_fault.specs.Tells.{when, first}
 use Rattle.mv_fault.proofs.Firsts.{first-append}
-use Rattle.mv_table.specs.Tables.{table_of}
+use Rattle.mv_table.specs.Tables.{behind_first, table_of}
+use Rattle.mv_part.specs.Line.{part_of}
 use Rattle.mv_parse.specs.declared.command.Command.{Command}
-use Rattle.mv_parse.specs.declared.command.Command.TheVariants.{Table, Latch, Reset}
+use Rattle.mv_parse.specs.declared.command.Command.TheVariants.{Table, Latch, Reset, Part}
 use Rattle.mv_parse.specs.declared.known.Contents.{Contents}
 use Rattle.mv_parse.specs.Commands.{command_at}
-use Rattle.mv_parse.specs.Known.{front_rows, table_at, tables_of, latch_of, latch_at, latches_of, reset_at, resets_of}
+use Rattle.mv_parse.specs.Known.{front_rows, table_at, tables_of, latch_of, latch_at, latches_of, reset_at, resets_of, part_at, parts_of}
 use Rattle.mv_parse.specs.Grammar.{table_value_faults, tables_faults, end_faults}
 use Rattle.mv_parse.specs.Steps.{contents_of, with_line}
 
@@ -42,13 +43,15 @@ pub record IsRead (ds : List Decl) (lines left : List LexLine) (k : Contents) : 
   pub tables : k.tables ++ tables_of ds left ≡ tables_of ds lines
   pub latches : k.latches ++ latches_of left ≡ latches_of lines
   pub resets : k.resets ++ resets_of ds left ≡ resets_of ds lines
+  pub parts : k.parts ++ parts_of left ≡ parts_of lines
   pub fault : tables_faults ds left ≡ tables_faults ds lines
 
-pub read-none : (ds : List Decl) (lines : List LexLine) (k : Contents) → k.tables ≡ [] → k.latches ≡ [] → k.resets ≡ [] → IsRead ds lines lines k
-read-none ds lines k t h r = record {
+pub read-none : (ds : List Decl) (lines : List LexLine) (k : Contents) → k.tables ≡ [] → k.latches ≡ [] → k.resets ≡ [] → k.parts ≡ [] → IsRead ds lines lines k
+read-none ds lines k t h r p = record {
   tables = ap (λ ts. ts ++ tables_of ds lines) t;
   latches = ap (λ hs. hs ++ latches_of lines) h;
   resets = ap (λ ts. ts ++ resets_of ds lines) r;
+  parts = ap (λ ps. ps ++ parts_of lines) p;
   fault = refl;
 }
 
@@ -64,12 +67,17 @@ resets-more : (c : Command) (ds : List Decl) (l : LexLine) (ls : List LexLine) (
 resets-more Reset ds l ls k = append_assoc k.resets (table_of ds l (front_rows ls) ∷ []) (resets_of ds ls)
 resets-more _ ds l ls k = refl
 
+parts-more : (c : Command) (ds : List Decl) (l : LexLine) (ls : List LexLine) (k : Contents) → (with_line c ds l ls k).parts ++ parts_of ls ≡ k.parts ++ (part_at c l ++ parts_of ls)
+parts-more Part ds l ls k = append_assoc k.parts (part_of l.number (behind_first l) ∷ []) (parts_of ls)
+parts-more _ ds l ls k = refl
+
 -- a line whose values have no fault has been read
 pub read-next : (ds : List Decl) (lines : List LexLine) (l : LexLine) (ls : List LexLine) (k : Contents) → IsRead ds lines (l ∷ ls) k → table_value_faults (command_at l) ds l ls ≡ [] → IsRead ds lines ls (with_line (command_at l) ds l ls k)
 read-next ds lines l ls k h none = record {
   tables = tables-more (command_at l) ds l ls k ∙ h.tables;
   latches = latches-more (command_at l) ds l ls k ∙ h.latches;
   resets = resets-more (command_at l) ds l ls k ∙ h.resets;
+  parts = parts-more (command_at l) ds l ls k ∙ h.parts;
   fault = sym (ap (λ fs. fs ++ tables_faults ds ls) none) ∙ h.fault;
 }
 
@@ -84,4 +92,5 @@ read-all ds lines k h =
     let tables : k.tables ≡ tables_of ds lines = sym (append-nil k.tables) ∙ h.tables in
     let latches : k.latches ≡ latches_of lines = sym (append-nil k.latches) ∙ h.latches in
     let resets : k.resets ≡ resets_of ds lines = sym (append-nil k.resets) ∙ h.resets in
-    rw (← tables, ← latches, ← resets) refl
+    let parts : k.parts ≡ parts_of lines = sym (append-nil k.parts) ∙ h.parts in
+    rw (← tables, ← latches, ← resets, ← parts) refl

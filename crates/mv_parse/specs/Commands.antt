@@ -4,7 +4,7 @@ use Rattle.mv_base.specs.Names.{same_word, begins_with}
 use Rattle.mv_lex.specs.declared.lines.LexLine.{LexLine}
 use Rattle.mv_table.specs.Tables.{is_default_word}
 use Rattle.mv_parse.specs.declared.command.Command.{Command}
-use Rattle.mv_parse.specs.declared.command.Command.TheVariants.{Model, Inputs, Outputs, Mv, Table, Latch, Reset, Default, Row, End, Root, Unbuilt, Unknown}
+use Rattle.mv_parse.specs.declared.command.Command.TheVariants.{Model, Inputs, Outputs, Mv, Table, Latch, Reset, Default, Row, End, Root, Part, Unknown}
 
 -- the first of these words, or no bytes where there is none
 abbrev pub first_of : List (List ℕ) → List ℕ
@@ -37,7 +37,7 @@ command_of w =
     else if same_word w (codes ".latch") then Latch
     else if is_reset_word w then Reset
     else if same_word w (codes ".root") then Root
-    else if same_word w (codes ".subckt") then Unbuilt
+    else if same_word w (codes ".subckt") then Part
     else Unknown
 
 -- what a line is

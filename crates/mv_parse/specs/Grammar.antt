@@ -18,8 +18,9 @@ use Rattle.mv_fault.specs.Tells.{when, first}
 use Rattle.mv_decl.specs.Line.{net_name_faults, decl_faults}
 use Rattle.mv_table.specs.Columns.{has_several_outputs, columns_faults, reset_faults}
 use Rattle.mv_table.specs.Tables.{behind_first, table_faults}
+use Rattle.mv_part.specs.Line.{part_faults}
 use Rattle.mv_parse.specs.declared.command.Command.{Command}
-use Rattle.mv_parse.specs.declared.command.Command.TheVariants.{Inputs, Outputs, Mv, Table, Latch, Reset, Default, Row, Unbuilt, Unknown}
+use Rattle.mv_parse.specs.declared.command.Command.TheVariants.{Inputs, Outputs, Mv, Table, Latch, Reset, Default, Row, Part, Unknown}
 use Rattle.mv_parse.specs.declared.known.OpenTable.{OpenTable}
 use Rattle.mv_parse.specs.declared.known.OpenModel.{OpenModel}
 use Rattle.mv_parse.specs.declared.known.Root.{Root}
@@ -99,7 +100,6 @@ unread_faults _ l = []
 
 -- the fault of a line outside a model that may stand in one alone
 abbrev pub outside_faults : Command → LexLine → List ParseFault
-outside_faults Unbuilt l = NotBuilt l.number ∷ []
 outside_faults Unknown l = UnknownCommand l.number (first_word l) ∷ []
 outside_faults _ l = OutsideModel l.number ∷ []
 
@@ -113,7 +113,7 @@ inside_faults Latch m l = latch_faults l.number (first_word l) (behind_first l)
 inside_faults Reset m l = reset_faults l.number (first_word l) (behind_first l)
 inside_faults Default m l = at_table l.number m.table (λ t. default_faults l.number (first_word l) t (behind_first l))
 inside_faults Row m l = at_table l.number m.table (λ t. row_faults l.number t l.words)
-inside_faults Unbuilt m l = NotBuilt l.number ∷ []
+inside_faults Part m l = part_faults l.number (first_word l) m.instances (behind_first l)
 inside_faults Unknown m l = UnknownCommand l.number (first_word l) ∷ []
 inside_faults _ m l = []
 

@@ -8,19 +8,20 @@ use Rattle.mv_decl.specs.Nets.{with_decls}
 use Rattle.mv_decl.specs.Line.{decls_said}
 use Rattle.mv_table.specs.Columns.{ins_of, outs_of}
 use Rattle.mv_table.specs.Tables.{behind_first, table_of}
+use Rattle.mv_part.specs.Line.{instance_of, part_of}
 use Rattle.mv_parse.specs.declared.command.Command.{Command}
-use Rattle.mv_parse.specs.declared.command.Command.TheVariants.{Inputs, Outputs, Mv, Table, Latch, Reset, Default, Row}
+use Rattle.mv_parse.specs.declared.command.Command.TheVariants.{Inputs, Outputs, Mv, Table, Latch, Reset, Default, Row, Part}
 use Rattle.mv_parse.specs.declared.known.OpenTable.{OpenTable}
 use Rattle.mv_parse.specs.declared.known.OpenModel.{OpenModel}
 use Rattle.mv_parse.specs.declared.known.Contents.{Contents}
 use Rattle.mv_parse.specs.declared.known.Known.{Known}
 use Rattle.mv_base.specs.declared.limits.TheConstants.{MAX_COLUMNS, MAX_MODELS}
 use Rattle.mv_parse.specs.Commands.{first_of, command_at, is_table, is_model, is_end, is_root}
-use Rattle.mv_parse.specs.Known.{front_rows, tables_of, latch_of, latches_of, resets_of, root_said, file_model}
+use Rattle.mv_parse.specs.Known.{front_rows, tables_of, latch_of, latches_of, resets_of, parts_of, root_said, file_model}
 
 -- a model and a table that begin
 abbrev pub new_model : LexLine → OpenModel
-new_model l = record { line = l.number; name = first_of (behind_first l); inputs = []; outputs = []; decls = []; table = None }
+new_model l = record { line = l.number; name = first_of (behind_first l); inputs = []; outputs = []; decls = []; instances = []; table = None }
 
 -- a table that a first line with these words begins
 abbrev pub new_table : List (List ℕ) → OpenTable
@@ -37,6 +38,10 @@ with_outputs words m = record m { outputs = m.outputs ++ words; table = None }
 -- a model with the declarations that these words say; the line closes its table
 abbrev pub with_declared : List (List ℕ) → OpenModel → OpenModel
 with_declared words m = record m { decls = with_decls m.decls (decls_said words); table = None }
+
+-- a model with the name of one more instance, which these words say; the line closes its table
+abbrev pub with_instance : List (List ℕ) → OpenModel → OpenModel
+with_instance words m = record m { instances = m.instances ++ instance_of words ∷ []; table = None }
 
 -- a model whose table is closed
 abbrev pub with_no_table : OpenModel → OpenModel
@@ -72,6 +77,7 @@ inside_step Latch l m = with_no_table m
 inside_step Reset l m = with_open_table (behind_first l) m
 inside_step Default l m = with_default m
 inside_step Row l m = with_row m
+inside_step Part l m = with_instance (behind_first l) m
 inside_step _ l m = m
 
 -- a line within a model goes on with it, or ends it
@@ -103,13 +109,14 @@ is_inner c o = not (is_model c) && is_some o
 
 -- what these lines of a model say besides its ports and its declarations
 abbrev pub contents_of : List Decl → List LexLine → Contents
-contents_of ds ls = record { tables = tables_of ds ls; latches = latches_of ls; resets = resets_of ds ls }
+contents_of ds ls = record { tables = tables_of ds ls; latches = latches_of ls; resets = resets_of ds ls; parts = parts_of ls }
 
 -- that of the lines before, with what a line adds, where these lines stand behind it
 abbrev pub with_line : Command → List Decl → LexLine → List LexLine → Contents → Contents
 with_line Table ds l ls k = record k { tables = k.tables ++ table_of ds l (front_rows ls) ∷ [] }
 with_line Latch ds l ls k = record k { latches = k.latches ++ latch_of l ∷ [] }
 with_line Reset ds l ls k = record k { resets = k.resets ++ table_of ds l (front_rows ls) ∷ [] }
+with_line Part ds l ls k = record k { parts = k.parts ++ part_of l.number (behind_first l) ∷ [] }
 with_line _ ds l ls k = k
 
 -- a first line of a table or a reset table has no more columns than a table may have

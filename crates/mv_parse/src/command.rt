@@ -20,8 +20,7 @@ pub enum Command {
     Row,
     End,
     Root,
-    /// A command that this version doesn't read.
-    Unbuilt,
+    Part,
     Unknown,
 }
 
@@ -67,7 +66,7 @@ fn command_of(word: &[u8]) -> Command
     } else if is_text(word, b".root") {
         Command::Root
     } else if is_text(word, b".subckt") {
-        Command::Unbuilt
+        Command::Part
     } else {
         Command::Unknown
     }

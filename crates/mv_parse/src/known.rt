@@ -1,6 +1,6 @@
 use mv_base::{Items, Name, NameSet};
 use mv_decl::Decls;
-use mv_design::{FileLatch, FileModel, FileTable};
+use mv_design::{FileLatch, FileModel, FileTable, Part};
 
 /// What the lines of the open table say so far: how many columns of each kind it has, how many rows, and whether its
 /// default has stood.
@@ -12,7 +12,7 @@ pub struct OpenTable {
     pub has_default: bool,
 }
 
-/// What the lines of the open model say so far.
+/// What the lines of the open model say so far. Of its instances it has the names.
 #[derive(Drop)]
 pub struct OpenModel {
     pub line: u32,
@@ -20,6 +20,7 @@ pub struct OpenModel {
     pub inputs: NameSet,
     pub outputs: NameSet,
     pub decls: Decls,
+    pub instances: NameSet,
     pub table: Option<OpenTable>,
 }
 
@@ -29,6 +30,7 @@ pub struct Contents {
     pub tables: Items<FileTable>,
     pub latches: Items<FileLatch>,
     pub resets: Items<FileTable>,
+    pub parts: Items<Part>,
 }
 
 /// The root as a line names it.

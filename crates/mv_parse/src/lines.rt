@@ -3,15 +3,17 @@ ghost use Rattle.mv_base.specs.declared.limits.TheConstants.{MAX_COLUMNS as most
 ghost use Rattle.mv_fault.specs.Tells.{Tells};
 ghost use Rattle.mv_decl.specs.Line.{decl_faults};
 ghost use Rattle.mv_table.specs.Columns.{columns_faults, reset_faults};
+ghost use Rattle.mv_part.specs.Line.{part_faults};
 ghost use Rattle.mv_parse.specs.Commands.{first_of};
 ghost use Rattle.mv_parse.specs.Grammar.{name_faults, model_faults, port_faults, latch_faults, row_faults, default_faults};
-ghost use Rattle.mv_parse.specs.Steps.{with_inputs, with_outputs, with_declared, with_no_table, with_open_table, default_seen, row_seen};
+ghost use Rattle.mv_parse.specs.Steps.{with_inputs, with_outputs, with_declared, with_instance, with_no_table, with_open_table, default_seen, row_seen};
 
 use crate::known::{OpenModel, OpenTable};
 use crate::latches::check_latch;
 use mv_base::{MAX_MODELS, MAX_TABLE_LINES, Name, NameSet};
 use mv_decl::declare;
 use mv_fault::{ParseFault, Which};
+use mv_part::add_part;
 use mv_table::{check_columns, check_reset, ins, outs};
 use mv_word::{is_model_name, is_net_name};
 use std::alloc::Global;
@@ -174,6 +176,21 @@ pub fn pass_latch(
 {
     model.table = None;
     check_latch(number, word, words)
+}
+
+/// Reads the words behind `.subckt`: the instance's name alone, for what they say is read at the end of the model.
+pub fn pass_part(
+    alloc: Global,
+    model: &mut OpenModel,
+    number: u32,
+    word: &Name,
+    words: &[Name],
+) -> Result<(), ParseFault>
+    ensures fault { Tells result (part_faults number word.now model.old.instances words.now) }
+    ensures ok { OnOk result (model.new ≡ with_instance words.now model.old) }
+{
+    model.table = None;
+    add_part(alloc, &mut model.instances, number, word, words)
 }
 
 /// Counts a row of the open table.

@@ -13,8 +13,8 @@ ghost use Rattle.mv_parse.specs.Steps.{inside_step, body_step, with_model, with_
 use crate::command::{Command, first_word, is_end, is_model, is_root};
 use crate::known::{Known, OpenModel};
 use crate::lines::{
-    begin_reset, begin_table, count_default, count_row, model_name, pass_latch, read_decls,
-    read_inputs, read_outputs,
+    begin_reset, begin_table, count_default, count_row, model_name, pass_latch, pass_part,
+    read_decls, read_inputs, read_outputs,
 };
 use crate::roots::read_root;
 use crate::tables::end_model;
@@ -56,6 +56,7 @@ fn begin_model(alloc: Global, known: &mut Known, line: &LexLine) -> Result<(), P
         inputs: NameSet::new(alloc),
         outputs: NameSet::new(alloc),
         decls: Decls::new(alloc)?,
+        instances: NameSet::new(alloc),
         table: None,
     });
     Ok(())
@@ -80,7 +81,6 @@ fn outside_line(alloc: Global, command: Command, line: &LexLine) -> Result<(), P
     ensures { Tells result (outside_faults command line.now) }
 {
     match command {
-        Command::Unbuilt => Err(ParseFault::NotBuilt { line: line.number }),
         Command::Unknown => Err(ParseFault::UnknownCommand {
             line: line.number,
             word: Name::new(alloc, first_word(line))?,
@@ -171,8 +171,11 @@ fn inside_line(
         }
         Command::Row => row_line(model, line),
         Command::Default => default_line(alloc, model, line),
+        Command::Part => {
+            let word = Name::new(alloc, first_word(line))?;
+            pass_part(alloc, model, number, &word, words)
+        }
         Command::Model | Command::Root | Command::End => unreachable!(),
-        Command::Unbuilt => Err(ParseFault::NotBuilt { line: number }),
         Command::Unknown => Err(ParseFault::UnknownCommand {
             line: number,
             word: Name::new(alloc, first_word(line))?,

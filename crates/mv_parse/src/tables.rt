@@ -14,7 +14,8 @@ use mv_decl::Decls;
 use mv_design::FileModel;
 use mv_fault::ParseFault;
 use mv_lex::LexLine;
-use mv_table::read_table;
+use mv_part::read_part;
+use mv_table::{behind_first, read_table};
 use std::alloc::Global;
 
 /// The rows and the defaults in front of any other line.
@@ -51,12 +52,16 @@ fn add_line(
             let table = read_table(alloc, decls, line, front_rows(behind))?;
             contents.resets.push(table)?;
         }
+        Command::Part => {
+            let part = read_part(alloc, line.number, behind_first(line))?;
+            contents.parts.push(part)?;
+        }
         _ => {}
     }
     Ok(())
 }
 
-/// The tables, the latches and the reset tables among the lines of a model behind its first. Each line is let go once what it
+/// The tables, the latches, the reset tables and the instances among the lines of a model behind its first. Each line is let go once what it
 /// says has been read.
 #[tactic(auto, using(mv_fault::proofs::Firsts::firsts))]
 fn contents(alloc: Global, decls: &Decls, lines: Items<LexLine>) -> Result<Contents, ParseFault>
@@ -68,6 +73,7 @@ fn contents(alloc: Global, decls: &Decls, lines: Items<LexLine>) -> Result<Conte
         tables: Items::new(alloc),
         latches: Items::new(alloc),
         resets: Items::new(alloc),
+        parts: Items::new(alloc),
     };
     let mut left = lines;
     for at in 0..left.len() {
@@ -100,6 +106,6 @@ pub fn end_model(
         tables: contents.tables,
         latches: contents.latches,
         resets: contents.resets,
-        parts: Items::new(alloc),
+        parts: contents.parts,
     })
 }

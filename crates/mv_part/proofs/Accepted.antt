@@ -9,7 +9,7 @@ use Rattle.mv_design.specs.declared.design.Bind.{Bind}
 use Rattle.mv_fault.proofs.Firsts.{append-nothing}
 use Rattle.mv_part.specs.Binding.{before_equal, binding_of, binding_faults, bindings_faults}
 use Rattle.mv_part.specs.Line.{own_name_faults, instance_faults, part_faults, instance_of, part_of}
-use Rattle.mv_part.specs.Lawful.{IsFileBind, IsFilePart}
+use Rattle.mv_design.specs.Proper.{IsFileBind, IsFilePart}
 use Rattle.mv_part.proofs.Lawful.{formals, AreNewBinds}
 
 -- a lawful name has a byte

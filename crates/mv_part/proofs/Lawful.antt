@@ -12,7 +12,7 @@ use Rattle.mv_fault.specs.Tells.{when}
 use Rattle.mv_fault.proofs.Nothing.{left-nothing, right-nothing, when-nothing}
 use Rattle.mv_part.specs.Binding.{before_equal, binding_of, lacks_side, binding_faults, bindings_faults}
 use Rattle.mv_part.specs.Line.{own_name_faults, instance_faults, part_faults, instance_of, part_of}
-use Rattle.mv_part.specs.Lawful.{IsFileBind, IsFilePart}
+use Rattle.mv_design.specs.Proper.{IsFileBind, IsFilePart}
 
 -- a binding without a fault: its names are lawful, and its formal wasn't bound before
 record IsNewBind (bound : List (List ℕ)) (b : Bind) : Type 0 where

@@ -1,3 +1,2 @@
 pub mod Binding
 pub mod Line
-pub mod Lawful

@@ -3,7 +3,7 @@ ghost use Rattle.std.specs.List.{list_any};
 ghost use Rattle.mv_base.specs.Names.{among};
 ghost use Rattle.mv_part.specs.Binding.{is_equal, before_equal, behind_equal};
 ghost use Rattle.mv_part.specs.Line.{part_faults, instance_of, part_of};
-ghost use Rattle.mv_part.specs.Lawful.{IsFilePart};
+ghost use Rattle.mv_design.specs.Proper.{IsFilePart};
 
 /// A word with `=` is what stands before the first of them, which has none, the `=`, and what stands behind it. Behind the first
 /// `=` of a word that has none stands nothing.

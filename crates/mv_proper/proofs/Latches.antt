@@ -1,9 +1,8 @@
 -- The latches of a model: their names are lawful, line by line, and where the values of all its lines have no fault their
 -- inputs have as many values as their outputs.
-use Rattle.std.proofs.Common.{◌≡◌, ℕ, true, List, [], ◌∷◌, ◌++◌, sym, subst}
+use Rattle.std.proofs.Common.{◌≡◌, ℕ, true, List, [], ◌∷◌, ◌++◌}
 use Rattle.std.specs.Prelude.{All, drop, nat_lt, length}
 use Rattle.std.proofs.lemmas.Bool.{not-false, eqb-true}
-use Rattle.std.proofs.lemmas.Grind.{flat_map-append}
 use Rattle.std.proofs.lemmas.List.Elements.{All-nil, All-cons, All-append}
 use Rattle.mv_base.specs.Names.{is_net_name}
 use Rattle.mv_lex.specs.declared.lines.LexLine.{LexLine}
@@ -23,6 +22,7 @@ use Rattle.mv_parse.specs.Commands.{first_of, first_word, command_at}
 use Rattle.mv_parse.specs.Known.{latch_of, latch_at, latches_of}
 use Rattle.mv_parse.specs.Grammar.{latch_faults, latch_value_faults, table_value_faults, tables_faults, inside_faults}
 use Rattle.mv_proper.proofs.Decls.{net-lawful}
+use Rattle.mv_proper.proofs.Said.{said-push}
 
 -- the names of a latch are lawful
 pub record IsNamed (h : FileLatch) : Type 0 where
@@ -49,9 +49,7 @@ latch-here _ m l none = All-nil IsNamed
 pub latches-push : (m : OpenModel) (ls : List LexLine) (l : LexLine) → inside_faults (command_at l) m l ≡ [] → All IsNamed (latches_of ls)
     → All IsNamed (latches_of (ls ++ l ∷ []))
 latches-push m ls l none h =
-    let here : List FileLatch = latch_at (command_at l) l in
-    subst (All IsNamed) (sym (flat_map-append (λ (x : LexLine). latch_at (command_at x) x) ls (l ∷ [])))
-    (All-append IsNamed (latches_of ls) (here ++ []) h (All-append IsNamed here [] (latch-here (command_at l) m l none) (All-nil IsNamed)))
+    said-push IsNamed (λ (x : LexLine). latch_at (command_at x) x) ls l h (latch-here (command_at l) m l none)
 
 -- ---- at the end of the model
 

@@ -11,7 +11,9 @@ pub mod Columns
 pub mod LineKinds
 pub mod Ports
 pub mod Tables
+pub mod Said
 pub mod Latches
+pub mod Parts
 pub mod Order
 pub mod Models
 pub mod Proper

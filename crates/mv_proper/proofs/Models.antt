@@ -20,10 +20,10 @@ use Rattle.mv_parse.specs.declared.command.Command.TheVariants.{Inputs, Outputs,
 use Rattle.mv_parse.specs.declared.known.OpenTable.{OpenTable}
 use Rattle.mv_parse.specs.declared.known.OpenModel.{OpenModel}
 use Rattle.mv_parse.specs.Commands.{first_of, first_word, command_at, keeps_table, is_table}
-use Rattle.mv_parse.specs.Known.{inputs_at, inputs_of, outputs_at, outputs_of, decls_at, decls_of, latches_of, open_model, file_model}
+use Rattle.mv_parse.specs.Known.{inputs_at, inputs_of, outputs_at, outputs_of, decls_at, decls_of, latches_of, parts_of, open_model, file_model}
 use Rattle.mv_parse.specs.Grammar.{row_faults, default_faults, tables_faults, at_table, unread_faults, inside_faults}
 use Rattle.mv_parse.proofs.Opens.{inputs-push, outputs-push, decls-push}
-use Rattle.mv_design.specs.Proper.{IsFileDecl, numbers_ascend, IsProperModel}
+use Rattle.mv_design.specs.Proper.{IsFileDecl, IsFilePart, numbers_ascend, IsProperModel}
 use Rattle.mv_proper.specs.Lines.{numbers_of}
 use Rattle.mv_proper.proofs.Rows.{IsEntryLine, HasColumns}
 use Rattle.mv_proper.proofs.Names.{IsNames, no-names, IsNames-nil}
@@ -33,6 +33,7 @@ use Rattle.mv_proper.proofs.LineKinds.{line-default, line-row}
 use Rattle.mv_proper.proofs.Ports.{ports-named}
 use Rattle.mv_proper.proofs.Tables.{AreTables, tables-push, tables-fit}
 use Rattle.mv_proper.proofs.Latches.{IsNamed, latches-push, latches-fit}
+use Rattle.mv_proper.proofs.Parts.{parts-push}
 use Rattle.mv_proper.proofs.Order.{stands}
 
 -- a model that is open, by its first line and those behind it
@@ -43,9 +44,10 @@ pub record IsOpen (m : LexLine) (ls : List LexLine) : Type 0 where
   pub decls : All IsFileDecl (decls_of ls)
   pub tables : AreTables ls
   pub latches : All IsNamed (latches_of ls)
+  pub parts : All IsFilePart (parts_of ls)
 
 pub IsOpen-new : (m : LexLine) → is_model_name (first_of (behind_first m)) ≡ true → IsOpen m []
-IsOpen-new m y = record { name = y; inputs = no-names is_net_name; outputs = no-names is_net_name; decls = All-nil IsFileDecl; tables = tt; latches = All-nil IsNamed }
+IsOpen-new m y = record { name = y; inputs = no-names is_net_name; outputs = no-names is_net_name; decls = All-nil IsFileDecl; tables = tt; latches = All-nil IsNamed; parts = All-nil IsFilePart }
 
 -- ---- what one more line adds
 
@@ -114,6 +116,7 @@ IsOpen-push m ls l h unread none =
       decls = subst (All IsFileDecl) (sym (decls-push ls l)) (decls-step c o l none h.decls);
       tables = tables-push ls l h.tables (head-step c o l unread none) (entry-step c o l refl none);
       latches = latches-push o ls l none h.latches;
+      parts = parts-push o ls l none h.parts;
     }
 
 -- ---- at its end
@@ -123,15 +126,17 @@ pub IsOpen-proper : (m : LexLine) (ls : List LexLine) → IsOpen m ls → number
 IsOpen-proper m ls h up none =
     let fit = tables-fit (decls_of ls) ls h.tables in
     record {
-      name = h.name;
-      inputs = h.inputs.lawful;
-      inputs_differ = h.inputs.differ;
-      outputs = h.outputs.lawful;
-      outputs_differ = h.outputs.differ;
-      decls = h.decls;
-      tables = fit.tables;
+      lawful = record {
+        name = h.name;
+        inputs = h.inputs.lawful;
+        inputs_differ = h.inputs.differ;
+        outputs = h.outputs.lawful;
+        outputs_differ = h.outputs.differ;
+        decls = h.decls;
+        tables = fit.tables;
+        latches = latches-fit (decls_of ls) ls h.latches none;
+        resets = fit.resets;
+        parts = h.parts;
+      };
       order = stands m ls up;
-      latches = latches-fit (decls_of ls) ls h.latches none;
-      resets = fit.resets;
-      parts = refl;
     }

@@ -1,21 +1,22 @@
--- A model stands by line where the numbers of its lines ascend: its tables, latches and reset tables are each said by lines of
--- one kind, and no line is of two kinds.
+-- A model stands by line where the numbers of its lines ascend: its tables, latches, reset tables and instances are each said by
+-- lines of one kind, and no line is of two kinds.
 use Rattle.std.proofs.Common.{◌≡◌, ℕ, ◌<◌, true, false, Bool, List, [], ◌∷◌, ◌++◌, refl, sym, subst, ◌∙◌, ⊎_elim}
 use Rattle.std.specs.Prelude.{not, nat_eq, filter, map, All, if◌then◌else◌}
 use Rattle.std.specs.List.{list_any}
 use Rattle.std.proofs.lemmas.Bool.{false≢true, cases_Bool, cond_both, and_parts, and_from, or_parts, not-true, not_from_false, eq-eqb}
 use Rattle.std.proofs.lemmas.List.Elements.{All-nil, All-cons}
-use Rattle.mv_base.proofs.Lists.{everywhere}
 use Rattle.mv_lex.specs.declared.lines.LexLine.{LexLine}
 use Rattle.mv_design.specs.declared.design.Decl.{Decl}
 use Rattle.mv_design.specs.declared.design.FileLatch.{FileLatch}
+use Rattle.mv_design.specs.declared.design.Part.{Part}
 use Rattle.mv_design.specs.declared.table.FileTable.{FileTable}
-use Rattle.mv_design.specs.Proper.{numbers_ascend, none_in_both, table_lines, latch_lines, SharesOwnOnly, StandsByLine}
+use Rattle.mv_design.specs.Proper.{numbers_ascend, none_in_both, table_lines, latch_lines, part_lines, SharesOwnOnly, StandsByLine}
 use Rattle.mv_table.specs.Tables.{table_of}
+use Rattle.mv_part.specs.Line.{part_of}
 use Rattle.mv_parse.specs.declared.command.Command.{Command}
-use Rattle.mv_parse.specs.declared.command.Command.TheVariants.{Table, Latch, Reset}
+use Rattle.mv_parse.specs.declared.command.Command.TheVariants.{Table, Latch, Reset, Part as SaysPart}
 use Rattle.mv_parse.specs.Commands.{command_at}
-use Rattle.mv_parse.specs.Known.{table_at, tables_of, latch_at, latches_of, reset_at, resets_of, decls_of, open_model, file_model}
+use Rattle.mv_parse.specs.Known.{table_at, tables_of, latch_at, latches_of, reset_at, resets_of, part_at, parts_of, decls_of, open_model, file_model}
 use Rattle.mv_proper.specs.Lines.{numbers_of}
 use Rattle.mv_proper.proofs.Ascending.{first-below, ascend-tail, ascend-cons, ascend-lower, none-behind, none-first}
 
@@ -95,6 +96,11 @@ abbrev says_reset : Command → Bool
 says_reset Reset = true
 says_reset _ = false
 
+-- the line says an instance
+abbrev says_part : Command → Bool
+says_part SaysPart = true
+says_part _ = false
+
 table-more : (c : Command) (ds : List Decl) (l : LexLine) (ls : List LexLine) (rest : List FileTable)
     → table_lines (table_at c ds l ls ++ rest) ≡ with_number (says_table c) l (table_lines rest)
 unfolding table_of
@@ -111,6 +117,11 @@ unfolding table_of
 reset-more Reset ds l ls rest = refl
 reset-more _ ds l ls rest = refl
 
+part-more : (c : Command) (l : LexLine) (rest : List Part) → part_lines (part_at c l ++ rest) ≡ with_number (says_part c) l (part_lines rest)
+unfolding part_of
+part-more SaysPart l rest = refl
+part-more _ l rest = refl
+
 tables-said : (ds : List Decl) (ls : List LexLine) → table_lines (tables_of ds ls) ≡ kind_lines says_table ls
 tables-said ds =
     said-lines (λ (t : FileTable). t.line) says_table (tables_of ds)
@@ -126,6 +137,11 @@ resets-said ds =
     said-lines (λ (t : FileTable). t.line) says_reset (resets_of ds)
     (record { none = refl; more = λ l ls. reset-more (command_at l) ds l ls (resets_of ds ls) })
 
+parts-said : (ls : List LexLine) → part_lines (parts_of ls) ≡ kind_lines says_part ls
+parts-said =
+    said-lines (λ (p : Part). p.line) says_part parts_of
+    (record { none = refl; more = λ l ls. part-more (command_at l) l (parts_of ls) })
+
 latch-no-table : AreApart says_latch says_table
 latch-no-table Latch y = refl
 latch-no-table _ y = cc
@@ -137,6 +153,18 @@ reset-no-table _ y = cc
 reset-no-latch : AreApart says_reset says_latch
 reset-no-latch Reset y = refl
 reset-no-latch _ y = cc
+
+part-no-table : AreApart says_part says_table
+part-no-table SaysPart y = refl
+part-no-table _ y = cc
+
+latch-no-part : AreApart says_latch says_part
+latch-no-part Latch y = refl
+latch-no-part _ y = cc
+
+reset-no-part : AreApart says_reset says_part
+reset-no-part Reset y = refl
+reset-no-part _ y = cc
 
 -- ---- reset tables share no line with a latch
 
@@ -163,6 +191,7 @@ stands m ls up =
     let tables = tables-said ds ls in
     let latches = latches-said ls in
     let resets = resets-said ds ls in
+    let parts = parts-said ls in
     let ascends = λ (kind : Command → Bool). ascend-tail m.number (kind_lines kind ls) (kind-ascends kind m.number ls up) in
     let none : none_in_both (table_lines (resets_of ds ls)) (latch_lines (latches_of ls)) ≡ true =
     rw (resets, latches) (kinds-apart says_reset says_latch m.number ls reset-no-latch up) in
@@ -170,11 +199,11 @@ stands m ls up =
       tables = rw tables (ascends says_table);
       latches = rw latches (ascends says_latch);
       resets = rw resets (ascends says_reset);
-      parts = refl;
+      parts = rw parts (ascends says_part);
       latches_tables = rw (latches, tables) (kinds-apart says_latch says_table m.number ls latch-no-table up);
       resets_tables = rw (resets, tables) (kinds-apart says_reset says_table m.number ls reset-no-table up);
-      parts_tables = refl;
-      latches_parts = everywhere (λ n. true) (λ n. refl) (latch_lines (latches_of ls));
-      resets_parts = everywhere (λ n. true) (λ n. refl) (table_lines (resets_of ds ls));
+      parts_tables = rw (parts, tables) (kinds-apart says_part says_table m.number ls part-no-table up);
+      latches_parts = rw (latches, parts) (kinds-apart says_latch says_part m.number ls latch-no-part up);
+      resets_parts = rw (resets, parts) (kinds-apart says_reset says_part m.number ls reset-no-part up);
       resets_latches = none-shares (resets_of ds ls) (latches_of ls) none;
     }

@@ -4,8 +4,8 @@ use Rattle.std.specs.Prelude.{All, Option, Some, None, nat_lt, not}
 use Rattle.std.proofs.lemmas.Bool.{cases_Bool, eqb-false, not-false}
 use Rattle.std.proofs.lemmas.List.{append-nil, map-append, length-map}
 use Rattle.std.proofs.lemmas.List.Elements.{All-nil, All-push}
-use Rattle.mv_base.specs.Names.{among}
-use Rattle.mv_base.proofs.NameLemmas.{IsPlace-from_among}
+use Rattle.mv_base.specs.Names.{among, names_differ}
+use Rattle.mv_base.proofs.NameLemmas.{IsPlace-from_among, differ-push}
 use Rattle.mv_lex.specs.declared.lines.LexLine.{LexLine}
 use Rattle.mv_design.specs.declared.design.FileModel.{FileModel}
 use Rattle.mv_design.specs.declared.design.Design.{Design}
@@ -19,10 +19,12 @@ use Rattle.mv_parse.specs.declared.known.OpenModel.{OpenModel}
 use Rattle.mv_parse.specs.declared.known.Root.{Root}
 use Rattle.mv_parse.specs.declared.known.Known.{Known}
 use Rattle.mv_parse.specs.Commands.{first_word, command_at, is_model, is_end, is_root}
-use Rattle.mv_parse.specs.Known.{says_root, decls_of, open_part, open_model, open_of, file_model, model_of, models_of, known}
+use Rattle.mv_parse.specs.Known.{says_root, decls_of, open_part, open_model, open_of, file_model, model_of, models_of, model_names, known}
 use Rattle.mv_parse.specs.Grammar.{model_faults, tables_faults, end_faults, unread_faults, inside_faults, body_faults, unended_faults, placed_faults, line_faults, behind_model, faults_at, lost_faults, last_faults, file_faults, faults_behind, faults_of, is_limit, root_place, design_of, IsDesign, IsWithin}
+use Rattle.mv_parse.specs.Steps.{CanEnd, HasRoom}
 use Rattle.mv_parse.proofs.Parts.{opened_with, open_part-more, open_part-end}
-use Rattle.mv_parse.proofs.Knowns.{model-no_root, outside-none, models-end, models-more, placed_none}
+use Rattle.mv_parse.proofs.Knowns.{model-no_root, outside-none, models-end, models-more, placed_none, known-push}
+use Rattle.mv_parse.proofs.Rooms.{line-room}
 use Rattle.mv_design.specs.Proper.{numbers_ascend, IsProperModel, IsProper}
 use Rattle.mv_proper.specs.Lines.{numbers_of}
 use Rattle.mv_proper.proofs.Ascending.{ascend-tail, ascend-front, ascend-behind}
@@ -65,9 +67,10 @@ abbrev Stands : List LexLine → Type 0
 Stands [] = Unit {0}
 Stands (m ∷ ls) = IsOpen m ls
 
--- along the lines: the models that have ended, and the lines of the open one
+-- along the lines: the models that have ended, no two of one name, and the lines of the open one
 record IsAlong (models : List FileModel) (part : List LexLine) : Type 0 where
   proper : All IsProperModel models
+  differ : names_differ (model_names models) ≡ true
   opened : Stands part
 
 -- ---- one more line, which ends no model
@@ -117,40 +120,56 @@ ends-placed : (c : Command) (k : Known) (ls : List LexLine) (l : LexLine) → is
 ends-placed End k ls l y = refl
 ends-placed _ k ls l y = cc
 
-along-end : (models : List FileModel) (part : List LexLine) (l : LexLine) → IsAlong models part → numbers_ascend (numbers_of part) ≡ true
+-- the model that is open can end behind those of these models
+abbrev CanAllEnd : List FileModel → List LexLine → Type 0
+CanAllEnd models part = (m : OpenModel) → open_of part ≡ Some m → CanEnd (model_names models) m
+
+along-end : (models : List FileModel) (part : List LexLine) (l : LexLine) → IsAlong models part → CanAllEnd models part → numbers_ascend (numbers_of part) ≡ true
     → is_end (command_at l) ≡ true → body_faults (command_at l) (open_of part) (behind_model part) l ≡ [] → IsAlong (models ++ model_of part) []
 unfolding end_faults
-along-end models [] l h up y none = absurd (outside-none (command_at l) l none)
-along-end models (m ∷ ls) l h up y none =
+along-end models [] l h can up y none = absurd (outside-none (command_at l) l none)
+along-end models (m ∷ ls) l h can up y none =
     let new : FileModel = file_model (open_model m ls) ls in
     let ends : end_faults l.number (first_word l) (behind_first l) (decls_of ls) ls ≡ [] = rw y at none in
     let extra = when (nat_lt 0 (length (behind_first l))) (Extra l.number (first_word l)) in
     let values : tables_faults (decls_of ls) ls ≡ [] = right-nothing extra (tables_faults (decls_of ls) ls) ends in
-    record { proper = All-push IsProperModel models new h.proper (IsOpen-proper m ls h.opened up values); opened = tt }
+    let differ = differ-push (model_names models) new.name h.differ (can (open_model m ls) refl).new in
+    let names : model_names (models ++ new ∷ []) ≡ model_names models ++ new.name ∷ [] = map-append (λ (f : FileModel). f.name) models (new ∷ []) in
+    record {
+      proper = All-push IsProperModel models new h.proper (IsOpen-proper m ls h.opened up values);
+      differ = rw names differ;
+      opened = tt;
+    }
 
 -- ---- all lines
 
 abbrev Along : List LexLine → Type 0
 Along before = IsAlong (models_of before) (open_part before)
 
-along-next : (before : List LexLine) (l : LexLine) → Along before → numbers_ascend (numbers_of (open_part before)) ≡ true → faults_at before l ≡ [] → Along (before ++ l ∷ [])
+along-next : (before : List LexLine) (l : LexLine) → Along before → HasRoom (known before) → numbers_ascend (numbers_of (open_part before)) ≡ true → faults_at before l ≡ [] → Along (before ++ l ∷ [])
 unfolding known line_faults
-along-next before l h up none =
+along-next before l h room up none =
     let part : List LexLine = open_part before in
     let unread : unread_faults (command_at l) l ≡ [] = left-nothing _ (placed_faults (command_at l) (known before) (behind_model part) l) none in
     let placed = placed_none (command_at l) (known before) (behind_model part) l none in
     ⊎_elim
     (λ (y : is_end (command_at l) ≡ true).
     rw (models-end before l y, open_part-end before l y)
-    (along-end (models_of before) part l h up y (sym (ends-placed (command_at l) (known before) (behind_model part) l y) ∙ placed)))
+    (along-end (models_of before) part l h room.opened up y (sym (ends-placed (command_at l) (known before) (behind_model part) l y) ∙ placed)))
     (λ (n : is_end (command_at l) ≡ false).
     rw (models-more before l n, open_part-more before l n)
-    (record { proper = h.proper; opened = stands-more (known before) part l refl h.opened n unread placed }))
+    (record { proper = h.proper; differ = h.differ; opened = stands-more (known before) part l refl h.opened n unread placed }))
     (cases_Bool (is_end (command_at l)))
 
--- at the end of the file all models are proper, and the root is one of them
+room-next : (before : List LexLine) (l : LexLine) → HasRoom (known before) → faults_at before l ≡ [] → HasRoom (known (before ++ l ∷ []))
+room-next before l room none =
+    let body : List LexLine = behind_model (open_part before) in
+    subst HasRoom (sym (known-push before l none)) (line-room (command_at l) (known before) body l room (placed_none (command_at l) (known before) body l none))
+
+-- at the end of the file all models are proper, no two have one name, and the root is one of them
 record IsWhole (k : Known) : Type 0 where
   proper : All IsProperModel k.models
+  differ : names_differ (model_names k.models) ≡ true
   root : root_place k.root k.names < length k.models
 
 root-within : (root : Option Root) (names : List (List ℕ)) → 0 < length names → lost_faults root names ≡ [] → root_place root names < length names
@@ -174,29 +193,35 @@ whole before h none =
     let other : length k.models ≢ 0 = eqb-false (length k.models) 0 (when-nothing (length k.models == 0) (NoModel 1) (left-nothing missing lost last)) in
     let size : length k.names ≡ length k.models = simp length-map in
     let within : root_place k.root k.names < length k.names = root-within k.root k.names (omega arith) (right-nothing missing lost last) in
-    record { proper = h.proper; root = omega arith }
+    record { proper = h.proper; differ = h.differ; root = omega arith }
 
-walk : (before rest : List LexLine) → Along before → numbers_ascend (numbers_of (open_part before ++ rest)) ≡ true → faults_behind before rest ≡ []
+walk : (before rest : List LexLine) → Along before → HasRoom (known before) → numbers_ascend (numbers_of (open_part before ++ rest)) ≡ true → faults_behind before rest ≡ []
     → IsWhole (known (before ++ rest))
-walk before [] h up none = let P : List LexLine → Type 0 = λ ls. IsWhole (known ls) in subst P (sym (append-nil before)) (whole before h none)
-walk before (l ∷ rest) h up none =
+walk before [] h room up none = let P : List LexLine → Type 0 = λ ls. IsWhole (known ls) in subst P (sym (append-nil before)) (whole before h none)
+walk before (l ∷ rest) h room up none =
     let here : faults_at before l ≡ [] = left-nothing (faults_at before l) (faults_behind (before ++ l ∷ []) rest) none in
     let behind : faults_behind (before ++ l ∷ []) rest ≡ [] = right-nothing (faults_at before l) _ none in
     let P : List LexLine → Type 0 = λ ls. IsWhole (known ls) in
-    subst P (append_assoc before (l ∷ []) rest) (walk (before ++ l ∷ []) rest (along-next before l h (numbers-front (open_part before) (l ∷ rest) up) here) (numbers-next before l rest up) behind)
+    subst P (append_assoc before (l ∷ []) rest)
+    (walk (before ++ l ∷ []) rest (along-next before l h room (numbers-front (open_part before) (l ∷ rest) up) here) (room-next before l room here)
+    (numbers-next before l rest up) behind)
 
 nothing-read : Along []
-nothing-read = record { proper = All-nil IsProperModel; opened = tt }
+nothing-read = record { proper = All-nil IsProperModel; differ = refl; opened = tt }
+
+nothing-known : HasRoom (known [])
+unfolding known
+nothing-known = record { few = omega arith; opened = λ m e. cc }
 
 lines-whole : (lines : List LexLine) → numbers_ascend (numbers_of lines) ≡ true → faults_of lines ≡ [] → IsWhole (known lines)
 unfolding faults_of
-lines-whole lines up none = walk [] lines nothing-read up none
+lines-whole lines up none = walk [] lines nothing-read nothing-known up none
 
 said-proper : (lines : List LexLine) → numbers_ascend (numbers_of lines) ≡ true → faults_of lines ≡ [] → IsProper (design_of lines)
 unfolding design_of
 said-proper lines up none =
     let w = lines-whole lines up none in
-    record { models = w.proper; root = w.root }
+    record { models = w.proper; differ = w.differ; root = w.root }
 
 -- lines that the grammar accepts, within the limits, have no fault
 pub no-faults : (lines : List LexLine) (d : Design) → IsDesign lines d → IsWithin lines → faults_of lines ≡ []

@@ -10,10 +10,7 @@ use Rattle.mv_parse.specs.Grammar.{faults_of, IsDesign, IsWithin, FirstFault}
 use Rattle.mv_net.specs.declared.parts.NetParts.{NetParts}
 use Rattle.mv_fault.specs.declared.flat.FlatFault.{FlatFault}
 use Rattle.mv_fault.specs.declared.flat.FlatFault.TheVariants.{Memory as NoFlatMemory}
-use Rattle.mv_design.specs.Nets.{root_of}
-use Rattle.mv_unfold.specs.Sound.{IsSoundModel, IsWithinLimits}
-use Rattle.mv_flat.specs.Flat.{HasSmallNetwork, IsFlat, IsRefused}
-use Rattle.mv_flat.proofs.Whole.{root_proper}
+use Rattle.mv_flat.specs.Flat.{IsFlat, IsRefused}
 use Rattle.mv_flat.proofs.Refusals.{refused_excludes}
 use Rattle.mv_read.specs.declared.network.NetFault.{NetFault}
 use Rattle.mv_read.specs.declared.network.NetFault.TheVariants.{Parse, Flat, Memory}
@@ -29,14 +26,14 @@ parse-told lines NoParseMemory told = tt
 parse-told lines _ (inl e) = cc
 parse-told lines _ (inr told) = told
 
-pub flat-told : (lines : List LexLine) (d : Design) (f : FlatFault) → IsDesign lines d → IsWithin lines → IsRefused (root_of d) f → IsFaultOf lines (flat_refused f)
+pub flat-told : (lines : List LexLine) (d : Design) (f : FlatFault) → IsDesign lines d → IsWithin lines → IsRefused d f → IsFaultOf lines (flat_refused f)
 flat-told lines d NoFlatMemory is within fault = tt
 flat-told lines d _ is within fault = record { design = d; is = is; within = within; fault = fault; cause = λ e. cc }
 
 pub net-told : (lines : List LexLine) (d : Design) (net : NetParts) → IsDesign lines d → IsWithin lines → IsFlat net d → IsNetOf lines net
 net-told lines d net is within flat = record { design = d; is = is; within = within; flat = flat }
 
-pub ruleset networks = (proper, parse-told, flat-told, net-told)
+pub ruleset networks = (parse-told, flat-told, net-told)
 
 -- ---- refused lines have no network
 
@@ -48,12 +45,9 @@ parse-excludes lines f told h =
 
 flat-excludes : (lines : List LexLine) (f : FlatFault) → numbers_ascend (numbers_of lines) ≡ true → IsUnsound lines f → SaySoundDesign lines → ⊥
 flat-excludes lines f up u h =
-    let same : h.design ≡ u.design = h.is.is ∙ sym u.is.is in
-    let P : Design → Type 0 = λ d. IsSoundModel (root_of d) in
-    let Q : Design → Type 0 = λ d. IsWithinLimits (root_of d) in
-    let R : Design → Type 0 = λ d. HasSmallNetwork (root_of d) in
-    refused_excludes (root_of u.design) f (root_proper u.design (root_of u.design) refl (proper lines u.design up u.is u.within)) u.fault u.cause
-    (subst P same h.sound.root) (subst Q same h.limits) (subst R same h.fits)
+    let same : u.design ≡ h.design = u.is.is ∙ sym h.is.is in
+    let P : Design → Type 0 = λ d. IsRefused d f in
+    refused_excludes h.design f (proper lines h.design up h.is h.within) (subst P same u.fault) u.cause h.sound h.limits h.fits
 
 pub refused-excludes : (lines : List LexLine) (f : NetFault) → numbers_ascend (numbers_of lines) ≡ true → IsFaultOf lines f → (f ≡ Memory → ⊥) → SaySoundDesign lines → ⊥
 refused-excludes lines (Parse f) up told some h = parse-excludes lines f told h

@@ -8,8 +8,7 @@ use Rattle.mv_parse.specs.Grammar.{IsDesign, IsWithin, FirstFault}
 use Rattle.mv_net.specs.declared.parts.NetParts.{NetParts}
 use Rattle.mv_fault.specs.declared.flat.FlatFault.{FlatFault}
 use Rattle.mv_fault.specs.declared.flat.FlatFault.TheVariants.{Memory as NoFlatMemory}
-use Rattle.mv_design.specs.Nets.{root_of}
-use Rattle.mv_unfold.specs.Sound.{IsSound, IsWithinLimits}
+use Rattle.mv_whole.specs.Sound.{IsSound, IsWithinDesignLimits, model_of}
 use Rattle.mv_flat.specs.Flat.{HasSmallNetwork, IsFlat, IsRefused}
 use Rattle.mv_read.specs.declared.network.NetFault.{NetFault}
 use Rattle.mv_read.specs.declared.network.NetFault.TheVariants.{Parse, Flat, Memory}
@@ -21,21 +20,21 @@ pub record IsNetOf (lines : List LexLine) (net : NetParts) : Type 0 where
   pub within : IsWithin lines
   pub flat : IsFlat net design
 
--- lines within the limits that say a sound design, whose nets and whose network are within theirs
+-- lines within the limits that say a sound design, whose instances, nets and network are within theirs
 pub record SaySoundDesign (lines : List LexLine) : Type 0 where
   pub design : Design
   pub is : IsDesign lines design
   pub within : IsWithin lines
   pub sound : IsSound design
-  pub limits : IsWithinLimits (root_of design)
-  pub fits : HasSmallNetwork (root_of design)
+  pub limits : IsWithinDesignLimits design sound.tree
+  pub fits : HasSmallNetwork (model_of design sound)
 
--- lines that say a design which isn't sound, or whose nets or network pass a limit, and the fault that is told of it
+-- lines that say a design which isn't sound, or whose instances, nets or network pass a limit, and the fault that is told of it
 pub record IsUnsound (lines : List LexLine) (f : FlatFault) : Type 0 where
   pub design : Design
   pub is : IsDesign lines design
   pub within : IsWithin lines
-  pub fault : IsRefused (root_of design) f
+  pub fault : IsRefused design f
   pub cause : f ≡ NoFlatMemory → ⊥
 
 -- why lines are refused: their first fault, or the fault of their design; for want of memory any may be

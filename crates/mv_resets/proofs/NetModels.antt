@@ -1,4 +1,4 @@
--- A proper sound model, with a net for each reset value, is a model whose reset values have nets of their own.
+-- A lawful sound model, with a net for each reset value, is a model whose reset values have nets of their own.
 use Rattle.std.proofs.Common.{◌≡◌, ℕ, Bool, true, List, [], ◌∷◌, length, get_or, map, sym, ◌∙◌, ap, subst, ⊎_elim, All}
 use Rattle.std.specs.List.{flat_map, list_all, list_any}
 use Rattle.std.proofs.lemmas.Bool.{false≢true, or_cases, or_left, or_right}
@@ -12,7 +12,7 @@ use Rattle.mv_design.specs.declared.design.FileModel.{FileModel}
 use Rattle.mv_design.specs.declared.table.Row.{Row}
 use Rattle.mv_design.specs.declared.table.FileTable.{FileTable}
 use Rattle.mv_design.specs.Nets.{columns_of, drivers, nets_driven, output_of}
-use Rattle.mv_design.specs.Proper.{IsFileRow, IsFileLatch, IsFileTable, IsProperModel}
+use Rattle.mv_design.specs.Proper.{IsFileRow, IsFileLatch, IsFileTable, IsLawful}
 use Rattle.mv_design.specs.Values.{count_of}
 use Rattle.mv_unfold.specs.Sound.{resets_named, HasResetsOfLatches, IsDrivenOnce, IsSoundModel}
 use Rattle.mv_unfold.proofs.Commands.{column_named, named_is_net, reset_named}
@@ -52,7 +52,7 @@ counts_kept m ws h = map_alike (count_of m.decls) (count_of (with_reset_nets m).
 kept_table : (m : FileModel) (t : FileTable) → IsFileTable m.decls t → IsNetTable (with_reset_nets m).decls t
 kept_table m t h = net_table m.decls (with_reset_nets m).decls t t.outputs h (counts_kept m t.inputs h.inputs) (counts_kept m t.outputs h.outputs) h.single
 
-made_table : (m : FileModel) (t : FileTable) → IsProperModel m → among (output_of t) (resets_named m) ≡ true → IsFileTable m.decls t
+made_table : (m : FileModel) (t : FileTable) → IsLawful m → among (output_of t) (resets_named m) ≡ true → IsFileTable m.decls t
     → IsNetTable (with_reset_nets m).decls (reset_table t)
 made_table m t p listed h =
     let o = output_is t h.single in
@@ -67,7 +67,7 @@ output_listed ts = λ k d l.
     let w = output_of (get_or ts k d) in
     any-map (same_word w) output_of ts ∙ list_any_at (λ (t : FileTable). same_word w (output_of t)) ts k d l (same_word_refl w)
 
-net_tables : (m : FileModel) → IsProperModel m → All (IsNetTable (with_reset_nets m).decls) (with_reset_nets m).tables
+net_tables : (m : FileModel) → IsLawful m → All (IsNetTable (with_reset_nets m).decls) (with_reset_nets m).tables
 unfolding with_reset_nets
 net_tables m p =
     let Is : FileTable → Type 0 = IsNetTable (with_reset_nets m).decls in
@@ -78,7 +78,7 @@ net_tables m p =
 -- ---- names
 
 -- what a table drives has a lawful name, or is a reset net
-driven_flat : (m : FileModel) (w : List ℕ) → IsProperModel m → among w (flat_map nets_driven (with_reset_nets m).tables) ≡ true → is_flat_name w ≡ true
+driven_flat : (m : FileModel) (w : List ℕ) → IsLawful m → among w (flat_map nets_driven (with_reset_nets m).tables) ≡ true → is_flat_name w ≡ true
 driven_flat m w p h =
     let drives : FileTable → Bool = λ t. among w t.outputs in
     ⊎_elim
@@ -92,7 +92,7 @@ driven_flat m w p h =
     (or_cases _ _ (sym (any-tables drives m) ∙ (sym (among_flat nets_driven w (with_reset_nets m).tables) ∙ h)))
 
 -- a reset net is that of a latch
-reset_of : (m : FileModel) (v : List ℕ) → IsProperModel m → HasResetsOfLatches m → among (reset_name v) (drivers (with_reset_nets m)) ≡ true
+reset_of : (m : FileModel) (v : List ℕ) → IsLawful m → HasResetsOfLatches m → among (reset_name v) (drivers (with_reset_nets m)) ≡ true
     → IsResetOf (with_reset_nets m) v
 unfolding with_reset_nets
 reset_of m v p resets h =
@@ -105,7 +105,7 @@ reset_of m v p resets h =
       values = values_of_reset m v p.decls listed ∙ sym (values_kept m v (driver_lawful v m p (state_drives v m state)));
     }
 
-latches_kept : (m : FileModel) → IsProperModel m → All (IsFileLatch (with_reset_nets m).decls) m.latches
+latches_kept : (m : FileModel) → IsLawful m → All (IsFileLatch (with_reset_nets m).decls) m.latches
 latches_kept m p = All-weaker (IsFileLatch m.decls) (IsFileLatch (with_reset_nets m).decls)
     (λ (l : FileLatch) h. record {
       input = h.input;
@@ -114,7 +114,7 @@ latches_kept m p = All-weaker (IsFileLatch m.decls) (IsFileLatch (with_reset_net
     })
     m.latches p.latches
 
-pub net_model : (m : FileModel) → IsProperModel m → IsSoundModel m → IsNetModel (with_reset_nets m)
+pub net_model : (m : FileModel) → IsLawful m → IsSoundModel m → IsNetModel (with_reset_nets m)
 unfolding with_reset_nets
 net_model m p s = record {
   name = p.name;

@@ -19,9 +19,9 @@ use Rattle.mv_design.specs.declared.design.FileModel.{FileModel}
 use Rattle.mv_design.specs.declared.table.FileTable.{FileTable}
 use Rattle.mv_design.specs.ByLine.{by_line}
 use Rattle.mv_design.specs.Nets.{columns_of, output_of, nets_of, nets_driven, latch_inputs, latch_outputs, drivers}
-use Rattle.mv_design.specs.Proper.{IsFileTable, IsProperModel}
+use Rattle.mv_design.specs.Proper.{IsFileTable, IsLawful}
 use Rattle.mv_unfold.specs.Sound.{resets_named, HasResetsOfLatches, IsDrivenOnce}
-use Rattle.mv_unfold.proofs.ByLine.{any-by_line}
+use Rattle.mv_design.proofs.ByLine.{any-by_line}
 use Rattle.mv_unfold.proofs.Commands.{among-nets_named, driver_is_net}
 use Rattle.mv_unfold.proofs.Distinct.{net_is_driven}
 use Rattle.mv_unfold.proofs.Named.{among-nets_of}
@@ -43,10 +43,10 @@ reset_is_state w m has h = all_among (λ v. among v (latch_outputs m)) (resets_n
 -- ---- lawful names
 
 -- what latches drive has lawful names, and what they read
-pub states_lawful : (m : FileModel) → IsProperModel m → list_all (λ l. is_net_name l.output) m.latches ≡ true
+pub states_lawful : (m : FileModel) → IsLawful m → list_all (λ l. is_net_name l.output) m.latches ≡ true
 states_lawful m p = list_all-from_AllPass (λ (l : FileLatch). is_net_name l.output) m.latches (λ k d l. (p.latches k d l).output)
 
-pub nexts_lawful : (m : FileModel) → IsProperModel m → list_all (λ l. is_net_name l.input) m.latches ≡ true
+pub nexts_lawful : (m : FileModel) → IsLawful m → list_all (λ l. is_net_name l.input) m.latches ≡ true
 nexts_lawful m p = list_all-from_AllPass (λ (l : FileLatch). is_net_name l.input) m.latches (λ k d l. (p.latches k d l).input)
 
 -- a table's names are lawful
@@ -56,8 +56,8 @@ table_lawful w ds ts all h =
     let lawful = list_all-append is_net_name t.item.inputs t.item.outputs ∙ and_from _ _ t.holds.inputs t.holds.outputs in
     all_among is_net_name (columns_of t.item) w lawful t.passes
 
--- the nets of a proper model have lawful names
-pub named_lawful : (w : List ℕ) (m : FileModel) → IsProperModel m → among w (nets_of m) ≡ true → is_net_name w ≡ true
+-- the nets of a lawful model have lawful names
+pub named_lawful : (w : List ℕ) (m : FileModel) → IsLawful m → among w (nets_of m) ≡ true → is_net_name w ≡ true
 named_lawful w m p h =
     let states = list_all-map is_net_name (λ (l : FileLatch). l.output) m.latches ∙ states_lawful m p in
     let nexts = list_all-map is_net_name (λ (l : FileLatch). l.input) m.latches ∙ nexts_lawful m p in
@@ -72,11 +72,11 @@ named_lawful w m p h =
     (or_cases (among w m.outputs) _ a))
     (or_cases (among w m.inputs) _ (sym (among-nets_of w m ∙ among-nets_named w m) ∙ h))
 
-pub driver_lawful : (w : List ℕ) (m : FileModel) → IsProperModel m → among w (drivers m) ≡ true → is_net_name w ≡ true
+pub driver_lawful : (w : List ℕ) (m : FileModel) → IsLawful m → among w (drivers m) ≡ true → is_net_name w ≡ true
 driver_lawful w m p h = named_lawful w m p (driver_is_net m w h)
 
 -- nothing drives a name that begins as that of a reset net
-pub not_driver : (v : List ℕ) (m : FileModel) → IsProperModel m → among (reset_name v) (drivers m) ≡ false
+pub not_driver : (v : List ℕ) (m : FileModel) → IsLawful m → among (reset_name v) (drivers m) ≡ false
 not_driver v m p = false_from_ne_true _ (λ h. not_lawful v (driver_lawful (reset_name v) m p h))
 
 -- ---- with a net for each reset value
@@ -85,8 +85,8 @@ not_driver v m p = false_from_ne_true _ (λ h. not_lawful v (driver_lawful (rese
 abbrev pub IsSingle : FileTable → Type 0
 IsSingle t = length t.outputs ≡ 1
 
--- as each reset table of a proper model has
-pub resets_single : (m : FileModel) → IsProperModel m → All IsSingle m.resets
+-- as each reset table of a lawful model has
+pub resets_single : (m : FileModel) → IsLawful m → All IsSingle m.resets
 resets_single m p = λ k d l. (p.resets k d l).single
 
 single_is : (ws : List (List ℕ)) → length ws ≡ 1 → ws ≡ slice_index_or ws 0 [] ∷ []

@@ -1,4 +1,4 @@
--- A proper sound model has sound nets with a net for each reset value, and few of them if it is within the limits.
+-- A lawful sound model has sound nets with a net for each reset value, and few of them if it is within the limits.
 use Rattle.std.proofs.Common.{◌≡◌, ◌⊎◌, ℕ, ◌+◌, ◌≤◌, true, inl, inr, List, [], ◌∷◌, ◌++◌, length, map, refl, sym, ◌∙◌, ap, arith, ⊎_elim, All}
 use Rattle.std.specs.List.{flat_map, list_any}
 use Rattle.std.proofs.lemmas.Bool.{false≢true, and_parts, or_cases}
@@ -10,7 +10,7 @@ use Rattle.mv_graph.specs.Above.{GoesOn, IsAcyclic}
 use Rattle.mv_design.specs.declared.design.FileModel.{FileModel}
 use Rattle.mv_design.specs.declared.table.FileTable.{FileTable}
 use Rattle.mv_design.specs.Nets.{drivers, latch_outputs, nets_driven, nets_of}
-use Rattle.mv_design.specs.Proper.{IsFileTable, IsProperModel}
+use Rattle.mv_design.specs.Proper.{IsFileTable, IsLawful}
 use Rattle.mv_unfold.specs.Sound.{reads, reads_through, resets_named, HasResetsOfLatches, IsDrivenOnce, IsSoundModel, IsWithinLimits, StandsAlone}
 use Rattle.mv_unfold.proofs.Commands.{driver_is_net, read_is_net, reader_is_net}
 use Rattle.mv_unfold.proofs.Distinct.{apart_length, differ_counted, drivers_counted, few_drivers}
@@ -24,7 +24,7 @@ use Rattle.mv_resets.proofs.Nets.{reset_is_state, resets_single, state_drives, t
 -- ---- each net is driven once
 
 -- a net with a lawful name is driven as before
-lawful_once : (m : FileModel) (w : List ℕ) → IsProperModel m → IsDrivenOnce m → among w (nets_of m) ≡ true → times w (drivers (with_reset_nets m)) ≡ 1
+lawful_once : (m : FileModel) (w : List ℕ) → IsLawful m → IsDrivenOnce m → among w (nets_of m) ≡ true → times w (drivers (with_reset_nets m)) ≡ 1
 lawful_once m w p d h =
     let e = times-drivers w m (resets_single m p) in
     let none = not_counted w (map reset_name (resets_named m)) (lawful_among w (resets_named m) (named_lawful w m p h)) in
@@ -32,7 +32,7 @@ lawful_once m w p d h =
     omega arith
 
 -- a reset net is driven by its table alone
-reset_once : (m : FileModel) (v : List ℕ) → IsProperModel m → HasResetsOfLatches m → among v (resets_named m) ≡ true
+reset_once : (m : FileModel) (v : List ℕ) → IsLawful m → HasResetsOfLatches m → among v (resets_named m) ≡ true
     → times (reset_name v) (drivers (with_reset_nets m)) ≡ 1
 reset_once m v p resets h =
     let e = times-drivers (reset_name v) m (resets_single m p) in
@@ -40,7 +40,7 @@ reset_once m v p resets h =
     let none = not_counted (reset_name v) (drivers m) (not_driver v m p) in
     omega arith
 
-each_once : (m : FileModel) → IsProperModel m → IsSoundModel m → IsDrivenOnce (with_reset_nets m)
+each_once : (m : FileModel) → IsLawful m → IsSoundModel m → IsDrivenOnce (with_reset_nets m)
 each_once m p s = record {
   once = λ w h. ⊎_elim (λ y. lawful_once m w p s.driven y)
       (λ y. let n = named w (resets_named m) y in ap (λ u. times u (drivers (with_reset_nets m))) n.is ∙ reset_once m n.latch p s.resets n.listed)
@@ -55,7 +55,7 @@ unfolding reads
 reads_either m net above h = or_cases _ _ (sym (any-tables (reads_through net above) m) ∙ h)
 
 -- what is read has a lawful name
-read_lawful : (m : FileModel) (net above : List ℕ) → IsProperModel m → reads (with_reset_nets m) net above ≡ true → is_net_name above ≡ true
+read_lawful : (m : FileModel) (net above : List ℕ) → IsLawful m → reads (with_reset_nets m) net above ≡ true → is_net_name above ≡ true
 read_lawful m net above p h =
     ⊎_elim
     (λ r.
@@ -65,7 +65,7 @@ read_lawful m net above p h =
     (reads_either m net above h)
 
 -- a net with a lawful name reads what it read
-read_kept : (m : FileModel) (net above : List ℕ) → IsProperModel m → is_net_name net ≡ true → reads (with_reset_nets m) net above ≡ true
+read_kept : (m : FileModel) (net above : List ℕ) → IsLawful m → is_net_name net ≡ true → reads (with_reset_nets m) net above ≡ true
     → reads m net above ≡ true
 read_kept m net above p lawful h =
     ⊎_elim
@@ -75,23 +75,23 @@ read_kept m net above p lawful h =
     (λ y. y)
     (reads_either m net above h)
 
-goes_kept : (m : FileModel) (last net : List ℕ) (path : List (List ℕ)) → IsProperModel m → is_net_name net ≡ true
+goes_kept : (m : FileModel) (last net : List ℕ) (path : List (List ℕ)) → IsLawful m → is_net_name net ≡ true
     → GoesOn (reads (with_reset_nets m)) last net path → GoesOn (reads m) last net path
 goes_kept m last net [] p lawful g = read_kept m net last p lawful g
 goes_kept m last net (k ∷ path) p lawful g = (read_kept m net k p lawful g.0, goes_kept m last k path p (read_lawful m net k p g.0) g.1)
 
-last_lawful : (m : FileModel) (last net : List ℕ) (path : List (List ℕ)) → IsProperModel m → GoesOn (reads (with_reset_nets m)) last net path
+last_lawful : (m : FileModel) (last net : List ℕ) (path : List (List ℕ)) → IsLawful m → GoesOn (reads (with_reset_nets m)) last net path
     → is_net_name last ≡ true
 last_lawful m last net [] p g = read_lawful m net last p g
 last_lawful m last net (k ∷ path) p g = last_lawful m last k path p g.1
 
-acyclic_nets : (m : FileModel) → IsProperModel m → IsAcyclic (reads m) → IsAcyclic (reads (with_reset_nets m))
+acyclic_nets : (m : FileModel) → IsLawful m → IsAcyclic (reads m) → IsAcyclic (reads (with_reset_nets m))
 acyclic_nets m p a = record {
   none = λ w b. a.none w (record { path = b.path; goes = goes_kept m w w b.path p (last_lawful m w w b.path p b.goes) b.goes });
 }
 
 -- what a reset net reads is a column of a reset table, whose reset value no latch is above
-reset_reads : (m : FileModel) (v above : List ℕ) → IsProperModel m → All (StandsAlone m) m.resets → reads (with_reset_nets m) (reset_name v) above ≡ true
+reset_reads : (m : FileModel) (v above : List ℕ) → IsLawful m → All (StandsAlone m) m.resets → reads (with_reset_nets m) (reset_name v) above ≡ true
     → Has (StandsAlone m) (λ t. among above t.inputs)
 reset_reads m v above p alone h =
     ⊎_elim
@@ -101,7 +101,7 @@ reset_reads m v above p alone h =
     (λ y. absurd (not_lawful v (named_lawful (reset_name v) m p (reader_is_net m (reset_name v) above y))))
     (reads_either m (reset_name v) above h)
 
-none_above : (m : FileModel) (latch v : List ℕ) (path : List (List ℕ)) → IsProperModel m → All (StandsAlone m) m.resets
+none_above : (m : FileModel) (latch v : List ℕ) (path : List (List ℕ)) → IsLawful m → All (StandsAlone m) m.resets
     → among latch (latch_outputs m) ≡ true → GoesOn (reads (with_reset_nets m)) latch (reset_name v) path → ⊥
 none_above m latch v [] p alone listed g =
     let t = reset_reads m v latch p alone g in
@@ -114,7 +114,7 @@ none_above m latch v (k ∷ path) p alone listed g =
       above = inr (record { path = path; goes = goes_kept m latch k path p (read_lawful m (reset_name v) k p g.0) g.1 });
     })
 
-pub sound_nets : (m : FileModel) → IsProperModel m → IsSoundModel m → HasSoundNets (with_reset_nets m)
+pub sound_nets : (m : FileModel) → IsLawful m → IsSoundModel m → HasSoundNets (with_reset_nets m)
 unfolding with_reset_nets
 sound_nets m p s = record {
   once = each_once m p s;
@@ -141,7 +141,7 @@ few_resets m r =
     (λ w h. state_drives w m (reset_is_state w m r h))
 
 -- the name of a net is short, and that of a reset net has a byte more
-short_names : (m : FileModel) (w : List ℕ) → IsProperModel m → IsSoundModel m → IsWithinLimits m → among w (drivers (with_reset_nets m)) ≡ true
+short_names : (m : FileModel) (w : List ℕ) → IsLawful m → IsSoundModel m → IsWithinLimits m → among w (drivers (with_reset_nets m)) ≡ true
     → length w ≤ MAX_FLAT_NAME_BYTES + 1
 short_names m w p s l h =
     ⊎_elim
@@ -154,7 +154,7 @@ short_names m w p s l h =
     (λ y. let short = l.short w (driver_is_net m w y) in let g : length w ≤ MAX_FLAT_NAME_BYTES + 1 = omega arith in g)
     (or_cases _ _ (sym (among-drivers w m (resets_single m p)) ∙ h))
 
-pub few_nets : (m : FileModel) → IsProperModel m → IsSoundModel m → IsWithinLimits m → HasFewNets (with_reset_nets m)
+pub few_nets : (m : FileModel) → IsLawful m → IsSoundModel m → IsWithinLimits m → HasFewNets (with_reset_nets m)
 few_nets m p s l =
     let e = length-drivers m (resets_single m p) in
     let same : length (map reset_name (resets_named m)) ≡ length (resets_named m) = length-map (resets_named m) reset_name in

@@ -1,4 +1,4 @@
--- A proper sound model means the same with a net for each reset value: a valuation of its nets is one of the model and of its
+-- A lawful sound model means the same with a net for each reset value: a valuation of its nets is one of the model and of its
 -- reset nets, whose values are the reset values of the latches.
 use Rattle.std.proofs.Common.{◌≡◌, ℕ, Bool, true, false, not, ◌||◌, List, [], ◌∷◌, get_or, map, refl, sym, ◌∙◌, ap, subst, ⊎_elim, All}
 use Rattle.std.specs.Prelude.{◌==◌, nat_eq, nat_lt, if◌then◌else◌}
@@ -17,7 +17,7 @@ use Rattle.mv_design.specs.declared.table.FileTable.{FileTable}
 use Rattle.mv_design.specs.Meaning.{in_values, is_reset_of, has_reset_table, lets_begin, may_begin, may_begin_all, table_holds}
 use Rattle.mv_design.specs.Meaning.{port, latch_port, of_model, AllowsModel}
 use Rattle.mv_design.specs.Nets.{latch_inputs, latch_outputs, nets_named, output_of}
-use Rattle.mv_design.specs.Proper.{IsFileTable, IsProperModel}
+use Rattle.mv_design.specs.Proper.{IsFileTable, IsLawful}
 use Rattle.mv_design.specs.Tables.{table_allows}
 use Rattle.mv_design.specs.Values.{count_of, values_of}
 use Rattle.mv_unfold.specs.Sound.{resets_named, HasResetsOfLatches, IsSoundModel}
@@ -36,11 +36,11 @@ use Rattle.mv_resets.proofs.SoundNets.{latches_differ}
 -- ---- which latches have reset nets
 
 -- those that are named by reset tables
-net_listed : (m : FileModel) (v : List ℕ) → IsProperModel m → has_reset_net (with_reset_nets m) v ≡ among v (resets_named m)
+net_listed : (m : FileModel) (v : List ℕ) → IsLawful m → has_reset_net (with_reset_nets m) v ≡ among v (resets_named m)
 net_listed m v p =
     among-drivers (reset_name v) m (resets_single m p) ∙ rw (not_driver v m p) (or-false _ ∙ reset_among v (resets_named m))
 
-table_listed : (m : FileModel) (l : FileLatch) → IsProperModel m → has_reset_table m.resets l ≡ among l.output (resets_named m)
+table_listed : (m : FileModel) (l : FileLatch) → IsLawful m → has_reset_table m.resets l ≡ among l.output (resets_named m)
 table_listed m l p = some_output l.output m.resets (resets_single m p)
 
 -- ---- what is seen from outside
@@ -48,12 +48,12 @@ table_listed m l p = some_output l.output m.resets (resets_single m p)
 same_ports : (m : FileModel) (nets : List (List ℕ)) → list_all is_net_name nets ≡ true → map (port (with_reset_nets m)) nets ≡ map (port m) nets
 same_ports m nets h = map_alike (port (with_reset_nets m)) (port m) is_net_name (λ w l. ap (λ vs. record { name = w; values = vs }) (values_kept m w l)) nets h
 
-seen_alike : (m : FileModel) (l : FileLatch) → IsProperModel m → is_net_name l.output ≡ true → latch_seen (with_reset_nets m) l ≡ latch_port m l
+seen_alike : (m : FileModel) (l : FileLatch) → IsLawful m → is_net_name l.output ≡ true → latch_seen (with_reset_nets m) l ≡ latch_port m l
 seen_alike m l p h =
     ap (λ vs. record { name = l.output; values = vs; has_reset = has_reset_net (with_reset_nets m) l.output }) (values_kept m l.output h)
     ∙ ap (λ b. record { name = l.output; values = values_of m.decls l.output; has_reset = b }) (net_listed m l.output p ∙ sym (table_listed m l p))
 
-same_interface : (m : FileModel) → IsProperModel m → (of_nets (with_reset_nets m)).interface ≡ (of_model m).interface
+same_interface : (m : FileModel) → IsLawful m → (of_nets (with_reset_nets m)).interface ≡ (of_model m).interface
 unfolding of_nets of_model with_reset_nets
 same_interface m p =
     let all = with_reset_nets m in
@@ -84,7 +84,7 @@ begins_net m value l r t h holds e =
     only w o y = ⊎_elim (λ (s : same_word w o ≡ true). same_word_is w o s) (λ (s : false ≡ true). absurd (false≢true s)) (or_cases (same_word w o) false y)
 
 -- a latch without a reset table may begin with any value
-begins_free : (m : FileModel) (value : List ℕ → ℕ) (l : FileLatch) (r : ℕ) → IsProperModel m → has_reset_net (with_reset_nets m) l.output ≡ false
+begins_free : (m : FileModel) (value : List ℕ → ℕ) (l : FileLatch) (r : ℕ) → IsLawful m → has_reset_net (with_reset_nets m) l.output ≡ false
     → list_all (lets_begin value l r) m.resets ≡ true
 begins_free m value l r p n = list_all-from_AllPass (lets_begin value l r) m.resets (λ k d lt. or_left _ _ (not_from_false _ (none k d lt)))
   where
@@ -93,7 +93,7 @@ begins_free m value l r p n = list_all-from_AllPass (lets_begin value l r) m.res
         false_from_ne_true _ (λ y. false≢true (sym n ∙ (net_listed m l.output p ∙ (sym (table_listed m l p) ∙ list_any_at (is_reset_of l) m.resets k d lt y))))
 
 -- a reset net has one of its latch's values
-net_range : (m : FileModel) (value : List ℕ → ℕ) (v : List ℕ) → IsProperModel m
+net_range : (m : FileModel) (value : List ℕ → ℕ) (v : List ℕ) → IsLawful m
     → in_values (with_reset_nets m).decls value (nets_named (with_reset_nets m)) ≡ true → has_reset_net (with_reset_nets m) v ≡ true
     → nat_lt (value (reset_name v)) (count_of m.decls v) ≡ true
 net_range m value v p range h =
@@ -101,7 +101,7 @@ net_range m value v p range h =
     ∙ all_among (λ net. nat_lt (value net) (count_of (with_reset_nets m).decls net)) (nets_named (with_reset_nets m)) (reset_name v) range
     (sym (among-nets_of (reset_name v) (with_reset_nets m)) ∙ driver_is_net (with_reset_nets m) (reset_name v) h)
 
-begins : (m : FileModel) (value : List ℕ → ℕ) (l : FileLatch) (r : ℕ) → IsProperModel m → is_net_name l.output ≡ true
+begins : (m : FileModel) (value : List ℕ → ℕ) (l : FileLatch) (r : ℕ) → IsLawful m → is_net_name l.output ≡ true
     → in_values (with_reset_nets m).decls value (nets_named (with_reset_nets m)) ≡ true
     → list_all (λ t. table_holds value (reset_table t)) m.resets ≡ true → reset_is (with_reset_nets m) value l.output r ≡ true → may_begin m value l r ≡ true
 begins m value l r p lawful range tables h =
@@ -120,7 +120,7 @@ begins m value l r p lawful range tables h =
 abbrev outputs_of : List FileLatch → List (List ℕ)
 outputs_of ls = map (λ l. l.output) ls
 
-begin_all : (m : FileModel) (value : List ℕ → ℕ) (ls : List FileLatch) (rs : List ℕ) → IsProperModel m → list_all (λ l. is_net_name l.output) ls ≡ true
+begin_all : (m : FileModel) (value : List ℕ → ℕ) (ls : List FileLatch) (rs : List ℕ) → IsLawful m → list_all (λ l. is_net_name l.output) ls ≡ true
     → in_values (with_reset_nets m).decls value (nets_named (with_reset_nets m)) ≡ true
     → list_all (λ t. table_holds value (reset_table t)) m.resets ≡ true → resets_are (with_reset_nets m) value (outputs_of ls) rs ≡ true
     → may_begin_all m value ls rs ≡ true
@@ -132,7 +132,7 @@ begin_all m value (l ∷ ls) (r ∷ rs) p lawful range tables h =
     let q = and_parts (reset_is (with_reset_nets m) value l.output r) _ h in
     and_from _ _ (begins m value l r p names.0 range tables q.0) (begin_all m value ls rs p names.1 range tables q.1)
 
-model_allows : (m : FileModel) → IsProperModel m → IsSoundModel m → (i s o n r : List ℕ) → AllowsNets (with_reset_nets m) i s o n r → AllowsModel m i s o n r
+model_allows : (m : FileModel) → IsLawful m → IsSoundModel m → (i s o n r : List ℕ) → AllowsNets (with_reset_nets m) i s o n r → AllowsModel m i s o n r
 unfolding with_reset_nets
 model_allows m p sound i s o n r a =
     let all = with_reset_nets m in
@@ -247,7 +247,7 @@ reset_begins : (m : FileModel) (value : List ℕ → ℕ) (r : List ℕ) (v : Li
     → among v (resets_named m) ≡ true → Begins m value v (value_in (latch_outputs m) r v)
 reset_begins m value r v resets h listed = first_begins m value m.latches r v h (reset_is_state v m resets listed)
 
-resets_hold : (m : FileModel) (value : List ℕ → ℕ) (r : List ℕ) → IsProperModel m → HasResetsOfLatches m → may_begin_all m value m.latches r ≡ true
+resets_hold : (m : FileModel) (value : List ℕ → ℕ) (r : List ℕ) → IsLawful m → HasResetsOfLatches m → may_begin_all m value m.latches r ≡ true
     → list_all (λ t. table_holds (nets_valued m value r) (reset_table t)) m.resets ≡ true
 resets_hold m value r p resets h =
     list_all-from_AllPass (λ (t : FileTable). table_holds (nets_valued m value r) (reset_table t)) m.resets
@@ -256,14 +256,14 @@ resets_hold m value r p resets h =
     let b = reset_begins m value r (output_of t) resets h (output_listed m.resets k d lt) in
     reset_holds m value r t b (p.resets k d lt) (AllPass-from_list_all (lets_begin value b.latch _) m.resets (and_parts _ _ b.begins).1 k d lt))
 
-tables_hold : (m : FileModel) (value : List ℕ → ℕ) (r : List ℕ) → IsProperModel m → list_all (table_holds value) m.tables ≡ true
+tables_hold : (m : FileModel) (value : List ℕ → ℕ) (r : List ℕ) → IsLawful m → list_all (table_holds value) m.tables ≡ true
     → list_all (table_holds (nets_valued m value r)) m.tables ≡ true
 tables_hold m value r p h =
     list_all-from_AllPass (table_holds (nets_valued m value r)) m.tables
     (λ k d lt. table_kept m value r (get_or m.tables k d) (p.tables k d lt) (AllPass-from_list_all (table_holds value) m.tables h k d lt))
 
 -- each net has one of its values
-net_value : (m : FileModel) (value : List ℕ → ℕ) (r : List ℕ) (w : List ℕ) → IsProperModel m → HasResetsOfLatches m
+net_value : (m : FileModel) (value : List ℕ → ℕ) (r : List ℕ) (w : List ℕ) → IsLawful m → HasResetsOfLatches m
     → in_values m.decls value (nets_named m) ≡ true → may_begin_all m value m.latches r ≡ true
     → among w (nets_named (with_reset_nets m)) ≡ true → nat_lt (nets_valued m value r w) (count_of (with_reset_nets m).decls w) ≡ true
 net_value m value r w p resets range h listed =
@@ -283,7 +283,7 @@ net_value m value r w p resets range h listed =
     ap within n.is ∙ (ap (nat_lt (value_in (latch_outputs m) r v)) (sym (count_of_reset m v p.decls n.listed)) ∙ few))
     (nets_either w m (resets_single m p) (named_is_net (with_reset_nets m) w listed))
 
-nets_allow : (m : FileModel) → IsProperModel m → IsSoundModel m → (i s o n r : List ℕ) → AllowsModel m i s o n r → AllowsNets (with_reset_nets m) i s o n r
+nets_allow : (m : FileModel) → IsLawful m → IsSoundModel m → (i s o n r : List ℕ) → AllowsModel m i s o n r → AllowsNets (with_reset_nets m) i s o n r
 unfolding with_reset_nets
 nets_allow m p sound i s o n r a =
     let all = with_reset_nets m in
@@ -300,7 +300,7 @@ nets_allow m p sound i s o n r a =
       resets = resets_by_name m a.value value m.latches r (states_lawful m p) (latches_differ m sound.driven) a.resets (λ v listed. refl);
     }
 
-pub same_meaning : (m : FileModel) → IsProperModel m → IsSoundModel m → SameMeaning (of_nets (with_reset_nets m)) (of_model m)
+pub same_meaning : (m : FileModel) → IsLawful m → IsSoundModel m → SameMeaning (of_nets (with_reset_nets m)) (of_model m)
 unfolding of_nets of_model
 same_meaning m p s = record {
   same = same_interface m p;

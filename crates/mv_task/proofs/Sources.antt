@@ -1,12 +1,11 @@
 -- The network that was left takes the place of the design that was read.
 use Rattle.std.proofs.Common.{ℕ, List, Option, Some, None}
-use Rattle.mv_base.specs.Meaning.{Refines}
+use Rattle.mv_base.specs.Meaning.{Meaning, Refines}
 use Rattle.mv_base.specs.Outside.{Held, Stored, Written, Still, Gained}
 use Rattle.mv_base.proofs.Meanings.{Refines-from_same, Refines-then}
 use Rattle.mv_net.specs.declared.parts.NetParts.{NetParts}
 use Rattle.mv_net.specs.Allowed.{of_net}
-use Rattle.mv_design.specs.declared.design.Design.{Design}
-use Rattle.mv_design.specs.Meaning.{of_design}
+use Rattle.mv_whole.specs.Sound.{of_sound}
 use Rattle.mv_text.specs.Text.{text_of}
 use Rattle.mv_back.specs.Back.{ReadsBack}
 use Rattle.mv_task.specs.Inputs.{File}
@@ -14,7 +13,8 @@ use Rattle.mv_task.specs.Made.{WasPrepared, Prepared}
 use Rattle.mv_task.specs.Replaced.{IsSource, Replaced}
 use Rattle.mv_task.proofs.NetFiles.{reads_as}
 
-source : (name : List ℕ) (before after : Option Held) (first : NetParts) (written : Design) → Refines (of_design written) (of_net first) → Still before after (λ b a. WasPrepared name b a first) → Still before after (λ b a. IsSource name b a first written)
+source : (name : List ℕ) (before after : Option Held) (first : NetParts) (written : Meaning) → Refines written (of_net first) → Still before after (λ b a. WasPrepared name b a first) → Still before after (λ b a. IsSource name b a first written)
+unfolding reads_as
 source name None after first written refines p = tt
 source name (Some b) None first written refines p = absurd p
 source name (Some b) (Some a) first written refines p =
@@ -29,7 +29,7 @@ source name (Some b) (Some a) first written refines p =
       design = design;
       read = reads_as p.content design p.net_of.lexed of.is of.flat.sound;
       flat = of.flat;
-      refines = Refines-then (of_design written) (of_net first) (of_design design) refines (Refines-from_same (of_net first) (of_design design) of.flat.means);
+      refines = Refines-then written (of_net first) (of_sound design of.flat.sound) refines (Refines-from_same (of_net first) (of_sound design of.flat.sound) of.flat.means);
     }
 
 pub replaced : (name : List ℕ) (old new : Stored) (first net : NetParts) (out out' : Written) → Prepared (File name) old new first → Gained out out' (text_of net) → ReadsBack net → Refines (of_net net) (of_net first) → Replaced name old new first net out out'
@@ -38,6 +38,7 @@ replaced name old new first net out out' p gained back refines = record {
   written = back.design;
   back = back.reads;
   source =
-      source name old.held new.held first back.design
-      (Refines-then (of_design back.design) (of_net net) (of_net first) (Refines-from_same (of_design back.design) (of_net net) back.means) refines) p;
+      let written = of_sound back.design back.reads.sound in
+      source name old.held new.held first written
+      (Refines-then written (of_net net) (of_net first) (Refines-from_same written (of_net net) back.means) refines) p;
 }

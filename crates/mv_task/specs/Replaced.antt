@@ -1,17 +1,17 @@
 -- What a run promises where its work is done, whatever it was asked for.
 use Rattle.std.specs.Prelude.{◌≡◌, ℕ, Some, List, []}
-use Rattle.mv_base.specs.Meaning.{Refines}
+use Rattle.mv_base.specs.Meaning.{Meaning, Refines}
 use Rattle.mv_base.specs.Outside.{Held, Stored, Written, StillTell, file_named, Gained}
 use Rattle.mv_net.specs.declared.parts.NetParts.{NetParts}
 use Rattle.mv_design.specs.declared.design.Design.{Design}
-use Rattle.mv_design.specs.Meaning.{of_design}
+use Rattle.mv_whole.specs.Sound.{of_sound}
 use Rattle.mv_flat.specs.Flat.{IsFlat}
 use Rattle.mv_text.specs.Text.{text_of}
 use Rattle.mv_back.specs.Back.{ReadsAs}
 
--- the named network file was read to its end, and its design became the first network; and the design that was written may take
--- the place of the one that was read
-pub record IsSource (name : List ℕ) (before after : Held) (first : NetParts) (written : Design) : Type 0 where
+-- the named network file was read to its end, and its design became the first network; and what was written may take the place of
+-- the design that was read
+pub record IsSource (name : List ℕ) (before after : Held) (first : NetParts) (written : Meaning) : Type 0 where
   pub content : List ℕ
   pub held : file_named name before.files ≡ Some content
   pub files : after.files ≡ before.files
@@ -20,7 +20,7 @@ pub record IsSource (name : List ℕ) (before after : Held) (first : NetParts) (
   pub design : Design
   pub read : ReadsAs content design
   pub flat : IsFlat first design
-  pub refines : Refines (of_design written) (of_design design)
+  pub refines : Refines written (of_sound design read.sound)
 
 -- the output gained the text of a network, which reads back as a design; and, where the files tell of themselves, that is a design
 -- that may take the place of the one read, of which the first network is
@@ -28,4 +28,4 @@ pub record Replaced (name : List ℕ) (old new : Stored) (first net : NetParts) 
   pub gained : Gained out out' (text_of net)
   pub written : Design
   pub back : ReadsAs (text_of net) written
-  pub source : StillTell old new (λ before after. IsSource name before after first written)
+  pub source : StillTell old new (λ before after. IsSource name before after first (of_sound written back.sound))

@@ -10,12 +10,11 @@ use Rattle.mv_design.specs.declared.design.FileModel.{FileModel}
 use Rattle.mv_design.specs.declared.design.Part.{Part}
 use Rattle.mv_design.specs.declared.table.FileTable.{FileTable}
 use Rattle.mv_design.specs.Nets.{columns_of}
-use Rattle.mv_design.specs.Proper.{IsFileTable, IsFileLatch, IsFileDecl}
+use Rattle.mv_design.specs.Proper.{IsFileBind, IsFileTable, IsFileLatch, IsFileDecl, IsFilePart, IsLawful}
 use Rattle.mv_tree.specs.Tree.{Instances, NoMore, Instance, Unfolds}
 use Rattle.mv_tree.specs.Places.{all_nets, actual_of, Place, root_place, path_in, place_in, places_in, places, own_nets, homes}
 use Rattle.mv_tree.specs.Unfolded.{placed_decl, decls_in, numbered, tables_in, placed_reset, resets_in, placed_latch, latches_in, joined, unfolded}
 use Rattle.mv_tree.specs.Bound.{AreBound, FollowsGrammar}
-use Rattle.mv_tree.specs.Lawful.{IsFilePart, IsLawful}
 use Rattle.mv_tree.proofs.Each.{each-append, each-both, each-from_flat, each-from_names, each-from_test, each-front, each-behind, each-map, each-named, each-weaker}
 use Rattle.mv_tree.proofs.Allowing.{input_is_net, output_is_net}
 use Rattle.mv_tree.proofs.Fitting.{AreLawful, table_fits, values_are}
@@ -42,7 +41,7 @@ placed_inside round part model h f =
     record {
       path = path_inside round.path part.instance h f.instance;
       own = λ net e. through-own round.home (λ n. path_in round.path part.instance ++ n) part.binds net e;
-      once = f.once;
+      once = f.differ;
     }
 
 placed_in : (d : Design) (round : Place) (parts : List Part) (tree : Instances) → Unfolds d parts tree → IsPath round.path → AllByRecursion IsFilePart parts
@@ -95,7 +94,9 @@ actuals_lawful : (parts : List Part) → AllByRecursion IsFilePart parts → All
 actuals_lawful parts h =
     each-from_flat IsNet actuals parts
     (each-weaker IsFilePart (λ p. AllByRecursion IsNet (actuals p))
-    (λ p f. each-map IsNet (λ b. b.actual) p.binds (each-from_test (λ b. is_net_name b.actual) p.binds f.actuals)) parts h)
+    (λ p f.
+    each-map IsNet (λ b. b.actual) p.binds
+    (each-weaker IsFileBind (λ b. IsNet b.actual) (λ b g. g.actual) p.binds (recursion_from_All IsFileBind p.binds f.binds))) parts h)
 
 columns_lawful : (ds : List Decl) (ts : List FileTable) → AllByRecursion (IsFileTable ds) ts → AllByRecursion IsNet (flat_map columns_of ts)
 columns_lawful ds ts h =

@@ -10,7 +10,7 @@ use Rattle.mv_design.specs.declared.design.FileModel.{FileModel}
 use Rattle.mv_design.specs.declared.design.Part.{Part}
 use Rattle.mv_tree.specs.Tree.{Instances, NoMore, Instance, model_named, Unfolds}
 use Rattle.mv_tree.specs.Places.{Place, root_place, place_in, places_in, places}
-use Rattle.mv_tree.specs.Lawful.{IsLawful}
+use Rattle.mv_design.specs.Proper.{IsLawful}
 use Rattle.mv_tree.proofs.Each.{each-append}
 
 named_holds : (P : FileModel → Type 0) (ms : List FileModel) (name : List ℕ) (m : FileModel) → AllByRecursion P ms → model_named ms name ≡ Some m → P m

@@ -1,10 +1,8 @@
 -- What the commands of a model name: each of its nets is an input or an output of the model, an actual of an instance, a column
 -- of a table or of a reset table, or what a latch reads or drives.
 use Rattle.std.proofs.Common.{◌≡◌, ℕ, Bool, true, false, not, ◌||◌, List, [], ◌∷◌, ◌++◌, map, refl, sym, ◌∙◌, ap, ⊎_elim}
-use Rattle.std.specs.Prelude.{nat_lt, if◌then◌else◌}
 use Rattle.std.specs.List.{AllByRecursion, list_any, flat_map}
 use Rattle.std.proofs.lemmas.Bool.{false≢true, cases_Bool, or_cases, or_left, or_right}
-use Rattle.std.proofs.lemmas.List.Folds.{list_any-append}
 use Rattle.std.proofs.lemmas.Map.Views.{any-filter_same}
 use Rattle.mv_base.specs.Firsts.{firsts_by}
 use Rattle.mv_base.specs.Names.{same_word, among}
@@ -12,39 +10,10 @@ use Rattle.mv_base.proofs.NameLemmas.{same_word_is, among-append}
 use Rattle.mv_design.specs.declared.design.FileLatch.{FileLatch}
 use Rattle.mv_design.specs.declared.design.FileModel.{FileModel}
 use Rattle.mv_design.specs.declared.design.Part.{Part}
-use Rattle.mv_design.specs.ByLine.{before_line, from_line, by_line}
+use Rattle.mv_design.specs.ByLine.{by_line}
+use Rattle.mv_design.proofs.ByLine.{any-by_line}
 use Rattle.mv_design.specs.Nets.{Naming, columns_of, latch_naming, namings, nets_named, table_naming}
 use Rattle.mv_tree.specs.Places.{part_naming, all_namings, all_nets}
-
--- ---- lists in one, by line
-
--- those before a line, and the others, make up the list
-before_from : {X : Type 0} (line : X → ℕ) (at : ℕ) (ys : List X) → before_line line at ys ++ from_line line at ys ≡ ys
-before_from line at [] = refl
-before_from {X} line at (y ∷ ys) = split (nat_lt (line y) at) (before_from line at ys)
-  where
-    split : (b : Bool) → before_line line at ys ++ from_line line at ys ≡ ys
-        → (if b then y ∷ before_line line at ys else []) ++ (if b then from_line line at ys else y ∷ ys) ≡ y ∷ ys
-    split true e = ap (λ zs. y ∷ zs) e
-    split false e = refl
-
-moved : (a b c d : Bool) → (a || (b || (c || d))) ≡ ((b || c) || (a || d))
-moved true true c d = refl
-moved true false true d = refl
-moved true false false d = refl
-moved false true c d = refl
-moved false false c d = refl
-
--- an element passes a test where one of either list does
-any-by_line : {X : Type 0} (line : X → ℕ) (p : X → Bool) (xs ys : List X) → list_any p (by_line line xs ys) ≡ (list_any p xs || list_any p ys)
-any-by_line line p [] ys = refl
-any-by_line line p (x ∷ xs) ys =
-    let front = before_line line (line x) ys in
-    let behind = from_line line (line x) ys in
-    list_any-append p front (x ∷ by_line line xs behind)
-    ∙ (ap (λ b. list_any p front || (p x || b)) (any-by_line line p xs behind)
-    ∙ (moved (list_any p front) (p x) (list_any p xs) (list_any p behind)
-    ∙ ap (λ b. (p x || list_any p xs) || b) (sym (list_any-append p front behind) ∙ ap (list_any p) (before_from line (line x) ys))))
 
 -- ---- the names of commands
 

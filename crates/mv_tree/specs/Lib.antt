@@ -3,4 +3,3 @@ pub mod Places
 pub mod Unfolded
 pub mod Meaning
 pub mod Bound
-pub mod Lawful

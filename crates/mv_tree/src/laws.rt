@@ -4,12 +4,12 @@ ghost use Rattle.mv_base.specs.Names.{names_differ};
 ghost use Rattle.mv_design.specs.declared.design.Design.{Design};
 ghost use Rattle.mv_design.specs.declared.design.FileModel.{FileModel};
 ghost use Rattle.mv_design.specs.Meaning.{of_model};
+ghost use Rattle.mv_design.specs.Proper.{IsLawful};
 ghost use Rattle.mv_tree.specs.Tree.{Instances, Unfolds};
 ghost use Rattle.mv_tree.specs.Places.{homes, places};
 ghost use Rattle.mv_tree.specs.Unfolded.{unfolded};
 ghost use Rattle.mv_tree.specs.Meaning.{of_tree};
 ghost use Rattle.mv_tree.specs.Bound.{AreBound, FollowsGrammar, IsWhole};
-ghost use Rattle.mv_tree.specs.Lawful.{IsLawful};
 
 /// A root with its instances means the same as the one model over all nets that they are, where the tree is that of the root's
 /// commands, the bindings fit, no two nets of the whole have one name, each is a net of that model, each latch and reset table

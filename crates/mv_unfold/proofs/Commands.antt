@@ -12,7 +12,7 @@ use Rattle.mv_design.specs.declared.table.FileTable.{FileTable}
 use Rattle.mv_design.specs.Nets.{Naming, columns_of, drivers, latch_inputs, latch_naming, latch_outputs, namings, nets_driven, nets_named, nets_of}
 use Rattle.mv_design.specs.Nets.{table_naming}
 use Rattle.mv_unfold.specs.Sound.{reads_through, reads}
-use Rattle.mv_unfold.proofs.ByLine.{any-by_line}
+use Rattle.mv_design.proofs.ByLine.{any-by_line}
 use Rattle.mv_unfold.proofs.Named.{among-nets_of}
 use Rattle.mv_unfold.proofs.Soundness.{in_left, in_right, in_either}
 

@@ -7,7 +7,7 @@ use Rattle.mv_base.specs.Names.{same_word, among, names_differ, AreApart}
 use Rattle.mv_base.proofs.NameLemmas.{same_word_is, same_word_refl, IsDistinct-from_differ}
 use Rattle.mv_design.specs.declared.design.FileModel.{FileModel}
 use Rattle.mv_design.specs.Nets.{nets_of, drivers}
-use Rattle.mv_unfold.specs.Sound.{IsDrivenOnce}
+use Rattle.mv_unfold.specs.Sound.{AreNetsOf, IsDrivenOnce}
 use Rattle.mv_unfold.proofs.Names.{count_of_cons, among_counted}
 use Rattle.mv_unfold.proofs.Commands.{driver_is_net}
 
@@ -86,6 +86,10 @@ apart_length (u ∷ us) ws a h =
     other v y false n = n
     other v y true s = absurd (false≢true (sym a.0 ∙ (ap (λ x. among x us) (sym (same_word_is v u s)) ∙ y)))
 
--- there are no more drivers than nets
+-- there are no more drivers than nets, in whatever order these stand
+pub drivers_within : (m : FileModel) (nets : List (List ℕ)) → IsDrivenOnce m → AreNetsOf m nets → length (drivers m) ≤ length nets
+drivers_within m nets d all =
+    apart_length (drivers m) nets (IsDistinct-from_differ (drivers m) (drivers_differ m d)).apart (λ w h. all.named w ∙ driver_is_net m w h)
+
 pub few_drivers : (m : FileModel) → IsDrivenOnce m → length (drivers m) ≤ length (nets_of m)
-few_drivers m d = apart_length (drivers m) (nets_of m) (IsDistinct-from_differ (drivers m) (drivers_differ m d)).apart (driver_is_net m)
+few_drivers m d = drivers_within m (nets_of m) d (record { named = λ w. refl })

@@ -1,12 +1,10 @@
 pub mod Names
 pub mod Driven
-pub mod Faults
 pub mod ResetFaults
 pub mod Entries
 pub mod Listed
 pub mod Ranking
 pub mod Soundness
-pub mod ByLine
 pub mod Named
 pub mod Commands
 pub mod Distinct

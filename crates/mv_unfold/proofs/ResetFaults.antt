@@ -1,10 +1,10 @@
 -- The faults of reset tables, and models without them.
-use Rattle.std.proofs.Common.{◌≡◌, ℕ, true, false, not, List, [], ◌∷◌, ◌++◌, length, map, refl, sym, ◌∙◌, ap, ⊎_elim}
+use Rattle.std.proofs.Common.{◌≡◌, ℕ, true, false, not, List, [], ◌∷◌, ◌++◌, length, map, refl, sym, ◌∙◌, ap}
 use Rattle.std.specs.List.{list_all}
-use Rattle.std.proofs.lemmas.Bool.{false≢true, and_from, and_parts, cases_Bool, not-false}
+use Rattle.std.proofs.lemmas.Bool.{and_from, not-false}
 use Rattle.std.proofs.lemmas.List.{append-nil, append_assoc, nil_from_length}
 use Rattle.mv_base.specs.Names.{among, names_differ}
-use Rattle.mv_base.proofs.NameLemmas.{differ-push, differ-repeated}
+use Rattle.mv_base.proofs.NameLemmas.{differ-push}
 use Rattle.mv_design.specs.declared.design.FileModel.{FileModel}
 use Rattle.mv_design.specs.declared.table.FileTable.{FileTable}
 use Rattle.mv_design.specs.Nets.{latch_outputs, output_of}
@@ -54,20 +54,3 @@ own_latches latches seen (n ∷ ns) d e =
 pub resets_of_latches : (m : FileModel) → reset_faults m ≡ [] → HasResetsOfLatches m
 unfolding reset_faults
 resets_of_latches m e = let r = own_latches (latch_outputs m) [] (resets_named m) refl e in record { latches = r.0; differ = r.1 }
-
-no_latch_faults : (latches seen names : List (List ℕ)) → list_all (λ w. among w latches) names ≡ true → names_differ (seen ++ names) ≡ true
-    → latch_faults latches seen names ≡ []
-no_latch_faults latches seen [] h d = refl
-no_latch_faults latches seen (n ∷ ns) h d =
-    let p = and_parts (among n latches) (list_all (λ w. among w latches) ns) h in
-    let new : among n seen ≡ false =
-    ⊎_elim (λ (y : among n seen ≡ true). absurd (false≢true (sym (differ-repeated seen ns n y) ∙ d)))
-    (λ (f : among n seen ≡ false). f) (cases_Bool (among n seen)) in
-    ap (λ b. when (not b) (NoLatch n) ++ (when (among n seen) (ResetTwice n) ++ latch_faults latches (seen ++ n ∷ []) ns)) p.0
-    ∙ (ap (λ b. when b (ResetTwice n) ++ latch_faults latches (seen ++ n ∷ []) ns) new
-    ∙ no_latch_faults latches (seen ++ n ∷ []) ns p.1 (ap names_differ (append_assoc seen (n ∷ []) ns) ∙ d))
-
--- and the other way round
-pub no_reset_faults : (m : FileModel) → HasResetsOfLatches m → reset_faults m ≡ []
-unfolding reset_faults
-no_reset_faults m h = no_latch_faults (latch_outputs m) [] (resets_named m) h.latches h.differ

@@ -14,12 +14,11 @@ use Rattle.mv_design.specs.declared.table.FileTable.{FileTable}
 use Rattle.mv_design.specs.Nets.{drivers, latch_outputs, output_of}
 use Rattle.mv_fault.specs.declared.flat.FlatFault.{FlatFault}
 use Rattle.mv_fault.specs.declared.flat.FlatFault.TheVariants.{ResetReadsLatch, Memory}
-use Rattle.mv_graph.specs.Above.{IsAbove, IsAcyclic, reads_by}
+use Rattle.mv_graph.specs.Above.{IsAbove, reads_by}
 use Rattle.mv_graph.specs.Nets.{has_id}
 use Rattle.mv_graph.proofs.Nets.{has_id-at}
-use Rattle.mv_unfold.specs.Alone.{IsWithin, IsFound, IsNumberAbove, IsLeast, AreLatchesAbove, IsReading, TellsReading, least_from}
+use Rattle.mv_unfold.specs.Alone.{IsWithin, IsFound, IsNumberAbove, IsLeast, AreLatchesAbove, IsReading, TellsAlone, TellsReading, least_from}
 use Rattle.mv_unfold.specs.Columns.{columns_by_net}
-use Rattle.mv_unfold.specs.Cycles.{TellsAbove}
 use Rattle.mv_unfold.specs.Numbers.{number_in, numbers_in}
 use Rattle.mv_unfold.specs.Sound.{reads, IsAboveReset, IsDrivenOnce, IsFirstReading, StandsAlone}
 use Rattle.mv_unfold.proofs.Commands.{named_is_net, reset_named}
@@ -172,15 +171,14 @@ first_reading m i reset latch reached lt is all r = record {
 }
 
 told_at : (m : FileModel) (i : ℕ) (reset : FileTable) (f : FlatFault) → i < length m.resets → reset ≡ get_or m.resets i reset
-    → All (StandsAlone m) (take i m.resets) → IsAcyclic (reads m) → TellsReading m reset f → TellsAbove m f
-told_at m i reset (ResetReadsLatch latch reached) lt is all a t = (a, first_reading m i reset latch reached lt is all t)
-told_at m i reset Memory lt is all a t = tt
-told_at m i reset _ lt is all a t = absurd t
+    → All (StandsAlone m) (take i m.resets) → TellsReading m reset f → TellsAlone m f
+told_at m i reset (ResetReadsLatch latch reached) lt is all t = first_reading m i reset latch reached lt is all t
+told_at m i reset Memory lt is all t = tt
+told_at m i reset _ lt is all t = absurd t
 
 -- what the first reset table with a latch above its reset value reads is told of the model
 pub reading_told : (m : FileModel) (resets : List FileTable) (i : ℕ) (reset : FileTable) (f : FlatFault) → resets ≡ m.resets → i < length resets
-    → reset ≡ get_or resets i reset → All (StandsAlone m) (take i resets) → IsAcyclic (reads m)
-    → TellsReading m reset f → TellsAbove m f
-reading_told m resets i reset f e lt is all a t =
-    let P : List FileTable → Type 0 = λ rs. i < length rs → reset ≡ get_or rs i reset → All (StandsAlone m) (take i rs) → TellsAbove m f in
-    subst P (sym e) (λ l r s. told_at m i reset f l r s a t) lt is all
+    → reset ≡ get_or resets i reset → All (StandsAlone m) (take i resets) → TellsReading m reset f → TellsAlone m f
+reading_told m resets i reset f e lt is all t =
+    let P : List FileTable → Type 0 = λ rs. i < length rs → reset ≡ get_or rs i reset → All (StandsAlone m) (take i rs) → TellsAlone m f in
+    subst P (sym e) (λ l r s. told_at m i reset f l r s t) lt is all

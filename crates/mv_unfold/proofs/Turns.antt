@@ -15,8 +15,8 @@ use Rattle.mv_cycles.specs.Cycles.{IsTurning}
 use Rattle.mv_graph.proofs.Paths.{above_mapped, acyclic_mapped}
 use Rattle.mv_graph.proofs.Ranks.{IsRanked}
 use Rattle.mv_design.specs.declared.design.FileModel.{FileModel}
-use Rattle.mv_design.specs.Nets.{nets_of, drivers}
-use Rattle.mv_unfold.specs.Sound.{reads, IsFirstOnCycle, IsDrivenOnce}
+use Rattle.mv_design.specs.Nets.{drivers}
+use Rattle.mv_unfold.specs.Sound.{reads, AreNetsOf, IsFirstOnCycle, IsDrivenOnce}
 use Rattle.mv_unfold.specs.Numbers.{number_in, net_in, numbers_in}
 use Rattle.mv_unfold.specs.Columns.{columns_by_net}
 use Rattle.mv_graph.proofs.Clear.{not_unranked}
@@ -56,7 +56,7 @@ model_ranked m columns d e r =
 
 -- ---- the nets in their order
 
-pub order_below : (m : FileModel) (nets : List (List ℕ)) (size : ℕ) → IsDrivenOnce m → nets ≡ nets_of m → size ≡ length (drivers m)
+pub order_below : (m : FileModel) (nets : List (List ℕ)) (size : ℕ) → IsDrivenOnce m → AreNetsOf m nets → size ≡ length (drivers m)
     → All (λ (n : NetId). n.0 < size) (numbers_in (drivers m) nets)
 order_below m nets size d e s =
     all_from (λ (n : NetId). n.0 < size) (numbers_in (drivers m) nets)
@@ -65,17 +65,17 @@ order_below m nets size d e s =
     below : (k : ℕ) (n : NetId) → slice_get (numbers_in (drivers m) nets) k ≡ Some n → n.0 < size
     below k n at =
         let w = mapped (net_in (drivers m)) nets k n at in
-        let i = (IsNumber-among (drivers m) w.item (net_is_driven m w.item d (ap (among w.item) (sym e) ∙ among-at nets k w.item w.at))).within in
+        let i = (IsNumber-among (drivers m) w.item (net_is_driven m w.item d (sym (e.named w.item) ∙ among-at nets k w.item w.at))).within in
         let f : number_in (drivers m) w.item ≡ n.0 = ap (λ (c : NetId). c.0) w.is in
         omega arith
 
 -- every net that has columns is among them
 pub order_covers : (m : FileModel) (columns : List (List NetId)) (nets : List (List ℕ)) → IsDrivenOnce m → columns ≡ columns_by_net (drivers m) m
-    → nets ≡ nets_of m → ListsEachReader columns (numbers_in (drivers m) nets)
+    → AreNetsOf m nets → ListsEachReader columns (numbers_in (drivers m) nets)
 order_covers m columns nets d e f n k h =
     let b = reads_name (entries m) (drivers m) n k (are_nets m d) (ap (λ cs. has_id (row cs n) k) (columns_same m columns e) ∙ h) in
     let r = reader_is_net m b.net b.above (sym (reads_are m b.net b.above) ∙ b.reads) in
-    ap (has_id (numbers_in (drivers m) nets)) (sym b.net_number) ∙ has_number (drivers m) nets b.net (ap (among b.net) f ∙ r)
+    ap (has_id (numbers_in (drivers m) nets)) (sym b.net_number) ∙ has_number (drivers m) nets b.net (f.named b.net ∙ r)
 
 -- ---- cycles
 
@@ -101,12 +101,12 @@ above_by_name m columns above n d e a = above_mapped (reads_by columns) (reads m
 
 -- the net at a place of the order that is above itself by number
 on_cycle : (m : FileModel) (columns : List (List NetId)) (nets : List (List ℕ)) (order : List NetId) (place : ℕ) (w : List ℕ) → IsDrivenOnce m
-    → columns ≡ columns_by_net (drivers m) m → nets ≡ nets_of m → order ≡ numbers_in (drivers m) nets
+    → columns ≡ columns_by_net (drivers m) m → AreNetsOf m nets → order ≡ numbers_in (drivers m) nets
     → IsTurning columns order place → place < length nets → w ≡ get_or nets place w → IsAbove (reads m) w w
 on_cycle m columns nets order place w d e f o t lt is =
     let there = slice_get_read nets (length nets) place w refl lt is in
     let n : net_in (drivers m) w ≡ t.net = same_Some (net_in (drivers m) w) t.net (sym (ap (λ ns. slice_get ns place) o ∙ (slice_get-map (net_in (drivers m)) nets place ∙ ap (option_map (net_in (drivers m))) there)) ∙ t.at) in
-    let known = net_is_driven m w d (ap (among w) (sym f) ∙ among-at nets place w there) in
+    let known = net_is_driven m w d (sym (f.named w) ∙ among-at nets place w there) in
     let named : name m t.net.0 ≡ w = ap (λ (c : NetId). name m c.0) (sym n) ∙ name_at (drivers m) w known in
     let P : List ℕ → Type 0 = λ v. IsAbove (reads m) v v in
     subst P named (above_by_name m columns t.net.0 t.net.0 d e t.turns)
@@ -148,13 +148,13 @@ taken_number names nets order place w o h =
 
 -- the net at the first place of the order that is above itself by number
 pub first_on_cycle : (m : FileModel) (columns : List (List NetId)) (nets : List (List ℕ)) (order : List NetId) (place : ℕ) (w : List ℕ) → IsDrivenOnce m
-    → columns ≡ columns_by_net (drivers m) m → nets ≡ nets_of m → order ≡ numbers_in (drivers m) nets
-    → IsTurning columns order place → place < length nets → w ≡ get_or nets place w → IsFirstOnCycle m w
+    → columns ≡ columns_by_net (drivers m) m → AreNetsOf m nets → order ≡ numbers_in (drivers m) nets
+    → IsTurning columns order place → place < length nets → w ≡ get_or nets place w → IsFirstOnCycle nets m w
 first_on_cycle m columns nets order place w d e f o t lt is = record {
   cycle = on_cycle m columns nets order place w d e f o t lt is;
   before = take place nets;
   after = drop (suc place) nets;
-  place = sym f ∙ (sym (take-append-drop place nets) ∙ ap (λ ws. take place nets ++ ws) (drop-cons nets place w lt ∙ ap (λ u. u ∷ drop (suc place) nets) (sym is)));
+  place = sym (take-append-drop place nets) ∙ ap (λ ws. take place nets ++ ws) (drop-cons nets place w lt ∙ ap (λ u. u ∷ drop (suc place) nets) (sym is));
   least = λ u h c. t.first.none (number_in (drivers m) u) (taken_number (drivers m) nets order place u o h) (above_by_number m columns u u d e c);
 }
 

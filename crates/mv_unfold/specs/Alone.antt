@@ -12,7 +12,7 @@ use Rattle.mv_graph.specs.Nets.{has_id}
 use Rattle.mv_graph.specs.Above.{IsAbove, reads_by}
 use Rattle.mv_unfold.specs.Columns.{columns_by_net}
 use Rattle.mv_unfold.specs.Numbers.{numbers_in}
-use Rattle.mv_unfold.specs.Sound.{IsAboveReset}
+use Rattle.mv_unfold.specs.Sound.{IsAboveReset, IsFirstReading}
 
 -- the number k is one of low .. high
 pub record IsWithin (low high k : ℕ) : Type 0 where
@@ -79,3 +79,9 @@ abbrev pub TellsReading : FileModel → FileTable → FlatFault → Type 0
 TellsReading m reset (ResetReadsLatch latch reached) = IsReading m reset latch reached
 TellsReading m reset Memory = Unit {0}
 TellsReading m reset _ = ⊥
+
+-- want of memory, or the first reset value of a model with a latch above it
+abbrev pub TellsAlone : FileModel → FlatFault → Type 0
+TellsAlone m (ResetReadsLatch latch reached) = IsFirstReading m latch reached
+TellsAlone m Memory = Unit {0}
+TellsAlone m _ = ⊥

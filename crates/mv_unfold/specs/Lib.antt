@@ -3,5 +3,4 @@ pub mod Numbers
 -- what private functions alone cite
 pub mod Driving
 pub mod Columns
-pub mod Cycles
 pub mod Alone

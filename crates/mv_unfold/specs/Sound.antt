@@ -1,19 +1,18 @@
--- When a model is sound: each net that it names is driven exactly once, each reset table has a latch, and each latch one reset
--- table at most, no net is above itself, and no latch above a reset value. These are models without instances: the grammar
--- gives no others.
-use Rattle.std.specs.Prelude.{◌≡◌, ◌⊎◌, ℕ, ◌+◌, ◌≤◌, Bool, true, not, ◌&&◌, ◌==◌, nat_lt, Some, List, [], ◌∷◌, ◌++◌, length, map, take, All}
-use Rattle.std.specs.List.{list_all, list_any, flat_map}
+-- When a model without instances is sound: each net that it names is driven exactly once, each reset table has a latch, and
+-- each latch one reset table at most, no net is above itself, and no latch above a reset value. It speaks of one such model; a
+-- design's instances are made one model first.
+use Rattle.std.specs.Prelude.{◌≡◌, ◌⊎◌, ℕ, ◌≤◌, Bool, true, not, ◌&&◌, ◌==◌, nat_lt, List, [], ◌∷◌, ◌++◌, length, map, All}
+use Rattle.std.specs.List.{list_all, list_any}
 use Rattle.mv_base.specs.Names.{among, names_differ}
 use Rattle.mv_base.specs.declared.limits.TheConstants.{MAX_FLAT_NETS, MAX_FLAT_NAME_BYTES}
-use Rattle.mv_fault.specs.Tells.{when, first}
-use Rattle.mv_fault.specs.declared.fault.Which.TheVariants.{Nets, NetName}
+use Rattle.mv_fault.specs.Tells.{when}
+use Rattle.mv_fault.specs.declared.fault.Which.TheVariants.{NetName}
 use Rattle.mv_graph.specs.Above.{IsAbove, IsAcyclic}
 use Rattle.mv_design.specs.declared.design.FileModel.{FileModel}
-use Rattle.mv_design.specs.declared.design.Design.{Design}
 use Rattle.mv_design.specs.declared.table.FileTable.{FileTable}
 use Rattle.mv_fault.specs.declared.flat.FlatFault.{FlatFault}
 use Rattle.mv_fault.specs.declared.flat.FlatFault.TheVariants.{DrivenTwice, Undriven, NoLatch, ResetTwice, Cycle, ResetReadsLatch, Limit, Memory}
-use Rattle.mv_design.specs.Nets.{root_of, nets_of, drivers_of, output_of, latch_outputs}
+use Rattle.mv_design.specs.Nets.{nets_of, drivers_of, output_of, latch_outputs}
 
 -- `net` is an output of the table, and `above` an input of it
 abbrev pub reads_through : List ℕ → List ℕ → FileTable → Bool
@@ -23,12 +22,16 @@ reads_through net above t = among net t.outputs && among above t.inputs
 unfoldable pub reads : FileModel → List ℕ → List ℕ → Bool
 reads m net above = list_any (reads_through net above) m.tables
 
--- the first net that is above itself, in the order in which the model names its nets
-pub record IsFirstOnCycle (m : FileModel) (net : List ℕ) : Type 0 where
+-- these are the nets that the model names, in some order
+pub record AreNetsOf (m : FileModel) (nets : List (List ℕ)) : Type 0 where
+  pub named : (net : List ℕ) → among net nets ≡ among net (nets_of m)
+
+-- the first net that is above itself, where the model's nets stand in this order
+pub record IsFirstOnCycle (order : List (List ℕ)) (m : FileModel) (net : List ℕ) : Type 0 where
   pub cycle : IsAbove (reads m) net net
   pub before : List (List ℕ)
   pub after : List (List ℕ)
-  pub place : nets_of m ≡ before ++ net ∷ after
+  pub place : order ≡ before ++ net ∷ after
   pub least : (w : List ℕ) → among w before ≡ true → IsAbove (reads m) w w → ⊥
 
 -- the net is above the reset value that the table gives: it is a column of the table, or above one
@@ -55,6 +58,14 @@ pub record IsFirstReading (m : FileModel) (latch reached : List ℕ) : Type 0 wh
   pub above : IsAboveReset m reset reached
   pub least : (w : List ℕ) → among w lower ≡ true → IsAboveReset m reset w → ⊥
 
+-- what is told where something is above itself, or a latch above a reset value: the first net on a cycle, where the model's
+-- nets stand in this order; where there is none, the first reset value with a latch above it. Of want of memory nothing is said
+abbrev pub TellsAbove : List (List ℕ) → FileModel → FlatFault → Type 0
+TellsAbove order m (Cycle net) = IsFirstOnCycle order m net
+TellsAbove order m (ResetReadsLatch latch reached) = IsAcyclic (reads m) × IsFirstReading m latch reached
+TellsAbove order m Memory = Unit {0}
+TellsAbove order m _ = ⊥
+
 -- the fault of a net that is driven more than once
 abbrev pub twice_at : FileModel → List ℕ → List FlatFault
 twice_at m net = when (nat_lt 1 (drivers_of m net)) (DrivenTwice net)
@@ -66,19 +77,6 @@ undriven_at m net = when (drivers_of m net == 0) (Undriven net)
 -- the fault of a net whose name is too long
 abbrev pub long_at : List ℕ → List FlatFault
 long_at net = when (nat_lt MAX_FLAT_NAME_BYTES (length net)) (Limit NetName (length net))
-
--- the faults of those of these nets whose names are too long
-unfoldable pub long_faults : List (List ℕ) → List FlatFault
-long_faults nets = flat_map long_at nets
-
--- the fault of a model that names too many nets
-unfoldable pub many_faults : FileModel → List FlatFault
-many_faults m = when (nat_lt MAX_FLAT_NETS (length (nets_of m))) (Limit Nets (MAX_FLAT_NETS + 1))
-
--- the limits that a model's nets pass, told net by net: names that are too long, of as many nets as there may be, and then
--- the first net too many
-unfoldable pub limit_faults : FileModel → List FlatFault
-limit_faults m = long_faults (take MAX_FLAT_NETS (nets_of m)) ++ many_faults m
 
 -- the faults of reset tables, where these latches are in the model, and those have a reset table already: one whose output
 -- is no latch, and a second one of a latch
@@ -94,11 +92,6 @@ resets_named m = map output_of m.resets
 -- the faults of a model's reset tables
 unfoldable pub reset_faults : FileModel → List FlatFault
 reset_faults m = latch_faults (latch_outputs m) [] (resets_named m)
-
--- the faults of a model's nets and reset tables, but for what is above what, in the order in which they are told: a limit is
--- passed; a net is driven twice; a net isn't driven; a reset table has no latch, or isn't the only one of its latch
-unfoldable pub net_faults : FileModel → List FlatFault
-net_faults m = limit_faults m ++ (flat_map (twice_at m) (nets_of m) ++ (flat_map (undriven_at m) (nets_of m) ++ reset_faults m))
 
 -- the nets of a model pass no limit: there aren't too many, and no name is too long
 pub record IsWithinLimits (m : FileModel) : Type 0 where
@@ -121,27 +114,3 @@ pub record IsSoundModel (m : FileModel) : Type 0 where
   pub resets : HasResetsOfLatches m
   pub acyclic : IsAcyclic (reads m)
   pub alone : All (StandsAlone m) m.resets
-
--- a sound design: its root is sound. In this version a root has no instances, so no other model is reached
-pub record IsSound (d : Design) : Type 0 where
-  pub root : IsSoundModel (root_of d)
-
--- there is no fault but for what is above what, and this is the first net on a cycle
-pub record HasCycle (m : FileModel) (net : List ℕ) : Type 0 where
-  pub none : net_faults m ≡ []
-  pub first : IsFirstOnCycle m net
-
--- there is no other fault, and this is the first latch whose reset value has a latch's output above it, and the first such
--- output
-pub record HasReadingReset (m : FileModel) (latch reached : List ℕ) : Type 0 where
-  pub none : net_faults m ≡ []
-  pub acyclic : IsAcyclic (reads m)
-  pub first : IsFirstReading m latch reached
-
--- why a model is refused: the first fault but for what is above what; where there is none, the first net on a cycle; where
--- there is none either, the first reset value with a latch above it. For want of memory any may be
-abbrev pub IsFault : FileModel → FlatFault → Type 0
-IsFault m (Cycle net) = HasCycle m net
-IsFault m (ResetReadsLatch latch reached) = HasReadingReset m latch reached
-IsFault m Memory = Unit {0}
-IsFault m f = first (net_faults m) ≡ Some f

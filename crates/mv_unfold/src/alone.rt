@@ -1,14 +1,12 @@
 //! Whether reset values stand apart from the latches: which latches are above which nets.
 ghost use Rattle.std.specs.Prelude.{◌≡◌, ◌<◌, All, Contains, length, IfErr, IfOk, OnOk, ◌≤◌};
 ghost use Rattle.mv_base.specs.declared.limits.TheConstants.{MAX_FLAT_NETS};
-ghost use Rattle.mv_graph.specs.Above.{IsAcyclic};
 ghost use Rattle.mv_graph.specs.Nets.{AllBelow};
 ghost use Rattle.mv_graph.specs.Orders.{IsSortedBy};
 ghost use Rattle.mv_design.specs.Nets.{drivers};
-ghost use Rattle.mv_unfold.specs.Sound.{IsDrivenOnce, StandsAlone, reads};
-ghost use Rattle.mv_unfold.specs.Alone.{AreLatchesAbove, AreLeastAbove, IsLeast, IsNumberAbove, IsWithin, TellsReading, least_from, lesser_of};
+ghost use Rattle.mv_unfold.specs.Sound.{IsDrivenOnce, StandsAlone};
+ghost use Rattle.mv_unfold.specs.Alone.{AreLatchesAbove, AreLeastAbove, IsLeast, IsNumberAbove, IsWithin, TellsAlone, TellsReading, least_from, lesser_of};
 ghost use Rattle.mv_unfold.specs.Columns.{columns_by_net};
-ghost use Rattle.mv_unfold.specs.Cycles.{TellsAbove};
 
 use crate::Numbers;
 use crate::resets::output;
@@ -30,10 +28,9 @@ pub fn check_alone(
     requires numbers { numbers.now ≡ drivers model.now }
     requires few { length numbers.now ≤ MAX_FLAT_NETS }
     requires columns { columns.now ≡ columns_by_net (drivers model.now) model.now }
-    requires acyclic { IsAcyclic (reads model.now) }
     requires order { IsSortedBy columns.now order.now }
     ensures alone { OnOk result (All (StandsAlone model.now) model.now.resets) }
-    ensures fault { IfErr result (λ f. TellsAbove model.now f) }
+    ensures fault { IfErr result (λ f. TellsAlone model.now f) }
 {
     if model.resets.is_empty() {
         return Ok(());

@@ -1,37 +1,35 @@
 ghost use Rattle.std.specs.Prelude.{◌≡◌, ◌≤◌, All, length, IfOk, IfErr, OnOk};
 ghost use Rattle.mv_base.specs.declared.limits.TheConstants.{MAX_FLAT_NETS};
 ghost use Rattle.mv_graph.specs.Above.{IsAcyclic};
-ghost use Rattle.mv_design.specs.Nets.{nets_of, drivers};
-ghost use Rattle.mv_unfold.specs.Sound.{reads, IsDrivenOnce, IsFault, IsSoundModel, IsWithinLimits, StandsAlone};
+ghost use Rattle.mv_design.specs.Nets.{drivers};
+ghost use Rattle.mv_unfold.specs.Sound.{reads, AreNetsOf, IsDrivenOnce, StandsAlone, TellsAbove};
 ghost use Rattle.mv_unfold.specs.Columns.{columns_by_net};
-ghost use Rattle.mv_unfold.specs.Cycles.{TellsAbove};
 
 use crate::Numbers;
 use crate::alone::check_alone;
 use crate::columns::columns;
-use crate::drivers::check_nets;
-use crate::nets::nets;
-use mv_base::{Items, MAX_FLAT_NETS, NameSet, NetId};
+use crate::drivers::driven;
+use mv_base::{Items, MAX_FLAT_NETS, Name, NetId};
 use mv_cycles::first_turning;
 use mv_design::FileModel;
 use mv_fault::FlatFault;
 use mv_graph::sorted;
 use std::alloc::Global;
 
-/// The driven nets of the model, if it is sound: each net is driven once, each reset table has its own latch, no net is above
-/// itself, and no latch above a reset value. If it isn't, or if its nets pass a limit, the first fault: the first net whose name
-/// is too long, or one net too many, whichever comes first; the first net that is driven twice; the first that nothing drives;
-/// the first reset table without a latch of its own; the first net that is on a cycle; the first reset value with a latch above
-/// it.
-pub fn check(alloc: Global, model: &FileModel) -> Result<Numbers, FlatFault>
+/// The driven nets of a model whose nets are driven once each, if no net is above itself, and no latch above a reset value. If
+/// it isn't so, the first of these nets that is on a cycle; where there is none, the first reset value with a latch above it.
+/// `nets` are the nets of the model in the order in which they are looked at.
+pub fn check(alloc: Global, model: &FileModel, nets: &[Name]) -> Result<Numbers, FlatFault>
+    requires once { IsDrivenOnce model.now }
+    requires nets { AreNetsOf model.now nets.now }
+    requires few { length nets.now ≤ MAX_FLAT_NETS }
     ensures driven { IfOk result (λ driven. driven ≡ drivers model.now) }
-    ensures sound { OnOk result (IsSoundModel model.now) }
-    ensures limits { OnOk result (IsWithinLimits model.now) }
-    ensures fault { IfErr result (λ f. IsFault model.now f) }
+    ensures acyclic { OnOk result (IsAcyclic (reads model.now)) }
+    ensures alone { OnOk result (All (StandsAlone model.now) model.now.resets) }
+    ensures fault { IfErr result (λ f. TellsAbove nets.now model.now f) }
 {
-    let nets = nets(alloc, model)?;
-    let driven = Numbers::of_names(check_nets(alloc, model, &nets)?);
-    check_above(alloc, model, &nets, &driven)?;
+    let driven = Numbers::of_names(driven(alloc, model, nets.len())?);
+    check_above(alloc, model, nets, &driven)?;
     Ok(driven)
 }
 
@@ -39,17 +37,17 @@ pub fn check(alloc: Global, model: &FileModel) -> Result<Numbers, FlatFault>
 fn check_above(
     alloc: Global,
     model: &FileModel,
-    nets: &NameSet,
+    nets: &[Name],
     numbers: &Numbers,
 ) -> Result<(), FlatFault>
     requires once { IsDrivenOnce model.now }
-    requires nets { nets.now ≡ nets_of model.now }
+    requires nets { AreNetsOf model.now nets.now }
+    requires few_nets { length nets.now ≤ MAX_FLAT_NETS }
     requires numbers { numbers.now ≡ drivers model.now }
-    requires few_nets { length (nets_of model.now) ≤ MAX_FLAT_NETS }
     requires few { length numbers.now ≤ MAX_FLAT_NETS }
     ensures acyclic { OnOk result (IsAcyclic (reads model.now)) }
     ensures alone { OnOk result (All (StandsAlone model.now) model.now.resets) }
-    ensures fault { IfErr result (λ f. TellsAbove model.now f) }
+    ensures fault { IfErr result (λ f. TellsAbove nets.now model.now f) }
 {
     let columns = columns(alloc, numbers, model)?;
     match sorted(alloc, columns.as_slice())? {
@@ -62,20 +60,19 @@ fn check_above(
 fn check_turning(
     alloc: Global,
     model: &FileModel,
-    nets: &NameSet,
+    nets: &[Name],
     numbers: &Numbers,
     columns: &[Items<NetId>],
 ) -> Result<(), FlatFault>
     requires once { IsDrivenOnce model.now }
-    requires nets { nets.now ≡ nets_of model.now }
+    requires nets { AreNetsOf model.now nets.now }
+    requires few_nets { length nets.now ≤ MAX_FLAT_NETS }
     requires numbers { numbers.now ≡ drivers model.now }
-    requires few_nets { length (nets_of model.now) ≤ MAX_FLAT_NETS }
     requires few { length numbers.now ≤ MAX_FLAT_NETS }
     requires columns { columns.now ≡ columns_by_net (drivers model.now) model.now }
     ensures acyclic { OnOk result (IsAcyclic (reads model.now)) }
-    ensures fault { IfErr result (λ f. TellsAbove model.now f) }
+    ensures fault { IfErr result (λ f. TellsAbove nets.now model.now f) }
 {
-    let nets = nets.as_slice();
     let order = numbers.list(alloc, nets)?;
     match first_turning(alloc, columns, order.as_slice())? {
         None => Ok(()),

@@ -21,7 +21,7 @@ pub fn columns(
     requires few { length numbers.now ≤ MAX_FLAT_NETS }
     ensures { IfOk result (λ columns. columns ≡ columns_by_net numbers.now model.now) }
 {
-    let mut columns = Items::new(alloc);
+    let mut columns = Items::with_room(alloc, numbers.len())?;
     add_open(
         alloc,
         &mut columns,

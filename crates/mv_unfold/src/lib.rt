@@ -1,12 +1,12 @@
-//! Whether a design is sound: what its nets are, what drives them, whether one is above itself, and whether reset values
-//! stand apart from the latches. It knows of files alone, and nothing of covers and networks.
+//! Whether a net of a model without instances is above itself, and whether reset values stand apart from the latches; how the
+//! nets of a model are gathered and numbered; and the faults of its reset tables. It knows of files alone, and nothing of
+//! covers and networks.
 #![tactic(auto)]
 
 mod alone;
 mod checking;
 mod columns;
 mod drivers;
-mod limits;
 mod naming;
 mod nets;
 mod numbers;

@@ -128,7 +128,7 @@ fn add_all<'a>(all: &mut Vec<Naming<'a>>, namings: &[Naming<'a>]) -> Result<(), 
 }
 
 /// Those at the front that stand before the line.
-#[tactic(auto, using(crate::proofs::ByLine::front))]
+#[tactic(auto, using(mv_design::proofs::ByLine::front))]
 pub fn front_before<'a, 'b>(namings: &'b [Naming<'a>], line: u32) -> &'b [Naming<'a>]
     ensures { result.now ≡ before_line (λ x. x.line) line namings.now }
 {

@@ -60,7 +60,7 @@ impl Numbers {
         requires { length self.now ≤ MAX_NETS }
         ensures { IfOk result (λ numbers. numbers ≡ numbers_in self.now nets.now) }
     {
-        let mut numbers = Items::new(alloc);
+        let mut numbers = Items::with_room(alloc, nets.len())?;
         for net in nets {
             numbers.push(self.of(net))?;
         }

@@ -2,12 +2,11 @@
 ghost use Rattle.std.specs.Prelude.{◌≡◌, [], map, IfOk};
 ghost use Rattle.mv_fault.specs.Tells.{TellsFirst};
 ghost use Rattle.mv_design.specs.Nets.{output_of};
-ghost use Rattle.mv_unfold.specs.Driving.{with_names};
 ghost use Rattle.mv_unfold.specs.Sound.{latch_faults, reset_faults};
 
-use crate::nets::add_net;
+use crate::drivers::add_latches;
 use mv_base::{Memory, Name, NameSet};
-use mv_design::{FileLatch, FileModel, FileTable};
+use mv_design::{FileModel, FileTable};
 use mv_fault::FlatFault;
 use std::alloc::Global;
 
@@ -19,19 +18,9 @@ pub fn check_resets(alloc: Global, model: &FileModel) -> Result<(), FlatFault>
     if model.resets.is_empty() {
         return Ok(());
     }
-    let latches = states(alloc, model.latches.as_slice())?;
+    let mut latches = NameSet::with_room(alloc, model.latches.len())?;
+    add_latches(&mut latches, model.latches.as_slice())?;
     check_each(alloc, &latches, model.resets.as_slice())
-}
-
-/// The outputs of latches, each once.
-fn states(alloc: Global, latches: &[FileLatch]) -> Result<NameSet, Memory>
-    ensures { IfOk result (λ set. set ≡ with_names [] (map (λ l. l.output) latches.now)) }
-{
-    let mut set = NameSet::new(alloc);
-    for latch in latches {
-        add_net(&mut set, &latch.output)?;
-    }
-    Ok(set)
 }
 
 /// Tells the first of these reset tables whose output is no latch, or that of an earlier one.

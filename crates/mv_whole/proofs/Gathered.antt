@@ -7,7 +7,7 @@ use Rattle.mv_design.specs.declared.design.Part.{Part}
 use Rattle.mv_design.specs.Nets.{Naming, namings}
 use Rattle.mv_tree.specs.Places.{part_naming, all_namings, all_nets}
 use Rattle.mv_unfold.specs.Driving.{with_names, with_named}
-use Rattle.mv_unfold.proofs.ByLine.{drop_before}
+use Rattle.mv_design.proofs.ByLine.{drop_before}
 use Rattle.mv_unfold.proofs.Named.{nets_gathered}
 use Rattle.mv_whole.specs.Locals.{actuals_of, with_commands}
 

@@ -17,3 +17,9 @@ pub mod Found
 pub mod Nets
 pub mod Before
 pub mod Wholes
+pub mod Firsts
+pub mod Alone
+pub mod Resetting
+pub mod OfWhole
+pub mod Faultless
+pub mod Sound

@@ -34,7 +34,7 @@ times w ws = count_by (same_word w) ws
 
 -- ---- what passes through bindings, and what is at home
 
-abbrev own : Place → List (List ℕ) → List (List ℕ)
+abbrev pub own : Place → List (List ℕ) → List (List ℕ)
 own p ws = filter (λ net. not (is_bound p.binds net)) ws
 
 abbrev at_home : Driving → List (List ℕ)
@@ -118,7 +118,7 @@ settled w p (Instance part model inside rest) =
 
 -- ---- the drivers of the one model
 
-latch_homes : (p : Place) (ls : List FileLatch) → map (λ l. l.output) (map (placed_latch p) ls) ≡ map p.home (map (λ l. l.output) ls)
+pub latch_homes : (p : Place) (ls : List FileLatch) → map (λ l. l.output) (map (placed_latch p) ls) ≡ map p.home (map (λ l. l.output) ls)
 latch_homes p [] = refl
 latch_homes p (l ∷ ls) = ap (λ ws. p.home l.output ∷ ws) (latch_homes p ls)
 
@@ -155,11 +155,11 @@ placed_drivers w at (p ∷ ps) =
     add_up : (hl ht rl rt f o l t r : ℕ) → l ≡ hl + rl → t ≡ ht + rt → o ≡ hl + ht → r ≡ o + f → rl + rt ≡ f → l + t ≡ r
     add_up hl ht rl rt f o l t r a b c d e = omega arith
 
-same_names : (ws : List (List ℕ)) → map (λ net. net) ws ≡ ws
+pub same_names : (ws : List (List ℕ)) → map (λ net. net) ws ≡ ws
 same_names [] = refl
 same_names (w ∷ ws) = ap (λ us. w ∷ us) (same_names ws)
 
-all_own : (root : FileModel) (ws : List (List ℕ)) → own (root_place root) ws ≡ ws
+pub all_own : (root : FileModel) (ws : List (List ℕ)) → own (root_place root) ws ≡ ws
 all_own root [] = refl
 all_own root (w ∷ ws) = ap (λ us. w ∷ us) (all_own root ws)
 

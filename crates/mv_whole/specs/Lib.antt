@@ -9,3 +9,4 @@ pub mod Joined
 pub mod Driven
 pub mod Driving
 pub mod Resets
+pub mod Sound

@@ -13,6 +13,7 @@ mod home_names;
 mod joined;
 mod laws;
 mod layout;
+mod made;
 mod model;
 mod naming;
 mod reset_tables;
@@ -23,5 +24,6 @@ mod tallies;
 #[cfg(test)]
 mod tests;
 
-pub use laws::whole_laws;
+pub use laws::{model_laws, sound_laws, whole_laws};
+pub use made::Whole;
 pub use model::whole;

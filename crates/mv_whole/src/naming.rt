@@ -70,10 +70,13 @@ fn add_home(homes: &mut NameSet, name: Name) -> Result<(), FlatFault>
     Ok(())
 }
 
-/// The name of a net under a path.
+/// The name of a net under a path. The root has none before its names, and these are shared.
 pub fn name_under(alloc: Global, path: &[u8], net: &Name) -> Result<Name, Memory>
     ensures { IfOk result (λ name. name ≡ path.now ++ net.now) }
 {
+    if path.is_empty() {
+        return net.copy();
+    }
     let mut bytes = Vec::from_slice(alloc, path)?;
     bytes.extend_from_slice(net.bytes())?;
     Name::new(alloc, bytes.as_slice())

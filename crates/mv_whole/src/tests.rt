@@ -97,12 +97,12 @@ fn design_of(alloc: Global, text: &str) -> Result<Design, Fail> {
 }
 
 /// The line of a design's fault; none where it has none.
-fn told(alloc: Global, design: &Design) -> Result<MemorySink, Fail> {
+fn told(alloc: Global, design: Design) -> Result<MemorySink, Fail> {
     let mut sink = MemorySink::new(alloc, 4096, Vec::new(alloc))?;
     if design.root as usize >= design.models.len() {
         return Err("a root".into());
     }
-    let fault = match walk(alloc, design) {
+    let fault = match walk(alloc, &design) {
         Ok(opened) => whole(alloc, design, opened.as_slice()).err(),
         Err(fault) => Some(fault),
     };
@@ -132,11 +132,41 @@ fn a_design_has_its_first_fault(rt: HostRuntime) -> Result<(), Fail> {
     for line in DESIGNS.lines() {
         let (text, expected) = line.split_once('|').ok_or("a case of one part")?;
         let design = design_of(rt.alloc(), text)?;
-        let sink = told(rt.alloc(), &design)?;
+        let sink = told(rt.alloc(), design)?;
         assert!(&rt;
             sink.bytes().trim_ascii_end() == expected.as_bytes(),
             "{text}"
         );
     }
+    Ok(())
+}
+
+/// The names of the nets of a design's one model, with blanks between them; none where it has a fault.
+fn nets_of(alloc: Global, text: &str) -> Result<Vec<u8>, Fail> {
+    let mut names = Vec::new(alloc);
+    let design = design_of(alloc, text)?;
+    if design.root as usize >= design.models.len() {
+        return Err("a root".into());
+    }
+    let opened = walk(alloc, &design).ok().ok_or("instances")?;
+    let one = whole(alloc, design, opened.as_slice())
+        .ok()
+        .ok_or("a whole")?;
+    for net in one.nets.as_slice() {
+        names.extend_from_slice(net.bytes())?;
+        names.push(b' ')?;
+    }
+    Ok(names)
+}
+
+#[test]
+fn a_net_has_its_path_before_its_name(rt: HostRuntime) -> Result<(), Fail> {
+    let alone = nets_of(rt.alloc(), "A:a >b/=a >b")?;
+    assert!(&rt; alone.as_slice() == "a b ".as_bytes(), "a root alone");
+    let nets = nets_of(rt.alloc(), "A:a >b/B u x=a y=b;B:x >y/=x >z/=z >y")?;
+    assert!(&rt;
+        nets.as_slice() == "a b u.z ".as_bytes(),
+        "a root with an instance"
+    );
     Ok(())
 }

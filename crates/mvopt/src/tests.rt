@@ -3,6 +3,7 @@ mod checks;
 mod commands;
 mod examples;
 mod faults;
+mod instances;
 mod refusals;
 mod states;
 mod texts;

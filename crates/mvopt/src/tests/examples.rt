@@ -39,6 +39,18 @@ C HELD 0;.table last lock pick _m1 -> grant;A HELD - - A;B HELD - - B;C HELD - -
 .model spare;.inputs a b c;.outputs most;.table a b c -> most;1 1 - 1;1 - 1 1;- 1 1 1;0 0 - 0;\
 0 - 0 0;- 0 0 0;.table a c -> legal;0 - 1;- 0 1;.end; | \
 # begin drop;remove odd;remove all;# end 14;# done 24 14;
+-- Two instances of one model, the second behind the first, and an output of each that nobody reads.
+# A counter of two digits of three values each, which goes on wherever it is told to count.;.model counter;\
+.inputs count;.outputs carry low high;.mv low, high 3;;# the second digit goes on where the first one is full;\
+.subckt digit first step=count value=low carry=full;.subckt digit second step=full value=high carry=carry;.end;;\
+.model digit;.inputs step;.outputs value carry zero;.mv value, next 3;;.table step value -> next;0 - =value;1 0 1;\
+1 1 2;1 2 0;.latch next value;.reset -> value;0;;.table step value -> carry;.default 0;1 2 1;;\
+# nobody asks either digit whether it is zero;.table value -> zero;.default 0;0 1;.end; | \
+.model counter;.inputs count;.outputs carry low high;.mv low 3;.mv high 3;.mv first.next 3;.mv second.next 3;\
+.latch first.next low;.latch second.next high;.table count low -> first.next;0 0 0;0 1 1;0 2 2;1 0 1;1 1 2;1 2 0;\
+.reset -> low;0;.table count low -> full;.default 0;1 2 1;.table high full -> second.next;0 0 0;1 0 1;2 0 2;0 1 1;\
+1 1 2;2 1 0;.reset -> high;0;.table high full -> carry;.default 0;2 1 1;.end; | \
+# begin drop;remove first.zero;remove second.zero;# end 28;# done 30 28;
 ";
 
 /// The same of an example whose script is another one.

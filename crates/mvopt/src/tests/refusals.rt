@@ -155,7 +155,7 @@ fn case_is_refused(rt: &impl Abort, alloc: Global, case: &str) -> Result<(), Fai
 }
 
 /// So are those of all cases.
-fn are_refused(rt: &impl Abort, alloc: Global, cases: &str) -> Result<(), Fail> {
+pub fn are_refused(rt: &impl Abort, alloc: Global, cases: &str) -> Result<(), Fail> {
     for case in cases.lines() {
         if is_case(case) {
             case_is_refused(rt, alloc, case)?;
@@ -184,7 +184,7 @@ const REFUSED: &str = "\
 .model a=b; | 36 BadName line 1 a=b
 .model m;0 1; | 37 NoTable line 2
  | 20 NoModel line 1
--- A line is judged by its place first, and lines that are not read yet are told apart.
+-- A line is judged by its place first, and tables that are not read yet are told apart.
 0 1; | 6 OutsideModel line 1
 .default 0; | 6 OutsideModel line 1
 .table -> z, z; | 39 NotBuilt line 1
@@ -202,7 +202,7 @@ const REFUSED: &str = "\
 .model m;.latch a; | 8 Missing line 2 .latch
 .model m;.r; | 8 Missing line 2 .r
 .model m;.reset; | 8 Missing line 2 .reset
-.model m;.subckt; | 39 NotBuilt line 2
+.model m;.subckt; | 8 Missing line 2 .subckt
 .model m;.table a, -> b c; | 39 NotBuilt line 2
 .model m;.model n; | 7 NoEnd line 1
  ;.model m;.model; | 7 NoEnd line 2
@@ -219,7 +219,7 @@ const REFUSED: &str = "\
 .model m;.end;.model; | 8 Missing line 3 .model
 .model m;.end;.model n; | 7 NoEnd line 3
 .model m;.end;.model n;.inputs a a; | 19 Repeated line 4 a
-.subckt n u; | 39 NotBuilt line 1
+.subckt n u; | 6 OutsideModel line 1
 .model m=n;.end; | 36 BadName line 1 m=n
 .model m;.inputs a;0 1;.table a -> z;.end; | 37 NoTable line 3
 .model m;.inputs a\\ b;.end; | 36 BadName line 2 a\\
@@ -291,6 +291,19 @@ const REFUSED: &str = "\
 .model m;.reset a s;0 1 0; | 13 Columns line 3 2 3
 .model m;.r -> s;.latch d s;0; | 37 NoTable line 4
 .model m;.r -> s;.default 0;.def 0; | 16 DefaultTwice line 4
+-- So is the line of an instance, each binding at its first `=`.
+.model m;.subckt a=b; | 36 BadName line 2 a=b
+.model m;.subckt n; | 8 Missing line 2 .subckt
+.model m;.subckt n u=v x; | 36 BadName line 2 u=v
+.model m;.subckt n u x .y=a; | 8 Missing line 2 .subckt
+.model m;.subckt n u x=; | 8 Missing line 2 .subckt
+.model m;.subckt n u .x=.a; | 36 BadName line 2 .x
+.model m;.subckt n u x=a x=.b; | 19 Repeated line 2 x
+.model m;.subckt n u x=.a x=b; | 36 BadName line 2 .a
+.model m;.subckt n u (x=a); | 36 BadName line 2 (x
+.model m;.subckt n u x=(a); | 36 BadName line 2 (a)
+.model m;.subckt n u;.subckt k u x; | 19 Repeated line 3 u
+.model m;.table -> z;.subckt n u;0; | 37 NoTable line 4
 -- Values are judged at the end of their model, the default first.
 .model m;.table a -> z;2 0; | 7 NoEnd line 1
 .model m;.table a -> z;2 0;.table b -> y;0; | 13 Columns line 5 2 1
@@ -542,7 +555,7 @@ fn is_kept(rt: &impl Abort, alloc: Global, net: Vec<u8>, literals: usize) -> Res
 }
 
 /// The network, which is past a limit, is refused with the line that ends so.
-fn is_past(rt: &impl Abort, alloc: Global, net: Vec<u8>, fault: &str) -> Result<(), Fail> {
+pub fn is_past(rt: &impl Abort, alloc: Global, net: Vec<u8>, fault: &str) -> Result<(), Fail> {
     is_refused(rt, alloc, net.as_slice(), fault)
 }
 

@@ -3,7 +3,7 @@ use Rattle.std.proofs.Common.{Err, refl, ap, subst}
 use Rattle.mv_base.specs.Outside.{Written}
 use Rattle.mv_task.specs.Lines.{TellsLine}
 use Rattle.mv_check.specs.Tellings.{rule_line}
-use Rattle.mv_check.proofs.Ends.{early, tried_all, rule_failed, rule_no_write, rule_no_end}
+use Rattle.mv_check.proofs.Ends.{early, tried_all, cut_off, rule_failed, rule_no_write, rule_no_end}
 use Rattle.mv_check.proofs.checking.check.Goals as goal
 
 pub returns-in-Err : goal.returns-in-Err
@@ -25,3 +25,8 @@ returns-in-Err-Rule g c =
     let no_end = rule_no_end c.in-Err-Rule.field-0 (Err c.in-Err-Rule.field-0) refl _ _ is in
     rule_failed _ _ _ _ _ _ given.made given.steps _ _ (stop.rule _ _ (ap Err is)) _ _ _ _ (stop.out no_write no_end)
     (subst (λ (n : Written). TellsLine n (g.E.Sink.state c.refuse_rule.new.notes) (rule_line c.in-Err-Rule.line c.in-Err-Rule.fault)) (stop.notes no_write no_end) c.refuse_rule.ensures)
+
+pub returns-in-Err-Write : goal.returns-in-Err-Write
+returns-in-Err-Write g c =
+    let given = c.in-Ok.ensures in
+    cut_off _ _ _ _ _ _ given.made given.steps _ _ _ _ (c.in-Err-Write.ensures.write (ap Err c.in-Err-Write.field-0-is))

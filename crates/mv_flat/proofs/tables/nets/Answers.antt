@@ -1,17 +1,19 @@
 -- A table's nets come behind those of the tables before it, and its covers count beside theirs.
 use Rattle.std.proofs.Common.{◌≡◌, ◌<◌, ◌≤◌, ℕ, List, ◌∷◌, [], ◌++◌, ◌∙◌, sym, subst, ap, length, get_or, arith}
-use Rattle.std.proofs.lemmas.List.{length_push}
+use Rattle.std.proofs.lemmas.List.{length-map, length_push}
 use Rattle.std.proofs.lemmas.Iterator.Adapters.{YieldsList-from_vec}
 use Rattle.std.proofs.lemmas.Iterator.Consumers.{YieldsList-turn, YieldsList-end}
 use Rattle.mv_design.specs.declared.design.FileModel.{FileModel}
 use Rattle.mv_design.specs.declared.table.FileTable.{FileTable}
 use Rattle.mv_design.specs.declared.design.Decl.{Decl}
+use Rattle.mv_design.specs.Values.{count_of}
+use Rattle.mv_rows.specs.declared.column.Column.{Column}
 use Rattle.mv_rows.specs.Flat.{IsMade}
 use Rattle.mv_flat.specs.Built.{open_nets}
 use Rattle.mv_flat.specs.Numbers.{columns_at, mark_at}
 use Rattle.mv_flat.specs.Marks.{AddsNets, TableNets}
 use Rattle.mv_flat.specs.Sized.{AreSized}
-use Rattle.mv_flat.proofs.Behinds.{TablesMade, tables_more, tables_last, tables_room}
+use Rattle.mv_flat.proofs.Behinds.{TablesMade, table_at, tables_more, tables_last, tables_room}
 use Rattle.mv_flat.proofs.Sizes.{sized_more, sized_last, past_limit, limit_told}
 use Rattle.mv_flat.proofs.tables.nets.Goals as goal
 use Rattle.mv_flat.proofs.tables.nets.Goals.{In-Some, In-None, In_ok-flat, In_ok-put_table}
@@ -37,12 +39,29 @@ put_table-requires-clause-later c =
     let at = next (goal.at.put_table-requires-clause-later c).In-Some in
     tables_room c.args.model _ _ _ _ _ c.requires.placed at.low c.loop-table.invariant.made
 
+pub columns-requires-clause-counts : goal.columns-requires-clause-counts
+columns-requires-clause-counts c = ap length c.requires.counts ∙ length-map c.args.names.now (count_of c.args.model.decls)
+
+pub columns-requires-clause-known : goal.columns-requires-clause-known
+columns-requires-clause-known c =
+    let at = next (goal.at.columns-requires-clause-known c).In-Some in
+    (table_at c.args.model c.args.names.now (length c.loop-table.yielded) c.in-Some.table c.requires.placed at.low at.is).known
+
+pub covers-requires-clause-columns : goal.covers-requires-clause-columns
+covers-requires-clause-columns c =
+    let at = next (goal.at.covers-requires-clause-columns c).In-Some in
+    record {
+      decls = c.args.model.decls;
+      proper = c.requires.proper.decls;
+      placed = table_at c.args.model c.args.names.now (length c.loop-table.yielded) c.in-Some.table c.requires.placed at.low at.is;
+      are = c.as_slice-in-loop-table.ensures.value ∙ c.in_ok-columns.ensures c.args.model.decls c.requires.counts;
+    }
+
 -- its covers, over the model's nets
 covered : (c : In_ok-flat) → IsMade (columns_at c.args.model.decls c.args.names.now c.in-Some.table) c.in-Some.table (mark_at c.args.names.now c.in-Some.table) c.in_ok-flat.flat
 covered c =
-    let P : List Decl → Type 0 =
-    λ ds. IsMade (columns_at ds c.args.names.now c.in-Some.table) c.in-Some.table (mark_at c.args.names.now c.in-Some.table) c.in_ok-flat.flat in
-    subst P (c.in_ok-decls.ensures ∙ c.as_slice.ensures) c.in_ok-flat.ensures
+    let P : List Column → Type 0 = λ cs. IsMade cs c.in-Some.table (mark_at c.args.names.now c.in-Some.table) c.in_ok-flat.flat in
+    subst P (c.as_slice-in-loop-table.ensures.value ∙ c.in_ok-columns.ensures c.args.model.decls c.requires.counts) c.in_ok-flat.ensures
 
 pub returns-in-Err-clause-fault : goal.returns-in-Err-clause-fault
 returns-in-Err-clause-fault c =

@@ -16,7 +16,7 @@ returns-in_err-check_reset-clause-fault c =
     let e = err_from_is_err_and c.from_residual-in_err-check_reset.result c.from_residual-in_err-check_reset.ensures.1 in
     rw (e.1, e.2)
     (reading_told c.args.model.now c.as_slice-reset-items.result.now c.loop-reset.reset-index c.reset-item.result _
-    c.as_slice-reset-items.ensures c.loop-reset-test.true c.reset-item.is c.loop-reset.invariant c.requires.acyclic c.in_err-check_reset.ensures.fault)
+    c.as_slice-reset-items.ensures c.loop-reset-test.true c.reset-item.is c.loop-reset.invariant c.in_err-check_reset.ensures.fault)
 
 pub loop-reset-preserved : goal.loop-reset-preserved
 loop-reset-preserved c =

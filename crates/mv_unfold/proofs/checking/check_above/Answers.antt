@@ -3,6 +3,7 @@ use Rattle.std.proofs.Common.{ap, arith, length}
 use Rattle.std.proofs.lemmas.Result.{on_ok_weaker}
 use Rattle.mv_graph.specs.Above.{IsAcyclic}
 use Rattle.mv_unfold.specs.Sound.{reads}
+use Rattle.mv_unfold.proofs.Soundness.{alone_told}
 use Rattle.mv_unfold.proofs.Turns.{columns_read, model_below, model_length, sorted_acyclic, unsorted_cyclic}
 use Rattle.mv_unfold.proofs.checking.check_above.Goals as goal
 
@@ -18,17 +19,19 @@ sorted-requires-clause-few c =
     let e = ap length c.requires.numbers in
     omega (arith, l, e, c.requires.few)
 
-pub check_alone-requires-clause-acyclic : goal.check_alone-requires-clause-acyclic
-check_alone-requires-clause-acyclic c =
-    sorted_acyclic c.args.model.now c.args.numbers.now _ c.as_slice.result.now _ _ c.requires.once c.requires.numbers
-    c.in_ok-columns.ensures c.as_slice.ensures c.in-Some.is c.in_ok-order.ensures.acyclic
-
 pub returns-in-Some-clause-acyclic : goal.returns-in-Some-clause-acyclic
 returns-in-Some-clause-acyclic c =
     on_ok_weaker c.check_alone.result
     (λ _. sorted_acyclic c.args.model.now c.args.numbers.now _ c.as_slice.result.now _ _ c.requires.once c.requires.numbers
     c.in_ok-columns.ensures c.as_slice.ensures c.in-Some.is c.in_ok-order.ensures.acyclic)
     c.check_alone.ensures.alone
+
+pub returns-in-Some-clause-fault : goal.returns-in-Some-clause-fault
+returns-in-Some-clause-fault c =
+    alone_told c.args.nets.now c.args.model.now c.check_alone.result
+    (sorted_acyclic c.args.model.now c.args.numbers.now _ c.as_slice.result.now _ _ c.requires.once c.requires.numbers
+    c.in_ok-columns.ensures c.as_slice.ensures c.in-Some.is c.in_ok-order.ensures.acyclic)
+    c.check_alone.ensures.fault
 
 pub returns-clause-alone : goal.returns-clause-alone
 returns-clause-alone c =

@@ -3,7 +3,7 @@ use Rattle.std.proofs.Common.{◌≡◌, ◌∙◌, ◌++◌, ◌∷◌, [], ap,
 use Rattle.std.proofs.lemmas.List.{length-drop, take_rest}
 use Rattle.mv_design.specs.ByLine.{before_line}
 use Rattle.mv_design.specs.Nets.{Naming}
-use Rattle.mv_unfold.proofs.ByLine.{few_before, merge_more}
+use Rattle.mv_design.proofs.ByLine.{few_before, merge_more}
 use Rattle.mv_unfold.proofs.naming.by_line.Goals as goal
 
 pub loop-naming-preserved : goal.loop-naming-preserved

@@ -4,7 +4,7 @@ use Rattle.std.proofs.lemmas.List.{length-drop, take_rest}
 use Rattle.mv_design.specs.ByLine.{before_line}
 use Rattle.mv_design.specs.Nets.{Naming}
 use Rattle.mv_unfold.specs.Driving.{with_names}
-use Rattle.mv_unfold.proofs.ByLine.{few_before}
+use Rattle.mv_design.proofs.ByLine.{few_before}
 use Rattle.mv_whole.specs.Locals.{actuals_of, with_commands}
 use Rattle.mv_whole.proofs.Gathered.{command_more}
 use Rattle.mv_whole.proofs.gather.add_commands.Goals as goal

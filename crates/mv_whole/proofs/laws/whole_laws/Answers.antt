@@ -1,8 +1,6 @@
 use Rattle.mv_whole.proofs.Checked.{good_nets, short_names}
+use Rattle.mv_whole.proofs.Faultless.{no_faults}
 use Rattle.mv_whole.proofs.laws.whole_laws.Goals as goal
 
-pub returns-clause-good : goal.returns-clause-good
-returns-clause-good c = good_nets
-
-pub returns-clause-short : goal.returns-clause-short
-returns-clause-short c = short_names
+pub returns : goal.returns
+returns c = record { good = good_nets; short = short_names; none = no_faults }

@@ -7,13 +7,13 @@ use Rattle.mv_whole.proofs.model.whole.Goals as goal
 
 pub returns-clause-good : goal.returns-clause-good
 returns-clause-good c = λ h.
-    let root = root_of c.args.design.now in
+    let root = root_of c.args.design in
     told_none c.built.result (whole_faults root h.tree) (c.built.ensures.faults h) (good_nets root h.tree)
 
 pub returns-clause-short : goal.returns-clause-short
 returns-clause-short c = λ h.
-    let root = root_of c.args.design.now in
+    let root = root_of c.args.design in
     told_none c.built.result (whole_faults root h.tree) (c.built.ensures.faults h) (short_names root h.tree)
 
 pub returns-clause-fault : goal.returns-clause-fault
-returns-clause-fault c = told_fault c.built.result c.args.design.now c.args.opened.now c.requires.opened (c.built.ensures.faults c.requires.opened)
+returns-clause-fault c = told_fault c.built.result c.args.design c.args.opened.now c.requires.opened (c.built.ensures.faults c.requires.opened)

@@ -3,7 +3,7 @@ use Rattle.std.proofs.Common.{◌≡◌, true, false, get_or, sym, ◌∙◌, ap
 use Rattle.std.specs.Prelude.{nat_lt}
 use Rattle.std.proofs.lemmas.Bool.Decides.{nat_tests}
 use Rattle.mv_design.specs.declared.table.FileTable.{FileTable}
-use Rattle.mv_unfold.proofs.ByLine.{few_before}
+use Rattle.mv_design.proofs.ByLine.{few_before}
 use Rattle.mv_whole.proofs.Before.{before_later, before_next, before_here}
 use Rattle.mv_whole.proofs.reset_tables.count_before.Goals as goal
 use Rattle.mv_whole.proofs.reset_tables.count_before.Goals.{then-line-last, else-line-last}
