@@ -65,7 +65,7 @@ rows-match at cs (r ∷ rows) ls all are range =
 
 -- ---- the default
 
-nothing_holds : (values : List ℕ) (v : ℕ) (e : Entry) → says_nothing e ≡ true → entry_holds values e v ≡ false
+pub nothing_holds : (values : List ℕ) (v : ℕ) (e : Entry) → says_nothing e ≡ true → entry_holds values e v ≡ false
 nothing_holds values v (Set s) h = ap (λ x. has x v) (same_number s empty h) ∙ has-empty v
 nothing_holds values v (Same k) h = absurd (false≢true h)
 
@@ -151,7 +151,7 @@ allows_some cs t ls e s table are left plain at range v =
 
 -- ---- the mark
 
-mark_is : (m : Bool) (v : ℕ) → ((m && has (one 0) v) || (not m && has (one 1) v)) ≡ nat_eq v (cond m 0 1)
+pub mark_is : (m : Bool) (v : ℕ) → ((m && has (one 0) v) || (not m && has (one 1) v)) ≡ nat_eq v (cond m 0 1)
 mark_is true v = or-false _ ∙ has-one 0 v
 mark_is false v = has-one 1 v
 
@@ -165,20 +165,20 @@ allows_mark cs t ls table are at range v =
 
 -- ---- with a mark
 
-values_marked : (at : ℕ → ℕ) (cs : List Column) (mark : NetId) → column_values at (with_mark cs mark) ≡ column_values at cs ++ at mark.0 ∷ []
+pub values_marked : (at : ℕ → ℕ) (cs : List Column) (mark : NetId) → column_values at (with_mark cs mark) ≡ column_values at cs ++ at mark.0 ∷ []
 values_marked at cs mark = map-append (λ (c : Column). at c.net.0) cs (record { net = mark; count = 2 } ∷ [])
 
-marked_matches : (at : ℕ → ℕ) (cs : List Column) (mark : NetId) → in_range at cs ≡ true → row_matches (marked_sets cs) (column_values at (with_mark cs mark)) ≡ nat_eq (at mark.0) 1
+pub marked_matches : (at : ℕ → ℕ) (cs : List Column) (mark : NetId) → in_range at cs ≡ true → row_matches (marked_sets cs) (column_values at (with_mark cs mark)) ≡ nat_eq (at mark.0) 1
 marked_matches at [] mark range = and-true _ ∙ has-one 1 (at mark.0)
 marked_matches at (c ∷ cs) mark range =
     let p = and_parts (nat_lt (at c.net.0) c.count) (in_range at cs) range in
     ap (λ b. b && row_matches (marked_sets cs) (column_values at (with_mark cs mark))) (has-full c.count (at c.net.0) ∙ p.0) ∙ marked_matches at cs mark p.1
 
-fit_with_mark : (cs : List Column) (mark : NetId) (e : Entry) → FitEntry cs e → FitEntry (with_mark cs mark) e
+pub fit_with_mark : (cs : List Column) (mark : NetId) (e : Entry) → FitEntry cs e → FitEntry (with_mark cs mark) e
 fit_with_mark cs mark (Set s) fit = tt
 fit_with_mark cs mark (Same k) fit = let low : k < length cs = fit in omega (arith, length-append cs (record { net = mark; count = 2 } ∷ []))
 
-marked_holds : (at : ℕ → ℕ) (cs : List Column) (mark : NetId) (e : Entry) (v : ℕ) → FitEntry cs e → entry_holds (column_values at (with_mark cs mark)) e v ≡ entry_holds (column_values at cs) e v
+pub marked_holds : (at : ℕ → ℕ) (cs : List Column) (mark : NetId) (e : Entry) (v : ℕ) → FitEntry cs e → entry_holds (column_values at (with_mark cs mark)) e v ≡ entry_holds (column_values at cs) e v
 marked_holds at cs mark (Set s) v fit = refl
 marked_holds at cs mark (Same k) v fit =
     let place : k < length cs = fit in
@@ -187,16 +187,16 @@ marked_holds at cs mark (Same k) v fit =
     ∙ ((λ i. lt-ltb k (length (column_values at cs ++ at mark.0 ∷ [])) (omega (arith, length-append (column_values at cs) (at mark.0 ∷ []))) i && nat_eq (get_or_append_left (column_values at cs) (at mark.0 ∷ []) 0 k low i) v)
     ∙ sym (ap (λ b. b && nat_eq (get_or (column_values at cs) k 0) v) (lt-ltb k (length (column_values at cs)) low)))
 
-range_marked : (at : ℕ → ℕ) (cs : List Column) (mark : NetId) → in_range at cs ≡ true → at mark.0 < 2 → in_range at (with_mark cs mark) ≡ true
+pub range_marked : (at : ℕ → ℕ) (cs : List Column) (mark : NetId) → in_range at cs ≡ true → at mark.0 < 2 → in_range at (with_mark cs mark) ≡ true
 range_marked at cs mark range low =
     list_all-append (λ (c : Column). nat_lt (at c.net.0) c.count) cs (record { net = mark; count = 2 } ∷ [])
     ∙ and_from _ _ range (and-true _ ∙ lt-ltb (at mark.0) 2 low)
 
-mark_below : (m : Bool) (x : ℕ) → x ≡ cond m 0 1 → x < 2
+pub mark_below : (m : Bool) (x : ℕ) → x ≡ cond m 0 1 → x < 2
 mark_below true x e = omega arith
 mark_below false x e = omega arith
 
-mark_one : (m : Bool) (x : ℕ) → x ≡ cond m 0 1 → nat_eq x 1 ≡ not m
+pub mark_one : (m : Bool) (x : ℕ) → x ≡ cond m 0 1 → nat_eq x 1 ≡ not m
 mark_one true x e = ap (λ y. nat_eq y 1) e
 mark_one false x e = ap (λ y. nat_eq y 1) e
 
@@ -263,12 +263,12 @@ formed_mark count cs rows ls by are bare =
       met = λ there. absurd (false≢true (sym bare ∙ (sym (bare-marked ls) ∙ there)));
     }
 
-count_marked : (count : ℕ → ℕ) (cs : List Column) (mark : NetId) → CountBy count cs → count mark.0 ≡ 2 → CountBy count (with_mark cs mark)
+pub count_marked : (count : ℕ → ℕ) (cs : List Column) (mark : NetId) → CountBy count cs → count mark.0 ≡ 2 → CountBy count (with_mark cs mark)
 count_marked count cs mark by two =
     All-append (λ (c : Column). c.count ≡ count c.net.0) cs (record { net = mark; count = 2 } ∷ []) by
     (All-cons (λ (c : Column). c.count ≡ count c.net.0) (record { net = mark; count = 2 }) [] (sym two) (All-nil _))
 
-output_marked : (cs : List Column) (mark : NetId) (values : ℕ) (e : Entry) → FitEntry cs e → FitOutput cs values e → FitOutput (with_mark cs mark) values e
+pub output_marked : (cs : List Column) (mark : NetId) (values : ℕ) (e : Entry) → FitEntry cs e → FitOutput cs values e → FitOutput (with_mark cs mark) values e
 output_marked cs mark values (Set s) fit out = out
 output_marked cs mark values (Same k) fit out =
     let low : k < length cs = fit in

@@ -42,13 +42,13 @@ zeros_range (c ∷ cs) each =
     and_from _ _ (lt-ltb 0 c.count some) (zeros_range cs (All-tail IsColumn c cs each))
 
 -- a row that matches nowhere doesn't match everything
-not_everywhere : (cs : List Column) (sets : List ℕ) → AreColumns cs → FitRow cs sets → HasNoPoint cs sets → matches_all cs sets ≡ false
+pub not_everywhere : (cs : List Column) (sets : List ℕ) → AreColumns cs → FitRow cs sets → HasNoPoint cs sets → matches_all cs sets ≡ false
 not_everywhere cs sets columns fit none =
     let range = zeros_range cs columns.each in
     false_from_ne_true _ (λ all. false≢true (sym (none.nowhere (λ _. 0) range) ∙ matched_everywhere (λ _. 0) cs sets fit range all))
 
 -- a cube with a literal doesn't hold everywhere
-bare-cube : (cs : List Column) (sets : List ℕ) (cube : List Lit) → AreColumns cs → FitRow cs sets → IsRowCube cs sets cube → nat_eq (length cube) 0 ≡ matches_all cs sets
+pub bare-cube : (cs : List Column) (sets : List ℕ) (cube : List Lit) → AreColumns cs → FitRow cs sets → IsRowCube cs sets cube → nat_eq (length cube) 0 ≡ matches_all cs sets
 bare-cube cs sets [] columns fit is = sym (all_from_everywhere cs sets columns (record { there = λ at range. sym (is.points at range) }))
 bare-cube cs sets (l ∷ ls) columns fit is =
     let part : IsPart (columns.count l.net.0) l.set = (is.parts columns.count columns.counts).0 in
@@ -67,10 +67,10 @@ bare-line cs sets out (l ∷ []) columns fit is = or-false _ ∙ bare-cube cs se
 bare-line cs sets out (l ∷ m ∷ ls) columns fit is = absurd is
 
 -- a row that matches somewhere doesn't match nothing, and one that matches nowhere does
-not_none : (cs : List Column) (sets : List ℕ) → HasPoint cs sets → matches_none cs sets ≡ false
+pub not_none : (cs : List Column) (sets : List ℕ) → HasPoint cs sets → matches_none cs sets ≡ false
 not_none cs sets point = false_from_ne_true _ (λ none. false≢true (sym (matched_nowhere point.at cs sets point.range none) ∙ point.there))
 
-none_from_nowhere : (cs : List Column) (sets : List ℕ) → AreColumns cs → FitRow cs sets → HasNoPoint cs sets → matches_none cs sets ≡ true
+pub none_from_nowhere : (cs : List Column) (sets : List ℕ) → AreColumns cs → FitRow cs sets → HasNoPoint cs sets → matches_none cs sets ≡ true
 none_from_nowhere cs sets columns fit none =
     true_from_ne_false _
     (λ some.

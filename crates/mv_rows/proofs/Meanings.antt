@@ -28,7 +28,7 @@ at_front true false true m e = ap (λ x. x && true) e
 at_front true false false m e = ap (λ x. x && false) e
 at_front false b r m e = ap (λ x. x && r) e
 
-matches-narrowed : (sets values : List ℕ) (k v : ℕ) → k < length sets → row_matches (narrowed sets k v) values ≡ (row_matches sets values && nat_eq (get_or values k 0) v)
+pub matches-narrowed : (sets values : List ℕ) (k v : ℕ) → k < length sets → row_matches (narrowed sets k v) values ≡ (row_matches sets values && nat_eq (get_or values k 0) v)
 matches-narrowed [] values k v low = absurd (omega arith)
 matches-narrowed (s ∷ sets) [] zero v low = refl
 matches-narrowed (s ∷ sets) [] (suc k) v low = refl
@@ -117,7 +117,7 @@ matches-values at cs sets k (suc v) ls low are range =
 
 -- ---- the column's value is one of its net's
 
-value_in : (at : ℕ → ℕ) (cs : List Column) (k : ℕ) → k < length cs → in_range at cs ≡ true → nat_lt (get_or (column_values at cs) k 0) (count_at cs k) ≡ true
+pub value_in : (at : ℕ → ℕ) (cs : List Column) (k : ℕ) → k < length cs → in_range at cs ≡ true → nat_lt (get_or (column_values at cs) k 0) (count_at cs k) ≡ true
 value_in at [] k low range = absurd (omega arith)
 value_in at (c ∷ cs) zero low range = (and_parts _ (in_range at cs) range).0
 value_in at (c ∷ cs) (suc k) low range = value_in at cs k (omega arith) (and_parts (nat_lt (at c.net.0) c.count) (in_range at cs) range).1

@@ -17,10 +17,10 @@ use Rattle.mv_rows.specs.Marked.{values_left, leaves_all, leaves_none, matches_a
 -- ---- columns that rows match alike
 
 -- columns with as many values at each place, that the same rows match everywhere and nowhere
-record AreAlike (cs ds : List Column) : Type 0 where
-  counts : (k : ℕ) → count_at cs k ≡ count_at ds k
-  everything : (sets : List ℕ) → matches_all cs sets ≡ matches_all ds sets
-  nothing : (sets : List ℕ) → matches_none cs sets ≡ matches_none ds sets
+pub record AreAlike (cs ds : List Column) : Type 0 where
+  pub counts : (k : ℕ) → count_at cs k ≡ count_at ds k
+  pub everything : (sets : List ℕ) → matches_all cs sets ≡ matches_all ds sets
+  pub nothing : (sets : List ℕ) → matches_none cs sets ≡ matches_none ds sets
 
 bare-alike : (cs ds : List Column) → AreAlike cs ds → (sets : List ℕ) (e : Entry) → is_bare cs sets e ≡ is_bare ds sets e
 bare-alike cs ds alike sets (Set s) = alike.everything sets
@@ -40,9 +40,9 @@ default-alike cs ds alike rows (Some entries) =
 -- ---- columns of words
 
 -- for one word after the other, columns with as many values, of which the same are of one net
-record AreRenumbered (f g : List ℕ → Column) (ws : List (List ℕ)) : Type 0 where
-  counts : (u : List ℕ) → among u ws ≡ true → (f u).count ≡ (g u).count
-  nets : (u w : List ℕ) → among u ws ≡ true → among w ws ≡ true → nat_eq (f u).net.0 (f w).net.0 ≡ nat_eq (g u).net.0 (g w).net.0
+pub record AreRenumbered (f g : List ℕ → Column) (ws : List (List ℕ)) : Type 0 where
+  pub counts : (u : List ℕ) → among u ws ≡ true → (f u).count ≡ (g u).count
+  pub nets : (u w : List ℕ) → among u ws ≡ true → among w ws ≡ true → nat_eq (f u).net.0 (f w).net.0 ≡ nat_eq (g u).net.0 (g w).net.0
 
 -- the first word is among the words, and those behind it are
 first_among : (w : List ℕ) (ws : List (List ℕ)) → among w (w ∷ ws) ≡ true
@@ -88,7 +88,7 @@ list_any-renumbered f g p q (w ∷ ws) same =
     let rest = list_any-renumbered f g p q ws (λ u h. same u (or_right _ _ h)) in
     λ i. first i || rest i
 
-alike : (f g : List ℕ → Column) (ws : List (List ℕ)) → AreRenumbered f g ws → AreAlike (map f ws) (map g ws)
+pub alike : (f g : List ℕ → Column) (ws : List (List ℕ)) → AreRenumbered f g ws → AreAlike (map f ws) (map g ws)
 alike f g ws same = record {
   counts = count-renumbered f g ws same.counts;
   everything = λ sets. list_all-renumbered f g (leaves_all (map f ws) sets) (leaves_all (map g ws) sets) ws (all_renumbered f g ws same sets);

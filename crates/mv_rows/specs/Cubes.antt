@@ -68,8 +68,6 @@ pub record IsRowCube (columns : List Column) (sets : List ℕ) (cube : List Lit)
   pub formed : IsCube cube
   pub parts : (count : ℕ → ℕ) → CountBy count columns → AreParts count cube
 
--- ---- what private functions alone cite
-
 -- columns of a table, with an order that is theirs
 pub record IsFrame (f : Frame) : Type 0 where
   pub columns : AreColumns f.columns

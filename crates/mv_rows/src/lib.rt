@@ -6,5 +6,5 @@ mod cube;
 mod lines;
 mod table;
 
-pub use column::Column;
+pub use column::{Column, Frame, Placed};
 pub use table::{FlatTable, flat_table};

@@ -1,0 +1,14 @@
+pub mod Splits
+pub mod Possible
+pub mod Fitting
+pub mod Unmarked
+pub mod Tables
+pub mod Lists
+pub mod Anys
+pub mod Splitting
+pub mod PlainMeaning
+pub mod Choosing
+pub mod Outs
+pub mod Whole
+pub mod JointMarked
+pub mod OneJoint

@@ -1,0 +1,5 @@
+use Rattle.mv_joint.proofs.OneJoint.{one_joint}
+use Rattle.mv_joint.proofs.laws.at_most_one_joint_table.Goals as goal
+
+pub returns : goal.returns
+returns c = one_joint

@@ -1,0 +1,365 @@
+ghost use Rattle.std.specs.Prelude.{◌≡◌, ◌∷◌, ◌++◌, [], ◌<◌, ◌≤◌, false, length, map, position, slice_index_or, Some, None, List, nat_eq, IfOk, IfErr, OnOk, All};
+ghost use Rattle.std.specs.List.{list_any};
+ghost use Rattle.std.specs.Option.{unwrap_or};
+ghost use Rattle.indexmap.specs.IndexSet.{insert_all};
+ghost use Rattle.mv_base.specs.Set.{empty};
+ghost use Rattle.mv_base.specs.declared.limits.TheConstants.{MAX_VALUES};
+ghost use Rattle.mv_rows.specs.Cubes.{AreColumns};
+ghost use Rattle.mv_rows.specs.Flat.{with_mark, IsTable};
+ghost use Rattle.mv_rows.specs.Marked.{is_marked};
+ghost use Rattle.mv_joint.specs.OutRows.{same_outs};
+ghost use Rattle.mv_joint.specs.declared.split.PlainRow.{PlainRow};
+ghost use Rattle.mv_joint.specs.Plain.{IsJointFile, plain_of};
+ghost use Rattle.mv_joint.specs.Joint.{given, distinct, choice_count, choice_entry, choice_row, choice_default, choice_table, output_row, output_rows, output_table, table_of};
+ghost use Rattle.mv_joint.specs.Joint.{choice_columns, IsCoverOf, AreOutputs, IsMarkOf, IsMadeJoint, StopsBy};
+ghost use Rattle.mv_joint.specs.Meaning.{IsJointTable};
+ghost use Rattle.mv_joint.specs.Lawful.{IsPlain, IsMarkTable};
+
+use crate::out_row::OutRow;
+use crate::plain::{PlainTable, only_one, plain_table};
+use crate::split::PlainRow;
+use indexmap::IndexSet;
+use mv_base::{Items, MAX_JOINT_ROWS, Memory, NetId, Value, ValueSet};
+use mv_cover::Cover;
+use mv_design::{Entry, FileTable, Row, Rows};
+use mv_rows::{Column, flat_table};
+use std::alloc::Global;
+
+/// A table of several outputs: how many values its choice net has, the choice net's cover, the cover of each output on the
+/// choice net, and the cover of the mark net that the choice net reads, if it reads one.
+#[derive(Drop)]
+pub struct JointTable {
+    pub values: u16,
+    pub choice: Cover,
+    pub outputs: Items<Cover>,
+    pub mark: Option<Cover>,
+}
+
+/// Why a table of several outputs has no covers.
+#[derive(Clone, Copy, Debug, PartialEq, Eq)]
+pub enum JointStop {
+    /// It has more than `MAX_JOINT_ROWS` distinct rows of outputs: so many.
+    Wide(u64),
+    /// Want of memory, which says nothing of the table.
+    Memory,
+}
+
+impl From<Memory> for JointStop {
+    ghost use Rattle.std.specs.Prelude.{◌≡◌};
+    ghost use Rattle.mv_joint.specs.declared.joint.JointStop.TheVariants.{Memory as out_of_memory};
+
+    ghost from_gives = { λ _ e. e ≡ out_of_memory };
+
+    fn from(_memory: Memory) -> JointStop {
+        JointStop::Memory
+    }
+}
+
+/// The covers of a table with several outputs, whose columns have nets that are not the choice net. Splitting such a table
+/// into tables for its outputs would allow their values in any mixture; so the choice net gets a value for each distinct row
+/// of outputs, and each output reads it. A row whose entries name columns is one for each choice of their values, the first
+/// named column's slowest. Where the default names a column, or where a row says no value of some output, so that it takes the
+/// default away and has no line, the default can't stand in the cover. Then the net `mark` gets a cover, which is 0 where some
+/// row matches and 1 elsewhere, and the default becomes rows that have the mark at 1. There is no such table with more than
+/// `MAX_JOINT_ROWS` distinct rows of outputs.
+#[tactic(auto, using(crate::proofs::Whole::IsJointTable_made))]
+pub fn joint_table(
+    alloc: Global,
+    columns: &[Column],
+    table: &FileTable,
+    mark: NetId,
+    choice: NetId,
+) -> Result<JointTable, JointStop>
+    requires columns { AreColumns columns.now }
+    requires with_mark { AreColumns (with_mark columns.now mark) }
+    requires apart { list_any (λ c. nat_eq c.net.0 choice.0) (with_mark columns.now mark) ≡ false }
+    requires table { IsJointFile columns.now table.now }
+    ensures lines { IfOk result (λ joint. IsMadeJoint columns.now table.now mark choice joint) }
+    ensures relation { IfOk result (λ joint. IsJointTable columns.now table.now mark choice joint) }
+    ensures stop { IfErr result (λ stop. StopsBy columns.now table.now mark stop) }
+{
+    made(alloc, columns, table, mark, choice)
+}
+
+/// The covers of a table with several outputs, line by line.
+fn made(
+    alloc: Global,
+    columns: &[Column],
+    table: &FileTable,
+    mark: NetId,
+    choice: NetId,
+) -> Result<JointTable, JointStop>
+    requires columns { AreColumns columns.now }
+    requires with_mark { AreColumns (with_mark columns.now mark) }
+    requires apart { list_any (λ c. nat_eq c.net.0 choice.0) (with_mark columns.now mark) ≡ false }
+    requires table { IsJointFile columns.now table.now }
+    ensures made { IfOk result (λ joint. IsMadeJoint columns.now table.now mark choice joint) }
+    ensures stop { IfErr result (λ stop. StopsBy columns.now table.now mark stop) }
+{
+    let plain = plain_table(alloc, columns, table, mark)?;
+    let all = distinct(alloc, &plain)?;
+    let number = all.len() as u64;
+    if number > MAX_JOINT_ROWS {
+        return Err(JointStop::Wide(number));
+    }
+    let marks = mark_cover(alloc, columns, &plain, mark)?;
+    let chosen = choice_cover(alloc, &plain, &all, mark)?;
+    let all = all.as_slice();
+    let outputs = output_covers(alloc, all, table.outputs.len(), mark, choice)?;
+    Ok(JointTable {
+        values: choice_count(all),
+        choice: chosen,
+        outputs,
+        mark: marks,
+    })
+}
+
+/// The distinct rows of outputs in order of first appearance, the default's last.
+fn distinct(alloc: Global, plain: &PlainTable) -> Result<IndexSet<OutRow>, Memory>
+    ensures { IfOk result (λ all. all.keys ≡ distinct plain.now) }
+{
+    let mut all = row_outs(alloc, plain.rows.as_slice())?;
+    add_given(&mut all, &plain.default)?;
+    Ok(all)
+}
+
+/// Adds the default's row of outputs, if there is a default and it is new.
+fn add_given(all: &mut IndexSet<OutRow>, default: &Option<OutRow>) -> Result<(), Memory>
+    ensures { OnOk result (all.new.keys ≡ insert_all same_outs all.old.keys (given default.now)) }
+{
+    if let Some(outs) = default {
+        all.insert(outs.copy()?)?;
+    }
+    Ok(())
+}
+
+/// The distinct rows of outputs of the rows.
+fn row_outs(alloc: Global, rows: &[PlainRow]) -> Result<IndexSet<OutRow>, Memory>
+    ensures { IfOk result (λ all. all.keys ≡ insert_all same_outs [] (map (λ (r : PlainRow). r.outs) rows.now)) }
+{
+    let mut all = IndexSet::new(alloc);
+    for row in rows {
+        all.insert(row.outs.copy()?)?;
+    }
+    Ok(all)
+}
+
+/// How many values the choice net has: one for each row of outputs, and one if there is none.
+fn choice_count(all: &[OutRow]) -> u16
+    requires { length all.now ≤ MAX_VALUES }
+    ensures { result ≡ choice_count all.now }
+{
+    if all.is_empty() {
+        return 1;
+    }
+    all.len() as u16
+}
+
+/// The cover of a table of one output that needs no mark.
+#[tactic(auto, using(crate::proofs::Unmarked::cover_unmarked))]
+fn cover_of(
+    alloc: Global,
+    columns: &[Column],
+    table: &FileTable,
+    mark: NetId,
+) -> Result<Cover, Memory>
+    requires columns { AreColumns columns.now }
+    requires with_mark { AreColumns (with_mark columns.now mark) }
+    requires table { IsTable columns.now table.now }
+    requires unmarked { is_marked columns.now table.now ≡ false }
+    ensures { IfOk result (λ cover. IsCoverOf columns.now table.now mark cover) }
+{
+    let flat = flat_table(alloc, columns, table, mark)?;
+    Ok(flat.cover)
+}
+
+/// The cover of the mark, if there is one.
+fn mark_cover(
+    alloc: Global,
+    columns: &[Column],
+    plain: &PlainTable,
+    mark: NetId,
+) -> Result<Option<Cover>, Memory>
+    requires columns { AreColumns columns.now }
+    requires with_mark { AreColumns (with_mark columns.now mark) }
+    requires plain { IsMarkTable columns.now plain.now.mark }
+    ensures { IfOk result (λ cover. IsMarkOf columns.now mark plain.now.mark cover) }
+{
+    match &plain.mark {
+        None => Ok(None),
+        Some(table) => Ok(Some(cover_of(alloc, columns, table, mark)?)),
+    }
+}
+
+/// The cover of the choice net.
+fn choice_cover(
+    alloc: Global,
+    plain: &PlainTable,
+    all: &IndexSet<OutRow>,
+    mark: NetId,
+) -> Result<Cover, Memory>
+    requires plain { IsPlain mark plain.now }
+    requires all { all.now.keys ≡ distinct plain.now }
+    requires few { length all.now.keys ≤ MAX_VALUES }
+    ensures { IfOk result (λ cover. IsCoverOf plain.now.columns (choice_table plain.now) mark cover) }
+{
+    let table = choice_table(alloc, plain, all)?;
+    cover_of(alloc, plain.columns.as_slice(), &table, mark)
+}
+
+/// The choice net's table.
+fn choice_table(
+    alloc: Global,
+    plain: &PlainTable,
+    all: &IndexSet<OutRow>,
+) -> Result<FileTable, Memory>
+    requires all { all.now.keys ≡ distinct plain.now }
+    requires few { length all.now.keys ≤ MAX_VALUES }
+    ensures { IfOk result (λ table. table ≡ choice_table plain.now) }
+{
+    let mut rows = Items::with_room(alloc, plain.rows.len())?;
+    for row in plain.rows.as_slice() {
+        rows.push(choice_row(alloc, all, row)?)?;
+    }
+    let default = choice_default(alloc, all, &plain.default)?;
+    table_of(alloc, rows, default)
+}
+
+/// The choice net's value for a row of outputs.
+fn choice_entry(all: &IndexSet<OutRow>, outs: &OutRow) -> Entry
+    requires few { length all.now.keys ≤ MAX_VALUES }
+    ensures { result ≡ choice_entry all.now.keys outs.now }
+{
+    Entry::Set(ValueSet::one(Value(place_of(all, outs))))
+}
+
+/// The place of the row of outputs among these.
+fn place_of(all: &IndexSet<OutRow>, outs: &OutRow) -> u16
+    requires few { length all.now.keys ≤ MAX_VALUES }
+    ensures place { result ≡ unwrap_or (position (same_outs outs.now) all.now.keys) 0 }
+    ensures few { result < MAX_VALUES }
+{
+    match all.get_index_of(outs) {
+        Some(place) => place as u16,
+        None => 0,
+    }
+}
+
+/// The row of the choice net's table.
+fn choice_row(alloc: Global, all: &IndexSet<OutRow>, row: &PlainRow) -> Result<Row, Memory>
+    requires few { length all.now.keys ≤ MAX_VALUES }
+    ensures { IfOk result (λ r. r ≡ choice_row all.now.keys row.now) }
+{
+    Ok(Row {
+        ins: row.ins.copy()?,
+        outs: only_one(alloc, choice_entry(all, &row.outs))?,
+    })
+}
+
+/// Its default.
+fn choice_default(
+    alloc: Global,
+    all: &IndexSet<OutRow>,
+    default: &Option<OutRow>,
+) -> Result<Option<Items<Entry>>, Memory>
+    requires few { length all.now.keys ≤ MAX_VALUES }
+    ensures { IfOk result (λ entries. entries ≡ choice_default all.now.keys default.now) }
+{
+    match default {
+        None => Ok(None),
+        Some(outs) => Ok(Some(only_one(alloc, choice_entry(all, outs))?)),
+    }
+}
+
+/// A table of one output with these rows and this default.
+fn table_of(
+    alloc: Global,
+    rows: Items<Row>,
+    default: Option<Items<Entry>>,
+) -> Result<FileTable, Memory>
+    ensures { IfOk result (λ table. table ≡ table_of rows default) }
+{
+    Ok(FileTable {
+        line: 0,
+        inputs: Items::new(alloc),
+        outputs: Items::new(alloc),
+        rows: Rows::of(alloc, rows)?,
+        default,
+    })
+}
+
+/// The covers of so many outputs.
+fn output_covers(
+    alloc: Global,
+    all: &[OutRow],
+    outputs: usize,
+    mark: NetId,
+    choice: NetId,
+) -> Result<Items<Cover>, Memory>
+    requires few { length all.now ≤ MAX_VALUES }
+    requires apart { nat_eq mark.0 choice.0 ≡ false }
+    ensures many { IfOk result (λ covers. length covers ≡ outputs) }
+    ensures each { IfOk result (λ covers. AreOutputs all.now mark choice 0 covers) }
+{
+    let column = Column {
+        net: choice,
+        count: choice_count(all),
+    };
+    let mut covers = Items::new(alloc);
+    for output in 0..outputs {
+        covers.push(output_cover(alloc, all, &column, output, mark)?)?;
+    }
+    Ok(covers)
+}
+
+/// The cover of the output on the choice net.
+fn output_cover(
+    alloc: Global,
+    all: &[OutRow],
+    column: &Column,
+    output: usize,
+    mark: NetId,
+) -> Result<Cover, Memory>
+    requires few { length all.now ≤ MAX_VALUES }
+    requires apart { nat_eq mark.0 column.now.net.0 ≡ false }
+    requires column { column.now.count ≡ choice_count all.now }
+    ensures { IfOk result (λ cover. IsCoverOf (choice_columns all.now column.now.net) (output_table all.now output) mark cover) }
+{
+    let table = table_of(alloc, output_rows(alloc, all, output)?, None)?;
+    cover_of(alloc, std::slice::from_ref(column), &table, mark)
+}
+
+/// For each value of the choice net, its set for the output.
+fn output_rows(alloc: Global, all: &[OutRow], output: usize) -> Result<Items<Row>, Memory>
+    requires few { length all.now ≤ MAX_VALUES }
+    ensures { IfOk result (λ rows. rows ≡ output_rows output 0 all.now) }
+{
+    let mut rows = Items::with_room(alloc, all.len())?;
+    for (value, outs) in all.iter().enumerate() {
+        rows.push(output_row(alloc, Value(value as u16), outs, output)?)?;
+    }
+    Ok(rows)
+}
+
+/// The row of the value of the choice net.
+fn output_row(alloc: Global, value: Value, outs: &OutRow, output: usize) -> Result<Row, Memory>
+    requires { value.0 < MAX_VALUES }
+    ensures { IfOk result (λ row. row ≡ output_row output value.0 outs.now) }
+{
+    let mut ins = Items::new(alloc);
+    ins.push(ValueSet::one(value))?;
+    Ok(Row {
+        ins,
+        outs: only_one(alloc, Entry::Set(set_at(outs, output)))?,
+    })
+}
+
+/// The set for the output.
+fn set_at(outs: &OutRow, output: usize) -> ValueSet
+    ensures { result ≡ slice_index_or outs.now output empty }
+{
+    match outs.as_slice().get(output) {
+        Some(set) => *set,
+        None => ValueSet::empty(),
+    }
+}

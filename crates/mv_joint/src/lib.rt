@@ -1,0 +1,15 @@
+//! Tables of several outputs as covers: a choice net, whose values are the distinct rows of outputs, and a table on it for
+//! each output.
+#![tactic(auto)]
+
+mod joint;
+mod laws;
+mod out_row;
+mod plain;
+mod split;
+
+pub use joint::{JointStop, JointTable, joint_table};
+pub use laws::{at_most_one_joint_table, mark_laws};
+pub use out_row::OutRow;
+pub use plain::{PlainTable, plain_table};
+pub use split::PlainRow;
