@@ -28,6 +28,14 @@ const WRITTEN: &str = "\
 .model A;.inputs x;.outputs y;.table x -> y;0 1;1 0;.end;.root m;.model m;.inputs a;.outputs z;.subckt A u x=a y=z;.end;\
 .model lone;.outputs q;.subckt none n;.end; | \
 .model m;.inputs a;.outputs z;.table a -> z;0 1;1 0;.end; | # done 2 2;
+-- A controller: its state is a latch of the root, whose next state an instance gives.
+.model main;.inputs go;.outputs busy;.mv state, state$in 4 IDLE LOAD RUN DONE;.subckt step s1 cur=state go=go nxt=state$in;\
+.names state -> b<*0>;.def 0;(LOAD,RUN) 1;.names b<*0> -> busy;- =b<*0>;.latch state$in state;.r state;IDLE;.end;\
+.model step;.inputs cur go;.outputs nxt;.mv cur, nxt 4 IDLE LOAD RUN DONE;.names cur go -> nxt;\
+IDLE 0 IDLE;IDLE 1 LOAD;LOAD - RUN;RUN - DONE;DONE - IDLE;.end; | \
+.model main;.inputs go;.outputs busy;.mv state 4 IDLE LOAD RUN DONE;.mv state$in 4 IDLE LOAD RUN DONE;.latch state$in state;\
+.table state -> b<*0>;.default 0;(LOAD,RUN) 1;.table b<*0> -> busy;0 0;1 1;.reset -> state;IDLE;\
+.table go state -> state$in;0 IDLE IDLE;1 IDLE LOAD;- LOAD RUN;- RUN DONE;- DONE IDLE;.end; | # done 10 10;
 ";
 
 #[test]
@@ -35,7 +43,7 @@ fn a_design_is_written_as_one_network(rt: HostRuntime) -> Result<(), Fail> {
     are_written(&rt, rt.alloc(), b"", WRITTEN)
 }
 
-/// A controller and its step.
+/// The same controller, and what `sweep` and `eliminate` leave of it.
 const CONTROLLER: &str = "\
 .model main;.inputs go;.outputs busy;.mv state, state$in 4 IDLE LOAD RUN DONE;.subckt step s1 cur=state go=go nxt=state$in;\
 .names state -> b<*0>;.def 0;(LOAD,RUN) 1;.names b<*0> -> busy;- =b<*0>;.latch state$in state;.r state;IDLE;.end;\
@@ -69,6 +77,11 @@ const REFUSED: &str = "\
 .model m;.outputs z;.subckt A u x=z y=z;.end;.model A;.inputs x;.outputs y;.table x -> y;- =x;.end; | 30 Cycle z
 .model m;.inputs d;.subckt L u i=d;.end;.model L;.inputs i;.latch i s;.latch i t;.r t -> s;- =t;.end; | 31 ResetReadsLatch u.s u.t
 .model m;.inputs d;.subckt L u i=d;.end;.model L;.inputs i;.outputs o;.latch i o;.r o;0;.r o;1;.end; | 32 ResetTwice u.o
+-- The model of the instance isn't ended.
+# from a controller;.model main;.inputs go;.outputs busy;.mv state, state$in 4 IDLE LOAD RUN DONE;.subckt step s1 cur=state go=go nxt=state$in;\
+.names state -> b<*0>;.def 0;(LOAD,RUN) 1;.names b<*0> -> busy;- =b<*0>;.latch state$in state;.r state;IDLE;.end;\
+.model step;.inputs cur go;.outputs nxt;.mv cur, nxt 4 IDLE LOAD RUN DONE;.names cur go -> nxt;\
+IDLE 0 IDLE;IDLE 1 LOAD;LOAD - RUN;RUN - DONE;DONE - IDLE; | 7 NoEnd line 16
 -- The latch of a reset table is told by its name in the model, not by the net that this is.
 .model m;.inputs d;.outputs s;.subckt L u i=d x=s y=s;.end;.model L;.inputs i;.outputs x y;.latch i x;.r y;0;.end; | 33 NoLatch s
 ";
