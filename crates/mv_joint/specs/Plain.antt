@@ -9,7 +9,7 @@ use Rattle.mv_design.specs.declared.table.Entry.TheVariants.{Set, Same}
 use Rattle.mv_design.specs.declared.table.Row.{Row}
 use Rattle.mv_design.specs.declared.table.FileTable.{FileTable}
 use Rattle.mv_rows.specs.declared.column.Column.{Column}
-use Rattle.mv_rows.specs.Cubes.{FitRow}
+use Rattle.mv_rows.specs.Cubes.{AreColumns, FitRow}
 use Rattle.mv_rows.specs.Lines.{FitEntry}
 use Rattle.mv_rows.specs.Flat.{says_nothing, with_mark, marked_sets}
 use Rattle.mv_rows.specs.Marked.{matches_all}
@@ -32,6 +32,13 @@ pub record IsJointDefault (columns : List Column) (outputs : ℕ) (entries : Lis
 pub record IsJointFile (columns : List Column) (t : FileTable) : Type 0 where
   pub rows : All (IsJointRow columns (length t.outputs)) t.rows
   pub default : (entries : List Entry) → t.default ≡ Some entries → IsJointDefault columns (length t.outputs) entries
+
+-- a mark and a choice net for a table over these columns: the mark is the net of none of them, and the choice net of none of
+-- them nor the mark
+pub record AreApart (columns : List Column) (mark choice : NetId) : Type 0 where
+  pub inputs : AreColumns columns
+  pub marked : AreColumns (with_mark columns mark)
+  pub chosen : list_any (λ (c : Column). nat_eq c.net.0 choice.0) (with_mark columns mark) ≡ false
 
 -- some output has no value in the row
 abbrev pub is_silent : PlainRow → Bool
