@@ -1,5 +1,5 @@
 -- The first line of a table or a reset table, with an arrow: its columns, and that limits are its only faults.
-use Rattle.std.proofs.Common.{◌≡◌, ℕ, ◌+◌, true, not, List, [], ◌∷◌, ◌++◌, length, refl, arith, length-append}
+use Rattle.std.proofs.Common.{◌≡◌, ◌∙◌, ℕ, ◌+◌, true, not, List, [], ◌∷◌, ◌++◌, length, refl, ap, arith, length-append}
 use Rattle.std.specs.Prelude.{codes, nat_lt, nat_le}
 use Rattle.std.specs.List.{list_all}
 use Rattle.std.proofs.Math.Seq.{take-append_seam, drop-append-add}
@@ -9,7 +9,8 @@ use Rattle.mv_base.specs.declared.limits.TheConstants.{MAX_COLUMNS}
 use Rattle.mv_fault.specs.declared.fault.Which.TheVariants.{Columns}
 use Rattle.mv_fault.specs.declared.fault.ParseFault.TheVariants.{Limit, BadName}
 use Rattle.mv_fault.specs.Tells.{when}
-use Rattle.mv_table.specs.Columns.{arrow_at, ins_of, outs_of, names_faults, columns_faults, output_faults, reset_faults}
+use Rattle.mv_table.specs.Columns.{arrow_at, ins_of, outs_of, names_faults, outputs_faults, columns_faults, output_faults, reset_faults}
+use Rattle.mv_table.proofs.Outputs.{single_output}
 use Rattle.mv_word.proofs.LawfulNames.{net_name-has}
 use Rattle.mv_back.proofs.Limits.{only_limits, limits-append, when-limit}
 
@@ -52,12 +53,16 @@ names-limits n at (w ∷ ws) e =
 own-limits : (n : ℕ) (names : List (List ℕ)) (name : List ℕ) → is_net_name name ≡ true → only_limits (names_faults n (length names) (name ∷ [])) ≡ true
 own-limits n names name own = names-limits n (length names) (name ∷ []) (and_from (is_net_name name) true own refl)
 
+-- it is the single output of its table
+single-limits : (n : ℕ) (names : List (List ℕ)) (name : List ℕ) → is_net_name name ≡ true → only_limits (outputs_faults n (length names) [] (name ∷ [])) ≡ true
+single-limits n names name own = ap only_limits (single_output n (length names) name) ∙ own-limits n names name own
+
 pub columns-limits : (n : ℕ) (word : List ℕ) (names : List (List ℕ)) (name : List ℕ) → list_all is_net_name names ≡ true → is_net_name name ≡ true → only_limits (columns_faults n word (columns names name)) ≡ true
 unfolding columns_faults
 columns-limits n word names name e own =
     rw (ins-written names name e, outs-written names name e)
-    (limits-append (names_faults n 0 names ++ names_faults n (length names) (name ∷ [])) []
-    (limits-append (names_faults n 0 names) (names_faults n (length names) (name ∷ [])) (names-limits n 0 names e) (own-limits n names name own))
+    (limits-append (names_faults n 0 names ++ outputs_faults n (length names) [] (name ∷ [])) []
+    (limits-append (names_faults n 0 names) (outputs_faults n (length names) [] (name ∷ [])) (names-limits n 0 names e) (single-limits n names name own))
     refl)
 
 pub reset-limits : (n : ℕ) (word : List ℕ) (names : List (List ℕ)) (name : List ℕ) → list_all is_net_name names ≡ true → is_net_name name ≡ true

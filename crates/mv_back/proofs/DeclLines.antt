@@ -48,7 +48,7 @@ pushed front n f said new =
 fine_line : (h : LexLine) (front : List LexLine) (n : ℕ) (f : FlatNet) → list_all goes_on (h ∷ front) ≡ true → IsSaid f.name f.values f.value_names
     → among f.name (declared_of (decls_of front)) ≡ false → only_limits (faults_at (h ∷ front) (mv_line n f)) ≡ true
 fine_line h front n f goes said new =
-    ap only_limits (faults-going Mv h front (mv_line n f) goes command-mv ∙ declared-none f.name f.values f.value_names said n (codes ".mv") (decls_of front) new)
+    ap only_limits (faults-going Mv h front (mv_line n f) goes command-mv refl refl ∙ declared-none f.name f.values f.value_names said n (codes ".mv") (decls_of front) new)
 
 regrouped : (front : List LexLine) (d : Decl) (l : LexLine) (more : List Decl) → decls_of (front ++ l ∷ []) ≡ decls_of front ++ d ∷ [] → names_differ (declared_of (decls_of front) ++ d.net ∷ declared_of more) ≡ true → names_differ (declared_of (decls_of (front ++ l ∷ [])) ++ declared_of more) ≡ true
 regrouped front d l more e differ =

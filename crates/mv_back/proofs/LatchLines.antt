@@ -52,7 +52,7 @@ module _ (net : NetParts) (formed : WellFormed net) where
       let input : is_net_name (name_in (slot net.nets l.input.0)) ≡ true = readable-lawful net formed l.input.0 is.input in
       let output : is_net_name (name_in (slot net.nets l.output.0)) ≡ true = readable-lawful net formed l.output.0 (readable-kind net.nets l.output.0 LatchKind refl is.output) in
       let no_fault : latch_faults n (codes ".latch") (name_in (slot net.nets l.input.0) ∷ name_in (slot net.nets l.output.0) ∷ []) ≡ [] = rw (input, output) refl in
-      ap only_limits (faults-going Latch h front (latch_line net.nets n l) goes command-latch ∙ no_fault)
+      ap only_limits (faults-going Latch h front (latch_line net.nets n l) goes command-latch refl refl ∙ no_fault)
 
   pub latches-fine : (h : LexLine) (ls : List FlatLatch) → AllLatches net.nets ls → (front : List LexLine) (n : ℕ) → list_all goes_on (h ∷ front) ≡ true
       → AreFine (h ∷ front) (latch_lines net.nets n ls)

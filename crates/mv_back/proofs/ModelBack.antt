@@ -107,7 +107,7 @@ module _ (net : NetParts) (formed : WellFormed net) where
       let lawful = names-lawful net formed net.inputs (read-inputs net formed) in
       let differ = names-differ net formed net.inputs (read-inputs net formed) formed.inputs.once in
       let no_fault : port_faults 2 [] names ≡ [] = ports-none 2 [] names lawful differ in
-      ap only_limits (faults-going Inputs first [] (inputs_line net) alone command-inputs ∙ no_fault)
+      ap only_limits (faults-going Inputs first [] (inputs_line net) alone command-inputs refl refl ∙ no_fault)
 
   fine_outputs : only_limits (faults_at (first ∷ inputs_line net ∷ []) (outputs_line net)) ≡ true
   fine_outputs =
@@ -117,7 +117,7 @@ module _ (net : NetParts) (formed : WellFormed net) where
       let lawful = names-lawful net formed net.outputs formed.outputs in
       let differ = names-differ net formed net.outputs formed.outputs formed.outputs_once in
       let no_fault : port_faults 3 [] names ≡ [] = ports-none 3 [] names lawful differ in
-      let going = faults-going Outputs first (inputs_line net ∷ []) (outputs_line net) two command-outputs in
+      let going = faults-going Outputs first (inputs_line net ∷ []) (outputs_line net) two command-outputs refl refl in
       ap only_limits (going ∙ (ap (λ earlier. port_faults 3 earlier names) no_outputs ∙ no_fault))
 
   fine_end : only_limits (faults_at (first ∷ body net) (end_line net)) ≡ true
@@ -125,7 +125,7 @@ module _ (net : NetParts) (formed : WellFormed net) where
   fine_end =
       let latches = latches-valued net formed (latches_from net) net.latches formed.latches in
       let values = ap (λ ds. tables_faults ds (body net)) decls_are ∙ net-values net say.inside (declared net.nets) latches in
-      ap only_limits (faults-going End first (body net) (end_line net) goes command-end ∙ (values ∙ say.faults))
+      ap only_limits (faults-going End first (body net) (end_line net) goes command-end refl refl ∙ (values ∙ say.faults))
 
   -- the lines up to a part of the inner ones go on
   front_goes : (front behind : List LexLine) → first ∷ body net ≡ front ++ behind → list_all goes_on front ≡ true

@@ -10,9 +10,9 @@ use Rattle.mv_lex.proofs.Cuts.{has_none, closed-none, open_piece-none}
 use Rattle.mv_parse.specs.declared.command.Command.{Command}
 use Rattle.mv_parse.specs.declared.command.Command.TheVariants.{End, Root}
 use Rattle.mv_parse.specs.declared.known.Known.{Known}
-use Rattle.mv_parse.specs.Commands.{command_at, is_end, is_root}
+use Rattle.mv_parse.specs.Commands.{command_at, is_model, is_end, is_root}
 use Rattle.mv_parse.specs.Known.{says_root, ends_part, open_part, models_of, model_names, open_model, file_model, known}
-use Rattle.mv_parse.specs.Grammar.{unread_faults, placed_faults, line_faults, faults_at}
+use Rattle.mv_parse.specs.Grammar.{body_faults, line_faults, faults_at}
 use Rattle.mv_parse.proofs.Parts.{unrooted-first, open_part-end}
 use Rattle.mv_parse.proofs.Knowns.{models-end}
 use Rattle.mv_parse.proofs.NamedRoots.{no-root, root-more}
@@ -85,6 +85,6 @@ known-closed h ls l e y =
 
 -- the faults of a line within the model
 pub faults-going : (c : Command) (h : LexLine) (ls : List LexLine) (l : LexLine) → list_all goes_on (h ∷ ls) ≡ true → command_at l ≡ c
-    → faults_at (h ∷ ls) l ≡ unread_faults c l ++ placed_faults c (opened h ls) ls l
+    → is_model c ≡ false → is_root c ≡ false → faults_at (h ∷ ls) l ≡ body_faults c (Some (open_model h ls)) ls l
 unfolding line_faults
-faults-going c h ls l e is = rw (is, known-going h ls e, one_part h ls e) refl
+faults-going c h ls l e is no_model no_root = rw (is, known-going h ls e, one_part h ls e, no_model, no_root) refl

@@ -9,7 +9,6 @@ use Rattle.mv_lex.specs.declared.lines.LexLine.{LexLine}
 use Rattle.mv_fault.specs.declared.fault.Which.TheVariants.{TableLines}
 use Rattle.mv_fault.specs.declared.fault.ParseFault.TheVariants.{Limit}
 use Rattle.mv_fault.specs.Tells.{when}
-use Rattle.mv_table.specs.Columns.{outs_of, has_several_outputs}
 use Rattle.mv_table.specs.Tables.{behind_first}
 use Rattle.mv_parse.specs.declared.command.Command.TheVariants.{Table, Reset, Default, Row}
 use Rattle.mv_parse.specs.declared.known.OpenTable.{OpenTable}
@@ -39,7 +38,7 @@ row_line h front n t ws goes e is long =
     let many = when (nat_le MAX_TABLE_LINES t.rows) (Limit n TableLines (MAX_TABLE_LINES + 1)) in
     let limit = when-limit (nat_le MAX_TABLE_LINES t.rows) (Limit n TableLines (MAX_TABLE_LINES + 1)) refl in
     let said : only_limits (row_faults n t ws) ≡ true = rw (eq-eqb (length ws) (t.ins + t.outs) long) (limits-append many [] limit refl) in
-    ap only_limits (faults-going Row h front (record { number = n; words = ws }) goes is ∙ ap (λ o. at_table n o (λ u. row_faults n u ws)) e) ∙ said
+    ap only_limits (faults-going Row h front (record { number = n; words = ws }) goes is refl refl ∙ ap (λ o. at_table n o (λ u. row_faults n u ws)) e) ∙ said
 
 pub rows-fine : (h : LexLine) (front : List LexLine) (n : ℕ) (t : OpenTable) (rows : List (List (List ℕ))) → list_all goes_on (h ∷ front) ≡ true
     → open_table front ≡ Some t → list_all (is_row_line (t.ins + t.outs)) rows ≡ true → AreFine (h ∷ front) (lines_from n rows)
@@ -64,7 +63,7 @@ default_fine : (h : LexLine) (front : List LexLine) (n : ℕ) (t : OpenTable) (w
 unfolding default_faults
 default_fine h front n t w goes e first one =
     let said : only_limits (default_faults n (codes ".default") t (w ∷ [])) ≡ true = rw (first, one) refl in
-    let going = faults-going Default h front (default_line n w) goes command-default in
+    let going = faults-going Default h front (default_line n w) goes command-default refl refl in
     ap only_limits (going ∙ ap (λ o. at_table n o (λ u. default_faults n (codes ".default") u (w ∷ []))) e) ∙ said
 
 -- ---- the first line
@@ -74,13 +73,12 @@ head_line resets n names name = record { number = n; words = begin_word resets �
 
 head_fine : (resets : Bool) (h : LexLine) (front : List LexLine) (n : ℕ) (names : List (List ℕ)) (name : List ℕ) → list_all goes_on (h ∷ front) ≡ true
     → list_all is_net_name names ≡ true → is_net_name name ≡ true → only_limits (faults_at (h ∷ front) (head_line resets n names name)) ≡ true
-unfolding has_several_outputs
 head_fine false h front n names name goes lawful own =
-    let one : length (outs_of (columns names name)) ≡ 1 = ap length (outs-written names name lawful) in
-    ap only_limits (faults-going Table h front (head_line false n names name) goes (command-begins false))
-    ∙ rw one (columns-limits n (codes ".table") names name lawful own)
+    ap only_limits (faults-going Table h front (head_line false n names name) goes (command-begins false) refl refl)
+    ∙ columns-limits n (codes ".table") names name lawful own
 head_fine true h front n names name goes lawful own =
-    ap only_limits (faults-going Reset h front (head_line true n names name) goes (command-begins true)) ∙ reset-limits n (codes ".reset") names name lawful own
+    ap only_limits (faults-going Reset h front (head_line true n names name) goes (command-begins true) refl refl)
+    ∙ reset-limits n (codes ".reset") names name lawful own
 
 -- behind it the table is open, and its model too
 opens : (resets : Bool) (front : List LexLine) (l : LexLine) → command_at l ≡ begins resets → open_table (front ++ l ∷ []) ≡ Some (new_table (behind_first l))

@@ -42,13 +42,10 @@ impl<F: Read + Drop, I: Read + Drop> Source<F, I> {
         ensures { IfOk result (λ n. n ≤ length room.new) }
     {
         let mut filled = 0;
-        for _turn in 0..u64::MAX {
-            if filled == room.len() {
-                break;
-            }
+        while filled < room.len() {
             let count = self.read(&mut room[filled..])?;
             if count == 0 {
-                break;
+                return Ok(filled);
             }
             filled += count;
         }
@@ -113,10 +110,7 @@ impl<R: Disk + Input> Files for HostFiles<R> {
 /// Writes the whole piece, piece by piece. False where a write fails or takes nothing.
 fn write_whole(out: &impl Print, piece: &[u8]) -> bool {
     let mut done = 0;
-    for _turn in 0..u64::MAX {
-        if done == piece.len() {
-            return true;
-        }
+    while done < piece.len() {
         let Ok(count) = out.write_some(&piece[done..]) else {
             return false;
         };
@@ -125,7 +119,7 @@ fn write_whole(out: &impl Print, piece: &[u8]) -> bool {
         }
         done += count;
     }
-    false
+    true
 }
 
 /// A stream of the process that takes each piece at once, seen by contracts as the count of its faults.

@@ -1,5 +1,5 @@
 -- What the grammar makes sure of in a design, line by line: lawful names, values that the nets have, entries that fit, and
--- the order of lines. In this version tables have one output.
+-- the order of lines.
 use Rattle.std.specs.Prelude.{◌≡◌, ℕ, ◌<◌, ◌≤◌, Bool, true, not, ◌&&◌, nat_eq, nat_lt, Some}
 use Rattle.std.specs.Prelude.{List, [], ◌∷◌, length, map, slice_index_or, All}
 use Rattle.std.specs.List.{list_all, list_any}
@@ -47,13 +47,18 @@ pub record IsFileRow (ds : List Decl) (t : FileTable) (r : Row) : Type 0 where
   pub sets : FitSets ds t.inputs r.ins
   pub outs : FitOutputs ds t.inputs t.outputs r.outs
 
--- a table has lawful names and one output, and its rows and its default fit it
+-- a table has lawful names and some outputs, and its rows and its default fit it
 pub record IsFileTable (ds : List Decl) (t : FileTable) : Type 0 where
   pub inputs : list_all is_net_name t.inputs ≡ true
   pub outputs : list_all is_net_name t.outputs ≡ true
-  pub single : length t.outputs ≡ 1
+  pub some : 0 < length t.outputs
   pub rows : All (IsFileRow ds t) t.rows
   pub default : (entries : List Entry) → t.default ≡ Some entries → FitOutputs ds t.inputs t.outputs entries
+
+-- a reset table is a table of one output
+pub record IsFileReset (ds : List Decl) (t : FileTable) : Type 0 where
+  pub table : IsFileTable ds t
+  pub single : length t.outputs ≡ 1
 
 -- a latch has lawful names, and its input as many values as its output
 pub record IsFileLatch (ds : List Decl) (l : FileLatch) : Type 0 where
@@ -137,7 +142,7 @@ pub record IsLawful (m : FileModel) : Type 0 where
   pub decls : All IsFileDecl m.decls
   pub tables : All (IsFileTable m.decls) m.tables
   pub latches : All (IsFileLatch m.decls) m.latches
-  pub resets : All (IsFileTable m.decls) m.resets
+  pub resets : All (IsFileReset m.decls) m.resets
   pub parts : All IsFilePart m.parts
 
 -- a model of a file: it stands by line besides

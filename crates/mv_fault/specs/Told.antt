@@ -11,7 +11,7 @@ use Rattle.mv_fault.specs.declared.flat.FlatFault.TheVariants.{JointWide, Limit 
 use Rattle.mv_fault.specs.declared.fault.ParseFault.TheVariants.{UnknownCommand, OutsideModel, NoEnd, Missing, Extra}
 use Rattle.mv_fault.specs.declared.fault.ParseFault.TheVariants.{BadCount, ValueNames, Redeclared, Columns, UnknownValue, BadEqual}
 use Rattle.mv_fault.specs.declared.fault.ParseFault.TheVariants.{DefaultTwice, ModelTwice, RootFault, Repeated, NoModel}
-use Rattle.mv_fault.specs.declared.fault.ParseFault.TheVariants.{Limit, BadName, NoTable, LatchValues, NotBuilt, Memory}
+use Rattle.mv_fault.specs.declared.fault.ParseFault.TheVariants.{Limit, BadName, NoTable, LatchValues, Memory}
 
 -- the name of a limit
 abbrev pub which_name : Which → List ℕ
@@ -65,7 +65,6 @@ parse_line (Limit line which number) = told (codes "21 Limit") line (which_name 
 parse_line (BadName line name) = told (codes "36 BadName") line (name ∷ [])
 parse_line (NoTable line) = told (codes "37 NoTable") line []
 parse_line (LatchValues line input output) = told (codes "38 LatchValues") line (input ∷ output ∷ [])
-parse_line (NotBuilt line) = told (codes "39 NotBuilt") line []
 parse_line Memory = codes "# fault memory\n"
 
 -- ---- faults of a design

@@ -122,10 +122,6 @@ pub enum ParseFault {
         input: Name,
         output: Name,
     },
-    /// A line that this version doesn't read yet.
-    NotBuilt {
-        line: u32,
-    },
     /// Want of memory, which says nothing of the lines.
     Memory,
 }

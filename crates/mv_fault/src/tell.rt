@@ -136,7 +136,6 @@ pub fn put_parse_fault<K: Sink>(fault: &Fault, out: &mut K) -> Result<(), Failed
             input,
             output,
         } => put_words(b"38 LatchValues", *line, input.bytes(), output.bytes(), out),
-        Fault::NotBuilt { line } => put_bare(b"39 NotBuilt", *line, out),
         Fault::Memory => out.put(b"# fault memory\n"),
     }
 }

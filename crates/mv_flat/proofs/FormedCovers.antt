@@ -1,4 +1,4 @@
--- The covers of a table are covers over the nets: each literal is on the net of a column, or on the mark's.
+-- The covers of a table are covers over the nets: each literal is on one of the nets that the cover may read.
 use Rattle.std.proofs.Common.{◌≡◌, ℕ, Bool, true, false, ◌||◌, List, [], ◌∷◌, Option, Some, None, refl, sym, ◌∙◌, ap, arith, ⊎_elim, All}
 use Rattle.std.specs.Prelude.{if◌then◌else◌, nat_eq}
 use Rattle.std.specs.List.{list_any}
@@ -29,14 +29,27 @@ abbrev pub is_mark : Option Cover → NetId → ℕ → Bool
 is_mark None mark n = false
 is_mark (Some c) mark n = nat_eq mark.0 n
 
+-- what is read by a cover over the columns and the mark
 abbrev pub is_above : List Column → Option Cover → NetId → ℕ → Bool
 is_above columns o mark n = is_column columns n || is_mark o mark n
 
--- how many values each of these has; other nets have none here
-abbrev pub count_above : List (Option FlatNet) → List Column → Option Cover → NetId → ℕ → ℕ
-count_above nets columns o mark n = if is_above columns o mark n then values_in (slot nets n) else 0
+-- what is read by a cover over the choice net
+abbrev pub is_choice : NetId → ℕ → Bool
+is_choice choice n = nat_eq choice.0 n
 
--- ---- literals
+-- how many values each of these has; other nets have none here
+abbrev pub count_above : (ℕ → Bool) → (ℕ → ℕ) → ℕ → ℕ
+count_above above count n = if above n then count n else 0
+
+-- how many values the net at a number has
+abbrev pub values_at : List (Option FlatNet) → ℕ → ℕ
+values_at nets n = values_in (slot nets n)
+
+-- each of these can be read
+pub record AreReadable (nets : List (Option FlatNet)) (above : ℕ → Bool) : Type 0 where
+  pub each : (n : ℕ) → above n ≡ true → IsReadable nets n
+
+-- ---- what covers read
 
 none_within : (s : ℕ) → Within s (full 0) → s ≡ empty
 none_within s within =
@@ -48,57 +61,58 @@ part_above : (b : Bool) (k s : ℕ) → IsPart (if b then k else 0) s → (b ≡
 part_above true k s p = (refl, p)
 part_above false k s p = absurd (p.values.some (none_within s p.values.within))
 
--- a literal of the cube is on one of these nets
-parts_read : (nets : List (Option FlatNet)) (columns : List Column) (o : Option Cover) (mark : NetId) (cube : List Lit) (n : ℕ) → AreParts (count_above nets columns o mark) cube → cube_reads cube n ≡ true → is_above columns o mark n ≡ true
-parts_read nets columns o mark [] n parts h = absurd (false≢true h)
-parts_read nets columns o mark (l ∷ ls) n parts h =
-    ⊎_elim
-    (λ (y : nat_eq l.net.0 n ≡ true). ap (is_above columns o mark) (sym (eqb-true l.net.0 n y)) ∙ (part_above (is_above columns o mark l.net.0) (values_in (slot nets l.net.0)) l.set parts.0).0)
-    (λ (y : cube_reads ls n ≡ true). parts_read nets columns o mark ls n parts.1 y)
-    (or_cases (nat_eq l.net.0 n) (cube_reads ls n) h)
+module _ (above : ℕ → Bool) (count : ℕ → ℕ) where
+  -- a literal of the cube is on one of these nets
+  parts_read : (cube : List Lit) (n : ℕ) → AreParts (count_above above count) cube → cube_reads cube n ≡ true → above n ≡ true
+  parts_read [] n parts h = absurd (false≢true h)
+  parts_read (l ∷ ls) n parts h =
+      ⊎_elim
+      (λ (y : nat_eq l.net.0 n ≡ true). ap above (sym (eqb-true l.net.0 n y)) ∙ (part_above (above l.net.0) (count l.net.0) l.set parts.0).0)
+      (λ (y : cube_reads ls n ≡ true). parts_read ls n parts.1 y)
+      (or_cases (nat_eq l.net.0 n) (cube_reads ls n) h)
 
-literals_from : (nets : List (Option FlatNet)) (columns : List Column) (o : Option Cover) (mark : NetId) (cube : List Lit) → ((n : ℕ) → is_above columns o mark n ≡ true → IsReadable nets n) → AreParts (count_above nets columns o mark) cube → AllLiterals nets cube
-literals_from nets columns o mark [] readable parts = tt
-literals_from nets columns o mark (l ∷ ls) readable parts =
-    let p = part_above (is_above columns o mark l.net.0) (values_in (slot nets l.net.0)) l.set parts.0 in (
-      record { readable = readable l.net.0 p.0; set = p.1.values; not_full = p.1.not_full },
-      literals_from nets columns o mark ls readable parts.1,
-    )
+  lines_above : (values : ℕ) (ls : List Line) (n : ℕ) → All (IsTableLine (count_above above count) values) ls → lines_read ls n ≡ true → above n ≡ true
+  lines_above values [] n all h = absurd (false≢true h)
+  lines_above values (l ∷ ls) n all h =
+      let P : Line → Type 0 = IsTableLine (count_above above count) values in
+      ⊎_elim (λ (y : cube_reads l.cube n ≡ true). parts_read l.cube n (All-head P l ls all).parts y)
+      (λ (y : lines_read ls n ≡ true). lines_above values ls n (All-tail P l ls all) y)
+      (or_cases (cube_reads l.cube n) (lines_read ls n) h)
 
--- ---- lines
+  -- a cover reads these nets alone
+  pub cover_above : (values : ℕ) (c : Cover) (n : ℕ) → IsTableCover (count_above above count) values c → cover_reads c n ≡ true → above n ≡ true
+  cover_above values c n is h = lines_above values c.lines n is.lines h
 
-cubes_from : (count : ℕ → ℕ) (values : ℕ) (ls : List Line) → All (IsTableLine count values) ls → AllCubes ls
-cubes_from count values [] all = tt
-cubes_from count values (l ∷ ls) all = ((All-head (IsTableLine count values) l ls all).cube, cubes_from count values ls (All-tail (IsTableLine count values) l ls all))
+-- ---- covers over the nets
 
-lines_from : (nets : List (Option FlatNet)) (columns : List Column) (o : Option Cover) (mark : NetId) (values : ℕ) (ls : List Line) → ((n : ℕ) → is_above columns o mark n ≡ true → IsReadable nets n) → All (IsTableLine (count_above nets columns o mark) values) ls → AllLines nets values ls
-lines_from nets columns o mark values [] readable all = tt
-lines_from nets columns o mark values (l ∷ ls) readable all =
-    let P : Line → Type 0 = IsTableLine (count_above nets columns o mark) values in
-    let here = All-head P l ls all in (
-      literals_from nets columns o mark l.cube readable here.parts,
-      here.out,
-      lines_from nets columns o mark values ls readable (All-tail P l ls all),
-    )
+module _ (nets : List (Option FlatNet)) (above : ℕ → Bool) where
+  literals_from : (cube : List Lit) → AreReadable nets above → AreParts (count_above above (values_at nets)) cube → AllLiterals nets cube
+  literals_from [] readable parts = tt
+  literals_from (l ∷ ls) readable parts =
+      let p = part_above (above l.net.0) (values_at nets l.net.0) l.set parts.0 in (
+        record { readable = readable.each l.net.0 p.0; set = p.1.values; not_full = p.1.not_full },
+        literals_from ls readable parts.1,
+      )
 
-lines_above : (nets : List (Option FlatNet)) (columns : List Column) (o : Option Cover) (mark : NetId) (values : ℕ) (ls : List Line) (n : ℕ) → All (IsTableLine (count_above nets columns o mark) values) ls → lines_read ls n ≡ true → is_above columns o mark n ≡ true
-lines_above nets columns o mark values [] n all h = absurd (false≢true h)
-lines_above nets columns o mark values (l ∷ ls) n all h =
-    let P : Line → Type 0 = IsTableLine (count_above nets columns o mark) values in
-    ⊎_elim (λ (y : cube_reads l.cube n ≡ true). parts_read nets columns o mark l.cube n (All-head P l ls all).parts y)
-    (λ (y : lines_read ls n ≡ true). lines_above nets columns o mark values ls n (All-tail P l ls all) y)
-    (or_cases (cube_reads l.cube n) (lines_read ls n) h)
+  cubes_from : (values : ℕ) (ls : List Line) → All (IsTableLine (count_above above (values_at nets)) values) ls → AllCubes ls
+  cubes_from values [] all = tt
+  cubes_from values (l ∷ ls) all =
+      let P : Line → Type 0 = IsTableLine (count_above above (values_at nets)) values in
+      ((All-head P l ls all).cube, cubes_from values ls (All-tail P l ls all))
 
--- ---- covers
+  lines_from : (values : ℕ) (ls : List Line) → AreReadable nets above → All (IsTableLine (count_above above (values_at nets)) values) ls
+      → AllLines nets values ls
+  lines_from values [] readable all = tt
+  lines_from values (l ∷ ls) readable all =
+      let P : Line → Type 0 = IsTableLine (count_above above (values_at nets)) values in
+      let here = All-head P l ls all in
+      (literals_from l.cube readable here.parts, here.out, lines_from values ls readable (All-tail P l ls all))
 
-pub cover_from : (nets : List (Option FlatNet)) (columns : List Column) (o : Option Cover) (mark : NetId) (values : ℕ) (c : Cover) → ((n : ℕ) → is_above columns o mark n ≡ true → IsReadable nets n) → IsTableCover (count_above nets columns o mark) values c → IsCover nets values c
-cover_from nets columns o mark values c readable is = record {
-  cubes = cubes_from (count_above nets columns o mark) values c.lines is.lines;
-  lines = lines_from nets columns o mark values c.lines readable is.lines;
-  differ = is.differ;
-  default = is.default;
-  met = is.met;
-}
-
-pub cover_above : (nets : List (Option FlatNet)) (columns : List Column) (o : Option Cover) (mark : NetId) (values : ℕ) (c : Cover) (n : ℕ) → IsTableCover (count_above nets columns o mark) values c → cover_reads c n ≡ true → is_above columns o mark n ≡ true
-cover_above nets columns o mark values c n is h = lines_above nets columns o mark values c.lines n is.lines h
+  pub cover_from : (values : ℕ) (c : Cover) → AreReadable nets above → IsTableCover (count_above above (values_at nets)) values c → IsCover nets values c
+  cover_from values c readable is = record {
+    cubes = cubes_from values c.lines is.lines;
+    lines = lines_from values c.lines readable is.lines;
+    differ = is.differ;
+    default = is.default;
+    met = is.met;
+  }

@@ -3,7 +3,7 @@ use Rattle.std.proofs.Common.{◌≡◌, ◌⊎◌, ℕ, ◌<◌, ◌≤◌, tru
 use Rattle.std.proofs.lemmas.Bool.{false≢true, and_from, and_parts, cases_lt, false_from_ne_true, not-true, not_from_false}
 use Rattle.mv_base.specs.Names.{among, is_net_name, names_differ}
 use Rattle.mv_base.specs.declared.number.NetId.{NetId}
-use Rattle.mv_cover.specs.declared.cover.Cover.{Cover}
+use Rattle.mv_base.proofs.NameLemmas.{among-at}
 use Rattle.mv_design.specs.declared.design.FileModel.{FileModel}
 use Rattle.mv_net.specs.declared.parts.FlatNet.{FlatNet}
 use Rattle.mv_net.specs.declared.parts.NetParts.{NetParts}
@@ -12,17 +12,17 @@ use Rattle.mv_net.specs.declared.parts.Kind.TheVariants.{Table, Reset}
 use Rattle.mv_net.specs.Nets.{slot}
 use Rattle.mv_graph.specs.Nets.{all_differ, has_id}
 use Rattle.mv_net.specs.Formed.{has_table, IsKind, IsReadable, AreKind}
-use Rattle.mv_design.specs.Nets.{drivers, nets_named, output_of}
+use Rattle.mv_design.specs.Nets.{drivers, nets_named}
 use Rattle.mv_flat.specs.Built.{kind_of}
 use Rattle.mv_flat.specs.Places.{places}
 use Rattle.mv_unfold.specs.Numbers.{net_in, number_in}
 use Rattle.mv_unfold.proofs.Names.{all_among}
 use Rattle.mv_flat.proofs.Lawful.{open_of, kind_has_table}
 use Rattle.mv_flat.proofs.Numbered.{same_number}
-use Rattle.mv_flat.proofs.Slots.{mark_net}
-use Rattle.mv_flat.proofs.Places.{IsModelNet, single_tables, table_of, open_slot, OpenPlace, OutputPlace, MarkPlace, place_at, no_slot, named_file}
+use Rattle.mv_flat.proofs.Places.{IsModelNet, table_of, open_slot, OpenPlace, OutputPlace, MarkPlace, ChoicePlace, TablePlace, place_at, no_slot, named_file}
 use Rattle.mv_unfold.proofs.Commands.{output_named}
-use Rattle.mv_flat.proofs.Naming.{IsNumberOf, number_listed, listed_number, among_first, among_later, open_named, output_of_among, table_output_named}
+use Rattle.mv_flat.proofs.Naming.{IsNumberOf, number_listed, listed_number, among_first, among_later, open_named, table_output_named}
+use Rattle.mv_flat.proofs.FormedMade.{output_net, mark_net, choice_net}
 use Rattle.mv_flat.proofs.FormedTables.{file_readable}
 
 -- ---- the kinds of nets
@@ -34,10 +34,6 @@ HasKind (Some f) kind = f.kind ≡ kind
 
 kind_there : (nets : List (Option FlatNet)) (n : ℕ) (kind : Kind) (s : Option FlatNet) → slot nets n ≡ s → IsKind nets n kind → HasKind s kind
 kind_there nets n kind s e is = let P : Option FlatNet → Type 0 = λ o. HasKind o kind in subst P (sym is.held ∙ e) is.is
-
-mark_kind : (name : List ℕ) (o : Option Cover) (kind : Kind) → HasKind (mark_net name o) kind → Table ≡ kind
-mark_kind name None kind h = absurd h
-mark_kind name (Some c) kind h = h
 
 -- the net of a table is of this kind by its name
 pub record IsOutputOf (m : FileModel) (kind : Kind) (n : ℕ) : Type 0 where
@@ -53,37 +49,47 @@ open_there m net is n kind k p =
     record { name = p.name; listed = ap (λ x. among p.name (open_of m x)) (sym there) ∙ p.listed; number = sym p.number }
 
 output_there : (m : FileModel) (net : NetParts) → IsModelNet m net → (n : ℕ) (kind : Kind) → IsKind net.nets n kind → OutputPlace m n → IsOutputOf m kind n
-output_there m net is n kind k p = record {
-  name = output_of p.table;
-  driven =
-      is.driven (output_of p.table)
-      (table_output_named m p.place p.table (output_of p.table) p.listed (output_of_among p.table (single_tables m net is p.place p.table p.listed)));
-  is = kind_there net.nets n kind _ (ap (slot net.nets) p.number ∙ (table_of m net is p.place p.table p.listed).output) k;
-  number = sym p.number;
-}
+output_there m net is n kind k p =
+    let o = output_net m.decls (places m) net.nets p.table (table_of m net is p.place p.table p.listed) p.index p.name p.output in
+    record {
+      name = p.name;
+      driven = is.driven p.name (table_output_named m p.place p.table p.name p.listed (among-at p.table.outputs p.index p.name p.output));
+      is = kind_there net.nets n kind _ (ap (slot net.nets) p.number ∙ o.slot_is) k;
+      number = sym p.number;
+    }
 
 mark_there : (m : FileModel) (net : NetParts) → IsModelNet m net → (n : ℕ) (kind : Kind) → IsKind net.nets n kind → MarkPlace m n → Table ≡ kind
 mark_there m net is n kind k p =
-    let here = table_of m net is p.place p.table p.listed in
-    mark_kind here.name here.flat.mark kind (kind_there net.nets n kind _ (ap (slot net.nets) p.number ∙ here.mark p.may) k)
+    let o = mark_net m.decls (places m) net.nets p.table (table_of m net is p.place p.table p.listed) p.may in
+    kind_there net.nets n kind _ (ap (slot net.nets) p.number ∙ o.stands.slot_is) k
 
--- a net of a kind is one without a table, the output of a table, or a mark
+choice_there : (m : FileModel) (net : NetParts) → IsModelNet m net → (n : ℕ) (kind : Kind) → IsKind net.nets n kind → ChoicePlace m n → Table ≡ kind
+choice_there m net is n kind k p =
+    let o = choice_net m.decls (places m) net.nets p.table (table_of m net is p.place p.table p.listed) p.joint in
+    kind_there net.nets n kind _ (ap (slot net.nets) p.number ∙ o.stands.slot_is) k
+
+table_there : (m : FileModel) (net : NetParts) → IsModelNet m net → (n : ℕ) (kind : Kind) → IsKind net.nets n kind → TablePlace m n
+    → IsOutputOf m kind n ⊎ (Table ≡ kind)
+table_there m net is n kind k p =
+    ⊎_elim (λ (o : OutputPlace m n). inl (output_there m net is n kind k o))
+    (λ q. inr (⊎_elim (λ (o : MarkPlace m n). mark_there m net is n kind k o) (λ (o : ChoicePlace m n). choice_there m net is n kind k o) q))
+    p
+
+-- a net of a kind is one without a table, the output of a table, or one that is made
 kinds : (m : FileModel) (net : NetParts) → IsModelNet m net → (n : ℕ) (kind : Kind) → IsKind net.nets n kind
     → IsNumberOf (places m) (open_of m kind) n ⊎ (IsOutputOf m kind n ⊎ (Table ≡ kind))
 kinds m net is n kind k =
     ⊎_elim
     (λ (low : n < length (places m)).
-    ⊎_elim (λ (p : OpenPlace m n). inl (open_there m net is n kind k p))
-    (λ q.
-    ⊎_elim (λ (p : OutputPlace m n). inr (inl (output_there m net is n kind k p))) (λ (p : MarkPlace m n). inr (inr (mark_there m net is n kind k p)))
-    q)
+    ⊎_elim (λ (p : OpenPlace m n). inl (open_there m net is n kind k p)) (λ (p : TablePlace m n). inr (table_there m net is n kind k p))
     (place_at m net is n low))
     (λ (high : length (places m) ≤ n). absurd (kind_there net.nets n kind None (no_slot m net is n high) k))
     (cases_lt n (length (places m)))
 
 -- ---- lists of numbers
 
-numbers_differ : (m : FileModel) (net : NetParts) → IsModelNet m net → (ws : List (List ℕ)) → ((w : List ℕ) → among w ws ≡ true → among w (nets_named m) ≡ true) → names_differ ws ≡ true → all_differ (map (net_in (places m)) ws) ≡ true
+numbers_differ : (m : FileModel) (net : NetParts) → IsModelNet m net → (ws : List (List ℕ))
+    → ((w : List ℕ) → among w ws ≡ true → among w (nets_named m) ≡ true) → names_differ ws ≡ true → all_differ (map (net_in (places m)) ws) ≡ true
 numbers_differ m net is [] named h = refl
 numbers_differ m net is (w ∷ ws) named h =
     let p = and_parts (not (among w ws)) (names_differ ws) h in

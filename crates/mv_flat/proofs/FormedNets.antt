@@ -4,6 +4,8 @@ use Rattle.std.specs.Prelude.{◌^◌, codes}
 use Rattle.std.proofs.lemmas.Bool.{false≢true, cases_lt}
 use Rattle.std.proofs.lemmas.Option.{none-some, same_Some}
 use Rattle.mv_base.specs.Names.{among, is_net_name}
+use Rattle.mv_base.specs.declared.limits.TheConstants.{MAX_VALUES}
+use Rattle.mv_base.proofs.NameLemmas.{among-at}
 use Rattle.mv_cover.specs.declared.cover.Cover.{Cover}
 use Rattle.mv_design.specs.Values.{values_of, count_of}
 use Rattle.mv_design.specs.declared.design.FileModel.{FileModel}
@@ -13,17 +15,18 @@ use Rattle.mv_net.specs.declared.parts.Kind.{Kind}
 use Rattle.mv_net.specs.declared.parts.Kind.TheVariants.{Input, Latch, Table, Reset}
 use Rattle.mv_net.specs.Nets.{slot}
 use Rattle.mv_net.specs.Formed.{has_table, IsCover, IsNet}
-use Rattle.mv_design.specs.Nets.{output_of}
 use Rattle.mv_flat.specs.Places.{places}
-use Rattle.mv_flat.specs.Numbers.{made_name}
-use Rattle.mv_flat.specs.Built.{file_net, fresh_net, kind_of}
+use Rattle.mv_flat.specs.Numbers.{made_name, mark_at, choice_at}
+use Rattle.mv_flat.specs.Built.{file_net, kind_of}
+use Rattle.mv_flat.specs.Covers.{MadeNet}
 use Rattle.mv_decl.proofs.Decimals.{numbered-net_name}
 use Rattle.mv_flat.proofs.Lawful.{open_of, kind_open, open_lawful, plain_lawful, kind_has_table}
-use Rattle.mv_flat.proofs.Slots.{IsTableAt, mark_net}
-use Rattle.mv_flat.proofs.Places.{IsModelNet, table_of, single_tables, open_slot, OpenPlace, OutputPlace, MarkPlace, place_at, no_slot}
-use Rattle.mv_flat.proofs.Naming.{named_flat, output_of_among, table_output_named}
+use Rattle.mv_flat.proofs.Slots.{StandsMade}
+use Rattle.mv_flat.proofs.Places.{IsModelNet, table_of, open_slot, OpenPlace, OutputPlace, MarkPlace, ChoicePlace, TablePlace, place_at, no_slot}
+use Rattle.mv_flat.proofs.Naming.{named_flat, table_output_named}
 use Rattle.mv_flat.proofs.FormedValues.{values_are, named_kept}
-use Rattle.mv_flat.proofs.FormedTables.{output_cover, mark_cover}
+use Rattle.mv_flat.proofs.FormedMade.{output_net, mark_net, choice_net}
+use Rattle.mv_flat.proofs.FormedTables.{output_cover, mark_cover, choice_cover, choice_size}
 
 -- what stands there, if a net does, is well formed
 abbrev IsFormed : List (Option FlatNet) → Option FlatNet → Type 0
@@ -68,54 +71,62 @@ open_formed m net is n p =
 output_formed : (m : FileModel) (net : NetParts) → IsModelNet m net → (n : ℕ) → OutputPlace m n → IsFormed net.nets (slot net.nets n)
 output_formed m net is n p =
     let P : Option FlatNet → Type 0 = IsFormed net.nets in
-    let w : List ℕ = output_of p.table in
-    let here = table_of m net is p.place p.table p.listed in
-    let named = table_output_named m p.place p.table w p.listed (output_of_among p.table (single_tables m net is p.place p.table p.listed)) in
-    let Q : Cover → Type 0 = IsCover net.nets (count_of m.decls w) in
-    subst P (sym (ap (slot net.nets) p.number ∙ here.output))
-    (file_formed m net is (kind_of w) (Some here.flat.cover) w (plain_lawful w (named_flat m net is w named)) (sym (kind_has_table w))
-    (λ c e. subst Q (same_Some here.flat.cover c e) (output_cover m net is p.place p.table p.listed)))
+    let o = output_net m.decls (places m) net.nets p.table (table_of m net is p.place p.table p.listed) p.index p.name p.output in
+    let named = table_output_named m p.place p.table p.name p.listed (among-at p.table.outputs p.index p.name p.output) in
+    let Q : Cover → Type 0 = IsCover net.nets (count_of m.decls p.name) in
+    subst P (sym (ap (slot net.nets) p.number ∙ o.slot_is))
+    (file_formed m net is (kind_of p.name) (Some o.cover) p.name (plain_lawful p.name (named_flat m net is p.name named)) (sym (kind_has_table p.name))
+    (λ c e. subst Q (same_Some o.cover c e) (output_cover m net is p.place p.table p.listed p.index p.name o.cover p.output o.listed)))
 
--- ---- nets of marks
+-- ---- nets that are made
 
 lawful_made : (n : ℕ) → n < 2 ^ 32 → is_net_name (made_name n) ≡ true
 lawful_made n small = numbered-net_name (codes "_m") n (omega arith) refl
 
-made_formed : (nets : List (Option FlatNet)) (name : List ℕ) (c : Cover) → is_net_name name ≡ true → IsCover nets 2 c → IsFormed nets (fresh_net name c)
-made_formed nets name c lawful cover =
-    let Q : Cover → Type 0 = IsCover nets 2 in
-    formed_some nets _
+-- a net that is made is well formed where it has some values, but not too many, and a cover for these
+made_formed : (nets : List (Option FlatNet)) (n : ℕ) (made : MadeNet) → StandsMade nets n made → 0 < made.values → made.values ≤ MAX_VALUES
+    → IsCover nets made.values made.cover → IsFormed nets (slot nets n)
+made_formed nets n made stands some few cover =
+    let P : Option FlatNet → Type 0 = IsFormed nets in
+    let Q : Cover → Type 0 = IsCover nets made.values in
+    subst P (sym stands.slot_is)
+    (formed_some nets _
     (record {
-      some = omega arith;
-      few = omega arith;
+      some = some;
+      few = few;
       named = record { lawful = refl; differ = refl; each = λ some. absurd (let none : 0 < 0 = some in omega arith); spelled = λ h. refl };
-      name = λ plain. lawful;
+      name = λ plain. ap is_net_name stands.fresh.is ∙ lawful_made stands.fresh.number stands.fresh.small;
       table = refl;
-      cover = λ d e. subst Q (same_Some c d e) cover;
-    })
+      cover = λ d e. subst Q (same_Some made.cover d e) cover;
+    }))
 
 mark_formed : (m : FileModel) (net : NetParts) → IsModelNet m net → (n : ℕ) → MarkPlace m n → IsFormed net.nets (slot net.nets n)
-mark_formed m net is n p = subst P (sym (ap (slot net.nets) p.number ∙ here.mark p.may)) (by_mark here.flat.mark refl)
-  where
-    P : Option FlatNet → Type 0
-    P = IsFormed net.nets
+mark_formed m net is n p =
+    let P : Option FlatNet → Type 0 = IsFormed net.nets in
+    let o = mark_net m.decls (places m) net.nets p.table (table_of m net is p.place p.table p.listed) p.may in
+    subst P (sym (ap (slot net.nets) p.number))
+    (made_formed net.nets (mark_at (places m) p.table).0 (record { values = 2; cover = o.cover }) o.stands (omega arith) (omega arith)
+    (mark_cover m net is p.place p.table p.listed o.cover o.is))
 
-    here : IsTableAt m.decls (places m) net.nets p.table
-    here = table_of m net is p.place p.table p.listed
+choice_formed : (m : FileModel) (net : NetParts) → IsModelNet m net → (n : ℕ) → ChoicePlace m n → IsFormed net.nets (slot net.nets n)
+choice_formed m net is n p =
+    let P : Option FlatNet → Type 0 = IsFormed net.nets in
+    let o = choice_net m.decls (places m) net.nets p.table (table_of m net is p.place p.table p.listed) p.joint in
+    let size = choice_size m net is p.place p.table p.listed o.made o.is in
+    subst P (sym (ap (slot net.nets) p.number))
+    (made_formed net.nets (choice_at (places m) p.table).0 o.made o.stands size.some size.few (choice_cover m net is p.place p.table p.listed o.made o.is))
 
-    by_mark : (o : Option Cover) → here.flat.mark ≡ o → IsFormed net.nets (mark_net here.name o)
-    by_mark None e = formed_none net.nets
-    by_mark (Some c) e =
-        let fresh = here.fresh c e in
-        made_formed net.nets here.name c (ap is_net_name fresh.is ∙ lawful_made fresh.number fresh.small) (mark_cover m net is p.place p.table p.listed c e)
+table_formed : (m : FileModel) (net : NetParts) → IsModelNet m net → (n : ℕ) → TablePlace m n → IsFormed net.nets (slot net.nets n)
+table_formed m net is n p =
+    ⊎_elim (λ (o : OutputPlace m n). output_formed m net is n o)
+    (λ q. ⊎_elim (λ (o : MarkPlace m n). mark_formed m net is n o) (λ (o : ChoicePlace m n). choice_formed m net is n o) q)
+    p
 
 -- each net is well formed
 pub nets_formed : (m : FileModel) (net : NetParts) → IsModelNet m net → (n : ℕ) (f : FlatNet) → slot net.nets n ≡ Some f → IsNet net.nets f
 nets_formed m net is n =
     ⊎_elim
     (λ (low : n < length (places m)).
-    ⊎_elim (λ (p : OpenPlace m n). open_formed m net is n p)
-    (λ q. ⊎_elim (λ (p : OutputPlace m n). output_formed m net is n p) (λ (p : MarkPlace m n). mark_formed m net is n p) q)
-    (place_at m net is n low))
+    ⊎_elim (λ (p : OpenPlace m n). open_formed m net is n p) (λ (p : TablePlace m n). table_formed m net is n p) (place_at m net is n low))
     (λ (high : length (places m) ≤ n). let P : Option FlatNet → Type 0 = IsFormed net.nets in subst P (sym (no_slot m net is n high)) (formed_none net.nets))
     (cases_lt n (length (places m)))

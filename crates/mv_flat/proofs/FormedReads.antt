@@ -1,97 +1,143 @@
--- What the nets of a model's network read: a table's output the columns and the mark, and the mark the columns.
-use Rattle.std.proofs.Common.{◌≡◌, ◌⊎◌, ℕ, ◌<◌, ◌≤◌, true, length, Option, Some, None, refl, sym, ◌∙◌, ap, ⊎_elim, inl, inr, List}
+-- What the nets of a model's network read: the nets of a table its columns, and those higher up the lower ones: the mark stands
+-- right above the columns, the choice net above the mark, and the outputs above both.
+use Rattle.std.proofs.Common.{◌≡◌, ◌⊎◌, ℕ, zero, suc, ◌<◌, ◌≤◌, true, List, length, Some, sym, ◌∙◌, ap, arith, ⊎_elim, inl, inr}
 use Rattle.std.specs.List.{slice_get}
 use Rattle.std.proofs.lemmas.Bool.{false≢true, and_from, cases_lt}
 use Rattle.std.proofs.lemmas.Map.Keys.{any_passes_from_place}
 use Rattle.mv_base.specs.Names.{among}
-use Rattle.mv_cover.specs.declared.cover.Cover.{Cover}
+use Rattle.mv_base.proofs.NameLemmas.{among-at}
 use Rattle.mv_design.specs.declared.design.FileModel.{FileModel}
 use Rattle.mv_design.specs.declared.table.FileTable.{FileTable}
-use Rattle.mv_design.specs.Nets.{output_of}
+use Rattle.mv_rows.specs.declared.column.Column.{Column}
 use Rattle.mv_net.specs.declared.parts.NetParts.{NetParts}
 use Rattle.mv_net.specs.Nets.{slot, net_reads, reads_in}
-use Rattle.mv_unfold.specs.Numbers.{number_in}
 use Rattle.mv_unfold.specs.Sound.{reads_through, reads}
-use Rattle.mv_flat.specs.Numbers.{mark_at}
-use Rattle.mv_flat.specs.Places.{places, has_mark}
-use Rattle.mv_flat.proofs.Slots.{IsTableAt, mark_net}
-use Rattle.mv_flat.proofs.Places.{IsModelNet, single_tables, table_of, open_slot, OpenPlace, OutputPlace, MarkPlace, place_at, no_slot}
-use Rattle.mv_flat.proofs.Naming.{IsNumberOf, output_of_among}
-use Rattle.mv_flat.proofs.Valuations.{marked_has}
-use Rattle.mv_flat.proofs.FormedTables.{IsMarkOf, output_above, mark_above}
+use Rattle.mv_flat.specs.Covers.{mark_of}
+use Rattle.mv_flat.specs.Numbers.{columns_at, mark_at, choice_at}
+use Rattle.mv_flat.specs.Places.{places, has_mark, is_joint}
+use Rattle.mv_flat.proofs.Slots.{IsTableAt}
+use Rattle.mv_flat.proofs.Places.{IsModelNet, table_of, open_slot, OpenPlace, OutputPlace, MarkPlace, ChoicePlace, TablePlace, place_at, no_slot}
+use Rattle.mv_flat.proofs.Naming.{IsNumberOf}
+use Rattle.mv_flat.proofs.FormedMade.{output_net, mark_net, choice_net, marked_has, chosen_joint}
+use Rattle.mv_flat.proofs.FormedTables.{IsMarkOf, IsChoiceOf, output_above, mark_above, choice_above}
 
--- the number is that of the table's output, or of its mark
-abbrev pub IsOfTable : FileModel → FileTable → ℕ → Type 0
-IsOfTable m t n = (n ≡ number_in (places m) (output_of t)) ⊎ ((has_mark m.decls t ≡ true) × (n ≡ (mark_at (places m) t).0))
+-- the number is that of a net of the table, by how high it stands above the columns: of its mark, its choice net or an output
+abbrev pub StandsIn : FileModel → FileTable → ℕ → ℕ → Type 0
+StandsIn m t zero n = (has_mark m.decls t ≡ true) × (n ≡ (mark_at (places m) t).0)
+StandsIn m t (suc zero) n = (is_joint t ≡ true) × (n ≡ (choice_at (places m) t).0)
+StandsIn m t (suc (suc zero)) n = IsNumberOf (places m) t.outputs n
+StandsIn m t (suc (suc (suc h))) n = ⊥
 
--- the output or the mark of a table, and a column of it
+-- a net of a table, and a column of it
 pub record ReadsColumn (m : FileModel) (n k : ℕ) : Type 0 where
   pub place : ℕ
   pub table : FileTable
   pub listed : slice_get m.tables place ≡ Some table
-  pub reader : IsOfTable m table n
+  pub height : ℕ
+  pub reader : StandsIn m table height n
   pub column : IsNumberOf (places m) table.inputs k
 
--- the output of a table, and its mark
-pub record ReadsMark (m : FileModel) (n k : ℕ) : Type 0 where
+-- a net of a table, and a lower one
+pub record ReadsMade (m : FileModel) (n k : ℕ) : Type 0 where
   pub place : ℕ
   pub table : FileTable
   pub listed : slice_get m.tables place ≡ Some table
-  pub reader : n ≡ number_in (places m) (output_of table)
-  pub may : has_mark m.decls table ≡ true
-  pub mark : k ≡ (mark_at (places m) table).0
+  pub upper : ℕ
+  pub lower : ℕ
+  pub reader : StandsIn m table upper n
+  pub made : StandsIn m table lower k
+  pub lies : lower < upper
 
-open_reads : (m : FileModel) (net : NetParts) → IsModelNet m net → (n k : ℕ) → OpenPlace m n → reads_in net.nets n k ≡ true → ⊥
-open_reads m net is n k p h = false≢true (sym (ap (λ s. net_reads s k) (ap (slot net.nets) p.number ∙ open_slot m net is p.kind p.name p.listed)) ∙ h)
+module _ (m : FileModel) (net : NetParts) (is : IsModelNet m net) (n k : ℕ) where
+  open_reads : OpenPlace m n → reads_in net.nets n k ≡ true → ⊥
+  open_reads p h = false≢true (sym (ap (λ s. net_reads s k) (ap (slot net.nets) p.number ∙ open_slot m net is p.kind p.name p.listed)) ∙ h)
 
-output_reads : (m : FileModel) (net : NetParts) → IsModelNet m net → (n k : ℕ) → OutputPlace m n → reads_in net.nets n k ≡ true
-    → ReadsColumn m n k ⊎ ReadsMark m n k
-output_reads m net is n k p h =
-    let here = table_of m net is p.place p.table p.listed in
-    ⊎_elim
-    (λ (c : IsNumberOf (places m) p.table.inputs k). inl (record { place = p.place; table = p.table; listed = p.listed; reader = inl p.number; column = c }))
-    (λ (c : IsMarkOf here.flat.mark (mark_at (places m) p.table) k).
-    inr
-    (record {
-      place = p.place;
-      table = p.table;
-      listed = p.listed;
-      reader = p.number;
-      may = marked_has m.decls (places m) net.nets p.table here c.cover c.there;
-      mark = sym c.number;
-    }))
-    (output_above m net is p.place p.table p.listed k (sym (ap (λ s. net_reads s k) (ap (slot net.nets) p.number ∙ here.output)) ∙ h))
+  abbrev at_table : (place : ℕ) (t : FileTable) → slice_get m.tables place ≡ Some t → IsTableAt m.decls (places m) net.nets t
+  at_table place t e = table_of m net is place t e
 
-mark_reads : (m : FileModel) (net : NetParts) → IsModelNet m net → (n k : ℕ) → MarkPlace m n → reads_in net.nets n k ≡ true → ReadsColumn m n k
-mark_reads m net is n k p h = by_mark here.flat.mark refl (sym (ap (λ s. net_reads s k) (ap (slot net.nets) p.number ∙ here.mark p.may)) ∙ h)
-  where
-    here : IsTableAt m.decls (places m) net.nets p.table
-    here = table_of m net is p.place p.table p.listed
+  -- a net of a table that reads a column, or the mark
+  of_column : (place : ℕ) (t : FileTable) (e : slice_get m.tables place ≡ Some t) (height : ℕ) → StandsIn m t height n
+      → IsNumberOf (places m) t.inputs k → ReadsColumn m n k
+  of_column place t e height reader column = record { place = place; table = t; listed = e; height = height; reader = reader; column = column }
 
-    by_mark : (o : Option Cover) → here.flat.mark ≡ o → net_reads (mark_net here.name o) k ≡ true → ReadsColumn m n k
-    by_mark None e y = absurd (false≢true y)
-    by_mark (Some c) e y = record {
-      place = p.place;
-      table = p.table;
-      listed = p.listed;
-      reader = inr (p.may, p.number);
-      column = mark_above m net is p.place p.table p.listed c e k y;
-    }
+  of_mark : (place : ℕ) (t : FileTable) (e : slice_get m.tables place ≡ Some t) (height : ℕ) → 0 < height → StandsIn m t height n
+      → IsMarkOf (mark_of (at_table place t e).covers) (mark_at (places m) t) k → ReadsMade m n k
+  of_mark place t e height high reader mark = record {
+    place = place;
+    table = t;
+    listed = e;
+    upper = height;
+    lower = 0;
+    reader = reader;
+    made = (marked_has m.decls (places m) net.nets t (at_table place t e) mark.cover mark.there, sym mark.number);
+    lies = high;
+  }
 
--- each net that reads another is such
-pub reads_by_table : (m : FileModel) (net : NetParts) → IsModelNet m net → (n k : ℕ) → reads_in net.nets n k ≡ true → ReadsColumn m n k ⊎ ReadsMark m n k
-reads_by_table m net is n k h =
-    ⊎_elim
-    (λ (low : n < length (places m)).
-    ⊎_elim (λ (p : OpenPlace m n). absurd (open_reads m net is n k p h))
-    (λ q. ⊎_elim (λ (p : OutputPlace m n). output_reads m net is n k p h) (λ (p : MarkPlace m n). inl (mark_reads m net is n k p h)) q)
-    (place_at m net is n low))
-    (λ (high : length (places m) ≤ n). absurd (false≢true (sym (ap (λ s. net_reads s k) (no_slot m net is n high)) ∙ h)))
-    (cases_lt n (length (places m)))
+  of_choice : (place : ℕ) (t : FileTable) (e : slice_get m.tables place ≡ Some t) → StandsIn m t 2 n
+      → IsChoiceOf (at_table place t e).covers (choice_at (places m) t) k → ReadsMade m n k
+  of_choice place t e reader choice =
+      let here = at_table place t e in
+      let columns : List Column = columns_at m.decls (places m) t in
+      let joint = chosen_joint columns t (mark_at (places m) t) (choice_at (places m) t) here.covers choice.made here.are choice.there in
+      record {
+        place = place;
+        table = t;
+        listed = e;
+        upper = 2;
+        lower = 1;
+        reader = reader;
+        made = (joint, sym choice.number);
+        lies = omega arith;
+      }
 
--- in the model a table's output reads its columns
-pub reads_column : (m : FileModel) (net : NetParts) → IsModelNet m net → (k : ℕ) (t : FileTable) (w : List ℕ) → slice_get m.tables k ≡ Some t
-    → among w t.inputs ≡ true → reads m (output_of t) w ≡ true
+  output_reads : OutputPlace m n → reads_in net.nets n k ≡ true → ReadsColumn m n k ⊎ ReadsMade m n k
+  output_reads p h =
+      let o = output_net m.decls (places m) net.nets p.table (at_table p.place p.table p.listed) p.index p.name p.output in
+      let reader : StandsIn m p.table 2 n = record { name = p.name; listed = among-at p.table.outputs p.index p.name p.output; number = sym p.number } in
+      ⊎_elim (λ (c : IsNumberOf (places m) p.table.inputs k). inl (of_column p.place p.table p.listed 2 reader c))
+      (λ q.
+      ⊎_elim
+      (λ (c : IsMarkOf (mark_of (at_table p.place p.table p.listed).covers) (mark_at (places m) p.table) k).
+      inr (of_mark p.place p.table p.listed 2 (omega arith) reader c))
+      (λ (c : IsChoiceOf (at_table p.place p.table p.listed).covers (choice_at (places m) p.table) k). inr (of_choice p.place p.table p.listed reader c))
+      q)
+      (output_above m net is p.place p.table p.listed p.index p.name o.cover p.output o.listed k
+      (sym (ap (λ s. net_reads s k) (ap (slot net.nets) p.number ∙ o.slot_is)) ∙ h))
+
+  mark_reads : MarkPlace m n → reads_in net.nets n k ≡ true → ReadsColumn m n k
+  mark_reads p h =
+      let o = mark_net m.decls (places m) net.nets p.table (at_table p.place p.table p.listed) p.may in
+      of_column p.place p.table p.listed 0 (p.may, p.number)
+      (mark_above m net is p.place p.table p.listed o.cover o.is k
+      (sym (ap (λ s. net_reads s k) (ap (slot net.nets) p.number ∙ o.stands.slot_is)) ∙ h))
+
+  choice_reads : ChoicePlace m n → reads_in net.nets n k ≡ true → ReadsColumn m n k ⊎ ReadsMade m n k
+  choice_reads p h =
+      let o = choice_net m.decls (places m) net.nets p.table (at_table p.place p.table p.listed) p.joint in
+      let reader : StandsIn m p.table 1 n = (p.joint, p.number) in
+      ⊎_elim (λ (c : IsNumberOf (places m) p.table.inputs k). inl (of_column p.place p.table p.listed 1 reader c))
+      (λ (c : IsMarkOf (mark_of (at_table p.place p.table p.listed).covers) (mark_at (places m) p.table) k).
+      inr (of_mark p.place p.table p.listed 1 (omega arith) reader c))
+      (choice_above m net is p.place p.table p.listed o.made o.is k
+      (sym (ap (λ s. net_reads s k) (ap (slot net.nets) p.number ∙ o.stands.slot_is)) ∙ h))
+
+  table_reads : TablePlace m n → reads_in net.nets n k ≡ true → ReadsColumn m n k ⊎ ReadsMade m n k
+  table_reads p h =
+      ⊎_elim (λ (o : OutputPlace m n). output_reads o h)
+      (λ q. ⊎_elim (λ (o : MarkPlace m n). inl (mark_reads o h)) (λ (o : ChoicePlace m n). choice_reads o h) q)
+      p
+
+  -- each net that reads another is such
+  pub reads_by_table : reads_in net.nets n k ≡ true → ReadsColumn m n k ⊎ ReadsMade m n k
+  reads_by_table h =
+      ⊎_elim
+      (λ (low : n < length (places m)).
+      ⊎_elim (λ (p : OpenPlace m n). absurd (open_reads p h)) (λ (p : TablePlace m n). table_reads p h) (place_at m net is n low))
+      (λ (high : length (places m) ≤ n). absurd (false≢true (sym (ap (λ s. net_reads s k) (no_slot m net is n high)) ∙ h)))
+      (cases_lt n (length (places m)))
+
+-- in the model each of a table's outputs reads its columns
+pub reads_column : (m : FileModel) (k : ℕ) (t : FileTable) (w u : List ℕ) → slice_get m.tables k ≡ Some t → among w t.outputs ≡ true
+    → among u t.inputs ≡ true → reads m w u ≡ true
 unfolding reads
-reads_column m net is k t w e h =
-    any_passes_from_place (reads_through (output_of t) w) m.tables k t e (and_from _ _ (output_of_among t (single_tables m net is k t e)) h)
+reads_column m k t w u e listed h = any_passes_from_place (reads_through w u) m.tables k t e (and_from _ _ listed h)

@@ -35,7 +35,9 @@ values_are (d ∷ ds) w all =
     let here = All-head HasLawfulValues d ds all in
     let P : List (List ℕ) → Type 0 = AreValues in
     ⊎_elim
-    (λ (y : same_word w d.net ≡ true). subst P (sym (cond-true (same_word w d.net) d.values (values_of ds w) y)) (record { some = here.some; few = here.few; lawful = here.lawful; differ = here.differ }))
+    (λ (y : same_word w d.net ≡ true).
+    subst P (sym (cond-true (same_word w d.net) d.values (values_of ds w) y))
+    (record { some = here.some; few = here.few; lawful = here.lawful; differ = here.differ }))
     (λ (n : same_word w d.net ≡ false).
     subst P (sym (cond-false (same_word w d.net) d.values (values_of ds w) n)) (values_are ds w (All-tail HasLawfulValues d ds all)))
     (cases_Bool (same_word w d.net))

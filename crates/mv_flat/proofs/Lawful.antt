@@ -1,5 +1,5 @@
--- The names of a model's nets: one of a file begins neither as a mark's nor as a reset net's, and one of a reset net as no
--- other.
+-- The names of a model's nets: one of a file begins neither as a made net's nor as a reset net's, and one of a reset net as
+-- no other.
 use Rattle.std.proofs.Common.{◌≡◌, ℕ, Bool, true, false, List, [], ◌∷◌, ◌++◌, map, refl, sym, ◌∙◌, ap, arith, ⊎_elim, All}
 use Rattle.std.specs.Prelude.{nat_eq, nat_le, ◌==◌}
 use Rattle.std.specs.List.{flat_map, list_all}
@@ -25,7 +25,7 @@ use Rattle.mv_flat.specs.Built.{kind_of}
 
 -- ---- how names begin
 
--- a name that begins as a mark's does
+-- a name that begins as a mark's or a choice net's does
 abbrev pub is_spaced : List ℕ → Bool
 is_spaced [] = false
 is_spaced (b ∷ bs) = nat_eq b 32
@@ -45,7 +45,7 @@ reset_unspaced : (w : List ℕ) → is_reset_name w ≡ true → is_spaced w ≡
 reset_unspaced [] h = refl
 reset_unspaced (b ∷ bs) h = ap (λ c. nat_eq c 32) (eqb-true b 46 (and_parts _ _ h).0)
 
--- no net's name begins as a mark's
+-- no net's name begins so
 pub flat_unspaced : (w : List ℕ) → is_flat_name w ≡ true → is_spaced w ≡ false
 flat_unspaced w h = ⊎_elim (lawful_unspaced w) (reset_unspaced w) (or_cases (is_net_name w) (is_reset_name w) h)
 

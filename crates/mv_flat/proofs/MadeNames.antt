@@ -4,7 +4,7 @@ use Rattle.std.specs.List.{range_with_len}
 use Rattle.std.proofs.Math.Bool.{or-false}
 use Rattle.std.proofs.lemmas.Bool.{false≢true, cases_lt, or_from, or_cases, or_left, false_from_ne_true}
 use Rattle.std.proofs.lemmas.Fmt.{decimal_injective}
-use Rattle.std.proofs.lemmas.List.{append-nil, length-append}
+use Rattle.std.proofs.lemmas.List.{append-nil, append_assoc, length-append}
 use Rattle.std.proofs.lemmas.List.FromFn.{length-map-range_with_len}
 use Rattle.mv_base.specs.Names.{same_word, among, place_of, AreApart}
 use Rattle.mv_base.proofs.NameLemmas.{same_word_is, same_word_refl, among-append, is_some-place_of}
@@ -13,8 +13,9 @@ use Rattle.mv_net.specs.declared.parts.FlatNet.{FlatNet}
 use Rattle.mv_unfold.proofs.Distinct.{apart_length}
 use Rattle.mv_unfold.proofs.Soundness.{in_left, in_right}
 use Rattle.mv_flat.specs.Numbers.{made_name}
-use Rattle.mv_flat.specs.Built.{fresh_net}
-use Rattle.mv_flat.specs.Marks.{IsLast, IsNext, AddsNets, MarkNets}
+use Rattle.mv_flat.specs.Covers.{MadeNet, made_mark}
+use Rattle.mv_flat.specs.Built.{fresh_net, IsFreshName, AreMade}
+use Rattle.mv_flat.specs.Marks.{IsLast, IsNext, AddsMade, AddsMark}
 
 -- ---- different numbers
 
@@ -92,7 +93,7 @@ next_ends names last number room high least =
 
 pub ruleset next = (next_found, next_passed, next_ends)
 
--- ---- the nets of a mark
+-- ---- nets that are made
 
 last_more : (names held : List (List ℕ)) (before number : ℕ) (name : List ℕ) → IsLast names held before → IsNext names before number name → IsLast names (held ++ name ∷ []) number
 last_more names held before number name h n = record {
@@ -117,43 +118,73 @@ last_more names held before number name h n = record {
         (λ (b : k ≤ before). h.before k low b)
         (cases_lt before k)
 
-mark_here : (names : List (List ℕ)) (before number : ℕ) (name : List ℕ) (cover : Cover) (net : FlatNet) (old new : List (Option FlatNet)) → IsNext names before number name → Some net ≡ fresh_net name cover → new ≡ old ++ Some net ∷ [] → AddsNets (MarkNets (Some cover)) names before number old new
-mark_here names before number name cover net old new n is e = record {
-  here = Some net ∷ [];
-  joined = e;
-  behind = λ held h. record {
-    after = held ++ name ∷ [];
-    are = record {
-      name = name;
-      fresh = record {
-        number = number;
-        is = n.is;
-        positive = let l = n.later in omega arith;
-        small = n.small;
-        fresh = ap (λ w. among w held) n.is ∙ (h.behind number n.later n.small ∙ (ap (λ w. among w names) (sym n.is) ∙ n.fresh));
-        least = λ k low l. ⊎_elim
-            (λ (a : before < k). h.behind k a (let m = n.small in omega arith) ∙ n.least k a l)
-            (λ (b : k ≤ before). h.before k low b)
-            (cases_lt before k);
-      };
-      nets_are = ap (λ f. f ∷ []) is;
-      after_is = refl;
-    };
-    lasts = last_more names held before number name h n;
-    few = let l = length-append held (name ∷ []) in omega arith;
-  };
-}
+-- a name that is made stands among the first numbers behind the last, of which there is one more than names
+pub near : (names : List (List ℕ)) (last number : ℕ) (name : List ℕ) → last + length names + 2 < 2 ^ 32 → IsNext names last number name
+    → number ≤ last + length names + 1
+near names last number name room n =
+    ⊎_elim
+    (λ (high : last + length names + 1 < number).
+    let l = made_few names (last + 1) (length names + 1) (omega arith) (λ k low below. n.least k (omega arith) (omega arith)) in
+    absurd (omega (arith, l)))
+    (λ (low : number ≤ last + length names + 1). low)
+    (cases_lt (last + length names + 1) number)
 
-pub adds_mark : (names : List (List ℕ)) (before number : ℕ) (name : List ℕ) (mark : Option Cover) (cover : Cover) (net : FlatNet) (old new : List (Option FlatNet)) → mark ≡ Some cover → IsNext names before number name → Some net ≡ fresh_net name cover → new ≡ old ++ Some net ∷ [] → AddsNets (MarkNets mark) names before number old new
-adds_mark names before number name mark cover net old new m n is e =
-    let P : Option Cover → Type 0 = λ o. AddsNets (MarkNets o) names before number old new in
-    subst P (sym m) (mark_here names before number name cover net old new n is e)
+-- what nets that are made are behind the names that are held, and the number of the last made name then
+pub record BehindMade (names : List (List ℕ)) (mades : List MadeNet) (held : List (List ℕ)) (here : List (Option FlatNet)) (last : ℕ) : Type 0 where
+  pub after : List (List ℕ)
+  pub are : AreMade mades held here after
+  pub lasts : IsLast names after last
+  pub many : length after ≡ length held + length mades
 
-pub adds_nothing : (names : List (List ℕ)) (last : ℕ) (old : List (Option FlatNet)) → AddsNets (MarkNets None) names last last old old
-adds_nothing names last old = record {
+-- nets with these behind them, whatever names were held
+pub record AddsAll (names : List (List ℕ)) (mades : List MadeNet) (before last : ℕ) (old new : List (Option FlatNet)) : Type 0 where
+  pub here : List (Option FlatNet)
+  pub joined : new ≡ old ++ here
+  pub behind : (held : List (List ℕ)) → IsLast names held before → BehindMade names mades held here last
+
+pub adds_none : (names : List (List ℕ)) (last : ℕ) (old : List (Option FlatNet)) → AddsAll names [] last last old old
+adds_none names last old = record {
   here = [];
   joined = sym (append-nil old);
-  behind = λ held h. record { after = held; are = record { nets_are = refl; after_is = refl }; lasts = h; few = omega arith };
+  behind = λ held h. record { after = held; are = record { nets_are = refl; after_is = refl }; lasts = h; many = omega arith };
 }
 
-pub ruleset added = (adds_mark, adds_nothing)
+-- the name is fresh, whatever names were held
+next_fresh : (names held : List (List ℕ)) (before number : ℕ) (name : List ℕ) → IsLast names held before → IsNext names before number name → IsFreshName held name
+next_fresh names held before number name h n = record {
+  number = number;
+  is = n.is;
+  positive = let l = n.later in omega arith;
+  small = n.small;
+  fresh = ap (λ w. among w held) n.is ∙ (h.behind number n.later n.small ∙ (ap (λ w. among w names) (sym n.is) ∙ n.fresh));
+  least = λ k low l. ⊎_elim
+      (λ (a : before < k). h.behind k a (let m = n.small in omega arith) ∙ n.least k a l)
+      (λ (b : k ≤ before). h.before k low b)
+      (cases_lt before k);
+}
+
+-- one net that is made, and others behind it
+pub adds_one : (names : List (List ℕ)) (made : MadeNet) (more : List MadeNet) (before mid last : ℕ) (old here new : List (Option FlatNet))
+    → AddsMade names made before mid old here → AddsAll names more mid last here new → AddsAll names (made ∷ more) before last old new
+adds_one names made more before mid last old here new one rest = record {
+  here = fresh_net one.name made ∷ rest.here;
+  joined = rest.joined ∙ (ap (λ ns. ns ++ rest.here) one.joined ∙ append_assoc old (fresh_net one.name made ∷ []) rest.here);
+  behind = λ held h.
+      let b = rest.behind (held ++ one.name ∷ []) (last_more names held before mid one.name h one.next) in
+      record {
+        after = b.after;
+        are = record { name = one.name; fresh = next_fresh names held before mid one.name h one.next; rest = rest.here; are_rest = b.are; nets_are = refl };
+        lasts = b.lasts;
+        many = let l = length-append held (one.name ∷ []) in let m = b.many in omega arith;
+      };
+}
+
+-- the net of a mark, if there is one, and others behind it
+pub adds_mark : (names : List (List ℕ)) (mark : Option Cover) (more : List MadeNet) (before mid last : ℕ) (old here new : List (Option FlatNet))
+    → AddsMark names mark before mid old here → AddsAll names more mid last here new → AddsAll names (made_mark mark ++ more) before last old new
+adds_mark names None more before mid last old here new none rest =
+    let P : ℕ → Type 0 = λ n. AddsAll names more n last old new in
+    let Q : List (Option FlatNet) → Type 0 = λ ns. AddsAll names more mid last ns new in
+    subst P none.0 (subst Q none.1 rest)
+adds_mark names (Some cover) more before mid last old here new one rest =
+    adds_one names (record { values = 2; cover = cover }) more before mid last old here new one rest

@@ -1,27 +1,20 @@
 -- The nets of a model by number, as they are gathered.
-use Rattle.std.proofs.Common.{◌≡◌, ℕ, Bool, true, false, List, [], ◌∷◌, ◌++◌, refl, sym, ◌∙◌, ap}
-use Rattle.std.specs.Prelude.{if◌then◌else◌}
+use Rattle.std.proofs.Common.{◌≡◌, ℕ, true, List, [], ◌∷◌, ◌++◌, refl, sym, ◌∙◌, ap}
 use Rattle.std.specs.List.{flat_map}
 use Rattle.mv_base.specs.Names.{names_differ}
 use Rattle.mv_design.specs.declared.design.Decl.{Decl}
 use Rattle.mv_design.specs.declared.table.FileTable.{FileTable}
-use Rattle.mv_unfold.specs.Driving.{with_name, with_names}
+use Rattle.mv_unfold.specs.Driving.{with_names}
 use Rattle.mv_unfold.proofs.Names.{with_names_append, with_names_new}
-use Rattle.mv_design.specs.Nets.{output_of}
-use Rattle.mv_flat.specs.Numbers.{mark_name}
-use Rattle.mv_flat.specs.Places.{has_mark, table_places}
-use Rattle.mv_flat.specs.Gathered.{with_mark, with_places}
+use Rattle.mv_flat.specs.Places.{made_places, table_places}
+use Rattle.mv_flat.specs.Gathered.{with_places}
 
 -- the nets of tables, one table behind the other
-mark_is : (names os : List (List ℕ)) (out : List ℕ) (b : Bool) → with_names (if b then with_name names (mark_name out) else names) os ≡ with_names names (if b then mark_name out ∷ os else os)
-mark_is names os out true = refl
-mark_is names os out false = refl
-
 with_places_are : (ds : List Decl) (names : List (List ℕ)) (ts : List FileTable) → with_places ds names ts ≡ with_names names (flat_map (table_places ds) ts)
 with_places_are ds names [] = refl
 with_places_are ds names (t ∷ ts) =
-    with_places_are ds (with_names (with_mark ds names t) t.outputs) ts
-    ∙ (ap (λ ns. with_names ns (flat_map (table_places ds) ts)) (mark_is names t.outputs (output_of t) (has_mark ds t))
+    with_places_are ds (with_names (with_names names (made_places ds t)) t.outputs) ts
+    ∙ (ap (λ ns. with_names ns (flat_map (table_places ds) ts)) (sym (with_names_append names (made_places ds t) t.outputs))
     ∙ sym (with_names_append names (table_places ds t) (flat_map (table_places ds) ts)))
 
 -- the inputs, the outputs of the latches and the nets of tables

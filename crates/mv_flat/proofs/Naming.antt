@@ -1,6 +1,6 @@
 -- The nets that a model names: the nets of its latches, and the columns of its tables. Their names are those of nets.
-use Rattle.std.proofs.Common.{◌≡◌, ℕ, zero, suc, Bool, true, List, [], ◌∷◌, length, map, Some, refl, sym, ◌∙◌, ap, ⊎_elim}
-use Rattle.std.specs.Prelude.{nat_eq}
+use Rattle.std.proofs.Common.{◌≡◌, ℕ, zero, suc, ◌<◌, Bool, true, List, [], ◌∷◌, length, map, Some, refl, sym, ◌∙◌, ap, arith, ⊎_elim}
+use Rattle.std.specs.Prelude.{nat_eq, slice_index_or}
 use Rattle.std.specs.List.{flat_map, list_all, list_any, slice_get}
 use Rattle.std.proofs.lemmas.Bool.{false≢true, and_from, eq-eqb, eqb-true, or_cases, or_left, or_right}
 use Rattle.std.proofs.lemmas.Option.{none-some, same_Some}
@@ -23,7 +23,7 @@ use Rattle.mv_unfold.proofs.Commands.{column_named, driver_is_net}
 use Rattle.mv_unfold.proofs.Named.{among-nets_of}
 use Rattle.mv_unfold.proofs.Soundness.{in_left, in_right}
 use Rattle.mv_flat.proofs.Lawful.{open_names, open_of, kind_open, drivers_split, driver_flat}
-use Rattle.mv_flat.proofs.Places.{IsModelNet, outputs_are}
+use Rattle.mv_flat.proofs.Places.{IsModelNet}
 
 -- ---- names in lists
 
@@ -88,8 +88,12 @@ driver_named m w h = sym (among-nets_of w m) ∙ driver_is_net m w h
 pub open_named : (m : FileModel) (kind : Kind) (w : List ℕ) → among w (open_of m kind) ≡ true → among w (nets_named m) ≡ true
 open_named m kind w h = driver_named m w (ap (among w) (drivers_split m) ∙ in_left w (open_names m) (flat_map nets_driven m.tables) (kind_open m kind w h))
 
-pub output_of_among : (t : FileTable) → length t.outputs ≡ 1 → among (output_of t) t.outputs ≡ true
-output_of_among t one = ap (among (output_of t)) (outputs_are t one) ∙ among_first (output_of t) []
+first_among : (ws : List (List ℕ)) → 0 < length ws → among (slice_index_or ws 0 []) ws ≡ true
+first_among [] some = absurd (omega arith)
+first_among (w ∷ ws) some = among_first w ws
+
+pub output_of_among : (t : FileTable) → 0 < length t.outputs → among (output_of t) t.outputs ≡ true
+output_of_among t some = first_among t.outputs some
 
 -- the nets on one side of the latches by number
 pub sides_are : (m : FileModel) (net : NetParts) → IsModelNet m net → (side : FlatLatch → NetId) (name : FileLatch → List ℕ)

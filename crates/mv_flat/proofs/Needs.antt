@@ -2,7 +2,7 @@
 use Rattle.std.proofs.Common.{◌≡◌, ℕ, zero, suc, ◌<◌, ◌≤◌, Bool, true, false, ◌&&◌, ◌||◌, not, ◌⊎◌, inl, inr, List, [], ◌∷◌, map, Option, Some, None, refl, sym, ◌∙◌, ap, subst, arith, length, drop, ⊎_elim, All}
 use Rattle.std.specs.Prelude.{nat_eq, nat_lt, min, slice_index, slice_set}
 use Rattle.std.specs.List.{list_any}
-use Rattle.std.proofs.lemmas.Bool.{and_from, and_left, and_parts, and_right, cases_lt, eq-eqb, eqb-true, false≢true, false_from_ne_true, lt-ltb, ltb-true, not-true, or_cases, or_from, or_left, or_parts, or_right}
+use Rattle.std.proofs.lemmas.Bool.{and_from, and_left, and_parts, and_right, cases_lt, cond-false, eq-eqb, eqb-true, false≢true, false_from_ne_true, lt-ltb, ltb-true, not-true, or_cases, or_from, or_left, or_parts, or_right}
 use Rattle.std.proofs.lemmas.List.{drop_all}
 use Rattle.std.proofs.lemmas.List.Elements.{All-head, All-tail}
 use Rattle.mv_base.specs.Set.{has, full, meet, one, Within}
@@ -23,10 +23,11 @@ use Rattle.mv_rows.specs.Marked.{matches_all, is_bare, some_row_bare, is_silent,
 use Rattle.mv_rows.proofs.Matching.{matched_everywhere, alone, alone-at, alone_ranges}
 use Rattle.mv_rows.proofs.Values.{fit_narrowed}
 use Rattle.mv_flat.specs.Numbers.{column_of, columns_at}
-use Rattle.mv_flat.specs.Places.{has_mark}
+use Rattle.mv_flat.specs.Places.{has_mark, is_joint}
 use Rattle.mv_flat.specs.Gathered.{some_silent, has_all, some_has_all, can_stand, none_or_stands, is_plain}
 use Rattle.mv_flat.specs.Placed.{IsPlacedTable}
 use Rattle.mv_flat.proofs.Known.{known}
+use Rattle.mv_flat.proofs.Singles.{single_output}
 use Rattle.mv_flat.proofs.Shapes.{table_columns, table_is}
 
 -- ---- rows that say no value
@@ -110,12 +111,12 @@ some_each : (ds : List Decl) (names ws : List (List ℕ)) (rows : List Row) → 
 some_each ds names ws [] = refl
 some_each ds names ws (r ∷ rows) = λ i. all_each ds names ws r.ins i || some_each ds names ws rows i
 
-none_bare : (ds : List Decl) (t : FileTable) → All HasLawfulValues ds → IsPlacedTable ds t.inputs t → some_has_all ds t.inputs t.rows ≡ false
-    → some_row_bare (columns_at ds t.inputs t) t.rows ≡ false
-none_bare ds t all p h =
+none_bare : (ds : List Decl) (t : FileTable) → All HasLawfulValues ds → IsPlacedTable ds t.inputs t → length t.outputs ≡ 1
+    → some_has_all ds t.inputs t.rows ≡ false → some_row_bare (columns_at ds t.inputs t) t.rows ≡ false
+none_bare ds t all p single h =
     let cs = columns_at ds t.inputs t in
     false_from_ne_true (some_row_bare cs t.rows) (λ y.
-    false≢true (sym h ∙ (sym (some_each ds t.inputs t.inputs t.rows) ∙ some_bare_has cs t.rows (table_columns ds t.inputs t all p) (table_is ds t.inputs t p).rows y)))
+    false≢true (sym h ∙ (sym (some_each ds t.inputs t.inputs t.rows) ∙ some_bare_has cs t.rows (table_columns ds t.inputs t all p) (table_is ds t.inputs t p single).rows y)))
 
 -- behind the nets or the sets there is nothing to look at
 none_left : (ds : List Decl) (ws : List (List ℕ)) → has_all ds ws [] ≡ true
@@ -144,19 +145,24 @@ plain_unmarked : (cs : List Column) (rows : List Row) (o : Option (List Entry)) 
 plain_unmarked cs rows None h = refl
 plain_unmarked cs rows (Some entries) h = and_right _ _ (stands_unmarked cs rows (only_entry entries) h)
 
-pub plain_told : (ds : List Decl) (t : FileTable) → is_plain t ≡ true → false ≡ has_mark ds t
-unfolding has_mark is_marked
-plain_told ds t h = sym (plain_unmarked (columns_at ds t.inputs t) t.rows t.default h)
+single_mark : (ds : List Decl) (t : FileTable) → is_joint t ≡ false → is_marked (columns_at ds t.inputs t) t ≡ has_mark ds t
+unfolding has_mark
+single_mark ds t single = sym (cond-false (is_joint t) _ _ single)
+
+pub plain_told : (ds : List Decl) (t : FileTable) → is_joint t ≡ false → is_plain t ≡ true → false ≡ has_mark ds t
+unfolding is_marked
+plain_told ds t single h = sym (plain_unmarked (columns_at ds t.inputs t) t.rows t.default h) ∙ single_mark ds t single
 
 same_marked : (cs : List Column) (rows : List Row) (entries : List Entry) (k : ℕ) → only_entry entries ≡ Same k → some_row_bare cs rows ≡ false → default_marked cs rows (Some entries) ≡ true
 same_marked cs rows entries k e h =
     and_from _ _ (and_from _ _ (ap (λ x. not (says_nothing x)) e) (ap not h)) (ap (needs_mark cs rows) e)
 
-pub same_told : (ds : List Decl) (t : FileTable) (entries : List Entry) (k : ℕ) → All HasLawfulValues ds → IsNetTable ds t → t.default ≡ Some entries
-    → only_entry entries ≡ Same k → some_has_all ds t.inputs t.rows ≡ false → true ≡ has_mark ds t
-unfolding has_mark is_marked
-same_told ds t entries k all f e o h =
+pub same_told : (ds : List Decl) (t : FileTable) (entries : List Entry) (k : ℕ) → All HasLawfulValues ds → IsNetTable ds t → is_joint t ≡ false
+    → t.default ≡ Some entries → only_entry entries ≡ Same k → some_has_all ds t.inputs t.rows ≡ false → true ≡ has_mark ds t
+unfolding is_marked
+same_told ds t entries k all f single e o h =
     let cs = columns_at ds t.inputs t in
-    sym (ap (default_marked cs t.rows) e ∙ same_marked cs t.rows entries k o (none_bare ds t all (own_placed ds t f) h))
+    let bare = none_bare ds t all (own_placed ds t f) (single_output t single f.some) h in
+    sym (ap (default_marked cs t.rows) e ∙ same_marked cs t.rows entries k o bare) ∙ single_mark ds t single
 
 pub ruleset told = (plain_told, same_told)

@@ -1,15 +1,12 @@
 -- A design has at most one network: the rules say its nets one by one, and the name of each that is made.
-use Rattle.std.proofs.Common.{◌≡◌, ℕ, ◌<◌, ◌≤◌, List, [], ◌∷◌, ◌++◌, Option, Some, None, refl, sym, ◌∙◌, ap, subst, arith, All, ⊎_elim}
+use Rattle.std.proofs.Common.{◌≡◌, ℕ, ◌<◌, ◌≤◌, List, [], ◌∷◌, ◌++◌, Option, refl, sym, ◌∙◌, ap, subst, arith, All, ⊎_elim}
 use Rattle.std.proofs.lemmas.Bool.{false≢true, cases_lt}
 use Rattle.std.proofs.lemmas.List.Elements.{All-head, All-tail}
 use Rattle.mv_base.specs.Names.{among}
-use Rattle.mv_cover.specs.declared.cover.Cover.{Cover}
 use Rattle.mv_design.specs.declared.design.Decl.{Decl}
 use Rattle.mv_design.specs.declared.design.Design.{Design}
 use Rattle.mv_design.specs.declared.design.FileModel.{FileModel}
 use Rattle.mv_design.specs.declared.table.FileTable.{FileTable}
-use Rattle.mv_rows.specs.declared.table.FlatTable.{FlatTable}
-use Rattle.mv_rows.proofs.OneTable.{one_made}
 use Rattle.mv_net.specs.declared.parts.FlatNet.{FlatNet}
 use Rattle.mv_net.specs.declared.parts.NetParts.{NetParts}
 use Rattle.mv_tree.specs.Tree.{Instances}
@@ -17,19 +14,21 @@ use Rattle.mv_tree.specs.Unfolded.{unfolded}
 use Rattle.mv_walk.proofs.Unique.{one_tree}
 use Rattle.mv_unfold.specs.Sound.{IsSoundModel, IsWithinLimits}
 use Rattle.mv_whole.specs.Sound.{model_of}
-use Rattle.mv_design.specs.Nets.{root_of, drivers, output_of}
+use Rattle.mv_design.specs.Nets.{root_of, drivers}
 use Rattle.mv_flat.specs.Places.{places}
 use Rattle.mv_resets.specs.NetModels.{HasLawfulValues}
 use Rattle.mv_design.specs.Proper.{IsLawful, IsProper}
-use Rattle.mv_flat.specs.Numbers.{columns_at, mark_at, made_name}
-use Rattle.mv_flat.specs.Built.{file_net, fresh_net, kind_of, open_nets, IsFreshName, IsMark, AreTableNets, AreTables, IsBuilt}
+use Rattle.mv_flat.specs.Numbers.{made_name}
+use Rattle.mv_flat.specs.declared.covers.TableCovers.{TableCovers}
+use Rattle.mv_flat.specs.Covers.{MadeNet, made_of, outputs_of}
+use Rattle.mv_flat.specs.Built.{fresh_net, open_nets, output_nets, IsFreshName, AreMade, AreTableNets, AreTables, IsBuilt}
 use Rattle.mv_flat.specs.Flat.{IsFlat}
-use Rattle.mv_flat.specs.Placed.{IsPlacedTable, ArePlaced}
+use Rattle.mv_flat.specs.Placed.{ArePlaced}
 use Rattle.mv_flat.proofs.Behinds.{placed}
 use Rattle.mv_resets.specs.Resets.{with_reset_nets}
 use Rattle.mv_flat.proofs.Models.{with_nets, places_few}
 use Rattle.mv_flat.proofs.Designs.{model_sound}
-use Rattle.mv_flat.proofs.Shapes.{table_columns, marked_columns}
+use Rattle.mv_flat.proofs.OneCovers.{IsChosenTable, all_chosen, one_table}
 
 -- ---- made nets
 
@@ -55,37 +54,36 @@ record AreSame (nets others : List (Option FlatNet)) (after behind : List (List 
   nets_are : nets ≡ others
   after_is : after ≡ behind
 
-one_mark : (held : List (List ℕ)) (o : Option Cover) (nets others : List (Option FlatNet)) (after behind : List (List ℕ)) → IsMark held o nets after → IsMark held o others behind → AreSame nets others after behind
-one_mark held (Some c) nets others after behind p q =
+one_all : (mades : List MadeNet) (held : List (List ℕ)) (nets others : List (Option FlatNet)) (after behind : List (List ℕ)) → AreMade mades held nets after
+    → AreMade mades held others behind → AreSame nets others after behind
+one_all [] held nets others after behind p q = record { nets_are = p.nets_are ∙ sym q.nets_are; after_is = p.after_is ∙ sym q.after_is }
+one_all (made ∷ more) held nets others after behind p q =
     let name = one_name held p.name q.name p.fresh q.fresh in
+    let P : List ℕ → Type 0 = λ w. AreMade more (held ++ w ∷ []) q.rest behind in
+    let rest = one_all more (held ++ p.name ∷ []) p.rest q.rest after behind p.are_rest (subst P (sym name) q.are_rest) in
     record {
-      nets_are = p.nets_are ∙ (ap (λ w. fresh_net w c ∷ []) name ∙ sym q.nets_are);
-      after_is = p.after_is ∙ (ap (λ w. held ++ w ∷ []) name ∙ sym q.after_is);
+      nets_are = p.nets_are ∙ ((λ i. fresh_net (name i) made ∷ rest.nets_are i) ∙ sym q.nets_are);
+      after_is = rest.after_is;
     }
-one_mark held None nets others after behind p q = record { nets_are = p.nets_are ∙ sym q.nets_are; after_is = p.after_is ∙ sym q.after_is }
 
 module _ (ds : List Decl) (names : List (List ℕ)) (proper : All HasLawfulValues ds) where
-  one_table : (held : List (List ℕ)) (t : FileTable) (nets others : List (Option FlatNet)) (after behind : List (List ℕ)) → IsPlacedTable ds names t → AreTableNets ds names held t nets after → AreTableNets ds names held t others behind → AreSame nets others after behind
-  one_table held t nets others after behind known p q =
-      let flat : p.flat ≡ q.flat =
-      one_made (columns_at ds names t) t (mark_at names t) p.flat q.flat (table_columns ds names t proper known) (marked_columns ds names t proper known) p.made q.made
-      in
-      let P : FlatTable → Type 0 = λ f. IsMark held f.mark q.mark behind in
-      let marks = one_mark held p.flat.mark p.mark q.mark after behind p.marked (subst P (sym flat) q.marked) in
+  one_nets : (held : List (List ℕ)) (t : FileTable) (nets others : List (Option FlatNet)) (after behind : List (List ℕ)) → IsChosenTable ds names t
+      → AreTableNets ds names held t nets after → AreTableNets ds names held t others behind → AreSame nets others after behind
+  one_nets held t nets others after behind known p q =
+      let covers : p.covers ≡ q.covers = one_table ds names t p.covers q.covers proper known p.are q.are in
+      let P : TableCovers → Type 0 = λ cs. AreMade (made_of cs) held q.made behind in
+      let made = one_all (made_of p.covers) held p.made q.made after behind p.are_made (subst P (sym covers) q.are_made) in
       record {
-        nets_are =
-            p.nets_are
-            ∙ (ap (λ ms. ms ++ file_net ds (kind_of (output_of t)) (Some p.flat.cover) (output_of t) ∷ []) marks.nets_are
-            ∙ (ap (λ (f : FlatTable). q.mark ++ file_net ds (kind_of (output_of t)) (Some f.cover) (output_of t) ∷ []) flat ∙ sym q.nets_are));
-        after_is = marks.after_is;
+        nets_are = p.nets_are ∙ ((λ i. made.nets_are i ++ output_nets ds t.outputs (outputs_of (covers i))) ∙ sym q.nets_are);
+        after_is = made.after_is;
       }
 
-  one_tables : (ts : List FileTable) (held : List (List ℕ)) (nets others : List (Option FlatNet)) → All (IsPlacedTable ds names) ts → AreTables ds names ts held nets → AreTables ds names ts held others → nets ≡ others
+  one_tables : (ts : List FileTable) (held : List (List ℕ)) (nets others : List (Option FlatNet)) → All (IsChosenTable ds names) ts → AreTables ds names ts held nets → AreTables ds names ts held others → nets ≡ others
   one_tables [] held nets others known p q = p ∙ sym q
   one_tables (t ∷ ts) held nets others known p q =
-      let here = one_table held t p.here q.here p.after q.after (All-head (IsPlacedTable ds names) t ts known) p.are_here q.are_here in
+      let here = one_nets held t p.here q.here p.after q.after (All-head (IsChosenTable ds names) t ts known) p.are_here q.are_here in
       let P : List (List ℕ) → Type 0 = λ ws. AreTables ds names ts ws q.rest in
-      let rest = one_tables ts p.after p.rest q.rest (All-tail (IsPlacedTable ds names) t ts known) p.are_rest (subst P (sym here.after_is) q.are_rest) in
+      let rest = one_tables ts p.after p.rest q.rest (All-tail (IsChosenTable ds names) t ts known) p.are_rest (subst P (sym here.after_is) q.are_rest) in
       p.joined ∙ ((λ i. here.nets_are i ++ rest i) ∙ sym q.joined)
 
 -- ---- the whole network
@@ -95,7 +93,7 @@ same_parts a b r x y l n = λ i. record { root = r i; inputs = x i; outputs = y 
 
 one_built : (m : FileModel) (a b : NetParts) → All HasLawfulValues m.decls → ArePlaced m (places m) → IsBuilt m a → IsBuilt m b → a ≡ b
 one_built m a b proper known p q =
-    let tables = one_tables m.decls (places m) proper m.tables (drivers m) p.of_tables q.of_tables known.tables p.are_tables q.are_tables in
+    let tables = one_tables m.decls (places m) proper m.tables (drivers m) p.of_tables q.of_tables (all_chosen m known.tables) p.are_tables q.are_tables in
     same_parts a b (p.root ∙ sym q.root) (p.inputs ∙ sym q.inputs) (p.outputs ∙ sym q.outputs) (p.latches ∙ sym q.latches)
     (p.nets_are ∙ (ap (λ fs. open_nets m ++ fs) tables ∙ sym q.nets_are))
 

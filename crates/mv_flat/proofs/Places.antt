@@ -1,13 +1,13 @@
--- What stands at each number of a model's network: a net without a table, the output of a table, or the mark of a table.
+-- What stands at each number of a model's network: a net without a table, the output of a table, or a net that is made for one.
 use Rattle.std.proofs.Common.{◌≡◌, ◌⊎◌, ℕ, zero, suc, ◌+◌, ◌<◌, ◌≤◌, Bool, true, false, List, [], ◌∷◌, ◌++◌, length, map, get_or, Option, Some, None, refl, sym, ◌∙◌, ap, subst, arith, ⊎_elim, inl, inr, All}
-use Rattle.std.specs.Prelude.{if◌then◌else◌, slice_index_or}
+use Rattle.std.specs.Prelude.{if◌then◌else◌}
 use Rattle.std.specs.List.{flat_map, slice_get}
 use Rattle.std.proofs.lemmas.Bool.{false≢true, or_cases}
 use Rattle.std.proofs.lemmas.List.{append_assoc, get_or_past, get_or-append-add, length-append, length-map}
 use Rattle.std.proofs.lemmas.List.Elements.{All-get_or}
 use Rattle.std.proofs.lemmas.Option.{none-some, same_Some, slice_get_within, slice_get-get_or, get_or_from_slice_get}
 use Rattle.mv_base.specs.Names.{same_word, among, is_net_name, IsDistinct}
-use Rattle.mv_base.proofs.NameLemmas.{same_word_is, among-append, among-at, IsPlace-from_among}
+use Rattle.mv_base.proofs.NameLemmas.{same_word_is, among-at, IsPlace-from_among}
 use Rattle.mv_cover.specs.declared.cover.Cover.{Cover}
 use Rattle.mv_design.specs.declared.design.Decl.{Decl}
 use Rattle.mv_design.specs.declared.design.FileModel.{FileModel}
@@ -18,22 +18,22 @@ use Rattle.mv_net.specs.declared.parts.Kind.{Kind}
 use Rattle.mv_net.specs.declared.parts.Kind.TheVariants.{Input, Latch, Table, Reset}
 use Rattle.mv_net.specs.Nets.{slot}
 use Rattle.mv_design.specs.Nets.{drivers, latch_outputs, nets_driven, nets_named, output_of}
-use Rattle.mv_flat.specs.Places.{places, table_places, has_mark}
+use Rattle.mv_flat.specs.Places.{places, marks_of, choices_of, made_places, table_places, has_mark, is_joint}
 use Rattle.mv_unfold.specs.Numbers.{number_in}
 use Rattle.mv_resets.specs.NetModels.{IsNetModel, IsNetTable}
-use Rattle.mv_flat.specs.Numbers.{mark_name, mark_at}
+use Rattle.mv_flat.specs.Numbers.{mark_name, mark_at, choice_name, choice_at}
 use Rattle.mv_flat.specs.Built.{file_net, kind_of, open_nets, IsBuilt}
 use Rattle.mv_base.proofs.Lists.{get_front}
 use Rattle.mv_unfold.proofs.Listed.{number_at}
-use Rattle.mv_flat.proofs.Numbered.{number_of_name, mark_number}
+use Rattle.mv_flat.proofs.Numbered.{number_of_name, mark_number, choice_number}
 use Rattle.mv_flat.specs.Placed.{IsPlacedTable}
 use Rattle.mv_unfold.proofs.Soundness.{in_left, in_either}
 use Rattle.mv_flat.proofs.Lawful.{open_names, open_of, drivers_split, IsOpen, open_kind, kind_open, open_lawful, lawful_kind}
 use Rattle.mv_flat.proofs.Distinct.{places_split, driver_is_place}
 use Rattle.mv_unfold.proofs.Commands.{column_named}
 use Rattle.mv_flat.proofs.Known.{tables_known}
-use Rattle.mv_flat.proofs.Blocks.{marks_of, places_of, blocks_size, block_at}
-use Rattle.mv_flat.proofs.Slots.{IsTableAt, table_at, get_behind}
+use Rattle.mv_flat.proofs.Blocks.{blocks_size, block_at}
+use Rattle.mv_flat.proofs.Slots.{IsTableAt, table_at, get_behind, cover_at}
 
 -- a model of which each reset value has a net, with its network, whose names by number are distinct, as its drivers are, and
 -- each of whose nets is driven
@@ -50,13 +50,6 @@ pub file_table : (m : FileModel) (net : NetParts) → IsModelNet m net → (k : 
 file_table m net is k t e =
     let P : FileTable → Type 0 = IsNetTable m.decls in
     subst P (get_or_from_slice_get m.tables k t t e) (All-get_or P m.tables k t (slice_get_within m.tables k t e) is.proper.tables)
-
--- each table has one output
-abbrev pub AreSingle : List FileTable → Type 0
-AreSingle ts = (k : ℕ) (t : FileTable) → slice_get ts k ≡ Some t → length t.outputs ≡ 1
-
-pub single_tables : (m : FileModel) (net : NetParts) → IsModelNet m net → AreSingle m.tables
-single_tables m net is k t e = (file_table m net is k t e).single
 
 -- the columns of each table have numbers
 placed_tables : (m : FileModel) (net : NetParts) → IsModelNet m net → All (IsPlacedTable m.decls (places m)) m.tables
@@ -130,7 +123,7 @@ pub record IsTableOutput (ts : List FileTable) (w : List ℕ) : Type 0 where
   pub place : ℕ
   pub table : FileTable
   pub listed : slice_get ts place ≡ Some table
-  pub is : w ≡ output_of table
+  pub among_them : among w table.outputs ≡ true
 
 -- or of the mark that the table gets
 pub record IsMarked (ds : List Decl) (ts : List FileTable) (w : List ℕ) : Type 0 where
@@ -140,56 +133,71 @@ pub record IsMarked (ds : List Decl) (ts : List FileTable) (w : List ℕ) : Type
   pub may : has_mark ds table ≡ true
   pub is : w ≡ mark_name (output_of table)
 
+-- or of its choice net
+pub record IsChosen (ts : List FileTable) (w : List ℕ) : Type 0 where
+  pub place : ℕ
+  pub table : FileTable
+  pub listed : slice_get ts place ≡ Some table
+  pub joint : is_joint table ≡ true
+  pub is : w ≡ choice_name (output_of table)
+
 output_later : (t : FileTable) (ts : List FileTable) (w : List ℕ) → IsTableOutput ts w → IsTableOutput (t ∷ ts) w
-output_later t ts w o = record { place = suc o.place; table = o.table; listed = o.listed; is = o.is }
+output_later t ts w o = record { place = suc o.place; table = o.table; listed = o.listed; among_them = o.among_them }
 
-mark_later : (ds : List Decl) (t : FileTable) (ts : List FileTable) (w : List ℕ) → IsMarked ds ts w → IsMarked ds (t ∷ ts) w
-mark_later ds t ts w o = record { place = suc o.place; table = o.table; listed = o.listed; may = o.may; is = o.is }
+pub outputs_in : (ts : List FileTable) (w : List ℕ) → among w (flat_map nets_driven ts) ≡ true → IsTableOutput ts w
+outputs_in [] w h = absurd (false≢true h)
+outputs_in (t ∷ ts) w h =
+    ⊎_elim (λ (y : among w t.outputs ≡ true). record { place = 0; table = t; listed = refl; among_them = y })
+    (λ (y : among w (flat_map nets_driven ts) ≡ true). output_later t ts w (outputs_in ts w y)) (in_either w t.outputs (flat_map nets_driven ts) h)
 
-only_one : (w u : List ℕ) → among w (u ∷ []) ≡ true → w ≡ u
-only_one w u e = ⊎_elim (λ (y : same_word w u ≡ true). same_word_is w u y) (λ (n : false ≡ true). absurd (false≢true n)) (or_cases (same_word w u) false e)
+-- the name is that of a net of a table
+abbrev pub IsTableName : List Decl → List FileTable → List ℕ → Type 0
+IsTableName ds ts w = IsTableOutput ts w ⊎ (IsMarked ds ts w ⊎ IsChosen ts w)
 
-single_list : (os : List (List ℕ)) → length os ≡ 1 → os ≡ slice_index_or os 0 [] ∷ []
-single_list [] one = absurd (omega arith)
-single_list (w ∷ []) one = refl
-single_list (w ∷ u ∷ ws) one = absurd (omega arith)
-
--- the outputs of a table with one
-pub outputs_are : (t : FileTable) → length t.outputs ≡ 1 → t.outputs ≡ output_of t ∷ []
-outputs_are t one = single_list t.outputs one
-
-pub outputs_in : (ts : List FileTable) (w : List ℕ) → AreSingle ts → among w (flat_map nets_driven ts) ≡ true → IsTableOutput ts w
-outputs_in [] w single h = absurd (false≢true h)
-outputs_in (t ∷ ts) w single h =
+name_later : (ds : List Decl) (t : FileTable) (ts : List FileTable) (w : List ℕ) → IsTableName ds ts w → IsTableName ds (t ∷ ts) w
+name_later ds t ts w n =
+    ⊎_elim (λ (o : IsTableOutput ts w). inl (output_later t ts w o))
+    (λ (made : IsMarked ds ts w ⊎ IsChosen ts w).
     ⊎_elim
-    (λ (y : among w t.outputs ≡ true).
-    let e : among w (output_of t ∷ []) ≡ true = ap (among w) (sym (outputs_are t (single 0 t refl))) ∙ y in
-    let o : IsTableOutput (t ∷ ts) w = record { place = 0; table = t; listed = refl; is = only_one w (output_of t) e } in
-    o)
-    (λ (y : among w (flat_map nets_driven ts) ≡ true). output_later t ts w (outputs_in ts w (λ k. single (suc k)) y))
-    (or_cases (among w t.outputs) (among w (flat_map nets_driven ts)) (sym (among-append w t.outputs (flat_map nets_driven ts)) ∙ h))
+    (λ (o : IsMarked ds ts w).
+    let later : IsMarked ds (t ∷ ts) w = record { place = suc o.place; table = o.table; listed = o.listed; may = o.may; is = o.is } in
+    inr (inl later))
+    (λ (o : IsChosen ts w).
+    let later : IsChosen (t ∷ ts) w = record { place = suc o.place; table = o.table; listed = o.listed; joint = o.joint; is = o.is } in
+    inr (inr later))
+    made)
+    n
 
-marks_in : (b : Bool) (w u : List ℕ) → among w (if b then u ∷ [] else []) ≡ true → (b ≡ true) × (w ≡ u)
-marks_in true w u h = (refl, only_one w u h)
-marks_in false w u h = absurd (false≢true h)
+made_in : (b : Bool) (w u : List ℕ) → among w (if b then u ∷ [] else []) ≡ true → (b ≡ true) × (w ≡ u)
+made_in true w u h =
+    (refl, ⊎_elim (λ (y : same_word w u ≡ true). same_word_is w u y) (λ (n : false ≡ true). absurd (false≢true n)) (or_cases (same_word w u) false h))
+made_in false w u h = absurd (false≢true h)
 
-places_in : (ds : List Decl) (ts : List FileTable) (w : List ℕ) → AreSingle ts → among w (flat_map (table_places ds) ts) ≡ true → IsTableOutput ts w ⊎ IsMarked ds ts w
-places_in ds [] w single h = absurd (false≢true h)
-places_in ds (t ∷ ts) w single h =
+name_here : (ds : List Decl) (t : FileTable) (ts : List FileTable) (w : List ℕ) → among w (table_places ds t) ≡ true → IsTableName ds (t ∷ ts) w
+name_here ds t ts w h =
     ⊎_elim
-    (λ (y : among w (table_places ds t) ≡ true).
+    (λ (made : among w (made_places ds t) ≡ true).
     ⊎_elim
-    (λ (z : among w (marks_of ds t) ≡ true).
-    let q = marks_in (has_mark ds t) w (mark_name (output_of t)) z in
+    (λ (y : among w (marks_of ds t) ≡ true).
+    let q = made_in (has_mark ds t) w (mark_name (output_of t)) y in
     let o : IsMarked ds (t ∷ ts) w = record { place = 0; table = t; listed = refl; may = q.0; is = q.1 } in
-    inr o)
-    (λ (z : among w (output_of t ∷ []) ≡ true).
-    let o : IsTableOutput (t ∷ ts) w = record { place = 0; table = t; listed = refl; is = only_one w (output_of t) z } in
+    inr (inl o))
+    (λ (y : among w (choices_of t) ≡ true).
+    let q = made_in (is_joint t) w (choice_name (output_of t)) y in
+    let o : IsChosen (t ∷ ts) w = record { place = 0; table = t; listed = refl; joint = q.0; is = q.1 } in
+    inr (inr o))
+    (in_either w (marks_of ds t) (choices_of t) made))
+    (λ (y : among w t.outputs ≡ true).
+    let o : IsTableOutput (t ∷ ts) w = record { place = 0; table = t; listed = refl; among_them = y } in
     inl o)
-    (or_cases (among w (marks_of ds t)) (among w (output_of t ∷ [])) (sym (among-append w (marks_of ds t) (output_of t ∷ [])) ∙ (ap (among w) (sym (places_of ds t (single 0 t refl))) ∙ y))))
-    (λ (y : among w (flat_map (table_places ds) ts) ≡ true).
-    ⊎_elim (λ (o : IsTableOutput ts w). inl (output_later t ts w o)) (λ (o : IsMarked ds ts w). inr (mark_later ds t ts w o)) (places_in ds ts w (λ k. single (suc k)) y))
-    (or_cases (among w (table_places ds t)) (among w (flat_map (table_places ds) ts)) (sym (among-append w (table_places ds t) (flat_map (table_places ds) ts)) ∙ h))
+    (in_either w (made_places ds t) t.outputs h)
+
+places_in : (ds : List Decl) (ts : List FileTable) (w : List ℕ) → among w (flat_map (table_places ds) ts) ≡ true → IsTableName ds ts w
+places_in ds [] w h = absurd (false≢true h)
+places_in ds (t ∷ ts) w h =
+    ⊎_elim (λ (y : among w (table_places ds t) ≡ true). name_here ds t ts w y)
+    (λ (y : among w (flat_map (table_places ds) ts) ≡ true). name_later ds t ts w (places_in ds ts w y))
+    (in_either w (table_places ds t) (flat_map (table_places ds) ts) h)
 
 -- ---- what stands at a number
 
@@ -203,7 +211,10 @@ pub record OutputPlace (m : FileModel) (n : ℕ) : Type 0 where
   pub place : ℕ
   pub table : FileTable
   pub listed : slice_get m.tables place ≡ Some table
-  pub number : n ≡ number_in (places m) (output_of table)
+  pub index : ℕ
+  pub name : List ℕ
+  pub output : slice_get table.outputs index ≡ Some name
+  pub number : n ≡ number_in (places m) name
 
 pub record MarkPlace (m : FileModel) (n : ℕ) : Type 0 where
   pub place : ℕ
@@ -212,11 +223,24 @@ pub record MarkPlace (m : FileModel) (n : ℕ) : Type 0 where
   pub may : has_mark m.decls table ≡ true
   pub number : n ≡ (mark_at (places m) table).0
 
+pub record ChoicePlace (m : FileModel) (n : ℕ) : Type 0 where
+  pub place : ℕ
+  pub table : FileTable
+  pub listed : slice_get m.tables place ≡ Some table
+  pub joint : is_joint table ≡ true
+  pub number : n ≡ (choice_at (places m) table).0
+
+-- the number is that of a table's output, its mark or its choice net
+abbrev pub TablePlace : FileModel → ℕ → Type 0
+TablePlace m n = OutputPlace m n ⊎ (MarkPlace m n ⊎ ChoicePlace m n)
+
 open_place : (m : FileModel) (w : List ℕ) → IsOpen m w → OpenPlace m (number_in (places m) w)
 open_place m w o = record { kind = o.kind; name = w; listed = o.listed; number = refl }
 
 output_place : (m : FileModel) (w : List ℕ) → IsTableOutput m.tables w → OutputPlace m (number_in (places m) w)
-output_place m w o = record { place = o.place; table = o.table; listed = o.listed; number = ap (number_in (places m)) o.is }
+output_place m w o =
+    let p = IsPlace-from_among w o.table.outputs o.among_them in
+    record { place = o.place; table = o.table; listed = o.listed; index = p.0; name = w; output = p.1.found; number = refl }
 
 mark_place : (m : FileModel) (net : NetParts) → IsModelNet m net → (w : List ℕ) → IsMarked m.decls m.tables w → MarkPlace m (number_in (places m) w)
 mark_place m net is w o = record {
@@ -227,20 +251,34 @@ mark_place m net is w o = record {
   number = ap (number_in (places m)) o.is ∙ sym (mark_number (places m) o.table ((table_of m net is o.place o.table o.listed).marked o.may));
 }
 
+choice_place : (m : FileModel) (net : NetParts) → IsModelNet m net → (w : List ℕ) → IsChosen m.tables w → ChoicePlace m (number_in (places m) w)
+choice_place m net is w o = record {
+  place = o.place;
+  table = o.table;
+  listed = o.listed;
+  joint = o.joint;
+  number = ap (number_in (places m)) o.is ∙ sym (choice_number (places m) o.table ((table_of m net is o.place o.table o.listed).chosen o.joint));
+}
+
+table_place : (m : FileModel) (net : NetParts) → IsModelNet m net → (w : List ℕ) → IsTableName m.decls m.tables w → TablePlace m (number_in (places m) w)
+table_place m net is w n =
+    ⊎_elim (λ (o : IsTableOutput m.tables w). inl (output_place m w o))
+    (λ (made : IsMarked m.decls m.tables w ⊎ IsChosen m.tables w).
+    ⊎_elim (λ (o : IsMarked m.decls m.tables w). inr (inl (mark_place m net is w o))) (λ (o : IsChosen m.tables w). inr (inr (choice_place m net is w o))) made)
+    n
+
 named_place : (m : FileModel) (net : NetParts) → IsModelNet m net → (w : List ℕ) → among w (places m) ≡ true
-    → OpenPlace m (number_in (places m) w) ⊎ (OutputPlace m (number_in (places m) w) ⊎ MarkPlace m (number_in (places m) w))
+    → OpenPlace m (number_in (places m) w) ⊎ TablePlace m (number_in (places m) w)
 named_place m net is w h =
     ⊎_elim (λ (y : among w (open_names m) ≡ true). inl (open_place m w (open_kind m w y)))
-    (λ (y : among w (flat_map (table_places m.decls) m.tables) ≡ true).
-    ⊎_elim (λ (o : IsTableOutput m.tables w). inr (inl (output_place m w o))) (λ (o : IsMarked m.decls m.tables w). inr (inr (mark_place m net is w o)))
-    (places_in m.decls m.tables w (single_tables m net is) y))
+    (λ (y : among w (flat_map (table_places m.decls) m.tables) ≡ true). inr (table_place m net is w (places_in m.decls m.tables w y)))
     (in_either w (open_names m) (flat_map (table_places m.decls) m.tables) (ap (among w) (sym (places_split m)) ∙ h))
 
--- each number within the names is that of a net without a table, an output or a mark
-pub place_at : (m : FileModel) (net : NetParts) → IsModelNet m net → (n : ℕ) → n < length (places m) → OpenPlace m n ⊎ (OutputPlace m n ⊎ MarkPlace m n)
+-- each number within the names is that of a net without a table, or of one of a table's
+pub place_at : (m : FileModel) (net : NetParts) → IsModelNet m net → (n : ℕ) → n < length (places m) → OpenPlace m n ⊎ TablePlace m n
 place_at m net is n low =
     let w : List ℕ = get_or (places m) n [] in
-    let P : ℕ → Type 0 = λ k. OpenPlace m k ⊎ (OutputPlace m k ⊎ MarkPlace m k) in
+    let P : ℕ → Type 0 = λ k. OpenPlace m k ⊎ TablePlace m k in
     subst P (sym (number_of_name (places m) n is.distinct low)) (named_place m net is w (among-at (places m) n w (slice_get-get_or (places m) n [] low)))
 
 -- and no net stands at another
@@ -250,10 +288,10 @@ no_slot m net is n high = get_or_past net.nets n None (let size = nets_size m ne
 -- ---- driven nets
 
 -- a driven net has no table, or is the output of one
-driven_by : (m : FileModel) (net : NetParts) → IsModelNet m net → (w : List ℕ) → among w (drivers m) ≡ true → IsOpen m w ⊎ IsTableOutput m.tables w
-driven_by m net is w h =
+driven_by : (m : FileModel) (w : List ℕ) → among w (drivers m) ≡ true → IsOpen m w ⊎ IsTableOutput m.tables w
+driven_by m w h =
     ⊎_elim (λ (y : among w (open_names m) ≡ true). inl (open_kind m w y))
-    (λ (y : among w (flat_map nets_driven m.tables) ≡ true). inr (outputs_in m.tables w (single_tables m net is) y))
+    (λ (y : among w (flat_map nets_driven m.tables) ≡ true). inr (outputs_in m.tables w y))
     (in_either w (open_names m) (flat_map nets_driven m.tables) (ap (among w) (sym (drivers_split m)) ∙ h))
 
 -- a net of the model with a place; it can be read, where its name is one of a file, and is a reset net where it is named so
@@ -275,23 +313,25 @@ open_file m net is w o = record {
   reset = λ e. let other : Table ≡ Reset = sym (lawful_kind w (open_lawful m is.proper w (kind_open m o.kind w o.listed))) ∙ e in cc;
 }
 
-output_file : (m : FileModel) (net : NetParts) → IsModelNet m net → (k : ℕ) (t : FileTable) → slice_get m.tables k ≡ Some t → IsFileNet m net.nets (output_of t)
-output_file m net is k t e =
-    let at = table_of m net is k t e in
+output_file : (m : FileModel) (net : NetParts) → IsModelNet m net → (w : List ℕ) → IsTableOutput m.tables w → IsFileNet m net.nets w
+output_file m net is w o =
+    let at = table_of m net is o.place o.table o.listed in
+    let p = IsPlace-from_among w o.table.outputs o.among_them in
+    let c = cover_at m.decls (places m) net.nets o.table at p.0 w p.1.found in
     record {
-      kind = kind_of (output_of t);
-      table = Some at.flat.cover;
-      listed = at.listed;
-      held = at.output;
-      plain = λ lawful x. let other : Table ≡ Reset = sym (lawful_kind (output_of t) lawful) ∙ x in cc;
+      kind = kind_of w;
+      table = Some c.cover;
+      listed = at.listed w o.among_them;
+      held = at.output p.0 w c.cover p.1.found c.at;
+      plain = λ lawful x. let other : Table ≡ Reset = sym (lawful_kind w lawful) ∙ x in cc;
       reset = λ x. x;
     }
 
 pub driven_file : (m : FileModel) (net : NetParts) → IsModelNet m net → (w : List ℕ) → among w (drivers m) ≡ true → IsFileNet m net.nets w
 driven_file m net is w h =
     ⊎_elim (λ (o : IsOpen m w). open_file m net is w o)
-    (λ (o : IsTableOutput m.tables w). let P : List ℕ → Type 0 = IsFileNet m net.nets in subst P (sym o.is) (output_file m net is o.place o.table o.listed))
-    (driven_by m net is w h)
+    (λ (o : IsTableOutput m.tables w). output_file m net is w o)
+    (driven_by m w h)
 
 -- so is each net that the model names
 pub named_file : (m : FileModel) (net : NetParts) → IsModelNet m net → (w : List ℕ) → among w (nets_named m) ≡ true → IsFileNet m net.nets w

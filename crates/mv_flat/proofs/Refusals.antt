@@ -1,7 +1,8 @@
 -- A model whose network is within the limits isn't refused: the covers of its tables are those that they have, and with more
 -- tables a network is no smaller.
-use Rattle.std.proofs.Common.{◌≡◌, ◌⊎◌, ℕ, List, [], ◌∷◌, ◌++◌, length, inl, inr, refl, sym, ◌∙◌, ap, subst, ⊎_elim, All}
+use Rattle.std.proofs.Common.{◌≡◌, ◌⊎◌, ℕ, List, [], ◌∷◌, ◌++◌, length, inl, inr, refl, sym, ◌∙◌, ap, subst, arith, ⊎_elim, All}
 use Rattle.std.specs.Prelude.{Result, Some, Ok, Err, IfErr}
+use Rattle.std.proofs.lemmas.Bool.{false≢true}
 use Rattle.std.proofs.lemmas.List.{append_assoc}
 use Rattle.std.proofs.lemmas.List.Elements.{All-head, All-tail}
 use Rattle.mv_design.specs.declared.design.Decl.{Decl}
@@ -12,8 +13,6 @@ use Rattle.mv_design.specs.Proper.{IsLawful}
 use Rattle.mv_fault.specs.Tells.{first}
 use Rattle.mv_fault.specs.declared.flat.FlatFault.{FlatFault}
 use Rattle.mv_fault.specs.declared.flat.FlatFault.TheVariants.{Memory}
-use Rattle.mv_rows.specs.declared.table.FlatTable.{FlatTable}
-use Rattle.mv_rows.proofs.OneTable.{one_made}
 use Rattle.mv_resets.specs.NetModels.{HasLawfulValues}
 use Rattle.mv_resets.specs.Resets.{with_reset_nets}
 use Rattle.mv_design.specs.declared.design.Design.{Design}
@@ -29,62 +28,88 @@ use Rattle.mv_whole.specs.Whole.{HasWholeFault}
 use Rattle.mv_whole.proofs.Faultless.{no_faults}
 use Rattle.mv_whole.proofs.Sound.{fault_excludes}
 use Rattle.mv_design.specs.Proper.{IsProper}
+use Rattle.mv_flat.specs.declared.covers.TableCovers.{TableCovers}
+use Rattle.mv_flat.specs.declared.covers.TableCovers.TheVariants.{Single, Joint}
+use Rattle.mv_flat.specs.Covers.{IsTooWide}
 use Rattle.mv_flat.specs.Numbers.{columns_at, mark_at}
 use Rattle.mv_flat.specs.Places.{places}
 use Rattle.mv_flat.specs.Placed.{IsPlacedTable}
-use Rattle.mv_flat.specs.Size.{size_faults, size_of, AreCovers, FitsLimits, IsPastLimit}
+use Rattle.mv_flat.specs.Size.{size_faults, size_of, AreCovers, FitsLimits, PassesLimit, IsPastLimit}
 use Rattle.mv_flat.specs.Sized.{IsWithin, TellsLimit}
 use Rattle.mv_flat.specs.Flat.{HasSmallNetwork, HasLargeNetwork, IsRefused}
 use Rattle.mv_flat.proofs.Behinds.{placed}
-use Rattle.mv_flat.proofs.Shapes.{table_columns, marked_columns}
-use Rattle.mv_flat.proofs.Sizes.{none_past, within_limits, within_front}
+use Rattle.mv_flat.proofs.OneCovers.{IsChosenTable, all_chosen, one_table}
+use Rattle.mv_flat.proofs.Sizes.{HasCovers, none_past, within_limits, within_front}
 use Rattle.mv_flat.proofs.Models.{with_nets, places_few}
 use Rattle.mv_flat.proofs.Designs.{IsModelOf, design_sound, model_sound, root_named}
 use Rattle.mv_flat.proofs.Told.{above_is_fault, walk_is_fault, whole_is_fault}
 
 -- the first of some covers are those of the first tables
-record AreFront (ds : List Decl) (names : List (List ℕ)) (ts : List FileTable) (flats : List FlatTable) : Type 0 where
-  front : List FlatTable
-  rest : List FlatTable
+record AreFront (ds : List Decl) (names : List (List ℕ)) (ts : List FileTable) (all : List TableCovers) : Type 0 where
+  front : List TableCovers
+  rest : List TableCovers
   are : AreCovers ds names ts front
-  joined : flats ≡ front ++ rest
+  joined : all ≡ front ++ rest
 
-covers_front : (ds : List Decl) (names : List (List ℕ)) (ts us : List FileTable) (flats : List FlatTable) → AreCovers ds names (ts ++ us) flats → AreFront ds names ts flats
-covers_front ds names [] us flats are = record { front = []; rest = flats; are = tt; joined = refl }
+covers_front : (ds : List Decl) (names : List (List ℕ)) (ts us : List FileTable) (all : List TableCovers) → AreCovers ds names (ts ++ us) all → AreFront ds names ts all
+covers_front ds names [] us all are = record { front = []; rest = all; are = tt; joined = refl }
 covers_front ds names (t ∷ ts) us [] are = absurd are
-covers_front ds names (t ∷ ts) us (f ∷ flats) are =
-    let behind = covers_front ds names ts us flats are.1 in
-    record { front = f ∷ behind.front; rest = behind.rest; are = (are.0, behind.are); joined = ap (λ fs. f ∷ fs) behind.joined }
+covers_front ds names (t ∷ ts) us (c ∷ all) are =
+    let behind = covers_front ds names ts us all are.1 in
+    record { front = c ∷ behind.front; rest = behind.rest; are = (are.0, behind.are); joined = ap (λ cs. c ∷ cs) behind.joined }
 
 module _ (ds : List Decl) (names : List (List ℕ)) (proper : All HasLawfulValues ds) where
-  one_covers : (ts us : List FileTable) (flats others : List FlatTable) → All (IsPlacedTable ds names) (ts ++ us) → AreCovers ds names ts flats → AreCovers ds names ts others → flats ≡ others
+  one_covers : (ts us : List FileTable) (all others : List TableCovers) → All (IsChosenTable ds names) (ts ++ us) → AreCovers ds names ts all
+      → AreCovers ds names ts others → all ≡ others
   one_covers [] us [] [] known p q = refl
-  one_covers [] us [] (g ∷ others) known p q = absurd q
-  one_covers [] us (f ∷ flats) others known p q = absurd p
+  one_covers [] us [] (d ∷ others) known p q = absurd q
+  one_covers [] us (c ∷ all) others known p q = absurd p
   one_covers (t ∷ ts) us [] others known p q = absurd p
-  one_covers (t ∷ ts) us (f ∷ flats) [] known p q = absurd q
-  one_covers (t ∷ ts) us (f ∷ flats) (g ∷ others) known p q =
-      let here = All-head (IsPlacedTable ds names) t (ts ++ us) known in
-      let same = one_made (columns_at ds names t) t (mark_at names t) f g (table_columns ds names t proper here) (marked_columns ds names t proper here) p.0 q.0 in
-      let rest = one_covers ts us flats others (All-tail (IsPlacedTable ds names) t (ts ++ us) known) p.1 q.1 in
+  one_covers (t ∷ ts) us (c ∷ all) [] known p q = absurd q
+  one_covers (t ∷ ts) us (c ∷ all) (d ∷ others) known p q =
+      let same = one_table ds names t c d proper (All-head (IsChosenTable ds names) t (ts ++ us) known) p.0 q.0 in
+      let rest = one_covers ts us all others (All-tail (IsChosenTable ds names) t (ts ++ us) known) p.1 q.1 in
       λ i. same i ∷ rest i
+
+-- a table that is too wide has no covers
+wide_uncovered : (ds : List Decl) (names : List (List ℕ)) (t : FileTable) (f : FlatFault) (covers : TableCovers)
+    → IsTooWide (columns_at ds names t) t (mark_at names t) f → HasCovers ds names t covers → ⊥
+wide_uncovered ds names t f (Single flat) wide made = false≢true (sym made.0 ∙ wide.joint)
+wide_uncovered ds names t f (Joint joint) wide made = let m = made.1.few in let w = wide.wide in omega arith
+
+wide_between : (ds : List Decl) (names : List (List ℕ)) (ts us : List FileTable) (t : FileTable) (f : FlatFault) (all : List TableCovers)
+    → IsTooWide (columns_at ds names t) t (mark_at names t) f → AreCovers ds names (ts ++ t ∷ us) all → ⊥
+wide_between ds names [] us t f [] wide are = are
+wide_between ds names [] us t f (c ∷ all) wide are = wide_uncovered ds names t f c wide are.0
+wide_between ds names (u ∷ ts) us t f [] wide are = are
+wide_between ds names (u ∷ ts) us t f (c ∷ all) wide are = wide_between ds names ts us t f all wide are.1
 
 none_told : (fs : List FlatFault) (f : FlatFault) → fs ≡ [] → first fs ≡ Some f → ⊥
 none_told fs f e h = cc
 
+-- the first tables pass no limit where all pass none
+limit_excludes : (nets : ℕ) (m : FileModel) (f : FlatFault) (ts us : List FileTable) → All HasLawfulValues m.decls
+    → All (IsPlacedTable m.decls (places m)) m.tables → m.tables ≡ ts ++ us → PassesLimit nets m ts f → FitsLimits nets m → ⊥
+limit_excludes nets m f ts us proper known tables p fits =
+    let C : List FileTable → Type 0 = λ vs. AreCovers m.decls (places m) vs fits.has.covers in
+    let K : List FileTable → Type 0 = All (IsChosenTable m.decls (places m)) in
+    let front = covers_front m.decls (places m) ts us fits.has.covers (subst C tables fits.has.are) in
+    let same = one_covers m.decls (places m) proper ts us front.front p.has.covers (subst K tables (all_chosen m known)) front.are p.has.are in
+    let all : fits.size ≡ size_of nets (ts ++ us) (front.front ++ front.rest) = fits.has.is ∙ (λ i. size_of nets (tables i) (front.joined i)) in
+    let within = within_front nets ts us front.front front.rest (subst IsWithin all (within_limits fits.size fits.none)) in
+    let size : size_of nets ts front.front ≡ p.size = ap (size_of nets ts) same ∙ sym p.has.is in
+    none_told (size_faults p.size) f (none_past p.size (subst IsWithin size within)) p.told
+
 pub past_excludes : (nets : ℕ) (m : FileModel) (f : FlatFault) → All HasLawfulValues m.decls → All (IsPlacedTable m.decls (places m)) m.tables → IsPastLimit nets m f
     → FitsLimits nets m → ⊥
 past_excludes nets m f proper known p fits =
-    let ts = p.before ++ p.table ∷ [] in
-    let tables : m.tables ≡ ts ++ p.after = p.place ∙ sym (append_assoc p.before (p.table ∷ []) p.after) in
-    let C : List FileTable → Type 0 = λ us. AreCovers m.decls (places m) us fits.has.flats in
-    let K : List FileTable → Type 0 = All (IsPlacedTable m.decls (places m)) in
-    let front = covers_front m.decls (places m) ts p.after fits.has.flats (subst C tables fits.has.are) in
-    let same = one_covers m.decls (places m) proper ts p.after front.front p.has.flats (subst K tables known) front.are p.has.are in
-    let all : fits.size ≡ size_of nets (ts ++ p.after) (front.front ++ front.rest) = fits.has.is ∙ (λ i. size_of nets (tables i) (front.joined i)) in
-    let within = within_front nets ts p.after front.front front.rest (subst IsWithin all (within_limits fits.size fits.none)) in
-    let size : size_of nets ts front.front ≡ p.size = ap (size_of nets ts) same ∙ sym p.has.is in
-    none_told (size_faults p.size) f (none_past p.size (subst IsWithin size within)) p.told
+    let C : List FileTable → Type 0 = λ ts. AreCovers m.decls (places m) ts fits.has.covers in
+    ⊎_elim
+    (λ (wide : IsTooWide (columns_at m.decls (places m) p.table) p.table (mark_at (places m) p.table) f).
+    wide_between m.decls (places m) p.before p.after p.table f fits.has.covers wide (subst C p.place fits.has.are))
+    (λ (limit : PassesLimit nets m (p.before ++ p.table ∷ []) f).
+    limit_excludes nets m f (p.before ++ p.table ∷ []) p.after proper known (p.place ∙ sym (append_assoc p.before (p.table ∷ []) p.after)) limit fits)
+    p.told
 
 -- a sound model whose network passes a limit has no small one
 past_of_model : (m : FileModel) (f : FlatFault) → IsLawful m → IsSoundModel m → IsWithinLimits m → IsPastLimit (length (drivers m)) (with_reset_nets m) f → HasSmallNetwork m → ⊥

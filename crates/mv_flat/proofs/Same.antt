@@ -1,5 +1,6 @@
 -- The network of a model means the same as the model.
-use Rattle.std.proofs.Common.{◌≡◌, ◌↔◌, ℕ, true, false, List, [], ◌∷◌, map, Option, Some, None, option_map, is_some, unwrap_or, refl, sym, ◌∙◌, ap, subst, arith}
+use Rattle.std.proofs.Common.{◌≡◌, ◌↔◌, ℕ, true, false, List, [], ◌∷◌, map, Option, Some, None, option_map, is_some, unwrap_or, refl, sym, ◌∙◌, ap, subst}
+use Rattle.std.proofs.Common.{arith}
 use Rattle.std.specs.Prelude.{nat_eq, nat_lt}
 use Rattle.std.specs.List.{list_all}
 use Rattle.std.proofs.lemmas.Bool.{false≢true, and_from, and_parts, cond-false, cond-true, eq-eqb, eqb-true, lt-ltb, ltb-true}
@@ -18,7 +19,7 @@ use Rattle.mv_net.specs.declared.parts.NetParts.{NetParts}
 use Rattle.mv_net.specs.Nets.{slot, values_in}
 use Rattle.mv_net.specs.Allowed.{net_allows, Agrees, Allows, reset_gives, resets_give, of_net}
 use Rattle.mv_design.specs.Values.{count_of}
-use Rattle.mv_design.specs.Nets.{latch_outputs, nets_named, output_of}
+use Rattle.mv_design.specs.Nets.{latch_outputs, nets_named}
 use Rattle.mv_flat.specs.Built.{flat_latch}
 use Rattle.mv_flat.specs.Places.{places}
 use Rattle.mv_unfold.specs.Numbers.{net_in, number_in}
@@ -28,16 +29,17 @@ use Rattle.mv_resets.specs.Valued.{has_reset_net, reset_is, resets_are, AllowsNe
 use Rattle.mv_base.proofs.Lists.{all_from}
 use Rattle.mv_unfold.proofs.Names.{all_from_among}
 use Rattle.mv_flat.proofs.Distinct.{places_driven}
-use Rattle.mv_flat.proofs.Places.{IsModelNet, table_of, named_file}
+use Rattle.mv_flat.proofs.Places.{IsModelNet, named_file}
 use Rattle.mv_unfold.proofs.Commands.{latch_input_named, output_named}
 use Rattle.mv_flat.proofs.Naming.{among_first, among_later, map_same, driver_named, open_named, sides_are}
-use Rattle.mv_flat.proofs.Valuations.{Follows, range_follows, output_allows, mark_down}
+use Rattle.mv_flat.proofs.Valuations.{Follows, table_down}
 use Rattle.mv_flat.proofs.Assigned.{by_number, number_follows, number_agrees}
 use Rattle.mv_flat.proofs.Ports.{looks_alike}
 
 -- ---- values of lists of nets
 
-ports_follow : (m : FileModel) (at : ℕ → ℕ) (value : List ℕ → ℕ) (ns : List NetId) (ws : List (List ℕ)) → Follows m at value → ns ≡ map (net_in (places m)) ws → ((w : List ℕ) → among w ws ≡ true → among w (nets_named m) ≡ true) → map (λ (n : NetId). at n.0) ns ≡ map value ws
+ports_follow : (m : FileModel) (at : ℕ → ℕ) (value : List ℕ → ℕ) (ns : List NetId) (ws : List (List ℕ)) → Follows m at value → ns ≡ map (net_in (places m)) ws
+    → ((w : List ℕ) → among w ws ≡ true → among w (nets_named m) ≡ true) → map (λ (n : NetId). at n.0) ns ≡ map value ws
 ports_follow m at value ns ws f e named =
     ap (map (λ (n : NetId). at n.0)) e ∙ map_same (net_in (places m)) (λ (n : NetId). at n.0) value ws (λ w h. sym (f.each w (named w h)))
 
@@ -103,11 +105,7 @@ tables_hold : (m : FileModel) (net : NetParts) → IsModelNet m net → (at : �
 tables_hold m net is at agrees =
     let f = name_follows m net is at agrees in
     list_all-from_AllPass (table_holds (by_name m at)) m.tables
-    (all_from (λ (t : FileTable). table_holds (by_name m at) t ≡ true) m.tables (λ k t e.
-    sym
-    (output_allows m net is at (by_name m at) k t e f
-    (mark_down m.decls (places m) net.nets t (table_of m net is k t e) at agrees (range_follows m at (by_name m at) k t f e)))
-    ∙ agrees.each (number_in (places m) (output_of t))))
+    (all_from (λ (t : FileTable). table_holds (by_name m at) t ≡ true) m.tables (λ k t e. table_down m net is k t e at (by_name m at) f agrees))
 
 down : (m : FileModel) (net : NetParts) → IsModelNet m net → (i s o n r : List ℕ) → Allows net i s o n r → AllowsNets m i s o n r
 down m net is i s o n r a =
@@ -127,15 +125,16 @@ down m net is i s o n r a =
 
 up : (m : FileModel) (net : NetParts) → IsModelNet m net → (i s o n r : List ℕ) → AllowsNets m i s o n r → Allows net i s o n r
 up m net is i s o n r a =
-    let f = number_follows m net is a.value a.range in
+    let f = number_follows m net is a.value a.range a.tables in
+    let at : ℕ → ℕ = by_number m net is a.value a.range a.tables in
     record {
-      at = by_number m a.value;
-      agrees = number_agrees m net is a.value f a.tables;
-      inputs = ports_follow m (by_number m a.value) a.value net.inputs m.inputs f is.built.inputs (open_named m Input) ∙ a.inputs;
-      states = sides_follow m net is (by_number m a.value) a.value (λ l. l.output) (λ l. l.output) f (λ l. refl) (open_named m Latch) ∙ a.states;
-      outputs = ports_follow m (by_number m a.value) a.value net.outputs m.outputs f is.built.outputs (output_named m) ∙ a.outputs;
-      next = sides_follow m net is (by_number m a.value) a.value (λ l. l.input) (λ l. l.input) f (λ l. refl) (latch_input_named m) ∙ a.next;
-      resets = (resets_alike m net is (by_number m a.value) a.value f r).1 a.resets;
+      at = at;
+      agrees = number_agrees m net is a.value a.range a.tables;
+      inputs = ports_follow m at a.value net.inputs m.inputs f is.built.inputs (open_named m Input) ∙ a.inputs;
+      states = sides_follow m net is at a.value (λ l. l.output) (λ l. l.output) f (λ l. refl) (open_named m Latch) ∙ a.states;
+      outputs = ports_follow m at a.value net.outputs m.outputs f is.built.outputs (output_named m) ∙ a.outputs;
+      next = sides_follow m net is at a.value (λ l. l.input) (λ l. l.input) f (λ l. refl) (latch_input_named m) ∙ a.next;
+      resets = (resets_alike m net is at a.value f r).1 a.resets;
     }
 
 -- a model's network means the same as the model with a net for each reset value

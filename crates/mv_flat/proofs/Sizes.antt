@@ -1,5 +1,5 @@
 -- The size of a network with the covers of more tables, and which limits it passes.
-use Rattle.std.proofs.Common.{◌≡◌, ℕ, ◌+◌, ◌<◌, ◌≤◌, Bool, cond, List, [], ◌∷◌, ◌++◌, length, take, drop, get_or, sym, ◌∙◌, ap, subst, arith}
+use Rattle.std.proofs.Common.{◌≡◌, ℕ, ◌+◌, ◌<◌, ◌≤◌, Bool, cond, List, [], ◌∷◌, ◌++◌, length, take, drop, get_or, inl, inr, refl, sym, ◌∙◌, ap, subst, arith}
 use Rattle.std.specs.Prelude.{count_by, Some, nat_lt}
 use Rattle.std.specs.List.{flat_map}
 use Rattle.std.proofs.lemmas.Bool.{ltb-false, le-ltb}
@@ -7,6 +7,7 @@ use Rattle.std.proofs.lemmas.Grind.{flat_map-append}
 use Rattle.std.proofs.lemmas.List.{append-nil, length-append, take_more, take_all, take-append-drop, drop_more}
 use Rattle.std.proofs.lemmas.List.Sums.{sum_by-append, sum_by-cons}
 use Rattle.mv_base.specs.declared.limits.TheConstants.{MAX_FLAT_NETS, MAX_FLAT_LINES, MAX_FLAT_LITERALS}
+use Rattle.mv_cover.specs.declared.cover.Cover.{Cover}
 use Rattle.mv_cover.specs.declared.line.Line.{Line}
 use Rattle.mv_cover.specs.Covers.{literal_count}
 use Rattle.mv_cover.proofs.Counts.{literals-sum}
@@ -20,12 +21,15 @@ use Rattle.mv_fault.specs.declared.flat.FlatFault.TheVariants.{Limit, Memory}
 use Rattle.mv_fault.proofs.Firsts.{append-nothing}
 use Rattle.mv_fault.proofs.Nothing.{left-nothing, right-nothing, when-nothing}
 use Rattle.mv_rows.specs.declared.table.FlatTable.{FlatTable}
-use Rattle.mv_rows.specs.Flat.{IsMade}
-use Rattle.mv_flat.specs.Numbers.{columns_at, mark_at}
+use Rattle.mv_joint.specs.declared.joint.JointTable.{JointTable}
+use Rattle.mv_flat.specs.declared.covers.TableCovers.{TableCovers}
+use Rattle.mv_flat.specs.declared.covers.TableCovers.TheVariants.{Single, Joint}
+use Rattle.mv_flat.specs.Covers.{MadeNet, made_mark, made_of, outputs_of, lines_of, IsMadeTable, IsTooWide}
+use Rattle.mv_flat.specs.Numbers.{columns_at, mark_at, choice_at}
 use Rattle.mv_flat.specs.Places.{places}
 use Rattle.mv_flat.specs.declared.size.Size.{Size}
-use Rattle.mv_flat.specs.Size.{gives_reset, has_own_mark, mark_lines, lines_made, size_faults, size_of, AreCovers, PassesNone, FitsLimits, IsPastLimit}
-use Rattle.mv_flat.specs.Sized.{IsWithin, with_covers, AreSized, TellsLimit}
+use Rattle.mv_flat.specs.Size.{gives_reset, size_faults, size_of, AreCovers, PassesNone, FitsLimits, IsPastLimit}
+use Rattle.mv_flat.specs.Sized.{IsWithin, with_lines, with_net, with_nets, with_covers, AreSized, TellsWide, TellsLimit}
 
 -- ---- sums
 
@@ -37,43 +41,131 @@ literals_both xs ys =
     let weight : Line → ℕ = λ l. length l.cube in
     literals-sum (xs ++ ys) ∙ (sum_by-append weight xs ys ∙ sym (λ i. literals-sum xs i + literals-sum ys i))
 
-lines_one : (flat : FlatTable) → flat_map lines_made (flat ∷ []) ≡ flat.cover.lines ++ mark_lines flat.mark
-lines_one flat = append-nil (lines_made flat)
-
 -- one more table
-pub size_more : (nets : ℕ) (ts : List FileTable) (flats : List FlatTable) (t : FileTable) (flat : FlatTable)
-    → with_covers (size_of nets ts flats) t flat ≡ size_of nets (ts ++ t ∷ []) (flats ++ flat ∷ [])
-size_more nets ts flats t flat = λ i. record { nets = of_nets i; lines = of_lines i; literals = of_literals i }
+pub size_more : (nets : ℕ) (ts : List FileTable) (all : List TableCovers) (t : FileTable) (covers : TableCovers)
+    → with_covers (size_of nets ts all) t covers ≡ size_of nets (ts ++ t ∷ []) (all ++ covers ∷ [])
+size_more nets ts all t covers = λ i. record { nets = of_nets i; lines = of_lines i; literals = of_literals i }
   where
-    here : List Line
-    here = flat_map lines_made flats
+    made : flat_map made_of (all ++ covers ∷ []) ≡ flat_map made_of all ++ made_of covers
+    made = flat_map-append made_of all (covers ∷ []) ∙ ap (λ ms. flat_map made_of all ++ ms) (append-nil (made_of covers))
 
-    more : flat_map lines_made (flats ++ flat ∷ []) ≡ here ++ (flat.cover.lines ++ mark_lines flat.mark)
-    more = flat_map-append lines_made flats (flat ∷ []) ∙ ap (λ ls. here ++ ls) (lines_one flat)
+    more : flat_map lines_of (all ++ covers ∷ []) ≡ flat_map lines_of all ++ lines_of covers
+    more = flat_map-append lines_of all (covers ∷ []) ∙ ap (λ ls. flat_map lines_of all ++ ls) (append-nil (lines_of covers))
 
-    of_nets : nets + (count_by gives_reset ts + count_by has_own_mark flats) + cond (gives_reset t) 1 0 + cond (has_own_mark flat) 1 0
-        ≡ nets + (count_by gives_reset (ts ++ t ∷ []) + count_by has_own_mark (flats ++ flat ∷ []))
+    of_nets : nets + (count_by gives_reset ts + length (flat_map made_of all)) + cond (gives_reset t) 1 0 + length (made_of covers)
+        ≡ nets + (count_by gives_reset (ts ++ t ∷ []) + length (flat_map made_of (all ++ covers ∷ [])))
     of_nets =
         let a = counted_both gives_reset ts (t ∷ []) in
-        let b = counted_both has_own_mark flats (flat ∷ []) in
+        let b = ap length made ∙ length-append (flat_map made_of all) (made_of covers) in
         let c = sum_by-cons (λ x. cond (gives_reset x) 1 0) t [] in
-        let d = sum_by-cons (λ x. cond (has_own_mark x) 1 0) flat [] in
         omega arith
 
-    of_lines : length here + length flat.cover.lines + length (mark_lines flat.mark) ≡ length (flat_map lines_made (flats ++ flat ∷ []))
-    of_lines =
-        let a = ap length more in
-        let b = length-append here (flat.cover.lines ++ mark_lines flat.mark) in
-        let c = length-append flat.cover.lines (mark_lines flat.mark) in
-        omega arith
+    of_lines : length (flat_map lines_of all) + length (lines_of covers) ≡ length (flat_map lines_of (all ++ covers ∷ []))
+    of_lines = sym (ap length more ∙ length-append (flat_map lines_of all) (lines_of covers))
 
-    of_literals : literal_count here + literal_count flat.cover.lines + literal_count (mark_lines flat.mark)
-        ≡ literal_count (flat_map lines_made (flats ++ flat ∷ []))
-    of_literals =
-        let a = ap literal_count more in
-        let b = literals_both here (flat.cover.lines ++ mark_lines flat.mark) in
-        let c = literals_both flat.cover.lines (mark_lines flat.mark) in
-        omega arith
+    of_literals : literal_count (flat_map lines_of all) + literal_count (lines_of covers) ≡ literal_count (flat_map lines_of (all ++ covers ∷ []))
+    of_literals = sym (ap literal_count more ∙ literals_both (flat_map lines_of all) (lines_of covers))
+
+-- ---- the steps by which a table is counted
+
+-- the lines of a net that is made
+abbrev made_lines : MadeNet → List Line
+made_lines made = made.cover.lines
+
+-- the lines of an output's cover
+abbrev pub cover_lines : Cover → List Line
+cover_lines c = c.lines
+
+-- the size with this many nets more, and with these lines
+abbrev with_both : Size → ℕ → List Line → Size
+with_both s n ls = record { nets = s.nets + n; lines = s.lines + length ls; literals = s.literals + literal_count ls }
+
+nothing_more : (s : Size) → s ≡ with_both s 0 []
+nothing_more s =
+    let n : s.nets ≡ s.nets + 0 = omega arith in
+    let l : s.lines ≡ s.lines + 0 = omega arith in
+    let e : s.literals ≡ s.literals + 0 = omega arith in
+    λ i. record { nets = n i; lines = l i; literals = e i }
+
+both_more : (s : Size) (m n : ℕ) (xs ys : List Line) → with_both (with_both s m xs) n ys ≡ with_both s (m + n) (xs ++ ys)
+both_more s m n xs ys =
+    let a = length-append xs ys in
+    let b = literals_both xs ys in
+    let of_nets : s.nets + m + n ≡ s.nets + (m + n) = omega arith in
+    let of_lines : s.lines + length xs + length ys ≡ s.lines + length (xs ++ ys) = omega arith in
+    let of_literals : s.literals + literal_count xs + literal_count ys ≡ s.literals + literal_count (xs ++ ys) = omega arith in
+    λ i. record { nets = of_nets i; lines = of_lines i; literals = of_literals i }
+
+nets_counted : (s : Size) (mades : List MadeNet) → with_nets s mades ≡ with_both s (length mades) (flat_map made_lines mades)
+nets_counted s [] = nothing_more s
+nets_counted s (made ∷ more) =
+    nets_counted (with_both s 1 made.cover.lines) more
+    ∙ (both_more s 1 (length more) made.cover.lines (flat_map made_lines more)
+    ∙ ap (λ n. with_both s n (flat_map made_lines (made ∷ more))) (let e : 1 + length more ≡ length (made ∷ more) = omega arith in e))
+
+nets_both : (s : Size) (xs ys : List MadeNet) → with_nets s (xs ++ ys) ≡ with_nets (with_nets s xs) ys
+nets_both s [] ys = refl
+nets_both s (x ∷ xs) ys = nets_both (with_lines (with_net s) x.cover.lines) xs ys
+
+lines_added : (s : Size) (ls : List Line) → with_lines s ls ≡ with_both s 0 ls
+lines_added s ls = let n : s.nets ≡ s.nets + 0 = omega arith in λ i. record { nets = n i; lines = s.lines + length ls; literals = s.literals + literal_count ls }
+
+pub lines_both : (s : Size) (xs ys : List Line) → with_lines (with_lines s xs) ys ≡ with_lines s (xs ++ ys)
+lines_both s xs ys =
+    let a = length-append xs ys in
+    let b = literals_both xs ys in
+    let of_lines : s.lines + length xs + length ys ≡ s.lines + length (xs ++ ys) = omega arith in
+    let of_literals : s.literals + literal_count xs + literal_count ys ≡ s.literals + literal_count (xs ++ ys) = omega arith in
+    λ i. record { nets = s.nets; lines = of_lines i; literals = of_literals i }
+
+-- the lines of one output's cover more
+pub outputs_more : (s : Size) (cs : List Cover) (i : ℕ) (c : Cover) (old new : Size) → i < length cs → c ≡ get_or cs i c
+    → old ≡ with_lines s (flat_map cover_lines (take i cs)) → new ≡ with_lines old c.lines → new ≡ with_lines s (flat_map cover_lines (take (i + 1) cs))
+outputs_more s cs i c old new low is before e =
+    let here = flat_map cover_lines (take i cs) in
+    let one : take (i + 1) cs ≡ take i cs ++ c ∷ [] = take_more cs i c low ∙ ap (λ x. take i cs ++ x ∷ []) (sym is) in
+    let more : flat_map cover_lines (take (i + 1) cs) ≡ here ++ c.lines =
+    ap (flat_map cover_lines) one ∙ (flat_map-append cover_lines (take i cs) (c ∷ []) ∙ ap (λ ls. here ++ ls) (append-nil c.lines))
+    in
+    e ∙ (ap (λ x. with_lines x c.lines) before ∙ (lines_both s here c.lines ∙ ap (with_lines s) (sym more)))
+
+-- the size with a reset net more, if the table gives one
+abbrev pub with_reset : Size → FileTable → Size
+with_reset s t = record { nets = s.nets + cond (gives_reset t) 1 0; lines = s.lines; literals = s.literals }
+
+-- the made nets, then the lines of the outputs
+steps_counted : (s : Size) (t : FileTable) (covers : TableCovers)
+    → with_lines (with_nets (with_reset s t) (made_of covers)) (flat_map cover_lines (outputs_of covers)) ≡ with_covers s t covers
+steps_counted s t covers =
+    let made = made_of covers in
+    let outs = flat_map cover_lines (outputs_of covers) in
+    let n : s.nets + cond (gives_reset t) 1 0 + (length made + 0) ≡ s.nets + cond (gives_reset t) 1 0 + length made = omega arith in
+    ap (λ x. with_lines x outs) (nets_counted (with_reset s t) made)
+    ∙ (lines_added (with_both (with_reset s t) (length made) (flat_map made_lines made)) outs
+    ∙ (both_more (with_reset s t) (length made) 0 (flat_map made_lines made) outs
+    ∙ (λ i. record { nets = n i; lines = s.lines + length (lines_of covers); literals = s.literals + literal_count (lines_of covers) })))
+
+pub counted_single : (s size marked result : Size) (t : FileTable) (flat : FlatTable) → size ≡ with_reset s t → marked ≡ with_nets size (made_mark flat.mark)
+    → result ≡ with_lines marked flat.cover.lines → result ≡ with_covers s t (Single flat)
+counted_single s size marked result t flat a b c =
+    let marks = sym (append-nil (made_mark flat.mark)) in
+    let ls = sym (append-nil flat.cover.lines) in
+    c
+    ∙ (ap (λ x. with_lines x flat.cover.lines) (b ∙ ap (λ x. with_nets x (made_mark flat.mark)) a)
+    ∙ ((λ i. with_lines (with_nets (with_reset s t) (marks i)) (ls i))
+    ∙ steps_counted s t (Single flat)))
+
+pub counted_joint : (s size marked chosen result : Size) (t : FileTable) (joint : JointTable) → size ≡ with_reset s t
+    → marked ≡ with_nets size (made_mark joint.mark) → chosen ≡ with_lines (with_net marked) joint.choice.lines
+    → result ≡ with_lines chosen (flat_map cover_lines joint.outputs) → result ≡ with_covers s t (Joint joint)
+counted_joint s size marked chosen result t joint a b c d =
+    let one : MadeNet = record { values = joint.values; cover = joint.choice } in
+    let outs = flat_map cover_lines joint.outputs in
+    d
+    ∙ (ap (λ x. with_lines x outs) (c ∙ ap (λ x. with_lines (with_net x) joint.choice.lines) (b ∙ ap (λ x. with_nets x (made_mark joint.mark)) a))
+    ∙ (ap (λ x. with_lines x outs) (sym (nets_both (with_reset s t) (made_mark joint.mark) (one ∷ []))) ∙ steps_counted s t (Joint joint)))
+
+pub ruleset counted = (counted_single, counted_joint)
 
 -- ---- limits
 
@@ -99,14 +191,14 @@ within_limits s e =
     }
 
 -- a size with more behind it passes no fewer limits
-pub within_front : (nets : ℕ) (ts us : List FileTable) (flats others : List FlatTable) → IsWithin (size_of nets (ts ++ us) (flats ++ others))
-    → IsWithin (size_of nets ts flats)
-within_front nets ts us flats others w =
+pub within_front : (nets : ℕ) (ts us : List FileTable) (all others : List TableCovers) → IsWithin (size_of nets (ts ++ us) (all ++ others))
+    → IsWithin (size_of nets ts all)
+within_front nets ts us all others w =
     let a = counted_both gives_reset ts us in
-    let b = counted_both has_own_mark flats others in
-    let more = flat_map-append lines_made flats others in
-    let c = ap length more ∙ length-append (flat_map lines_made flats) (flat_map lines_made others) in
-    let d = ap literal_count more ∙ literals_both (flat_map lines_made flats) (flat_map lines_made others) in
+    let b = ap length (flat_map-append made_of all others) ∙ length-append (flat_map made_of all) (flat_map made_of others) in
+    let more = flat_map-append lines_of all others in
+    let c = ap length more ∙ length-append (flat_map lines_of all) (flat_map lines_of others) in
+    let d = ap literal_count more ∙ literals_both (flat_map lines_of all) (flat_map lines_of others) in
     let n = w.nets in
     let l = w.lines in
     let e = w.literals in
@@ -114,43 +206,54 @@ within_front nets ts us flats others w =
 
 -- ---- covers
 
-pub covers_more : (ds : List Decl) (names : List (List ℕ)) (ts : List FileTable) (flats : List FlatTable) (t : FileTable) (flat : FlatTable)
-    → AreCovers ds names ts flats → IsMade (columns_at ds names t) t (mark_at names t) flat → AreCovers ds names (ts ++ t ∷ []) (flats ++ flat ∷ [])
-covers_more ds names [] [] t flat are made = (made, tt)
-covers_more ds names [] (g ∷ flats) t flat are made = absurd are
-covers_more ds names (u ∷ ts) [] t flat are made = absurd are
-covers_more ds names (u ∷ ts) (g ∷ flats) t flat are made = (are.0, covers_more ds names ts flats t flat are.1 made)
+-- these are the covers of a table over nets with these numbers
+abbrev pub HasCovers : List Decl → List (List ℕ) → FileTable → TableCovers → Type 0
+HasCovers ds names t covers = IsMadeTable (columns_at ds names t) t (mark_at names t) (choice_at names t) covers
+
+pub covers_more : (ds : List Decl) (names : List (List ℕ)) (ts : List FileTable) (all : List TableCovers) (t : FileTable) (covers : TableCovers)
+    → AreCovers ds names ts all → HasCovers ds names t covers → AreCovers ds names (ts ++ t ∷ []) (all ++ covers ∷ [])
+covers_more ds names [] [] t covers are made = (made, tt)
+covers_more ds names [] (g ∷ all) t covers are made = absurd are
+covers_more ds names (u ∷ ts) [] t covers are made = absurd are
+covers_more ds names (u ∷ ts) (g ∷ all) t covers are made = (are.0, covers_more ds names ts all t covers are.1 made)
+
+-- a table has no more covers than outputs
+pub outputs_covered : (ds : List Decl) (names : List (List ℕ)) (t : FileTable) (covers : TableCovers) → 0 < length t.outputs → HasCovers ds names t covers
+    → length (outputs_of covers) ≤ length t.outputs
+outputs_covered ds names t (Single flat) some made = omega (arith, some)
+outputs_covered ds names t (Joint joint) some made = let m = made.1.many in omega arith
 
 -- ---- the tables, from the first on
 
 pub sized_first : (nets : ℕ) (m : FileModel) (names : List (List ℕ)) (size : Size) → size ≡ size_of nets [] [] → IsWithin size → AreSized nets m names 0 size
-sized_first nets m names size is within = record { flats = []; are = tt; is = is; within = within }
+sized_first nets m names size is within = record { covers = []; are = tt; is = is; within = within }
 
 -- the first tables and one more
 tables_more : (ts : List FileTable) (i : ℕ) (t : FileTable) → i < length ts → t ≡ get_or ts i t → take i ts ++ t ∷ [] ≡ take (i + 1) ts
 tables_more ts i t low is = ap (λ x. take i ts ++ x ∷ []) is ∙ sym (take_more ts i t low)
 
-pub sized_more : (nets : ℕ) (m : FileModel) (names : List (List ℕ)) (i : ℕ) (old size : Size) (t : FileTable) (flat : FlatTable) → AreSized nets m names i old
-    → i < length m.tables → t ≡ get_or m.tables i t → IsMade (columns_at m.decls names t) t (mark_at names t) flat → size ≡ with_covers old t flat
+pub sized_more : (nets : ℕ) (m : FileModel) (names : List (List ℕ)) (i : ℕ) (old size : Size) (t : FileTable) (covers : TableCovers)
+    → AreSized nets m names i old → i < length m.tables → t ≡ get_or m.tables i t → HasCovers m.decls names t covers → size ≡ with_covers old t covers
     → IsWithin size → AreSized nets m names (i + 1) size
-sized_more nets m names i old size t flat sized low is made size_is within =
-    let P : List FileTable → Type 0 = λ ts. AreCovers m.decls names ts (sized.flats ++ flat ∷ []) in
+sized_more nets m names i old size t covers sized low is made size_is within =
+    let all = sized.covers ++ covers ∷ [] in
+    let P : List FileTable → Type 0 = λ ts. AreCovers m.decls names ts all in
     let more = tables_more m.tables i t low is in
     record {
-      flats = sized.flats ++ flat ∷ [];
-      are = subst P more (covers_more m.decls names (take i m.tables) sized.flats t flat sized.are made);
+      covers = all;
+      are = subst P more (covers_more m.decls names (take i m.tables) sized.covers t covers sized.are made);
       is =
           size_is
-          ∙ (ap (λ s. with_covers s t flat) sized.is
-          ∙ (size_more nets (take i m.tables) sized.flats t flat ∙ ap (λ ts. size_of nets ts (sized.flats ++ flat ∷ [])) more));
+          ∙ (ap (λ s. with_covers s t covers) sized.is
+          ∙ (size_more nets (take i m.tables) sized.covers t covers ∙ ap (λ ts. size_of nets ts all) more));
       within = within;
     }
 
 -- so far no limit is passed
 so_far : (nets : ℕ) (m : FileModel) (names : List (List ℕ)) (i : ℕ) (size : Size) → names ≡ places m → AreSized nets m names i size → PassesNone nets m (take i m.tables)
 so_far nets m names i size are sized =
-    let P : List (List ℕ) → Type 0 = λ ns. AreCovers m.decls ns (take i m.tables) sized.flats in
-    record { size = size; has = record { flats = sized.flats; are = subst P are sized.are; is = sized.is }; none = none_past size sized.within }
+    let P : List (List ℕ) → Type 0 = λ ns. AreCovers m.decls ns (take i m.tables) sized.covers in
+    record { size = size; has = record { covers = sized.covers; are = subst P are sized.are; is = sized.is }; none = none_past size sized.within }
 
 pub sized_last : (nets : ℕ) (m : FileModel) (names : List (List ℕ)) (i : ℕ) (size : Size) → names ≡ places m → length m.tables ≤ i → AreSized nets m names i size
     → FitsLimits nets m
@@ -158,27 +261,50 @@ sized_last nets m names i size are high sized =
     let P : List FileTable → Type 0 = PassesNone nets m in
     subst P (take_all i m.tables high) (so_far nets m names i size are sized)
 
+-- ---- the limit that is passed first
+
+-- the table behind the first ones
+place_of_table : (ts : List FileTable) (i : ℕ) (t : FileTable) → i < length ts → t ≡ get_or ts i t → ts ≡ take i ts ++ t ∷ drop (i + 1) ts
+place_of_table ts i t low is =
+    sym (take-append-drop i ts) ∙ ap (λ us. take i ts ++ us) (drop_more ts i t low ∙ ap (λ x. x ∷ drop (i + 1) ts) (sym is))
+
 -- the limit that is passed with one more table
-pub past_limit : (nets : ℕ) (m : FileModel) (names : List (List ℕ)) (i : ℕ) (size : Size) (t : FileTable) (flat : FlatTable) (f : FlatFault) → names ≡ places m
-    → AreSized nets m names i size → i < length m.tables → t ≡ get_or m.tables i t → IsMade (columns_at m.decls names t) t (mark_at names t) flat
-    → first (size_faults (with_covers size t flat)) ≡ Some f → IsPastLimit nets m f
-past_limit nets m names i size t flat f are sized low is made told =
-    let P : List (List ℕ) → Type 0 = λ ns. AreCovers m.decls ns (take i m.tables ++ t ∷ []) (sized.flats ++ flat ∷ []) in
+pub past_limit : (nets : ℕ) (m : FileModel) (names : List (List ℕ)) (i : ℕ) (size : Size) (t : FileTable) (covers : TableCovers) (f : FlatFault)
+    → names ≡ places m → AreSized nets m names i size → i < length m.tables → t ≡ get_or m.tables i t → HasCovers m.decls names t covers
+    → first (size_faults (with_covers size t covers)) ≡ Some f → IsPastLimit nets m f
+past_limit nets m names i size t covers f are sized low is made told =
+    let all = sized.covers ++ covers ∷ [] in
+    let P : List (List ℕ) → Type 0 = λ ns. AreCovers m.decls ns (take i m.tables ++ t ∷ []) all in
     record {
       before = take i m.tables;
       table = t;
       after = drop (i + 1) m.tables;
-      place =
-          sym (take-append-drop i m.tables)
-          ∙ ap (λ ts. take i m.tables ++ ts) (drop_more m.tables i t low ∙ ap (λ x. x ∷ drop (i + 1) m.tables) (sym is));
+      place = place_of_table m.tables i t low is;
       within = so_far nets m names i size are sized;
-      size = with_covers size t flat;
-      has = record {
-        flats = sized.flats ++ flat ∷ [];
-        are = subst P are (covers_more m.decls names (take i m.tables) sized.flats t flat sized.are made);
-        is = ap (λ s. with_covers s t flat) sized.is ∙ size_more nets (take i m.tables) sized.flats t flat;
-      };
-      told = told;
+      told = inr (record {
+        size = with_covers size t covers;
+        has = record {
+          covers = all;
+          are = subst P are (covers_more m.decls names (take i m.tables) sized.covers t covers sized.are made);
+          is = ap (λ s. with_covers s t covers) sized.is ∙ size_more nets (take i m.tables) sized.covers t covers;
+        };
+        told = told;
+      });
+    }
+
+-- the next table is too wide
+past_wide : (nets : ℕ) (m : FileModel) (names : List (List ℕ)) (i : ℕ) (size : Size) (t : FileTable) (f : FlatFault) → names ≡ places m
+    → AreSized nets m names i size → i < length m.tables → t ≡ get_or m.tables i t → IsTooWide (columns_at m.decls names t) t (mark_at names t) f
+    → IsPastLimit nets m f
+past_wide nets m names i size t f are sized low is wide =
+    let P : List (List ℕ) → Type 0 = λ ns. IsTooWide (columns_at m.decls ns t) t (mark_at ns t) f in
+    record {
+      before = take i m.tables;
+      table = t;
+      after = drop (i + 1) m.tables;
+      place = place_of_table m.tables i t low is;
+      within = so_far nets m names i size are sized;
+      told = inl (subst P are wide);
     }
 
 -- ---- what is told
@@ -186,6 +312,11 @@ past_limit nets m names i size t flat f are sized low is made told =
 pub limit_told : (nets : ℕ) (m : FileModel) (f : FlatFault) → IsPastLimit nets m f → TellsLimit nets m f
 limit_told nets m Memory h = tt
 limit_told nets m _ h = h
+
+pub wide_told : (nets : ℕ) (m : FileModel) (names : List (List ℕ)) (i : ℕ) (size : Size) (t : FileTable) (f : FlatFault) → names ≡ places m
+    → AreSized nets m names i size → i < length m.tables → t ≡ get_or m.tables i t → TellsWide (columns_at m.decls names t) names t f → TellsLimit nets m f
+wide_told nets m names i size t Memory are sized low is told = tt
+wide_told nets m names i size t _ are sized low is told = past_wide nets m names i size t _ are sized low is told
 
 pub memory_told : (nets : ℕ) (m : FileModel) (f : FlatFault) → f ≡ Memory → TellsLimit nets m f
 memory_told nets m f e = let P : FlatFault → Type 0 = TellsLimit nets m in subst P (sym e) tt

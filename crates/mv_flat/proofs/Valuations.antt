@@ -1,99 +1,239 @@
--- A valuation by name beside an assignment by number: a table's net takes its value where the table allows the values of its
--- columns, and the mark's net takes the value that tells whether some row matches.
-use Rattle.std.proofs.Common.{◌≡◌, ℕ, ◌<◌, Bool, true, false, ◌&&◌, List, [], ◌∷◌, map, Option, Some, None, refl, sym, ◌∙◌, ap, arith, ⊎_elim, cond}
+-- A valuation by name beside an assignment by number: where the assignment agrees with the nets of a table, the table allows the values of
+-- its columns; and where it does, the assignment agrees with these nets, with some value of the choice net.
+use Rattle.std.proofs.Common.{◌≡◌, ℕ, zero, suc, ◌<◌, Bool, true, false, ◌&&◌, List, [], ◌∷◌, length, map, Option, Some, None, refl, sym, ◌∙◌, ap, arith, cond}
 use Rattle.std.specs.Prelude.{nat_eq, nat_lt}
 use Rattle.std.specs.List.{slice_get}
-use Rattle.std.proofs.lemmas.Bool.{and_from, and_parts, cases_Bool, eq-eqb, eqb-true, lt-ltb}
-use Rattle.std.proofs.lemmas.Option.{none-some}
+use Rattle.std.proofs.lemmas.Bool.{false≢true, and_from, and_parts, eq-eqb, eqb-true, lt-ltb}
+use Rattle.std.proofs.lemmas.List.{length-map}
+use Rattle.std.proofs.lemmas.Option.{none-some, same_Some}
 use Rattle.mv_base.specs.Names.{among}
+use Rattle.mv_base.proofs.NameLemmas.{among-at}
 use Rattle.mv_cover.specs.declared.cover.Cover.{Cover}
 use Rattle.mv_cover.specs.Covers.{allowed}
-use Rattle.mv_design.specs.declared.design.Decl.{Decl}
 use Rattle.mv_design.specs.declared.design.FileModel.{FileModel}
 use Rattle.mv_design.specs.declared.table.FileTable.{FileTable}
 use Rattle.mv_rows.specs.declared.column.Column.{Column}
 use Rattle.mv_rows.specs.Cubes.{column_values, in_range}
 use Rattle.mv_rows.specs.Covers.{mark_value, MarkHas}
+use Rattle.mv_joint.specs.Meaning.{outputs_allow}
 use Rattle.mv_design.specs.Tables.{some_row_matches, table_allows}
 use Rattle.mv_net.specs.declared.parts.FlatNet.{FlatNet}
 use Rattle.mv_net.specs.declared.parts.NetParts.{NetParts}
 use Rattle.mv_net.specs.Nets.{slot}
 use Rattle.mv_net.specs.Allowed.{net_allows, Agrees}
 use Rattle.mv_design.specs.Values.{count_of}
-use Rattle.mv_design.specs.Nets.{nets_named, output_of}
-use Rattle.mv_flat.specs.Places.{places, has_mark}
+use Rattle.mv_design.specs.Nets.{nets_named}
+use Rattle.mv_flat.specs.declared.covers.TableCovers.{TableCovers}
+use Rattle.mv_flat.specs.declared.covers.TableCovers.TheVariants.{Single, Joint}
+use Rattle.mv_flat.specs.Covers.{MadeNet, IsMadeTable, mark_of, choices_in, outputs_of}
+use Rattle.mv_flat.specs.Places.{places, has_mark, is_joint}
 use Rattle.mv_unfold.specs.Numbers.{number_in}
 use Rattle.mv_design.specs.Meaning.{table_holds}
-use Rattle.mv_flat.specs.Numbers.{column_of, columns_at, mark_at}
-use Rattle.mv_flat.specs.Built.{fresh_net}
-use Rattle.mv_flat.proofs.Slots.{IsTableAt, mark_net}
-use Rattle.mv_flat.proofs.Places.{IsModelNet, table_of, single_tables, outputs_are}
-use Rattle.mv_flat.proofs.Naming.{all_map, map_same, output_of_among, table_input_named, table_output_named}
+use Rattle.mv_flat.specs.Numbers.{column_of, columns_at, mark_at, choice_at}
+use Rattle.mv_flat.proofs.Slots.{IsTableAt, StandsMade}
+use Rattle.mv_flat.proofs.FormedMade.{marked_has, mark_net}
+use Rattle.mv_flat.proofs.Places.{IsModelNet, table_of}
+use Rattle.mv_flat.proofs.Naming.{all_map, map_same, table_input_named, table_output_named}
+use Rattle.mv_flat.proofs.Together.{choice_holds, AllowOutputs, HasChoice, IsMeant, meant}
 
 -- each named net has its value at its number, and that is one of its values
 pub record Follows (m : FileModel) (at : ℕ → ℕ) (value : List ℕ → ℕ) : Type 0 where
   pub each : (w : List ℕ) → among w (nets_named m) ≡ true → value w ≡ at (number_in (places m) w)
   pub range : (w : List ℕ) → among w (nets_named m) ≡ true → nat_lt (at (number_in (places m) w)) (count_of m.decls w) ≡ true
 
-pub values_follow : (m : FileModel) (at : ℕ → ℕ) (value : List ℕ → ℕ) (k : ℕ) (t : FileTable) → Follows m at value → slice_get m.tables k ≡ Some t → column_values at (columns_at m.decls (places m) t) ≡ map value t.inputs
+pub values_follow : (m : FileModel) (at : ℕ → ℕ) (value : List ℕ → ℕ) (k : ℕ) (t : FileTable) → Follows m at value → slice_get m.tables k ≡ Some t
+    → column_values at (columns_at m.decls (places m) t) ≡ map value t.inputs
 values_follow m at value k t f e =
     map_same (column_of m.decls (places m)) (λ (c : Column). at c.net.0) value t.inputs (λ w h. sym (f.each w (table_input_named m k t w e h)))
 
-pub range_follows : (m : FileModel) (at : ℕ → ℕ) (value : List ℕ → ℕ) (k : ℕ) (t : FileTable) → Follows m at value → slice_get m.tables k ≡ Some t → in_range at (columns_at m.decls (places m) t) ≡ true
+pub range_follows : (m : FileModel) (at : ℕ → ℕ) (value : List ℕ → ℕ) (k : ℕ) (t : FileTable) → Follows m at value → slice_get m.tables k ≡ Some t
+    → in_range at (columns_at m.decls (places m) t) ≡ true
 range_follows m at value k t f e =
     all_map (λ (c : Column). nat_lt (at c.net.0) c.count) (column_of m.decls (places m)) t.inputs (λ w h. f.range w (table_input_named m k t w e h))
 
--- ---- the net of a table's output
+-- the assignment agrees with the net at a number
+abbrev pub AllowsAt : NetParts → (ℕ → ℕ) → ℕ → Type 0
+AllowsAt net at n = net_allows (slot net.nets n) at (at n) ≡ true
+
+-- ---- the nets of a table's outputs
 
 true_and : (a b : Bool) → a ≡ true → (a && b) ≡ b
 true_and a b e = ap (λ x. x && b) e
 
--- the value that tells whether some row matches the columns
-abbrev pub mark_at_columns : FileModel → (ℕ → ℕ) → FileTable → ℕ
-mark_at_columns m at t = mark_value t.rows (column_values at (columns_at m.decls (places m) t))
+-- such a net takes its value exactly where its cover allows it
+output_allows : (m : FileModel) (net : NetParts) (is : IsModelNet m net) (at : ℕ → ℕ) (value : List ℕ → ℕ) (k : ℕ) (t : FileTable)
+    (e : slice_get m.tables k ≡ Some t) → Follows m at value → (j : ℕ) (w : List ℕ) (c : Cover) → slice_get t.outputs j ≡ Some w
+    → slice_get (outputs_of (table_of m net is k t e).covers) j ≡ Some c
+    → net_allows (slot net.nets (number_in (places m) w)) at (at (number_in (places m) w)) ≡ allowed c at (value w)
+output_allows m net is at value k t e f j w c o d =
+    let named = table_output_named m k t w e (among-at t.outputs j w o) in
+    let n : ℕ = number_in (places m) w in
+    ap (λ s. net_allows s at (at n)) ((table_of m net is k t e).output j w c o d)
+    ∙ (true_and (nat_lt (at n) (count_of m.decls w)) (allowed c at (at n)) (f.range w named) ∙ ap (allowed c at) (sym (f.each w named)))
 
--- it takes its value exactly where the table allows the values of its columns
-pub output_allows : (m : FileModel) (net : NetParts) (is : IsModelNet m net) (at : ℕ → ℕ) (value : List ℕ → ℕ) (k : ℕ) (t : FileTable) (e : slice_get m.tables k ≡ Some t) → Follows m at value → MarkHas (table_of m net is k t e).flat.mark (mark_at (places m) t) at (mark_at_columns m at t) → net_allows (slot net.nets (number_in (places m) (output_of t))) at (at (number_in (places m) (output_of t))) ≡ table_holds value t
-output_allows m net is at value k t e f mark =
-    let here = table_of m net is k t e in
-    let one = single_tables m net is k t e in
-    let named = table_output_named m k t (output_of t) e (output_of_among t one) in
-    let n : ℕ = number_in (places m) (output_of t) in
-    let outs : at n ∷ [] ≡ map value t.outputs = ap (λ v. v ∷ []) (sym (f.each (output_of t) named)) ∙ ap (map value) (sym (outputs_are t one)) in
-    ap (λ s. net_allows s at (at n)) here.output
-    ∙ (true_and (nat_lt (at n) (count_of m.decls (output_of t))) (allowed here.flat.cover at (at n)) (f.range (output_of t) named)
-    ∙ (here.relation.allows at (range_follows m at value k t f e) mark (at n) ∙ λ i. table_allows t.rows t.default (values_follow m at value k t f e i) (outs i)))
+-- covers allow values together where each allows its own
+outputs_from : (at : ℕ → ℕ) (value : List ℕ → ℕ) (ws : List (List ℕ)) (cs : List Cover) → length cs ≡ length ws
+    → ((j : ℕ) (w : List ℕ) (c : Cover) → slice_get ws j ≡ Some w → slice_get cs j ≡ Some c → allowed c at (value w) ≡ true)
+    → outputs_allow cs at (map value ws) ≡ true
+outputs_from at value [] [] long h = refl
+outputs_from at value [] (c ∷ cs) long h = absurd (omega (arith, long))
+outputs_from at value (w ∷ ws) [] long h = absurd (omega (arith, long))
+outputs_from at value (w ∷ ws) (c ∷ cs) long h =
+    and_from (allowed c at (value w)) (outputs_allow cs at (map value ws)) (h 0 w c refl refl)
+    (outputs_from at value ws cs (omega (arith, long)) (λ j u d y z. h (suc j) u d y z))
 
--- ---- the net of a mark
+-- a cover that allows a value
+record HasCover (cs : List Cover) (j : ℕ) (at : ℕ → ℕ) (v : ℕ) : Type 0 where
+  cover : Cover
+  listed : slice_get cs j ≡ Some cover
+  allows : allowed cover at v ≡ true
 
-mark_below : (b : Bool) → cond b 0 1 < 2
-mark_below true = omega arith
-mark_below false = omega arith
+outputs_each : (at : ℕ → ℕ) (value : List ℕ → ℕ) (ws : List (List ℕ)) (cs : List Cover) (j : ℕ) (w : List ℕ) → outputs_allow cs at (map value ws) ≡ true
+    → slice_get ws j ≡ Some w → HasCover cs j at (value w)
+outputs_each at value [] cs j w h e = absurd (none-some w e)
+outputs_each at value (u ∷ us) [] j w h e = absurd (false≢true h)
+outputs_each at value (u ∷ us) (c ∷ cs) zero w h e =
+    let p = and_parts (allowed c at (value u)) (outputs_allow cs at (map value us)) h in
+    record { cover = c; listed = refl; allows = ap (λ x. allowed c at (value x)) (sym (same_Some u w e)) ∙ p.0 }
+outputs_each at value (u ∷ us) (c ∷ cs) (suc j) w h e =
+    let p = and_parts (allowed c at (value u)) (outputs_allow cs at (map value us)) h in
+    let r = outputs_each at value us cs j w p.1 e in
+    record { cover = r.cover; listed = r.listed; allows = r.allows }
 
--- where the cover reads a mark, the table gets one
-pub marked_has : (ds : List Decl) (names : List (List ℕ)) (nets : List (Option FlatNet)) (t : FileTable) (here : IsTableAt ds names nets t) (c : Cover) → here.flat.mark ≡ Some c → has_mark ds t ≡ true
-marked_has ds names nets t here c e =
-    ⊎_elim (λ (y : has_mark ds t ≡ true). y) (λ (n : has_mark ds t ≡ false). absurd (none-some c (sym (here.unmarked n) ∙ e))) (cases_Bool (has_mark ds t))
+-- ---- the nets that are made for a table
 
--- and the mark's net stands at its number
-pub mark_slot : (ds : List Decl) (names : List (List ℕ)) (nets : List (Option FlatNet)) (t : FileTable) (here : IsTableAt ds names nets t) (c : Cover) → here.flat.mark ≡ Some c → slot nets (mark_at names t).0 ≡ fresh_net here.name c
-mark_slot ds names nets t here c e = here.mark (marked_has ds names nets t here c e) ∙ ap (mark_net here.name) e
+made_allows : (nets : List (Option FlatNet)) (n : ℕ) (made : MadeNet) (at : ℕ → ℕ) → StandsMade nets n made
+    → net_allows (slot nets n) at (at n) ≡ (nat_lt (at n) made.values && allowed made.cover at (at n))
+made_allows nets n made at s = ap (λ f. net_allows f at (at n)) s.slot_is
 
-mark_allows : (ds : List Decl) (names : List (List ℕ)) (nets : List (Option FlatNet)) (t : FileTable) (here : IsTableAt ds names nets t) (c : Cover) → here.flat.mark ≡ Some c → (at : ℕ → ℕ) → in_range at (columns_at ds names t) ≡ true → net_allows (slot nets (mark_at names t).0) at (at (mark_at names t).0) ≡ (nat_lt (at (mark_at names t).0) 2 && nat_eq (at (mark_at names t).0) (mark_value t.rows (column_values at (columns_at ds names t))))
-mark_allows ds names nets t here c e at range =
-    let k : ℕ = (mark_at names t).0 in
-    ap (λ s. net_allows s at (at k)) (mark_slot ds names nets t here c e) ∙ ap (λ b. nat_lt (at k) 2 && b) (here.relation.marks c e at range (at k))
+module _ (m : FileModel) (net : NetParts) (is : IsModelNet m net) (k : ℕ) (t : FileTable) (e : slice_get m.tables k ≡ Some t) where
+  abbrev columns : List Column
+  columns = columns_at m.decls (places m) t
 
--- where the assignment agrees with the nets, a mark has its value
-pub mark_down : (ds : List Decl) (names : List (List ℕ)) (nets : List (Option FlatNet)) (t : FileTable) (here : IsTableAt ds names nets t) (at : ℕ → ℕ) → Agrees nets at → in_range at (columns_at ds names t) ≡ true → MarkHas here.flat.mark (mark_at names t) at (mark_value t.rows (column_values at (columns_at ds names t)))
-mark_down ds names nets t here at agrees range = by_mark here.flat.mark refl
+  abbrev here : IsTableAt m.decls (places m) net.nets t
+  here = table_of m net is k t e
+
+  means : IsMeant columns t (mark_at (places m) t) (choice_at (places m) t) here.covers
+  means = meant m.decls (places m) net.nets t is.proper.decls here
+
+  -- a mark's net takes its value where it tells whether some row matches
+  mark_allows : (c : Cover) → mark_of here.covers ≡ Some c → (at : ℕ → ℕ) → in_range at columns ≡ true
+      → net_allows (slot net.nets (mark_at (places m) t).0) at (at (mark_at (places m) t).0)
+      ≡ (nat_lt (at (mark_at (places m) t).0) 2 && nat_eq (at (mark_at (places m) t).0) (mark_value t.rows (column_values at columns)))
+  mark_allows c x at range =
+      let n : ℕ = (mark_at (places m) t).0 in
+      made_allows net.nets n (record { values = 2; cover = c }) at (here.mark c x) ∙ ap (λ b. nat_lt (at n) 2 && b) (means.marks c x at range (at n))
+
+  -- where the assignment agrees with the nets, the mark has its value
+  mark_down : (at : ℕ → ℕ) → Agrees net.nets at → in_range at columns ≡ true
+      → MarkHas (mark_of here.covers) (mark_at (places m) t) at (mark_value t.rows (column_values at columns))
+  mark_down at agrees range = by_mark (mark_of here.covers) refl
+    where
+      by_mark : (o : Option Cover) → mark_of here.covers ≡ o → MarkHas o (mark_at (places m) t) at (mark_value t.rows (column_values at columns))
+      by_mark None x = tt
+      by_mark (Some c) x = eqb-true _ _ (and_parts _ _ (sym (mark_allows c x at range) ∙ agrees.each (mark_at (places m) t).0)).1
+
+  -- a mark with a value has it, if there is a mark
+  mark_has : (at : ℕ → ℕ) (v : ℕ) → (has_mark m.decls t ≡ true → at (mark_at (places m) t).0 ≡ v) → MarkHas (mark_of here.covers) (mark_at (places m) t) at v
+  mark_has at v h = by_mark (mark_of here.covers) refl
+    where
+      by_mark : (o : Option Cover) → mark_of here.covers ≡ o → MarkHas o (mark_at (places m) t) at v
+      by_mark None x = tt
+      by_mark (Some c) x = h (marked_has m.decls (places m) net.nets t here c x)
+
+  -- where the mark has its value, the assignment agrees with its net
+  pub mark_up : (at : ℕ → ℕ) → in_range at columns ≡ true → has_mark m.decls t ≡ true
+      → at (mark_at (places m) t).0 ≡ mark_value t.rows (column_values at columns)
+      → AllowsAt net at (mark_at (places m) t).0
+  mark_up at range may v =
+      let mark = mark_net m.decls (places m) net.nets t here may in
+      let low = below (some_row_matches t.rows (column_values at columns)) in
+      mark_allows mark.cover mark.is at range ∙ and_from _ _ (lt-ltb _ 2 (omega (arith, v, low))) (eq-eqb _ _ v)
+    where
+      below : (b : Bool) → cond b 0 1 < 2
+      below true = omega arith
+      below false = omega arith
+
+  -- the choice net's cover allows its value where the assignment agrees with the nets
+  choice_down : (at : ℕ → ℕ) → Agrees net.nets at → choice_holds here.covers (choice_at (places m) t) at ≡ true
+  choice_down at agrees = by_covers here.covers here.choice
+    where
+      by_covers : (covers : TableCovers) → ((c : MadeNet) → choices_in covers ≡ c ∷ [] → StandsMade net.nets (choice_at (places m) t).0 c)
+          → choice_holds covers (choice_at (places m) t) at ≡ true
+      by_covers (Single flat) stands = refl
+      by_covers (Joint joint) stands =
+          let made : MadeNet = record { values = joint.values; cover = joint.choice } in
+          sym (made_allows net.nets (choice_at (places m) t).0 made at (stands made refl)) ∙ agrees.each (choice_at (places m) t).0
+
+  choice_up : (at : ℕ → ℕ) → is_joint t ≡ true → choice_holds here.covers (choice_at (places m) t) at ≡ true → AllowsAt net at (choice_at (places m) t).0
+  choice_up at several = by_covers here.covers here.are here.choice
+    where
+      by_covers : (covers : TableCovers) → IsMadeTable columns t (mark_at (places m) t) (choice_at (places m) t) covers
+          → ((c : MadeNet) → choices_in covers ≡ c ∷ [] → StandsMade net.nets (choice_at (places m) t).0 c)
+          → choice_holds covers (choice_at (places m) t) at ≡ true → AllowsAt net at (choice_at (places m) t).0
+      by_covers (Single flat) are stands h = absurd (false≢true (sym are.0 ∙ several))
+      by_covers (Joint joint) are stands h =
+          let made : MadeNet = record { values = joint.values; cover = joint.choice } in
+          made_allows net.nets (choice_at (places m) t).0 made at (stands made refl) ∙ h
+
+  -- ---- the table
+
+  -- where the assignment agrees with the nets, the table allows the values of its columns
+  pub table_down : (at : ℕ → ℕ) (value : List ℕ → ℕ) → Follows m at value → Agrees net.nets at → table_holds value t ≡ true
+  table_down at value f agrees =
+      let range = range_follows m at value k t f e in
+      let outputs = outputs_from at value t.outputs (outputs_of here.covers) here.many
+      (λ j w c o d. sym (output_allows m net is at value k t e f j w c o d) ∙ agrees.each (number_in (places m) w)) in
+      ap (λ (x : List ℕ). table_allows t.rows t.default x (map value t.outputs)) (sym (values_follow m at value k t f e))
+      ∙ means.down at range (mark_down at agrees range) (map value t.outputs) (record { chosen = choice_down at agrees; outputs = outputs })
+
+-- an assignment follows the valuation, the mark of a table has its value, and its choice net this one
+pub record FollowsTable (m : FileModel) (at : ℕ → ℕ) (value : List ℕ → ℕ) (t : FileTable) (v : ℕ) : Type 0 where
+  pub follows : Follows m at value
+  pub mark : has_mark m.decls t ≡ true → at (mark_at (places m) t).0 ≡ mark_value t.rows (map value t.inputs)
+  pub choice : is_joint t ≡ true → at (choice_at (places m) t).0 ≡ v
+
+-- with this value of the table's choice net an assignment agrees with its nets
+pub record Suits (m : FileModel) (net : NetParts) (value : List ℕ → ℕ) (t : FileTable) (v : ℕ) : Type 0 where
+  pub outputs : (at : ℕ → ℕ) → FollowsTable m at value t v → (j : ℕ) (w : List ℕ) → slice_get t.outputs j ≡ Some w → AllowsAt net at (number_in (places m) w)
+  pub choice : (at : ℕ → ℕ) → FollowsTable m at value t v → is_joint t ≡ true → AllowsAt net at (choice_at (places m) t).0
+
+-- some value stands so to a table
+pub record HasValue (P : FileTable → ℕ → Type 0) (t : FileTable) : Type 0 where
+  pub number : ℕ
+  pub is : P t number
+
+-- where the table allows the values of its columns, some value of the choice net suits
+pub table_up : (m : FileModel) (net : NetParts) → IsModelNet m net → (at : ℕ → ℕ) (value : List ℕ → ℕ) (k : ℕ) (t : FileTable) → slice_get m.tables k ≡ Some t
+    → Follows m at value → (has_mark m.decls t ≡ true → at (mark_at (places m) t).0 ≡ mark_value t.rows (map value t.inputs)) → table_holds value t ≡ true
+    → HasValue (Suits m net value) t
+table_up m net is at value k t e f marked holds = record {
+  number = given.value;
+  is = record {
+    outputs = λ to s j w o.
+        let r = outputs_each to value t.outputs (outputs_of covers) j w (allow to s).outputs o in
+        output_allows m net is to value k t e s.follows j w r.cover o r.listed ∙ r.allows;
+    choice = λ to s several. choice_up m net is k t e to several (allow to s).chosen;
+  };
+}
   where
-    by_mark : (o : Option Cover) → here.flat.mark ≡ o → MarkHas o (mark_at names t) at (mark_value t.rows (column_values at (columns_at ds names t)))
-    by_mark None e = tt
-    by_mark (Some c) e = eqb-true _ _ (and_parts _ _ (sym (mark_allows ds names nets t here c e at range) ∙ agrees.each (mark_at names t).0)).1
+    covers : TableCovers
+    covers = (table_of m net is k t e).covers
 
--- and where it has its value, the assignment agrees with the mark's net
-pub mark_up : (ds : List Decl) (names : List (List ℕ)) (nets : List (Option FlatNet)) (t : FileTable) (here : IsTableAt ds names nets t) (c : Cover) → here.flat.mark ≡ Some c → (at : ℕ → ℕ) → in_range at (columns_at ds names t) ≡ true → at (mark_at names t).0 ≡ mark_value t.rows (column_values at (columns_at ds names t)) → net_allows (slot nets (mark_at names t).0) at (at (mark_at names t).0) ≡ true
-mark_up ds names nets t here c e at range v =
-    let below = mark_below (some_row_matches t.rows (column_values at (columns_at ds names t))) in
-    mark_allows ds names nets t here c e at range ∙ and_from _ _ (lt-ltb _ 2 (omega (arith, v, below))) (eq-eqb _ _ v)
+    values : column_values at (columns_at m.decls (places m) t) ≡ map value t.inputs
+    values = values_follow m at value k t f e
+
+    given : HasChoice (columns_at m.decls (places m) t) t (mark_at (places m) t)
+        (choice_at (places m) t) covers (column_values at (columns_at m.decls (places m) t)) (map value t.outputs)
+    given =
+        (means m net is k t e).up at (range_follows m at value k t f e)
+        (mark_has m net is k t e at (mark_value t.rows (column_values at (columns_at m.decls (places m) t)))
+        (λ may. marked may ∙ ap (mark_value t.rows) (sym values)))
+        (map value t.outputs) (length-map t.outputs value) (ap (λ (x : List ℕ). table_allows t.rows t.default x (map value t.outputs)) values ∙ holds)
+
+    allow : (to : ℕ → ℕ) → FollowsTable m to value t given.value → AllowOutputs covers (choice_at (places m) t) to (map value t.outputs)
+    allow to s =
+        given.allow to (range_follows m to value k t s.follows e) (values_follow m to value k t s.follows e ∙ sym values)
+        (mark_has m net is k t e to (mark_value t.rows (column_values at (columns_at m.decls (places m) t)))
+        (λ may. s.mark may ∙ ap (mark_value t.rows) (sym values)))
+        s.choice

@@ -1,5 +1,6 @@
 -- The network of a model with a net for each reset value: a net for each input and for each latch, and for each table a net
--- for its output, and before that a net for the mark that its default may need.
+-- for each output, and before these a net for the mark that its default may need, and one for the choice between the rows of
+-- several outputs.
 use Rattle.std.specs.Prelude.{◌≡◌, ℕ, ◌<◌, ◌^◌, true, false, Option, Some, None, List, [], ◌∷◌, ◌++◌, ◌==◌, map, option_map, if◌then◌else◌}
 use Rattle.mv_base.specs.Names.{among, place_of}
 use Rattle.mv_base.specs.declared.number.NetId.{NetId}
@@ -8,10 +9,10 @@ use Rattle.mv_design.specs.declared.design.Decl.{Decl}
 use Rattle.mv_design.specs.declared.design.FileModel.{FileModel}
 use Rattle.mv_design.specs.declared.table.FileTable.{FileTable}
 use Rattle.mv_design.specs.Values.{values_of, count_of}
-use Rattle.mv_rows.specs.declared.table.FlatTable.{FlatTable}
-use Rattle.mv_rows.specs.Flat.{IsMade}
+use Rattle.mv_flat.specs.declared.covers.TableCovers.{TableCovers}
+use Rattle.mv_flat.specs.Covers.{MadeNet, made_of, outputs_of, IsMadeTable}
 use Rattle.mv_design.specs.declared.design.FileLatch.{FileLatch}
-use Rattle.mv_design.specs.Nets.{drivers, latch_outputs, output_of}
+use Rattle.mv_design.specs.Nets.{drivers, latch_outputs}
 use Rattle.mv_flat.specs.Places.{places}
 use Rattle.mv_unfold.specs.Numbers.{net_in}
 use Rattle.mv_net.specs.declared.parts.Kind.{Kind}
@@ -19,7 +20,7 @@ use Rattle.mv_net.specs.declared.parts.Kind.TheVariants.{Input, Latch, Table, Re
 use Rattle.mv_net.specs.declared.parts.FlatNet.{FlatNet}
 use Rattle.mv_net.specs.declared.parts.FlatLatch.{FlatLatch}
 use Rattle.mv_net.specs.declared.parts.NetParts.{NetParts}
-use Rattle.mv_flat.specs.Numbers.{columns_at, mark_at, kept_names, made_name}
+use Rattle.mv_flat.specs.Numbers.{columns_at, mark_at, choice_at, kept_names, made_name}
 use Rattle.mv_resets.specs.Resets.{reset_name}
 
 -- what the net of a table's output is: a reset net, where its name begins with a full stop
@@ -31,9 +32,15 @@ kind_of (b ∷ bs) = if b == 46 then Reset else Table
 abbrev pub file_net : List Decl → Kind → Option Cover → List ℕ → Option FlatNet
 file_net ds kind table net = Some (record { name = net; values = count_of ds net; value_names = kept_names (values_of ds net); kind = kind; table = table })
 
--- a net that is made, of two values
-abbrev pub fresh_net : List ℕ → Cover → Option FlatNet
-fresh_net name cover = Some (record { name = name; values = 2; value_names = []; kind = Table; table = Some cover })
+-- a net that is made
+abbrev pub fresh_net : List ℕ → MadeNet → Option FlatNet
+fresh_net name made = Some (record { name = name; values = made.values; value_names = []; kind = Table; table = Some made.cover })
+
+-- the nets of outputs with these covers
+abbrev pub output_nets : List Decl → List (List ℕ) → List Cover → List (Option FlatNet)
+output_nets ds (w ∷ ws) (c ∷ cs) = file_net ds (kind_of w) (Some c) w ∷ output_nets ds ws cs
+output_nets ds [] cs = []
+output_nets ds (w ∷ ws) [] = []
 
 -- the name is that of the least positive number whose name isn't held
 pub record IsFreshName (held : List (List ℕ)) (name : List ℕ) : Type 0 where
@@ -44,30 +51,32 @@ pub record IsFreshName (held : List (List ℕ)) (name : List ℕ) : Type 0 where
   pub fresh : among name held ≡ false
   pub least : (k : ℕ) → 0 < k → k < number → among (made_name k) held ≡ true
 
--- the mark of a table becomes a net with this cover and a fresh name, which is held from then on
-pub record IsMadeMark (held : List (List ℕ)) (cover : Cover) (nets : List (Option FlatNet)) (after : List (List ℕ)) : Type 0 where
-  pub name : List ℕ
-  pub fresh : IsFreshName held name
-  pub nets_are : nets ≡ fresh_net name cover ∷ []
-  pub after_is : after ≡ held ++ name ∷ []
-
--- no net is made, and the same names are held
-pub record IsNoMark (held : List (List ℕ)) (nets : List (Option FlatNet)) (after : List (List ℕ)) : Type 0 where
+-- nothing is made, and the same names are held
+pub record IsNoneMade (held : List (List ℕ)) (nets : List (Option FlatNet)) (after : List (List ℕ)) : Type 0 where
   pub nets_are : nets ≡ []
   pub after_is : after ≡ held
 
--- what the mark of a table becomes: a net where it has a cover, and otherwise nothing
-abbrev pub IsMark : List (List ℕ) → Option Cover → List (Option FlatNet) → List (List ℕ) → Type 0
-IsMark held (Some cover) nets after = IsMadeMark held cover nets after
-IsMark held None nets after = IsNoMark held nets after
+-- a net is made with a fresh name, which is held from then on, and the others behind it
+pub record IsOneMade (Rest : List (List ℕ) → List (Option FlatNet) → List (List ℕ) → Type 0) (held : List (List ℕ)) (made : MadeNet)
+    (nets : List (Option FlatNet)) (after : List (List ℕ)) : Type 0 where
+  pub name : List ℕ
+  pub fresh : IsFreshName held name
+  pub rest : List (Option FlatNet)
+  pub are_rest : Rest (held ++ name ∷ []) rest after
+  pub nets_are : nets ≡ fresh_net name made ∷ rest
+
+-- what becomes of the nets that are made, behind the names that are held: one after the other
+abbrev pub AreMade : List MadeNet → List (List ℕ) → List (Option FlatNet) → List (List ℕ) → Type 0
+AreMade [] held nets after = IsNoneMade held nets after
+AreMade (made ∷ more) held nets after = IsOneMade (AreMade more) held made nets after
 
 -- the nets of a table, behind the names that are held
 pub record AreTableNets (ds : List Decl) (names held : List (List ℕ)) (t : FileTable) (nets : List (Option FlatNet)) (after : List (List ℕ)) : Type 0 where
-  pub flat : FlatTable
-  pub made : IsMade (columns_at ds names t) t (mark_at names t) flat
-  pub mark : List (Option FlatNet)
-  pub marked : IsMark held flat.mark mark after
-  pub nets_are : nets ≡ mark ++ file_net ds (kind_of (output_of t)) (Some flat.cover) (output_of t) ∷ []
+  pub covers : TableCovers
+  pub are : IsMadeTable (columns_at ds names t) t (mark_at names t) (choice_at names t) covers
+  pub made : List (Option FlatNet)
+  pub are_made : AreMade (made_of covers) held made after
+  pub nets_are : nets ≡ made ++ output_nets ds t.outputs (outputs_of covers)
 
 -- some nets, and others behind them that know of their names
 pub record AreFollowed (Here : List (Option FlatNet) → List (List ℕ) → Type 0) (Behind : List (List ℕ) → List (Option FlatNet) → Type 0)

@@ -1,29 +1,25 @@
 -- How the nets of a model are gathered by number, table by table, and what a look at the rows tells of a table's mark.
 -- For private functions.
-use Rattle.std.specs.Prelude.{◌≡◌, ℕ, Bool, true, false, not, ◌&&◌, nat_eq, Option, Some, None, List, [], ◌∷◌, length, map, if◌then◌else◌}
+use Rattle.std.specs.Prelude.{◌≡◌, ℕ, Bool, true, false, not, ◌&&◌, nat_eq, Option, Some, None, List, [], ◌∷◌, length, map, unwrap_or, if◌then◌else◌}
 use Rattle.std.specs.List.{list_any}
 use Rattle.mv_design.specs.declared.design.Decl.{Decl}
 use Rattle.mv_design.specs.declared.table.Entry.{Entry}
 use Rattle.mv_design.specs.declared.table.Entry.TheVariants.{Set, Same}
 use Rattle.mv_design.specs.declared.table.Row.{Row}
 use Rattle.mv_design.specs.declared.table.FileTable.{FileTable}
+use Rattle.mv_base.specs.Names.{place_of}
 use Rattle.mv_base.specs.Set.{full}
 use Rattle.mv_base.specs.declared.number.NetId.{NetId}
-use Rattle.mv_design.specs.Nets.{output_of}
 use Rattle.mv_design.specs.Values.{count_of}
 use Rattle.mv_rows.specs.Flat.{only_entry, says_nothing}
-use Rattle.mv_unfold.specs.Driving.{with_name, with_names}
-use Rattle.mv_flat.specs.Numbers.{mark_at, mark_name}
-use Rattle.mv_flat.specs.Places.{has_mark}
+use Rattle.mv_unfold.specs.Driving.{with_names}
+use Rattle.mv_flat.specs.Numbers.{mark_at}
+use Rattle.mv_flat.specs.Places.{made_places}
 
--- names with that of a table's mark, if it gets one
-abbrev pub with_mark : List Decl → List (List ℕ) → FileTable → List (List ℕ)
-with_mark ds names t = if has_mark ds t then with_name names (mark_name (output_of t)) else names
-
--- names with those of the nets of tables, and of their marks
+-- names with those of the nets of tables
 abbrev pub with_places : List Decl → List (List ℕ) → List FileTable → List (List ℕ)
 with_places ds names [] = names
-with_places ds names (t ∷ ts) = with_places ds (with_names (with_mark ds names t) t.outputs) ts
+with_places ds names (t ∷ ts) = with_places ds (with_names (with_names names (made_places ds t)) t.outputs) ts
 
 -- some row says no value of its output
 abbrev pub some_silent : List Row → Bool
@@ -56,6 +52,10 @@ is_plain t = none_or_stands t.rows t.default
 -- how many values each of these nets has
 abbrev pub counts_of : List Decl → List (List ℕ) → List ℕ
 counts_of ds names = map (count_of ds) names
+
+-- the number of the net with this name, or one past all others
+abbrev pub number_or_past : List (List ℕ) → List ℕ → NetId
+number_or_past names name = record { 0 = unwrap_or (place_of name names) (length names) }
 
 -- the number of a table's mark; where a look at the table tells that it gets none, the number past all others
 abbrev pub IsMarkNumber : List (List ℕ) → FileTable → NetId → Type 0

@@ -1,5 +1,6 @@
 pub mod Places
 pub mod Numbers
+pub mod Covers
 pub mod Built
 pub mod Size
 pub mod Flat

@@ -19,14 +19,23 @@ column_of ds names net = record { net = net_in names net; count = count_of ds ne
 abbrev pub columns_at : List Decl → List (List ℕ) → FileTable → List Column
 columns_at ds names t = map (column_of ds names) t.inputs
 
--- the name by which the mark of the table with this output stands among the nets by number: a space and the output's name,
--- as no net is named
+-- the name by which the mark of the table with this first output stands among the nets by number: a space and the output's
+-- name, as no net is named
 abbrev pub mark_name : List ℕ → List ℕ
 mark_name net = 32 ∷ net
 
 -- the number of the table's mark, or a number past all others where it has none
 abbrev pub mark_at : List (List ℕ) → FileTable → NetId
 mark_at names t = record { 0 = unwrap_or (place_of (mark_name (output_of t)) names) (length names) }
+
+-- the name by which the choice net of the table with this first output stands among the nets by number: two spaces and the
+-- output's name
+abbrev pub choice_name : List ℕ → List ℕ
+choice_name net = 32 ∷ 32 ∷ net
+
+-- the number of the table's choice net, or a number past all others where it has none
+abbrev pub choice_at : List (List ℕ) → FileTable → NetId
+choice_at names t = record { 0 = unwrap_or (place_of (choice_name (output_of t)) names) (length names) }
 
 -- the names of a net's values are the numbers from 0
 abbrev pub are_numbers : List (List ℕ) → Bool

@@ -34,7 +34,7 @@ pub record AreColumnsOf (names : List (List ℕ)) (t : FileTable) (columns : Lis
 pub record ArePlaced (m : FileModel) (names : List (List ℕ)) : Type 0 where
   pub are : names ≡ places m
   pub few : length names ≤ MAX_NETS
-  pub driven : length (drivers m) + length m.tables ≤ 2 * MAX_NETS
+  pub driven : length (drivers m) + 2 * length m.tables ≤ 3 * MAX_NETS
   pub tables : All (IsPlacedTable m.decls names) m.tables
 
 -- nets with those of the model's tables behind them

@@ -1,10 +1,8 @@
 -- How large a network is, as far as the covers of its tables are made, and the limits that it passes.
-use Rattle.std.specs.Prelude.{◌≡◌, ℕ, ◌+◌, Bool, false, ◌==◌, nat_lt, is_some, Option, Some, None, List, [], ◌∷◌, ◌++◌, length, count_by}
+use Rattle.std.specs.Prelude.{◌≡◌, ◌⊎◌, ℕ, ◌+◌, Bool, false, ◌==◌, nat_lt, Some, List, [], ◌∷◌, ◌++◌, length, count_by}
 use Rattle.std.specs.List.{flat_map}
 use Rattle.mv_base.specs.declared.limits.TheConstants.{MAX_FLAT_NETS, MAX_FLAT_LINES, MAX_FLAT_LITERALS}
 use Rattle.mv_cover.specs.Covers.{literal_count}
-use Rattle.mv_cover.specs.declared.line.Line.{Line}
-use Rattle.mv_cover.specs.declared.cover.Cover.{Cover}
 use Rattle.mv_design.specs.declared.design.Decl.{Decl}
 use Rattle.mv_design.specs.declared.design.FileModel.{FileModel}
 use Rattle.mv_design.specs.declared.table.FileTable.{FileTable}
@@ -13,9 +11,9 @@ use Rattle.mv_fault.specs.Tells.{when, first}
 use Rattle.mv_fault.specs.declared.fault.Which.TheVariants.{Nets, FlatLines, FlatEntries}
 use Rattle.mv_fault.specs.declared.flat.FlatFault.{FlatFault}
 use Rattle.mv_fault.specs.declared.flat.FlatFault.TheVariants.{Limit}
-use Rattle.mv_rows.specs.declared.table.FlatTable.{FlatTable}
-use Rattle.mv_rows.specs.Flat.{IsMade}
-use Rattle.mv_flat.specs.Numbers.{columns_at, mark_at}
+use Rattle.mv_flat.specs.declared.covers.TableCovers.{TableCovers}
+use Rattle.mv_flat.specs.Covers.{made_of, lines_of, IsMadeTable, IsTooWide}
+use Rattle.mv_flat.specs.Numbers.{columns_at, mark_at, choice_at}
 use Rattle.mv_flat.specs.Places.{places}
 use Rattle.mv_flat.specs.declared.size.Size.{Size}
 
@@ -28,33 +26,20 @@ has_stop (b ∷ bs) = b == 46
 abbrev pub gives_reset : FileTable → Bool
 gives_reset t = has_stop (output_of t)
 
--- the table got a mark
-abbrev pub has_own_mark : FlatTable → Bool
-has_own_mark flat = is_some flat.mark
-
--- the lines of a mark's cover, if there is one
-abbrev pub mark_lines : Option Cover → List Line
-mark_lines None = []
-mark_lines (Some cover) = cover.lines
-
--- the lines of a table's covers: those of its output, and those of its mark
-abbrev pub lines_made : FlatTable → List Line
-lines_made flat = flat.cover.lines ++ mark_lines flat.mark
-
--- the covers of tables over nets with these numbers, one for each table
-abbrev pub AreCovers : List Decl → List (List ℕ) → List FileTable → List FlatTable → Type 0
+-- the covers of tables over nets with these numbers, one after the other
+abbrev pub AreCovers : List Decl → List (List ℕ) → List FileTable → List TableCovers → Type 0
 AreCovers ds names [] [] = Unit {0}
-AreCovers ds names [] (flat ∷ flats) = ⊥
+AreCovers ds names [] (c ∷ all) = ⊥
 AreCovers ds names (t ∷ ts) [] = ⊥
-AreCovers ds names (t ∷ ts) (flat ∷ flats) = IsMade (columns_at ds names t) t (mark_at names t) flat × AreCovers ds names ts flats
+AreCovers ds names (t ∷ ts) (c ∷ all) = IsMadeTable (columns_at ds names t) t (mark_at names t) (choice_at names t) c × AreCovers ds names ts all
 
--- the size of a network where these tables have these covers: the nets of the file, all of them, and the reset nets and marks of
--- the tables; the lines of the covers; and the literals of the lines
-abbrev pub size_of : ℕ → List FileTable → List FlatTable → Size
-size_of nets tables flats = record {
-  nets = nets + (count_by gives_reset tables + count_by has_own_mark flats);
-  lines = length (flat_map lines_made flats);
-  literals = literal_count (flat_map lines_made flats);
+-- the size of a network where these tables have these covers: the nets of the file, all of them, the reset nets among the
+-- tables' and the nets that are made for them; the lines of the covers; and the literals of the lines
+abbrev pub size_of : ℕ → List FileTable → List TableCovers → Size
+size_of nets tables all = record {
+  nets = nets + (count_by gives_reset tables + length (flat_map made_of all));
+  lines = length (flat_map lines_of all);
+  literals = literal_count (flat_map lines_of all);
 }
 
 -- the limits that a size passes, in the order in which they are told
@@ -67,9 +52,9 @@ size_faults s =
 -- the network of so many nets of a file has this size where these of its model's tables have covers. The model has a net for
 -- each reset value
 pub record HasSize (nets : ℕ) (m : FileModel) (tables : List FileTable) (size : Size) : Type 0 where
-  pub flats : List FlatTable
-  pub are : AreCovers m.decls (places m) tables flats
-  pub is : size ≡ size_of nets tables flats
+  pub covers : List TableCovers
+  pub are : AreCovers m.decls (places m) tables covers
+  pub is : size ≡ size_of nets tables covers
 
 -- the first of a model's tables have covers, and pass no limit
 pub record PassesNone (nets : ℕ) (m : FileModel) (tables : List FileTable) : Type 0 where
@@ -81,13 +66,18 @@ pub record PassesNone (nets : ℕ) (m : FileModel) (tables : List FileTable) : T
 abbrev pub FitsLimits : ℕ → FileModel → Type 0
 FitsLimits nets m = PassesNone nets m m.tables
 
--- some table is the first with which a limit is passed, and this is the first limit that is
+-- the first of a model's tables pass a limit, and this is the first that they do
+pub record PassesLimit (nets : ℕ) (m : FileModel) (tables : List FileTable) (f : FlatFault) : Type 0 where
+  pub size : Size
+  pub has : HasSize nets m tables size
+  pub told : first (size_faults size) ≡ Some f
+
+-- some table is the first with which a limit is passed, and this is the first limit that is: that on its rows of outputs, or
+-- one on the size of the network
 pub record IsPastLimit (nets : ℕ) (m : FileModel) (f : FlatFault) : Type 0 where
   pub before : List FileTable
   pub table : FileTable
   pub after : List FileTable
   pub place : m.tables ≡ before ++ table ∷ after
   pub within : PassesNone nets m before
-  pub size : Size
-  pub has : HasSize nets m (before ++ table ∷ []) size
-  pub told : first (size_faults size) ≡ Some f
+  pub told : IsTooWide (columns_at m.decls (places m) table) table (mark_at (places m) table) f ⊎ PassesLimit nets m (before ++ table ∷ []) f

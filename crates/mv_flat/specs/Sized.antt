@@ -1,13 +1,17 @@
 -- The size of a network, table by table. For private functions.
-use Rattle.std.specs.Prelude.{◌≡◌, ℕ, ◌+◌, ◌≤◌, cond, List, length, take}
+use Rattle.std.specs.Prelude.{◌≡◌, ℕ, ◌+◌, ◌≤◌, cond, List, [], ◌∷◌, length, take}
 use Rattle.mv_base.specs.declared.limits.TheConstants.{MAX_FLAT_NETS, MAX_FLAT_LINES, MAX_FLAT_LITERALS}
 use Rattle.mv_cover.specs.Covers.{literal_count}
 use Rattle.mv_design.specs.declared.design.FileModel.{FileModel}
 use Rattle.mv_design.specs.declared.table.FileTable.{FileTable}
 use Rattle.mv_fault.specs.declared.flat.FlatFault.{FlatFault}
 use Rattle.mv_fault.specs.declared.flat.FlatFault.TheVariants.{Memory}
-use Rattle.mv_rows.specs.declared.table.FlatTable.{FlatTable}
-use Rattle.mv_flat.specs.Size.{gives_reset, has_own_mark, mark_lines, size_of, AreCovers, IsPastLimit}
+use Rattle.mv_rows.specs.declared.column.Column.{Column}
+use Rattle.mv_flat.specs.declared.covers.TableCovers.{TableCovers}
+use Rattle.mv_cover.specs.declared.line.Line.{Line}
+use Rattle.mv_flat.specs.Covers.{MadeNet, made_of, lines_of, IsTooWide}
+use Rattle.mv_flat.specs.Numbers.{mark_at}
+use Rattle.mv_flat.specs.Size.{gives_reset, size_of, AreCovers, IsPastLimit}
 use Rattle.mv_flat.specs.declared.size.Size.{Size}
 
 -- a size that passes no limit
@@ -16,20 +20,38 @@ pub record IsWithin (s : Size) : Type 0 where
   pub lines : s.lines ≤ MAX_FLAT_LINES
   pub literals : s.literals ≤ MAX_FLAT_LITERALS
 
+-- the size with the lines of one cover more
+abbrev pub with_lines : Size → List Line → Size
+with_lines s ls = record { nets = s.nets; lines = s.lines + length ls; literals = s.literals + literal_count ls }
+
+-- the size with one net more
+abbrev pub with_net : Size → Size
+with_net s = record { nets = s.nets + 1; lines = s.lines; literals = s.literals }
+
+-- the size with nets that are made, and their covers
+abbrev pub with_nets : Size → List MadeNet → Size
+with_nets s [] = s
+with_nets s (made ∷ more) = with_nets (with_lines (with_net s) made.cover.lines) more
+
 -- the size with the covers of one more table
-abbrev pub with_covers : Size → FileTable → FlatTable → Size
-with_covers s t flat = record {
-  nets = s.nets + cond (gives_reset t) 1 0 + cond (has_own_mark flat) 1 0;
-  lines = s.lines + length flat.cover.lines + length (mark_lines flat.mark);
-  literals = s.literals + literal_count flat.cover.lines + literal_count (mark_lines flat.mark);
+abbrev pub with_covers : Size → FileTable → TableCovers → Size
+with_covers s t covers = record {
+  nets = s.nets + cond (gives_reset t) 1 0 + length (made_of covers);
+  lines = s.lines + length (lines_of covers);
+  literals = s.literals + literal_count (lines_of covers);
 }
 
 -- the first tables of a model have covers, and pass no limit
 pub record AreSized (nets : ℕ) (m : FileModel) (names : List (List ℕ)) (i : ℕ) (size : Size) : Type 0 where
-  pub flats : List FlatTable
-  pub are : AreCovers m.decls names (take i m.tables) flats
-  pub is : size ≡ size_of nets (take i m.tables) flats
+  pub covers : List TableCovers
+  pub are : AreCovers m.decls names (take i m.tables) covers
+  pub is : size ≡ size_of nets (take i m.tables) covers
   pub within : IsWithin size
+
+-- want of memory, or a table that is too wide
+abbrev pub TellsWide : List Column → List (List ℕ) → FileTable → FlatFault → Type 0
+TellsWide columns names t Memory = Unit {0}
+TellsWide columns names t f = IsTooWide columns t (mark_at names t) f
 
 -- want of memory, or the limit that the network passes
 abbrev pub TellsLimit : ℕ → FileModel → FlatFault → Type 0

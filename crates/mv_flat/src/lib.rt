@@ -1,13 +1,14 @@
-//! A design to the network of its root with all instances. In this version tables have one output.
+//! A design to the network of its root with all instances.
 #![tactic(auto)]
 
 mod columns;
+mod covers;
 mod flat;
 mod fresh;
 mod latches;
 mod laws;
+mod made;
 mod mark;
-mod marks;
 mod nets;
 mod numbers;
 mod size;

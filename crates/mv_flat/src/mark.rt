@@ -1,22 +1,24 @@
-//! Which tables get a mark, and the name by which it stands among the nets.
-ghost use Rattle.std.specs.Prelude.{◌≡◌, ◌≤◌, length, IfOk, IfSome, All};
+//! Which tables have several outputs and which get a mark, and the names by which a choice net and a mark stand among the nets.
+ghost use Rattle.std.specs.Prelude.{◌≡◌, ◌≤◌, false, length, IfOk, IfSome, All};
 ghost use Rattle.mv_base.specs.declared.limits.TheConstants.{MAX_NETS};
 ghost use Rattle.mv_rows.specs.Flat.{only_entry, says_nothing};
-ghost use Rattle.mv_flat.specs.Numbers.{mark_name};
-ghost use Rattle.mv_flat.specs.Places.{has_mark};
+ghost use Rattle.mv_flat.specs.Numbers.{choice_name, mark_name};
+ghost use Rattle.mv_flat.specs.Places.{has_mark, is_joint};
 ghost use Rattle.mv_resets.specs.NetModels.{HasLawfulValues, IsNetTable};
 ghost use Rattle.mv_flat.specs.Placed.{IsPlacedTable};
 ghost use Rattle.mv_flat.specs.Gathered.{can_stand, has_all, is_plain, some_has_all, some_silent};
 
-use crate::columns::{covers, declared_columns};
+use crate::columns::declared_columns;
+use crate::covers::single_covers;
 use crate::values::count_of;
 use mv_base::{Items, Memory, Name, ValueSet};
 use mv_decl::Declared;
 use mv_design::{Entry, FileTable, Row};
+use mv_joint::is_joint_marked;
 use mv_unfold::Numbers;
 use std::alloc::Global;
 
-/// The name by which the mark of the table with this output stands among the nets.
+/// The name by which the mark of the table with this first output stands among the nets.
 pub fn mark_name(alloc: Global, net: &Name) -> Result<Name, Memory>
     ensures { IfOk result (λ n. n ≡ mark_name net.now) }
 {
@@ -25,8 +27,24 @@ pub fn mark_name(alloc: Global, net: &Name) -> Result<Name, Memory>
     Name::new(alloc, bytes.as_slice())
 }
 
-/// Whether the table gets a mark. For most tables a look at the rows tells it; of the others the covers are made over nets
-/// that have numbers already.
+/// The name by which the choice net of the table with this first output stands among the nets.
+pub fn choice_name(alloc: Global, net: &Name) -> Result<Name, Memory>
+    ensures { IfOk result (λ n. n ≡ choice_name net.now) }
+{
+    let mut bytes = vec![in alloc; b' ', b' ']?;
+    bytes.extend_from_slice(net.bytes())?;
+    Name::new(alloc, bytes.as_slice())
+}
+
+/// Whether the table has several outputs.
+pub fn is_joint(table: &FileTable) -> bool
+    ensures { result ≡ is_joint table.now }
+{
+    table.outputs.len() > 1
+}
+
+/// Whether the table gets a mark. For most tables a look at the rows tells it; of the others with one output the covers are made
+/// over nets that have numbers already.
 #[tactic(auto, using(crate::proofs::HasMark::mark_is))]
 pub fn has_mark(
     alloc: Global,
@@ -39,20 +57,25 @@ pub fn has_mark(
     requires few { length names.now ≤ MAX_NETS }
     ensures { IfOk result (λ b. b ≡ has_mark decls.now table.now) }
 {
+    if is_joint(table) {
+        let columns = declared_columns(alloc, decls, names, table)?;
+        return is_joint_marked(alloc, columns.as_slice(), table);
+    }
     if let Some(told) = told_mark(decls, table) {
         return Ok(told);
     }
     let columns = declared_columns(alloc, decls, names, table)?;
-    let flat = covers(alloc, columns.as_slice(), names, table)?;
+    let flat = single_covers(alloc, columns.as_slice(), names, table)?;
     Ok(flat.mark.is_some())
 }
 
-/// Whether the table gets a mark, where a look at its rows tells it: not without a default, nor beside a set where each row
-/// says a value; but beside a column's value where no row has all values.
+/// Whether the table of one output gets a mark, where a look at its rows tells it: not without a default, nor beside a set where
+/// each row says a value; but beside a column's value where no row has all values.
 #[tactic(auto, using(crate::proofs::Needs::told))]
 fn told_mark(decls: &Declared, table: &FileTable) -> Option<bool>
     requires proper { All HasLawfulValues decls.now }
     requires fits { IsNetTable decls.now table.now }
+    requires single { is_joint table.now ≡ false }
     ensures { IfSome result (λ b. b ≡ has_mark decls.now table.now) }
 {
     if is_plain(table) {
@@ -68,7 +91,7 @@ fn told_mark(decls: &Declared, table: &FileTable) -> Option<bool>
     }
 }
 
-/// Whether the table has no default, or one that can stand beside its rows. Such a table gets no mark.
+/// Whether the table of one output has no default, or one that can stand beside its rows. Such a table gets no mark.
 pub fn is_plain(table: &FileTable) -> bool
     ensures { result ≡ is_plain table.now }
 {

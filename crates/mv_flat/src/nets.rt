@@ -1,7 +1,7 @@
 //! The nets of a network.
-ghost use Rattle.std.specs.Prelude.{◌≡◌, ◌++◌, Some, IfOk, OnOk, None, map};
+ghost use Rattle.std.specs.Prelude.{◌≡◌, ◌++◌, ◌∷◌, [], Some, IfOk, OnOk, None, map};
 ghost use Rattle.mv_net.specs.declared.parts.Kind.TheVariants.{Input, Latch};
-ghost use Rattle.mv_flat.specs.Built.{file_net, fresh_net, kind_of};
+ghost use Rattle.mv_flat.specs.Built.{file_net, fresh_net, kind_of, output_nets};
 
 use crate::values::kept_names;
 use mv_base::{Items, Memory, Name};
@@ -31,17 +31,48 @@ pub fn file_net(
     })
 }
 
-/// A net that is made, of two values.
-pub fn fresh_net(alloc: Global, name: Name, cover: Cover) -> FlatNet
-    ensures { Some result ≡ fresh_net name cover }
+/// A net that is made.
+pub fn fresh_net(alloc: Global, name: Name, values: u16, cover: Cover) -> FlatNet
+    ensures { Some result ≡ fresh_net name (record { values = values; cover = cover }) }
 {
     FlatNet {
         name,
-        values: 2,
+        values,
         value_names: Items::new(alloc),
         kind: Kind::Table,
         table: Some(cover),
     }
+}
+
+/// Adds the nets of outputs with these covers.
+pub fn put_outputs(
+    nets: &mut Items<Option<FlatNet>>,
+    alloc: Global,
+    decls: &Declared,
+    outputs: &[Name],
+    covers: Items<Cover>,
+) -> Result<(), Memory>
+    ensures { OnOk result (nets.new ≡ nets.old ++ output_nets decls.now outputs.now covers) }
+{
+    for (output, cover) in outputs.iter().zip(covers.into_vec()) {
+        put_output(nets, alloc, decls, output, cover)?;
+    }
+    Ok(())
+}
+
+/// Adds the net of an output with this cover.
+pub fn put_output(
+    nets: &mut Items<Option<FlatNet>>,
+    alloc: Global,
+    decls: &Declared,
+    output: &Name,
+    cover: Cover,
+) -> Result<(), Memory>
+    ensures { OnOk result (nets.new ≡ nets.old ++ file_net decls.now (kind_of output.now) (Some cover) output.now ∷ []) }
+{
+    let net = file_net(alloc, decls, kind_of(output), Some(cover), output)?;
+    nets.push(Some(net))?;
+    Ok(())
 }
 
 /// What the net of a table's output is: a reset net, where its name begins with a full stop.

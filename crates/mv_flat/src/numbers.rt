@@ -4,11 +4,11 @@ ghost use Rattle.mv_base.specs.Names.{names_differ};
 ghost use Rattle.mv_base.specs.declared.limits.TheConstants.{MAX_NETS};
 ghost use Rattle.mv_resets.specs.NetModels.{HasLawfulValues, IsNetModel};
 ghost use Rattle.mv_flat.specs.Placed.{IsPlacedTable};
-ghost use Rattle.mv_flat.specs.Places.{places};
+ghost use Rattle.mv_flat.specs.Places.{made_places, places};
 ghost use Rattle.mv_unfold.specs.Driving.{with_names};
-ghost use Rattle.mv_flat.specs.Gathered.{counts_of, with_mark, with_places};
+ghost use Rattle.mv_flat.specs.Gathered.{counts_of, with_places};
 
-use crate::mark::{has_mark, mark_name};
+use crate::mark::{choice_name, has_mark, is_joint, mark_name};
 use crate::values::count_of;
 use mv_base::{Memory, Name, NameSet};
 use mv_decl::Declared;
@@ -23,9 +23,9 @@ pub struct NumberedNets {
     pub counts: Vec<u16>,
 }
 
-/// The nets of the model by number: the inputs, the outputs of the latches, then those of the tables in order. Before the output
-/// of a table that gets a mark there is the mark, which stands here by a space and the output's name. `driven` are nets among
-/// which the columns of the tables are.
+/// The nets of the model by number: the inputs, the outputs of the latches, then those of the tables in order. Before the outputs
+/// of a table there is its mark, if it gets one, which stands here by a space and the first output's name, and its choice net, if
+/// it has several outputs, which stands by two spaces and that name. `driven` are nets among which the columns of the tables are.
 #[tactic(auto, using(crate::proofs::Names::with_places_of), unfolding(crate::specs::Places::places))]
 pub fn numbered(alloc: Global, model: &FileModel, driven: &Numbers) -> Result<NumberedNets, Memory>
     requires proper { IsNetModel model.now }
@@ -68,7 +68,7 @@ fn add_states(names: &mut NameSet, latches: &[FileLatch]) -> Result<(), Memory>
     Ok(())
 }
 
-/// Adds the nets of tables: their outputs, and their marks.
+/// Adds the nets of tables: those that are made for them, and their outputs.
 fn add_places(
     alloc: Global,
     names: &mut NameSet,
@@ -82,14 +82,14 @@ fn add_places(
     ensures { OnOk result (names.new ≡ with_places decls.now names.old tables.now) }
 {
     for table in tables {
-        add_mark(alloc, names, decls, driven, table)?;
+        add_made(alloc, names, decls, driven, table)?;
         add_nets(names, table.outputs.as_slice())?;
     }
     Ok(())
 }
 
-/// Adds the mark of the table, if it gets one.
-fn add_mark(
+/// Adds the nets that are made for the table: its mark, if it gets one, and its choice net, if it has several outputs.
+fn add_made(
     alloc: Global,
     names: &mut NameSet,
     decls: &Declared,
@@ -99,10 +99,13 @@ fn add_mark(
     requires proper { All HasLawfulValues decls.now }
     requires placed { IsPlacedTable decls.now driven.now table.now }
     requires few { length driven.now ≤ MAX_NETS }
-    ensures { OnOk result (names.new ≡ with_mark decls.now names.old table.now) }
+    ensures { OnOk result (names.new ≡ with_names names.old (made_places decls.now table.now)) }
 {
     if has_mark(alloc, decls, driven, table)? {
         add_net(names, &mark_name(alloc, &table.outputs.as_slice()[0])?)?;
+    }
+    if is_joint(table) {
+        add_net(names, &choice_name(alloc, &table.outputs.as_slice()[0])?)?;
     }
     Ok(())
 }

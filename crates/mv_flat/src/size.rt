@@ -1,16 +1,18 @@
 //! How large a network is while the covers of its tables are made, and the limits on that.
-ghost use Rattle.std.specs.Prelude.{◌≡◌, ◌<◌, ◌≤◌, ◌^◌, [], length, cond, is_some, Some, IfErr, IfOk};
-ghost use Rattle.mv_base.specs.declared.limits.TheConstants.{MAX_FLAT_NETS};
-ghost use Rattle.mv_cover.specs.Covers.{literal_count};
+ghost use Rattle.std.specs.Prelude.{◌≡◌, ◌+◌, ◌<◌, ◌≤◌, ◌^◌, [], length, cond, Some, IfErr, IfOk};
+ghost use Rattle.std.specs.List.{flat_map};
+ghost use Rattle.mv_base.specs.declared.limits.TheConstants.{MAX_FLAT_NETS, MAX_NETS};
+ghost use Rattle.mv_cover.specs.declared.cover.Cover.{Cover};
 ghost use Rattle.mv_fault.specs.Tells.{first};
-ghost use Rattle.mv_flat.specs.Size.{gives_reset, has_stop, mark_lines, size_faults, size_of};
-ghost use Rattle.mv_flat.specs.Sized.{IsWithin, with_covers};
+ghost use Rattle.mv_flat.specs.Covers.{made_mark, outputs_of};
+ghost use Rattle.mv_flat.specs.Size.{gives_reset, has_stop, size_faults, size_of};
+ghost use Rattle.mv_flat.specs.Sized.{IsWithin, with_covers, with_lines, with_net, with_nets};
 
+use crate::covers::TableCovers;
 use mv_base::{MAX_FLAT_LINES, MAX_FLAT_LITERALS, MAX_FLAT_NETS, Name};
 use mv_cover::Cover;
 use mv_design::FileTable;
 use mv_fault::{FlatFault, Which};
-use mv_rows::FlatTable;
 
 /// The size of a network, as far as the covers of its tables are made: its nets, those of the file all counted; the lines of the
 /// covers; and the literals of the lines.
@@ -36,28 +38,106 @@ impl Size {
     }
 
     /// The size with the covers of one more table, or the first limit that is passed then. It takes no memory.
-    pub fn with(self, table: &FileTable, flat: &FlatTable) -> Result<Size, FlatFault>
+    pub fn with(self, table: &FileTable, covers: &TableCovers) -> Result<Size, FlatFault>
         requires within { IsWithin self }
-        requires single { length table.now.outputs ≡ 1 }
-        ensures size { IfOk result (λ size. size ≡ with_covers self table.now flat.now) }
+        requires some { 0 < length table.now.outputs }
+        requires few { length (outputs_of covers.now) ≤ MAX_NETS }
+        ensures size { IfOk result (λ size. size ≡ with_covers self table.now covers.now) }
         ensures within { IfOk result IsWithin }
-        ensures fault { IfErr result (λ f. first (size_faults (with_covers self table.now flat.now)) ≡ Some f) }
+        ensures fault { IfErr result (λ f. first (size_faults (with_covers self table.now covers.now)) ≡ Some f) }
     {
-        self.with_covers(table, flat).checked()
+        self.with_covers(table, covers).checked()
     }
 
     /// The size with the covers of one more table.
-    fn with_covers(self, table: &FileTable, flat: &FlatTable) -> Size
+    #[tactic(auto, using(crate::proofs::Sizes::counted))]
+    fn with_covers(self, table: &FileTable, covers: &TableCovers) -> Size
         requires within { IsWithin self }
-        requires single { length table.now.outputs ≡ 1 }
-        ensures { result ≡ with_covers self table.now flat.now }
+        requires some { 0 < length table.now.outputs }
+        requires few { length (outputs_of covers.now) ≤ MAX_NETS }
+        ensures { result ≡ with_covers self table.now covers.now }
     {
-        let cover = &flat.cover;
-        let mark = &flat.mark;
+        let size = self.with_reset(table);
+        match covers {
+            TableCovers::Single(flat) => size.with_mark(&flat.mark).with_lines(&flat.cover),
+            TableCovers::Joint(joint) => {
+                let made = size.with_mark(&joint.mark).with_made(&joint.choice);
+                made.with_outputs(joint.outputs.as_slice())
+            }
+        }
+    }
+
+    /// The size with one net more, where the table gives a reset net.
+    fn with_reset(self, table: &FileTable) -> Size
+        requires some { 0 < length table.now.outputs }
+        requires nets { self.nets ≤ 2 ^ 32 }
+        ensures { result ≡ record { nets = self.nets + cond (gives_reset table.now) 1 0; lines = self.lines; literals = self.literals } }
+    {
+        let nets = if has_stop(&table.outputs.as_slice()[0]) {
+            self.nets + 1
+        } else {
+            self.nets
+        };
+        Size { nets, ..self }
+    }
+
+    /// The size with the net of a mark, if there is one.
+    fn with_mark(self, mark: &Option<Cover>) -> Size
+        requires nets { self.nets ≤ 2 ^ 32 }
+        requires lines { self.lines ≤ 2 ^ 100 }
+        requires literals { self.literals ≤ 2 ^ 122 }
+        ensures size { result ≡ with_nets self (made_mark mark.now) }
+        ensures lines { result.lines ≤ self.lines + 2 ^ 64 }
+        ensures literals { result.literals ≤ self.literals + 2 ^ 96 }
+    {
+        match mark {
+            Some(cover) => self.with_made(cover),
+            None => self,
+        }
+    }
+
+    /// The size with one net more, which has this cover.
+    fn with_made(self, cover: &Cover) -> Size
+        requires nets { self.nets ≤ 2 ^ 33 }
+        requires lines { self.lines ≤ 2 ^ 100 }
+        requires literals { self.literals ≤ 2 ^ 122 }
+        ensures size { result ≡ with_lines (with_net self) cover.now.lines }
+        ensures lines { result.lines ≤ self.lines + 2 ^ 64 }
+        ensures literals { result.literals ≤ self.literals + 2 ^ 96 }
+    {
+        let size = Size {
+            nets: self.nets + 1,
+            ..self
+        };
+        size.with_lines(cover)
+    }
+
+    /// The size with the lines of the covers of outputs.
+    fn with_outputs(self, covers: &[Cover]) -> Size
+        requires few { length covers.now ≤ MAX_NETS }
+        requires lines { self.lines ≤ 2 ^ 99 }
+        requires literals { self.literals ≤ 2 ^ 121 }
+        ensures { result ≡ with_lines self (flat_map (λ (c : Cover). c.lines) covers.now) }
+    {
+        let mut size = self;
+        for cover in covers {
+            size = size.with_lines(cover);
+        }
+        size
+    }
+
+    /// The size with the lines of one cover more.
+    fn with_lines(self, cover: &Cover) -> Size
+        requires lines { self.lines ≤ 2 ^ 100 }
+        requires literals { self.literals ≤ 2 ^ 122 }
+        ensures size { result ≡ with_lines self cover.now.lines }
+        ensures lines { result.lines ≤ self.lines + 2 ^ 64 }
+        ensures literals { result.literals ≤ self.literals + 2 ^ 96 }
+    {
         Size {
-            nets: self.nets + reset_nets(table) + mark_nets(mark),
-            lines: self.lines + cover.lines.len() as u128 + mark_lines(mark),
-            literals: self.literals + cover.literals() + mark_literals(mark),
+            nets: self.nets,
+            lines: self.lines + cover.lines.len() as u128,
+            literals: self.literals + cover.literals(),
         }
     }
 
@@ -89,19 +169,6 @@ impl Size {
     }
 }
 
-/// How many reset nets the table gives: its own, where its name begins with a full stop.
-fn reset_nets(table: &FileTable) -> u64
-    requires { length table.now.outputs ≡ 1 }
-    ensures value { result ≡ cond (gives_reset table.now) 1 0 }
-    ensures few { result ≤ 1 }
-{
-    if has_stop(&table.outputs.as_slice()[0]) {
-        1
-    } else {
-        0
-    }
-}
-
 /// Whether the name begins with a full stop.
 fn has_stop(name: &Name) -> bool
     ensures { result ≡ has_stop name.now }
@@ -109,38 +176,5 @@ fn has_stop(name: &Name) -> bool
     match name.bytes().first() {
         Some(b'.') => true,
         _ => false,
-    }
-}
-
-/// How many nets the mark gives.
-fn mark_nets(mark: &Option<Cover>) -> u64
-    ensures value { result ≡ cond (is_some mark.now) 1 0 }
-    ensures few { result ≤ 1 }
-{
-    match mark {
-        Some(_) => 1,
-        None => 0,
-    }
-}
-
-/// The lines of the mark's cover, if there is one.
-fn mark_lines(mark: &Option<Cover>) -> u128
-    ensures value { result ≡ length (mark_lines mark.now) }
-    ensures few { result < 2 ^ 64 }
-{
-    match mark {
-        Some(cover) => cover.lines.len() as u128,
-        None => 0,
-    }
-}
-
-/// The literals of the mark's cover, if there is one.
-fn mark_literals(mark: &Option<Cover>) -> u128
-    ensures value { result ≡ literal_count (mark_lines mark.now) }
-    ensures few { result ≤ 2 ^ 96 }
-{
-    match mark {
-        Some(cover) => cover.literals(),
-        None => 0,
     }
 }

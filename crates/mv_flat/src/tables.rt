@@ -1,26 +1,26 @@
 //! The nets of tables.
-ghost use Rattle.std.specs.Prelude.{◌≡◌, ◌+◌, ◌<◌, ◌≤◌, ◌^◌, length, IfErr, IfOk, OnOk};
+ghost use Rattle.std.specs.Prelude.{◌≡◌, ◌+◌, ◌*◌, ◌<◌, ◌≤◌, ◌^◌, length, IfErr, IfOk, OnOk};
 ghost use Rattle.mv_flat.specs.Built.{open_nets};
 ghost use Rattle.mv_base.specs.declared.limits.TheConstants.{MAX_FLAT_NETS};
 ghost use Rattle.mv_flat.specs.Gathered.{counts_of};
 ghost use Rattle.mv_flat.specs.Marks.{AddsNets, TableNets};
-ghost use Rattle.mv_flat.specs.Numbers.{columns_at, mark_at};
+ghost use Rattle.mv_flat.specs.Covers.{IsMadeTable};
+ghost use Rattle.mv_flat.specs.Numbers.{choice_at, columns_at, mark_at};
 ghost use Rattle.mv_flat.specs.Size.{FitsLimits};
 ghost use Rattle.mv_flat.specs.Sized.{TellsLimit};
 ghost use Rattle.mv_resets.specs.NetModels.{IsNetModel};
-ghost use Rattle.mv_rows.specs.Flat.{IsMade};
 ghost use Rattle.mv_flat.specs.Placed.{ArePlaced, AddsTables};
 
-use crate::columns::{columns, covers};
-use crate::marks::put_mark;
-use crate::nets::{file_net, kind_of, open_nets};
+use crate::columns::columns;
+use crate::covers::{TableCovers, covers};
+use crate::made::{put_made, put_mark};
+use crate::nets::{open_nets, put_output, put_outputs};
 use crate::size::Size;
 use mv_base::{Items, Memory};
 use mv_decl::Declared;
 use mv_design::{FileModel, FileTable};
 use mv_fault::FlatFault;
 use mv_net::FlatNet;
-use mv_rows::FlatTable;
 use mv_unfold::Numbers;
 use std::alloc::Global;
 
@@ -56,18 +56,21 @@ pub fn nets(
     let mut last = 0;
     for table in tables.into_vec() {
         let columns = columns(alloc, names, counts, &table)?;
-        let flat = covers(alloc, columns.as_slice(), names, &table)?;
-        size = match size.with(&table, &flat) {
+        let covers = match covers(alloc, columns.as_slice(), names, &table) {
+            Ok(covers) => covers,
+            Err(fault) => return Err(fault),
+        };
+        size = match size.with(&table, &covers) {
             Ok(size) => size,
             Err(fault) => return Err(fault),
         };
-        put_table(&mut nets, &mut last, alloc, &decls, names, &table, flat)?;
+        put_table(&mut nets, &mut last, alloc, &decls, names, &table, covers)?;
     }
     Ok(nets)
 }
 
 /// Adds the nets of a table with these covers. `last` is the number of the last made name.
-#[tactic(auto, using(crate::proofs::Behinds::adds_table))]
+#[tactic(auto, using(crate::proofs::Behinds::adds_tables))]
 fn put_table(
     nets: &mut Items<Option<FlatNet>>,
     last: &mut u32,
@@ -75,17 +78,23 @@ fn put_table(
     decls: &Declared,
     names: &Numbers,
     table: &FileTable,
-    flat: FlatTable,
+    covers: TableCovers,
 ) -> Result<(), Memory>
-    requires single { length table.now.outputs ≡ 1 }
-    requires made { IsMade (columns_at decls.now names.now table.now) table.now (mark_at names.now table.now) flat }
-    requires later { last.old + length names.now + 2 < 2 ^ 32 }
+    requires some { 0 < length table.now.outputs }
+    requires made { IsMadeTable (columns_at decls.now names.now table.now) table.now (mark_at names.now table.now) (choice_at names.now table.now) covers }
+    requires later { last.old + 2 * length names.now + 4 < 2 ^ 32 }
     ensures { OnOk result (AddsNets (TableNets decls.now names.now table.now) names.now last.old last.new nets.old nets.new) }
 {
-    let FlatTable { cover, mark } = flat;
-    put_mark(nets, last, alloc, names, mark)?;
-    let output = &table.outputs.as_slice()[0];
-    let net = file_net(alloc, decls, kind_of(output), Some(cover), output)?;
-    nets.push(Some(net))?;
-    Ok(())
+    let outputs = table.outputs.as_slice();
+    match covers {
+        TableCovers::Single(flat) => {
+            put_mark(nets, last, alloc, names, flat.mark)?;
+            put_output(nets, alloc, decls, &outputs[0], flat.cover)
+        }
+        TableCovers::Joint(joint) => {
+            put_mark(nets, last, alloc, names, joint.mark)?;
+            put_made(nets, last, alloc, names, joint.values, joint.choice)?;
+            put_outputs(nets, alloc, decls, outputs, joint.outputs)
+        }
+    }
 }

@@ -21,7 +21,7 @@ passing P p (x ∷ xs) all =
     (λ t. All-cons (λ y. P y × (p y ≡ true)) x (filter p xs) (All-head P x xs all, t) rest)
     (λ _. rest)
 
-split_fit : (cs : List Column) (es : List Entry) (rows : List PlainRow) → All (IsFit cs) rows → All (IsFit cs) (split cs es rows)
+pub split_fit : (cs : List Column) (es : List Entry) (rows : List PlainRow) → All (IsFit cs) rows → All (IsFit cs) (split cs es rows)
 split_fit cs [] rows all = all
 split_fit cs (e ∷ es) rows all = split_fit cs es (flat_map (extended cs e) rows) (all_fit_extended cs e rows all)
 

@@ -11,6 +11,7 @@ use Rattle.mv_design.specs.declared.table.Row.{Row}
 use Rattle.mv_design.specs.declared.table.FileTable.{FileTable}
 use Rattle.mv_rows.specs.declared.column.Column.{Column}
 use Rattle.mv_rows.specs.Flat.{says_nothing}
+use Rattle.mv_rows.specs.Renumbered.{AreRenumbered}
 use Rattle.mv_rows.proofs.Renumbered.{AreAlike, alike}
 use Rattle.mv_joint.specs.declared.split.PlainRow.{PlainRow}
 use Rattle.mv_joint.specs.declared.joint.JointTable.{JointTable}
@@ -66,9 +67,9 @@ default-alike cs ds a rows (Some es) =
     let bare : some_bare cs rows ≡ some_bare ds rows = λ i. list_any (λ (r : PlainRow). a.everything r.ins i) rows in
     λ i. (not (list_any says_nothing es) && not (bare i)) && needs_mark rows es
 
-pub joint_marked_alike : (f g : List ℕ → Column) (ws : List (List ℕ)) (t : FileTable) → ((u : List ℕ) → among u ws ≡ true → (f u).count ≡ (g u).count) → ((u w : List ℕ) → among u ws ≡ true → among w ws ≡ true → nat_eq (f u).net.0 (f w).net.0 ≡ nat_eq (g u).net.0 (g w).net.0) → is_joint_marked (map f ws) t ≡ is_joint_marked (map g ws) t
+pub joint_marked_alike : (f g : List ℕ → Column) (ws : List (List ℕ)) (t : FileTable) → AreRenumbered f g ws → is_joint_marked (map f ws) t ≡ is_joint_marked (map g ws) t
 unfolding is_joint_marked
-joint_marked_alike f g ws t counts nets =
-    let a = alike f g ws (record { counts = counts; nets = nets }) in
+joint_marked_alike f g ws t same =
+    let a = alike f g ws same in
     ap (λ (rows : List PlainRow). default_marked (map f ws) rows t.default) (all-alike (map f ws) (map g ws) a t.rows)
     ∙ default-alike (map f ws) (map g ws) a (all_rows (map g ws) t.rows) t.default

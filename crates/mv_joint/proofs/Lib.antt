@@ -12,3 +12,4 @@ pub mod Outs
 pub mod Whole
 pub mod JointMarked
 pub mod OneJoint
+pub mod Looks

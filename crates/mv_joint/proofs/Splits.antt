@@ -15,7 +15,7 @@ use Rattle.mv_rows.specs.Lines.{count_at}
 use Rattle.mv_joint.specs.declared.split.PlainRow.{PlainRow}
 use Rattle.mv_joint.specs.Split.{narrowing, extended, IsFit}
 
-fit_one : (cs : List Column) (sets : List ℕ) (k v : ℕ) → FitRow cs sets → has (slice_index sets k) v ≡ true → FitRow cs (slice_set sets k (one v))
+pub fit_one : (cs : List Column) (sets : List ℕ) (k v : ℕ) → FitRow cs sets → has (slice_index sets k) v ≡ true → FitRow cs (slice_set sets k (one v))
 fit_one [] [] k v fit h = tt
 fit_one [] (s ∷ sets) k v fit h = absurd fit
 fit_one (c ∷ cs) [] k v fit h = absurd fit

@@ -27,7 +27,7 @@ use Rattle.mv_joint.proofs.Anys.{any_same, any-flat_map, any-filter, one_is}
 
 -- ---- one value alone
 
-matched_alone : (sets values : List ℕ) (k v : ℕ) → has (slice_index sets k) v ≡ true → k < length sets → row_matches (slice_set sets k (one v)) values ≡ (nat_eq (get_or values k 0) v && row_matches sets values)
+pub matched_alone : (sets values : List ℕ) (k v : ℕ) → has (slice_index sets k) v ≡ true → k < length sets → row_matches (slice_set sets k (one v)) values ≡ (nat_eq (get_or values k 0) v && row_matches sets values)
 matched_alone [] values k v there low = absurd (omega arith)
 matched_alone (s ∷ sets) [] zero v there low = sym (and-false _)
 matched_alone (s ∷ sets) [] (suc k) v there low = sym (and-false _)
@@ -48,7 +48,7 @@ matched_alone (s ∷ sets) (x ∷ values) (suc k) v there low =
     swapped false false c = refl
 
 -- a row that hasn't the column's value doesn't match
-not_matched : (sets values : List ℕ) (k v : ℕ) → has (slice_index sets k) v ≡ false → k < length sets → get_or values k 0 ≡ v → row_matches sets values ≡ false
+pub not_matched : (sets values : List ℕ) (k v : ℕ) → has (slice_index sets k) v ≡ false → k < length sets → get_or values k 0 ≡ v → row_matches sets values ≡ false
 not_matched [] values k v gone low e = absurd (omega arith)
 not_matched (s ∷ sets) [] k v gone low e = refl
 not_matched (s ∷ sets) (x ∷ values) zero v gone low e = and_left _ _ (ap (has s) e ∙ gone)
@@ -127,11 +127,11 @@ abbrev pub holds_at : List ℕ → List ℕ → PlainRow → Bool
 holds_at values outs r = row_matches r.ins values && row_matches r.outs outs
 
 -- values of the columns' nets
-record AreValues (cs : List Column) (values : List ℕ) : Type 0 where
-  long : length values ≡ length cs
-  below : (k : ℕ) → k < length cs → get_or values k 0 < count_at cs k
+pub record AreValues (cs : List Column) (values : List ℕ) : Type 0 where
+  pub long : length values ≡ length cs
+  pub below : (k : ℕ) → k < length cs → get_or values k 0 < count_at cs k
 
-values_are : (at : ℕ → ℕ) (cs : List Column) → in_range at cs ≡ true → AreValues cs (column_values at cs)
+pub values_are : (at : ℕ → ℕ) (cs : List Column) → in_range at cs ≡ true → AreValues cs (column_values at cs)
 values_are at cs range = record { long = values_length at cs; below = λ k low. ltb-true _ _ (value_in at cs k low range) }
 
 holds-extended : (cs : List Column) (values outs : List ℕ) (e : Entry) (es : List Entry) (r : PlainRow) → AreValues cs values → FitEntry cs e → IsFit cs r → list_any (holds_with values es outs) (extended cs e r) ≡ holds_with values (e ∷ es) outs r
@@ -173,7 +173,7 @@ matches-split cs values (e ∷ es) rows are entries fits =
 -- ---- the rows of a row
 
 -- a row that matches nothing doesn't match
-impossible : (at : ℕ → ℕ) (cs : List Column) (r : PlainRow) → in_range at cs ≡ true → is_possible cs r ≡ false → row_matches r.ins (column_values at cs) ≡ false
+pub impossible : (at : ℕ → ℕ) (cs : List Column) (r : PlainRow) → in_range at cs ≡ true → is_possible cs r ≡ false → row_matches r.ins (column_values at cs) ≡ false
 impossible at cs r range gone = matched_nowhere at cs r.ins range (not_false (matches_none cs r.ins) gone)
   where
     not_false : (b : Bool) → not b ≡ false → b ≡ true

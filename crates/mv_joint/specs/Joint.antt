@@ -101,12 +101,11 @@ pub record IsMadeOf (columns : List Column) (p : PlainTable) (several : ℕ) (ma
 abbrev pub IsMadeJoint : List Column → FileTable → NetId → NetId → JointTable → Type 0
 IsMadeJoint columns t mark choice joint = IsMadeOf columns (plain_of columns t mark) (length t.outputs) mark choice joint
 
--- there are so many distinct rows of outputs, more than a net may have values
-pub record IsWide (columns : List Column) (t : FileTable) (mark : NetId) (n : ℕ) : Type 0 where
-  pub number : n ≡ length (distinct (plain_of columns t mark))
-  pub many : MAX_VALUES < n
+-- there are more distinct rows of outputs than a net may have values
+abbrev pub IsWide : List Column → FileTable → NetId → Type 0
+IsWide columns t mark = MAX_VALUES < length (distinct (plain_of columns t mark))
 
 -- why there are no covers
 abbrev pub StopsBy : List Column → FileTable → NetId → JointStop → Type 0
-StopsBy columns t mark (Wide n) = IsWide columns t mark n
+StopsBy columns t mark Wide = IsWide columns t mark
 StopsBy columns t mark Memory = Unit {0}

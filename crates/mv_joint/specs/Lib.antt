@@ -5,3 +5,4 @@ pub mod Joint
 pub mod Meaning
 -- what private functions alone cite
 pub mod Lawful
+pub mod Looks

@@ -38,8 +38,8 @@ pub struct JointTable {
 /// Why a table of several outputs has no covers.
 #[derive(Clone, Copy, Debug, PartialEq, Eq)]
 pub enum JointStop {
-    /// It has more than `MAX_JOINT_ROWS` distinct rows of outputs: so many.
-    Wide(u64),
+    /// It has more than `MAX_JOINT_ROWS` distinct rows of outputs.
+    Wide,
     /// Want of memory, which says nothing of the table.
     Memory,
 }
@@ -98,9 +98,8 @@ fn made(
 {
     let plain = plain_table(alloc, columns, table, mark)?;
     let all = distinct(alloc, &plain)?;
-    let number = all.len() as u64;
-    if number > MAX_JOINT_ROWS {
-        return Err(JointStop::Wide(number));
+    if all.len() as u64 > MAX_JOINT_ROWS {
+        return Err(JointStop::Wide);
     }
     let marks = mark_cover(alloc, columns, &plain, mark)?;
     let chosen = choice_cover(alloc, &plain, &all, mark)?;

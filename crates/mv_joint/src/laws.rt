@@ -1,9 +1,9 @@
-ghost use Rattle.std.specs.Prelude.{◌≡◌, ℕ, true, nat_eq, map, List};
+ghost use Rattle.std.specs.Prelude.{◌≡◌, ℕ, map, List};
 ghost use Rattle.std.specs.Option.{is_some};
-ghost use Rattle.mv_base.specs.Names.{among};
 ghost use Rattle.mv_base.specs.declared.number.NetId.{NetId};
 ghost use Rattle.mv_design.specs.declared.table.FileTable.{FileTable};
 ghost use Rattle.mv_rows.specs.declared.column.Column.{Column};
+ghost use Rattle.mv_rows.specs.Renumbered.{AreRenumbered};
 ghost use Rattle.mv_joint.specs.Plain.{AreApart, IsJointFile, is_joint_marked};
 ghost use Rattle.mv_joint.specs.Joint.{IsMadeJoint};
 ghost use Rattle.mv_joint.specs.declared.joint.JointTable.{JointTable};
@@ -19,8 +19,6 @@ pub fn at_most_one_joint_table()
 pub fn mark_laws()
     ensures exactly { (columns : List Column) (t : FileTable) (mark choice : NetId) (joint : JointTable)
         → IsMadeJoint columns t mark choice joint → is_some joint.mark ≡ is_joint_marked columns t }
-    ensures numbers { (f g : List ℕ → Column) (nets : List (List ℕ)) (t : FileTable)
-        → ((u : List ℕ) → among u nets ≡ true → (f u).count ≡ (g u).count)
-        → ((u w : List ℕ) → among u nets ≡ true → among w nets ≡ true → nat_eq (f u).net.0 (f w).net.0 ≡ nat_eq (g u).net.0 (g w).net.0)
+    ensures numbers { (f g : List ℕ → Column) (nets : List (List ℕ)) (t : FileTable) → AreRenumbered f g nets
         → is_joint_marked (map f nets) t ≡ is_joint_marked (map g nets) t }
 {}

@@ -4,12 +4,14 @@
 
 mod joint;
 mod laws;
+mod marked;
 mod out_row;
 mod plain;
 mod split;
 
 pub use joint::{JointStop, JointTable, joint_table};
 pub use laws::{at_most_one_joint_table, mark_laws};
+pub use marked::is_joint_marked;
 pub use out_row::OutRow;
 pub use plain::{PlainTable, plain_table};
 pub use split::PlainRow;

@@ -8,7 +8,7 @@ use Rattle.std.proofs.lemmas.Grind.{flat_map-append}
 use Rattle.mv_lex.specs.declared.lines.LexLine.{LexLine}
 use Rattle.mv_design.specs.declared.design.FileModel.{FileModel}
 use Rattle.mv_fault.specs.declared.fault.ParseFault.{ParseFault}
-use Rattle.mv_fault.proofs.Nothing.{left-nothing, right-nothing}
+use Rattle.mv_fault.proofs.Nothing.{left-nothing}
 use Rattle.mv_table.specs.Tables.{behind_first}
 use Rattle.mv_parse.specs.declared.command.Command.{Command}
 use Rattle.mv_parse.specs.declared.command.Command.TheVariants.{Model, Inputs, Outputs, Mv, Table, Latch, Reset, Default, Row, End, Root as NamesRoot, Part, Unknown}
@@ -16,7 +16,7 @@ use Rattle.mv_parse.specs.declared.known.Root.{Root}
 use Rattle.mv_parse.specs.declared.known.Known.{Known}
 use Rattle.mv_parse.specs.Commands.{first_word, command_at, is_model, is_end, is_root}
 use Rattle.mv_parse.specs.Known.{root_said, first_root, ended_parts, open_part, open_model, open_of, file_model, model_of, models_of, model_names, known, inputs_of, outputs_of, instances_of}
-use Rattle.mv_parse.specs.Grammar.{model_faults, root_faults, unread_faults, outside_faults, inside_faults, body_faults, unended_faults, placed_faults, line_faults, behind_model}
+use Rattle.mv_parse.specs.Grammar.{model_faults, root_faults, outside_faults, inside_faults, body_faults, unended_faults, line_faults, behind_model}
 use Rattle.mv_parse.specs.Steps.{with_no_table, inside_step, body_step, line_step}
 use Rattle.mv_parse.proofs.Opens.{inputs-push, outputs-push, decls-push, instances-push, open_table-row, open_table-default, open_table-table, open_table-reset, open_table-other}
 use Rattle.mv_parse.proofs.Parts.{opened_with, open_part-more, ended_parts-more, open_part-end, ended_parts-end}
@@ -153,17 +153,12 @@ said-end models root (m ∷ ls) l y none =
     let names : model_names (models ++ new ∷ []) ≡ model_names models ++ name ∷ [] = map-append (λ (f : FileModel). f.name) models (new ∷ []) in
     rw y (ap (λ ns. record { models = models ++ new ∷ []; names = ns; root = root; inside = None }) names)
 
--- a line without a fault has none where it stands
-pub placed_none : (c : Command) (k : Known) (ls : List LexLine) (l : LexLine) → line_faults c k ls l ≡ [] → placed_faults c k ls l ≡ []
-unfolding line_faults
-placed_none c k ls l none = right-nothing (unread_faults c l) (placed_faults c k ls l) none
-
 -- ---- one more line
 
 known-model : (ls : List LexLine) (l : LexLine) → is_model (command_at l) ≡ true → is_end (command_at l) ≡ false
-    → placed_faults (command_at l) (known ls) (behind_model (open_part ls)) l ≡ []
+    → line_faults (command_at l) (known ls) (behind_model (open_part ls)) l ≡ []
     → known (ls ++ l ∷ []) ≡ line_step (command_at l) (known ls) (behind_model (open_part ls)) l
-unfolding known line_step
+unfolding known line_faults line_step
 known-model ls l y no_end none =
     let named : List ParseFault = model_faults l.number (first_word l) (model_names (models_of ls)) (behind_first l) in
     let begins : unended_faults (open_of (open_part ls)) ++ named ≡ [] = rw y at none in
@@ -172,9 +167,9 @@ known-model ls l y no_end none =
     (ap (λ o. record { models = models_of ls; names = model_names (models_of ls); root = first_root ls; inside = o }) (said-model (open_part ls) l y outside))
 
 known-root : (ls : List LexLine) (l : LexLine) → is_root (command_at l) ≡ true → is_end (command_at l) ≡ false
-    → placed_faults (command_at l) (known ls) (behind_model (open_part ls)) l ≡ []
+    → line_faults (command_at l) (known ls) (behind_model (open_part ls)) l ≡ []
     → known (ls ++ l ∷ []) ≡ line_step (command_at l) (known ls) (behind_model (open_part ls)) l
-unfolding known line_step
+unfolding known line_faults line_step
 known-root ls l y no_end none =
     let no_model = root-no_model (command_at l) y in
     let fault_free : root_faults l.number (first_word l) (first_root ls) (behind_first l) ≡ [] = rw (no_model, y) at none in
@@ -183,9 +178,9 @@ known-root ls l y no_end none =
     (ap (λ o. record { models = models_of ls; names = model_names (models_of ls); root = Some (root_said l); inside = o }) (said-root (open_part ls) l y))
 
 known-body : (ls : List LexLine) (l : LexLine) → is_model (command_at l) ≡ false → is_root (command_at l) ≡ false
-    → placed_faults (command_at l) (known ls) (behind_model (open_part ls)) l ≡ []
+    → line_faults (command_at l) (known ls) (behind_model (open_part ls)) l ≡ []
     → known (ls ++ l ∷ []) ≡ line_step (command_at l) (known ls) (behind_model (open_part ls)) l
-unfolding known line_step
+unfolding known line_faults line_step
 known-body ls l no_model no_root none =
     let body : body_faults (command_at l) (open_of (open_part ls)) (behind_model (open_part ls)) l ≡ [] = rw (no_model, no_root) at none in
     ⊎_elim
@@ -198,8 +193,7 @@ known-body ls l no_model no_root none =
 
 pub known-push : (ls : List LexLine) (l : LexLine) → line_faults (command_at l) (known ls) (behind_model (open_part ls)) l ≡ []
     → known (ls ++ l ∷ []) ≡ line_step (command_at l) (known ls) (behind_model (open_part ls)) l
-known-push ls l fault_free =
-    let none = placed_none (command_at l) (known ls) (behind_model (open_part ls)) l fault_free in
+known-push ls l none =
     ⊎_elim
     (λ (y : is_model (command_at l) ≡ true). known-model ls l y (model-no_end (command_at l) y) none)
     (λ (n : is_model (command_at l) ≡ false).

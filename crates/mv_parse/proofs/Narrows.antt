@@ -1,17 +1,16 @@
 -- A table whose first line has no fault has no more columns than a table may have.
 use Rattle.std.proofs.Common.{◌≡◌, ℕ, ◌+◌, ◌≤◌, true, false, List, [], ◌∷◌, ◌++◌, length, ◌&&◌, subst, ⊎_elim, arith}
-use Rattle.std.specs.Prelude.{Option, Some, None, nat_le, nat_lt, not, All}
+use Rattle.std.specs.Prelude.{Option, Some, None, nat_le, nat_lt, All}
 use Rattle.std.specs.List.{list_all}
 use Rattle.std.proofs.lemmas.Bool.{cases_Bool, and_parts, ltb-false}
 use Rattle.std.proofs.lemmas.List.Elements.{All-head, All-tail}
-use Rattle.mv_base.specs.Names.{is_net_name}
+use Rattle.mv_base.specs.Names.{among}
 use Rattle.mv_base.specs.declared.limits.TheConstants.{MAX_COLUMNS}
 use Rattle.mv_lex.specs.declared.lines.LexLine.{LexLine}
-use Rattle.mv_fault.specs.declared.fault.Which.TheVariants.{Columns}
-use Rattle.mv_fault.specs.declared.fault.ParseFault.TheVariants.{Limit, BadName, Extra}
+use Rattle.mv_fault.specs.declared.fault.ParseFault.TheVariants.{Extra, Repeated}
 use Rattle.mv_fault.specs.Tells.{when}
 use Rattle.mv_fault.proofs.Nothing.{left-nothing, right-nothing, when-nothing}
-use Rattle.mv_table.specs.Columns.{ins_of, outs_of, names_faults, columns_faults, output_faults, reset_faults}
+use Rattle.mv_table.specs.Columns.{ins_of, outs_of, column_faults, names_faults, outputs_faults, columns_faults, output_faults, reset_faults}
 use Rattle.mv_table.specs.Tables.{behind_first}
 use Rattle.mv_parse.specs.declared.command.Command.{Command}
 use Rattle.mv_parse.specs.declared.command.Command.TheVariants.{Table, Reset}
@@ -19,21 +18,34 @@ use Rattle.mv_parse.specs.declared.known.OpenTable.{OpenTable}
 use Rattle.mv_parse.specs.declared.known.OpenModel.{OpenModel}
 use Rattle.mv_parse.specs.declared.known.Known.{Known}
 use Rattle.mv_parse.specs.Commands.{first_word, command_at, keeps_table, is_table}
-use Rattle.mv_parse.specs.Grammar.{body_faults, placed_faults, line_faults}
+use Rattle.mv_parse.specs.Grammar.{body_faults, line_faults}
 use Rattle.mv_parse.specs.Known.{open_table, table_state}
 use Rattle.mv_parse.specs.Steps.{HasFewColumns}
-use Rattle.mv_parse.proofs.Knowns.{placed_none}
 
 pub few : (m n : ℕ) → nat_le m n ≡ false → n + 1 ≤ m
 few m n e = grind arith
+
+-- a column without a fault, behind so many
+column-few : (n at : ℕ) (w : List ℕ) → column_faults n at w ≡ [] → at + 1 ≤ MAX_COLUMNS
+column-few n at w none = few MAX_COLUMNS at (when-nothing _ _ (left-nothing _ _ none))
 
 -- column names without a fault, behind so many columns
 names-few : (n at : ℕ) (ws : List (List ℕ)) → at ≤ MAX_COLUMNS → names_faults n at ws ≡ [] → at + length ws ≤ MAX_COLUMNS
 names-few n at [] within none = omega arith
 names-few n at (w ∷ ws) within none =
-    let test : nat_le MAX_COLUMNS at ≡ false = when-nothing _ _ (left-nothing _ _ (left-nothing _ _ none)) in
-    let below : at + 1 ≤ MAX_COLUMNS = few MAX_COLUMNS at test in
-    let rest : (at + 1) + length ws ≤ MAX_COLUMNS = names-few n (at + 1) ws below (right-nothing (when (nat_le MAX_COLUMNS at) (Limit n Columns (MAX_COLUMNS + 1)) ++ when (not (is_net_name w)) (BadName n w)) (names_faults n (at + 1) ws) none) in
+    let below = column-few n at w (left-nothing (column_faults n at w) (names_faults n (at + 1) ws) none) in
+    let rest : (at + 1) + length ws ≤ MAX_COLUMNS = names-few n (at + 1) ws below (right-nothing (column_faults n at w) (names_faults n (at + 1) ws) none) in
+    omega arith
+
+-- outputs without a fault, behind these outputs
+outputs-few : (n at : ℕ) (earlier ws : List (List ℕ)) → at ≤ MAX_COLUMNS → outputs_faults n at earlier ws ≡ [] → at + length ws ≤ MAX_COLUMNS
+outputs-few n at earlier [] within none = omega arith
+outputs-few n at earlier (w ∷ ws) within none =
+    let twice = when (among w earlier) (Repeated n w) in
+    let behind = outputs_faults n (at + 1) (earlier ++ w ∷ []) ws in
+    let below = column-few n at w (left-nothing (column_faults n at w) twice (left-nothing (column_faults n at w ++ twice) behind none)) in
+    let rest : (at + 1) + length ws ≤ MAX_COLUMNS =
+    outputs-few n (at + 1) (earlier ++ w ∷ []) ws below (right-nothing (column_faults n at w ++ twice) behind none) in
     omega arith
 
 -- a table's first line without a fault
@@ -41,7 +53,7 @@ pub columns-few : (n : ℕ) (word : List ℕ) (words : List (List ℕ)) → colu
 unfolding columns_faults
 columns-few n word words none =
     let ins : 0 + length (ins_of words) ≤ MAX_COLUMNS = names-few n 0 (ins_of words) (omega arith) (left-nothing _ _ (left-nothing _ _ none)) in
-    names-few n (length (ins_of words)) (outs_of words) (omega arith) (right-nothing _ _ (left-nothing _ _ none))
+    outputs-few n (length (ins_of words)) [] (outs_of words) (omega arith) (right-nothing _ _ (left-nothing _ _ none))
 
 -- and a reset table's
 output-few : (n : ℕ) (word : List ℕ) (at : ℕ) (ws : List (List ℕ)) → at ≤ MAX_COLUMNS → output_faults n word at ws ≡ [] → at + length ws ≤ MAX_COLUMNS
@@ -67,14 +79,15 @@ body-narrow Reset None ls l e none = cc
 body-narrow Reset (Some m) ls l e none = reset-few l.number (first_word l) (behind_first l) none
 body-narrow _ o ls l e none = cc
 
-placed-narrow : (c : Command) (k : Known) (ls : List LexLine) (l : LexLine) → is_table c ≡ true → placed_faults c k ls l ≡ []
+table-narrow : (c : Command) (k : Known) (ls : List LexLine) (l : LexLine) → is_table c ≡ true → line_faults c k ls l ≡ []
     → length (ins_of (behind_first l)) + length (outs_of (behind_first l)) ≤ MAX_COLUMNS
-placed-narrow Table k ls l e none = body-narrow Table k.inside ls l e none
-placed-narrow Reset k ls l e none = body-narrow Reset k.inside ls l e none
-placed-narrow _ k ls l e none = cc
+unfolding line_faults
+table-narrow Table k ls l e none = body-narrow Table k.inside ls l e none
+table-narrow Reset k ls l e none = body-narrow Reset k.inside ls l e none
+table-narrow _ k ls l e none = cc
 
 pub line-narrow : (k : Known) (ls : List LexLine) (l : LexLine) → line_faults (command_at l) k ls l ≡ [] → HasFewColumns l
-line-narrow k ls l none = λ e. placed-narrow (command_at l) k ls l e (placed_none (command_at l) k ls l none)
+line-narrow k ls l none = λ e. table-narrow (command_at l) k ls l e none
 
 -- and so is the open table of narrow lines
 pub open-small : (ls : List LexLine) (t : OpenTable) → All (λ (l : LexLine). HasFewColumns l) ls → open_table ls ≡ Some t → t.ins + t.outs ≤ MAX_COLUMNS

@@ -15,7 +15,7 @@ use Rattle.mv_parse.specs.declared.command.Command.TheVariants.{Inputs, Outputs,
 use Rattle.mv_parse.specs.declared.known.OpenModel.{OpenModel}
 use Rattle.mv_parse.specs.declared.known.Known.{Known}
 use Rattle.mv_parse.specs.Commands.{first_of, first_word, is_model, is_end, is_root}
-use Rattle.mv_parse.specs.Grammar.{name_faults, model_faults, unended_faults, placed_faults}
+use Rattle.mv_parse.specs.Grammar.{name_faults, model_faults, unended_faults, line_faults}
 use Rattle.mv_parse.specs.Steps.{new_model, with_no_table, inside_step, body_step, line_step, CanEnd, HasRoom}
 use Rattle.mv_parse.proofs.Narrows.{few}
 
@@ -83,8 +83,8 @@ body-room c k (Some m) ls l e h =
     (λ (n : is_end c ≡ false). rw n (with-open k (inside_step c l m) h.few (same-can k.names m (inside_step c l m) (step-name c l m) can)))
     (cases_Bool (is_end c))
 
-pub line-room : (c : Command) (k : Known) (ls : List LexLine) (l : LexLine) → HasRoom k → placed_faults c k ls l ≡ [] → HasRoom (line_step c k ls l)
-unfolding line_step
+pub line-room : (c : Command) (k : Known) (ls : List LexLine) (l : LexLine) → HasRoom k → line_faults c k ls l ≡ [] → HasRoom (line_step c k ls l)
+unfolding line_faults line_step
 line-room c k ls l h none =
     ⊎_elim
     (λ (y : is_model c ≡ true).

@@ -19,10 +19,10 @@ use Rattle.mv_parse.specs.declared.known.OpenModel.{OpenModel}
 use Rattle.mv_parse.specs.declared.known.Known.{Known}
 use Rattle.mv_parse.specs.Commands.{first_word, command_at, is_model, is_end}
 use Rattle.mv_parse.specs.Known.{says_root, open_part, open_of, open_model, known}
-use Rattle.mv_parse.specs.Grammar.{model_faults, placed_faults, line_faults, behind_model, faults_at, faults_behind, faults_of, design_known, design_of}
+use Rattle.mv_parse.specs.Grammar.{model_faults, line_faults, behind_model, faults_at, faults_behind, faults_of, design_known, design_of}
 use Rattle.mv_parse.specs.Steps.{line_step, is_inner, HasFewColumns, IsSmall, HasRoom}
 use Rattle.mv_parse.proofs.Parts.{opened_with, open_part-more, open_part-end}
-use Rattle.mv_parse.proofs.Knowns.{outside-none, placed_none, known-push}
+use Rattle.mv_parse.proofs.Knowns.{outside-none, known-push}
 use Rattle.mv_parse.proofs.Narrows.{line-narrow, open-small}
 use Rattle.mv_parse.proofs.Rooms.{line-room}
 use Rattle.mv_table.proofs.Places.{take_more, drop_one}
@@ -87,8 +87,9 @@ kept inner body l = if inner then body ++ l ∷ [] else []
 
 -- the open model's lines behind its first, behind one more line that ends no model
 more-kept : (c : Command) (k : Known) (part : List LexLine) (l : LexLine) → command_at l ≡ c → k.inside ≡ open_of part → is_end c ≡ false
-    → placed_faults c k (behind_model part) l ≡ []
+    → line_faults c k (behind_model part) l ≡ []
     → kept (is_inner c (open_of (opened_with part l))) (behind_model part) l ≡ behind_model (opened_with part l)
+unfolding line_faults
 more-kept Model k [] l e is n none = rw e refl
 more-kept Model k (m ∷ ls) l e is n none =
     let open_still : NoEnd (open_model m ls).line ∷ model_faults l.number (first_word l) k.names (behind_first l) ≡ [] = rw is at none in
@@ -106,8 +107,7 @@ kept-next before body l none same =
     ⊎_elim
     (λ (y : is_end (command_at l) ≡ true). rw (open_part-end before l y, and-false (not (is_model (command_at l)))) refl)
     (λ (n : is_end (command_at l) ≡ false).
-    let placed = placed_none (command_at l) (known before) (behind_model (open_part before)) l none in
-    rw (same n, open_part-more before l n) (more-kept (command_at l) (known before) (open_part before) l refl refl n placed))
+    rw (same n, open_part-more before l n) (more-kept (command_at l) (known before) (open_part before) l refl refl n none))
     (cases_Bool (is_end (command_at l)))
 
 -- they are narrow, as the line is
@@ -137,7 +137,7 @@ next lines body same new_body at k new l here h e none becomes is_same moves =
       known = knows ∙ ap known (sym more);
       open_lines = rw more (moves ∙ (ap (λ (x : Known). kept (is_inner (command_at l) x.inside) same l) knows ∙ stands));
       narrow = rw more (next-narrow front l here.narrow (line-narrow (known front) (behind_model (open_part front)) l clean));
-      room = rw becomes (line-room (command_at l) k body l here.room (placed_none (command_at l) k body l none));
+      room = rw becomes (line-room (command_at l) k body l here.room none);
       fault =
           rw more
           (ap (λ fs. fs ++ faults_behind (front ++ l ∷ []) (drop (at + 1) lines)) (sym clean)

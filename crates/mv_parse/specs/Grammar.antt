@@ -13,10 +13,10 @@ use Rattle.mv_fault.specs.declared.fault.Which.TheVariants.{TableLines, Models}
 use Rattle.mv_fault.specs.declared.fault.ParseFault.{ParseFault}
 use Rattle.mv_fault.specs.declared.fault.ParseFault.TheVariants.{UnknownCommand, OutsideModel, NoEnd, Missing, Extra, Columns, DefaultTwice}
 use Rattle.mv_fault.specs.declared.fault.ParseFault.TheVariants.{ModelTwice, RootFault, Repeated, NoModel, Limit}
-use Rattle.mv_fault.specs.declared.fault.ParseFault.TheVariants.{BadName, NoTable, LatchValues, NotBuilt}
+use Rattle.mv_fault.specs.declared.fault.ParseFault.TheVariants.{BadName, NoTable, LatchValues}
 use Rattle.mv_fault.specs.Tells.{when, first}
 use Rattle.mv_decl.specs.Line.{net_name_faults, decl_faults}
-use Rattle.mv_table.specs.Columns.{has_several_outputs, columns_faults, reset_faults}
+use Rattle.mv_table.specs.Columns.{columns_faults, reset_faults}
 use Rattle.mv_table.specs.Tables.{behind_first, table_faults}
 use Rattle.mv_part.specs.Line.{part_faults}
 use Rattle.mv_parse.specs.declared.command.Command.{Command}
@@ -93,11 +93,6 @@ abbrev pub at_table : ℕ → Option OpenTable → (OpenTable → List ParseFaul
 at_table n None faults = NoTable n ∷ []
 at_table n (Some t) faults = faults t
 
--- the fault of a table that this version doesn't read: one with several outputs
-abbrev pub unread_faults : Command → LexLine → List ParseFault
-unread_faults Table l = when (has_several_outputs (behind_first l)) (NotBuilt l.number)
-unread_faults _ l = []
-
 -- the fault of a line outside a model that may stand in one alone
 abbrev pub outside_faults : Command → LexLine → List ParseFault
 outside_faults Unknown l = UnknownCommand l.number (first_word l) ∷ []
@@ -132,16 +127,13 @@ unended_faults (Some m) = NoEnd m.line ∷ []
 abbrev pub begin_faults : Known → LexLine → List ParseFault
 begin_faults k l = unended_faults k.inside ++ model_faults l.number (first_word l) k.names (behind_first l)
 
--- the faults of a line where it stands: one that begins a model stands outside the others, and one that names the root anywhere
-abbrev pub placed_faults : Command → Known → List LexLine → LexLine → List ParseFault
-placed_faults c k ls l =
+-- all faults of a line, where the lines before say `k`: one that begins a model stands outside the others, and one that names
+-- the root anywhere
+unfoldable pub line_faults : Command → Known → List LexLine → LexLine → List ParseFault
+line_faults c k ls l =
     if is_model c then begin_faults k l
     else if is_root c then root_faults l.number (first_word l) k.root (behind_first l)
     else body_faults c k.inside ls l
-
--- all faults of a line, where the lines before say `k`
-unfoldable pub line_faults : Command → Known → List LexLine → LexLine → List ParseFault
-line_faults c k ls l = unread_faults c l ++ placed_faults c k ls l
 
 -- the lines of the open model behind its first
 abbrev pub behind_model : List LexLine → List LexLine

@@ -136,6 +136,7 @@ fn open_table(model: &mut OpenModel, words: &[Name])
 
 /// Reads the words behind `.table`.
 pub fn begin_table(
+    alloc: Global,
     model: &mut OpenModel,
     number: u32,
     word: &Name,
@@ -144,7 +145,7 @@ pub fn begin_table(
     ensures fault { Tells result (columns_faults number word.now words.now) }
     ensures ok { OnOk result (model.new ≡ with_open_table words.now model.old) }
 {
-    check_columns(number, word, words)?;
+    check_columns(alloc, number, word, words)?;
     open_table(model, words);
     Ok(())
 }

@@ -6,7 +6,7 @@ ghost use Rattle.mv_parse.specs.declared.known.OpenTable.{OpenTable};
 ghost use Rattle.mv_parse.specs.declared.known.OpenModel.{OpenModel};
 ghost use Rattle.mv_table.specs.Tables.{behind_first};
 ghost use Rattle.mv_parse.specs.Commands.{first_word, is_model, is_end, is_root};
-ghost use Rattle.mv_parse.specs.Grammar.{root_faults, unread_faults, outside_faults, inside_faults, end_faults, body_faults, begin_faults, line_faults};
+ghost use Rattle.mv_parse.specs.Grammar.{root_faults, outside_faults, inside_faults, end_faults, body_faults, begin_faults, line_faults};
 ghost use Rattle.mv_parse.specs.Known.{file_model};
 ghost use Rattle.mv_parse.specs.Steps.{inside_step, body_step, with_model, with_root, line_step, HasFewColumns, IsSmall, CanEnd, HasRoom};
 
@@ -23,21 +23,9 @@ use mv_decl::Decls;
 use mv_design::FileModel;
 use mv_fault::ParseFault;
 use mv_lex::LexLine;
-use mv_table::{behind_first, has_several_outputs};
+use mv_table::behind_first;
 use std::alloc::Global;
 use std::mem;
-
-/// Refuses a table that this version doesn't read: one with several outputs.
-fn check_read(command: Command, line: &LexLine) -> Result<(), ParseFault>
-    ensures { Tells result (unread_faults command line.now) }
-{
-    match command {
-        Command::Table if has_several_outputs(behind_first(line)) => Err(ParseFault::NotBuilt {
-            line: line.number,
-        }),
-        _ => Ok(()),
-    }
-}
 
 /// Begins the model of this line, where none is open.
 #[tactic(auto, using(mv_fault::proofs::Firsts::firsts))]
@@ -159,7 +147,7 @@ fn inside_line(
         }
         Command::Table => {
             let word = Name::new(alloc, first_word(line))?;
-            begin_table(model, number, &word, words)
+            begin_table(alloc, model, number, &word, words)
         }
         Command::Latch => {
             let word = Name::new(alloc, first_word(line))?;
@@ -230,7 +218,7 @@ fn body_line(
 
 /// Reads a line: what is known behind it, or its first fault. `body` are the lines of the open model behind its
 /// first, which only the line that ends it takes.
-#[tactic(auto, using(mv_fault::proofs::Firsts::firsts), unfolding(crate::specs::Grammar::line_faults, crate::specs::Steps::line_step))]
+#[tactic(auto, unfolding(crate::specs::Grammar::line_faults, crate::specs::Steps::line_step))]
 pub fn take_line(
     alloc: Global,
     known: &mut Known,
@@ -245,7 +233,6 @@ pub fn take_line(
     ensures ok { OnOk result (known.new ≡ line_step command known.old body.old line.now) }
     ensures same { is_end command ≡ false → body.new ≡ body.old }
 {
-    check_read(command, line)?;
     if is_model(command) {
         begin_model(alloc, known, line)
     } else if is_root(command) {

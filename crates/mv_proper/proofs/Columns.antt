@@ -1,60 +1,57 @@
--- The first line of a table or a reset table, if it has no fault, names lawful columns, and one output among them.
-use Rattle.std.proofs.Common.{◌≡◌, ℕ, ◌+◌, ◌≤◌, true, false, not, ◌==◌, List, [], ◌∷◌, ◌++◌, length, refl, ⊎_elim, arith}
-use Rattle.std.specs.Prelude.{◌&&◌, nat_le, nat_lt}
+-- The first line of a table or a reset table, if it has no fault, names lawful columns, and outputs among them: a table some,
+-- a reset table one.
+use Rattle.std.proofs.Common.{◌≡◌, ℕ, ◌+◌, ◌<◌, ◌≤◌, true, false, not, ◌==◌, List, [], ◌∷◌, ◌++◌, length, refl, arith}
+use Rattle.std.specs.Prelude.{nat_le, nat_lt}
 use Rattle.std.specs.List.{list_all}
-use Rattle.std.proofs.lemmas.Bool.{and_parts, and_cases, and_from, both_ways, not-false, le-ltb, ltb-false}
+use Rattle.std.proofs.lemmas.Bool.{and_from, not-false, ltb-false}
 use Rattle.std.proofs.lemmas.Bool.Decides.{nat_tests}
-use Rattle.mv_base.specs.Names.{is_net_name}
+use Rattle.mv_base.specs.Names.{among, is_net_name}
 use Rattle.mv_base.specs.declared.limits.TheConstants.{MAX_COLUMNS}
 use Rattle.mv_fault.specs.declared.fault.Which.TheVariants.{Columns}
-use Rattle.mv_fault.specs.declared.fault.ParseFault.TheVariants.{Limit, BadName, Missing, Extra}
+use Rattle.mv_fault.specs.declared.fault.ParseFault.TheVariants.{Limit, BadName, Missing, Extra, Repeated}
 use Rattle.mv_fault.specs.Tells.{when}
 use Rattle.mv_fault.proofs.Nothing.{left-nothing, right-nothing, when-nothing}
-use Rattle.mv_table.specs.Columns.{arrow_at, has_arrow, ins_of, outs_of, has_several_outputs, names_faults, columns_faults, output_faults, reset_faults}
-use Rattle.mv_word.proofs.LawfulNames.{net_name-has}
+use Rattle.mv_table.specs.Columns.{ins_of, outs_of, column_faults, names_faults, outputs_faults, columns_faults, output_faults, reset_faults}
+use Rattle.mv_parse.specs.declared.command.Command.TheVariants.{Table, Reset}
 use Rattle.mv_proper.proofs.Rows.{HasColumns}
+
+column-lawful : (n at : ℕ) (w : List ℕ) → column_faults n at w ≡ [] → is_net_name w ≡ true
+column-lawful n at w none =
+    let many = when (nat_le MAX_COLUMNS at) (Limit n Columns (MAX_COLUMNS + 1)) in
+    let bad = when (not (is_net_name w)) (BadName n w) in
+    not-false _ (when-nothing _ _ (right-nothing many bad none))
 
 names-lawful : (n at : ℕ) (ws : List (List ℕ)) → names_faults n at ws ≡ [] → list_all is_net_name ws ≡ true
 names-lawful n at [] none = refl
 names-lawful n at (w ∷ ws) none =
-    let many = when (nat_le MAX_COLUMNS at) (Limit n Columns (MAX_COLUMNS + 1)) in
-    let bad = when (not (is_net_name w)) (BadName n w) in
-    let front : many ++ bad ≡ [] = left-nothing (many ++ bad) (names_faults n (at + 1) ws) none in
-    and_from _ _ (not-false _ (when-nothing _ _ (right-nothing many bad front))) (names-lawful n (at + 1) ws (right-nothing (many ++ bad) (names_faults n (at + 1) ws) none))
+    let behind = names_faults n (at + 1) ws in
+    and_from _ _ (column-lawful n at w (left-nothing (column_faults n at w) behind none))
+    (names-lawful n (at + 1) ws (right-nothing (column_faults n at w) behind none))
 
--- an arrow is no lawful name
-arrow-behind : (ws : List (List ℕ)) → list_all is_net_name ws ≡ true → arrow_at ws ≡ length ws
-arrow-behind [] e = refl
-arrow-behind (w ∷ ws) e =
-    let p = and_parts (is_net_name w) (list_all is_net_name ws) e in
-    let rest = arrow-behind ws p.1 in
-    rw (net_name-has w p.0).arrow (omega (arith, rest))
+outputs-lawful : (n at : ℕ) (earlier ws : List (List ℕ)) → outputs_faults n at earlier ws ≡ [] → list_all is_net_name ws ≡ true
+outputs-lawful n at earlier [] none = refl
+outputs-lawful n at earlier (w ∷ ws) none =
+    let here = column_faults n at w in
+    let twice = when (among w earlier) (Repeated n w) in
+    let behind = outputs_faults n (at + 1) (earlier ++ w ∷ []) ws in
+    and_from _ _ (column-lawful n at w (left-nothing here twice (left-nothing (here ++ twice) behind none)))
+    (outputs-lawful n (at + 1) (earlier ++ w ∷ []) ws (right-nothing (here ++ twice) behind none))
 
-no-arrow : (ws : List (List ℕ)) → list_all is_net_name ws ≡ true → has_arrow ws ≡ false
-no-arrow ws e = le-ltb (arrow_at ws) (length ws) (omega (arith, arrow-behind ws e))
+some-outputs : (n : ℕ) → (n == 0) ≡ false → 0 < n
+some-outputs n e = grind (arith, nat_tests)
 
-few-outputs : (ws : List (List ℕ)) → list_all is_net_name ws ≡ true → (nat_lt 1 (length ws) && not (has_arrow ws)) ≡ false → nat_lt 1 (length ws) ≡ false
-few-outputs ws e few =
-    ⊎_elim
-    (λ (y : nat_lt 1 (length ws) ≡ false). y)
-    (λ (n : not (has_arrow ws) ≡ false). absurd (both_ways (has_arrow ws) (no-arrow ws e) (not-false _ n)))
-    (and_cases _ _ few)
-
-one-output : (n : ℕ) → nat_lt 1 n ≡ false → (n == 0) ≡ false → n ≡ 1
-one-output n few some = grind (arith, nat_tests)
-
-pub line-columns : (n : ℕ) (word : List ℕ) (words : List (List ℕ)) → columns_faults n word words ≡ [] → has_several_outputs words ≡ false → HasColumns words
-unfolding columns_faults has_several_outputs
-line-columns n word words none few =
+pub line-columns : (n : ℕ) (word : List ℕ) (words : List (List ℕ)) → columns_faults n word words ≡ [] → HasColumns Table words
+unfolding columns_faults
+line-columns n word words none =
     let ins = names_faults n 0 (ins_of words) in
-    let outs = names_faults n (length (ins_of words)) (outs_of words) in
+    let outs = outputs_faults n (length (ins_of words)) [] (outs_of words) in
     let lacks = when (length (outs_of words) == 0) (Missing n word) in
     let names : ins ++ outs ≡ [] = left-nothing (ins ++ outs) lacks none in
-    let lawful = names-lawful n (length (ins_of words)) (outs_of words) (right-nothing ins outs names) in
     record {
       inputs = names-lawful n 0 (ins_of words) (left-nothing ins outs names);
-      outputs = lawful;
-      single = one-output (length (outs_of words)) (few-outputs (outs_of words) lawful few) (when-nothing _ _ (right-nothing (ins ++ outs) lacks none));
+      outputs = outputs-lawful n (length (ins_of words)) [] (outs_of words) (right-nothing ins outs names);
+      some = some-outputs (length (outs_of words)) (when-nothing _ _ (right-nothing (ins ++ outs) lacks none));
+      single = λ e. cc;
     }
 
 -- ---- a reset table
@@ -73,10 +70,16 @@ output-one n word at (w ∷ v ∷ ws) none =
     let no_more : length (v ∷ ws) ≤ 0 = ltb-false 0 (length (v ∷ ws)) more in
     absurd (omega arith)
 
-pub reset-columns : (n : ℕ) (word : List ℕ) (words : List (List ℕ)) → reset_faults n word words ≡ [] → HasColumns words
+pub reset-columns : (n : ℕ) (word : List ℕ) (words : List (List ℕ)) → reset_faults n word words ≡ [] → HasColumns Reset words
 unfolding reset_faults
 reset-columns n word words none =
     let ins = names_faults n 0 (ins_of words) in
     let outs = output_faults n word (length (ins_of words)) (outs_of words) in
     let output = output-one n word (length (ins_of words)) (outs_of words) (right-nothing ins outs none) in
-    record { inputs = names-lawful n 0 (ins_of words) (left-nothing ins outs none); outputs = output.lawful; single = output.single }
+    let single = output.single in
+    record {
+      inputs = names-lawful n 0 (ins_of words) (left-nothing ins outs none);
+      outputs = output.lawful;
+      some = omega (arith, single);
+      single = λ e. single;
+    }

@@ -13,7 +13,6 @@ use Rattle.mv_fault.specs.Tells.{when}
 use Rattle.mv_fault.proofs.Nothing.{left-nothing, right-nothing, when-nothing}
 use Rattle.mv_decl.specs.Nets.{with_decls}
 use Rattle.mv_decl.specs.Line.{decls_said}
-use Rattle.mv_table.specs.Columns.{has_several_outputs}
 use Rattle.mv_table.specs.Tables.{behind_first}
 use Rattle.mv_parse.specs.declared.command.Command.{Command}
 use Rattle.mv_parse.specs.declared.command.Command.TheVariants.{Inputs, Outputs, Mv, Table, Reset, Default, Row}
@@ -21,7 +20,7 @@ use Rattle.mv_parse.specs.declared.known.OpenTable.{OpenTable}
 use Rattle.mv_parse.specs.declared.known.OpenModel.{OpenModel}
 use Rattle.mv_parse.specs.Commands.{first_of, first_word, command_at, keeps_table, is_table}
 use Rattle.mv_parse.specs.Known.{inputs_at, inputs_of, outputs_at, outputs_of, decls_at, decls_of, latches_of, parts_of, open_model, file_model}
-use Rattle.mv_parse.specs.Grammar.{row_faults, default_faults, tables_faults, at_table, unread_faults, inside_faults}
+use Rattle.mv_parse.specs.Grammar.{row_faults, default_faults, tables_faults, at_table, inside_faults}
 use Rattle.mv_parse.proofs.Opens.{inputs-push, outputs-push, decls-push}
 use Rattle.mv_design.specs.Proper.{IsFileDecl, IsFilePart, numbers_ascend, IsProperModel}
 use Rattle.mv_proper.specs.Lines.{numbers_of}
@@ -63,10 +62,10 @@ decls-step : (c : Command) (m : OpenModel) (l : LexLine) → inside_faults c m l
 decls-step Mv m l none h = All-with_decls IsFileDecl m.decls (decls_said (behind_first l)) h (line-declares l.number (first_word l) m.decls (behind_first l) none)
 decls-step _ m l none h = h
 
-head-step : (c : Command) (m : OpenModel) (l : LexLine) → unread_faults c l ≡ [] → inside_faults c m l ≡ [] → is_table c ≡ true → HasColumns (behind_first l)
-head-step Table m l unread none e = line-columns l.number (first_word l) (behind_first l) none (when-nothing (has_several_outputs (behind_first l)) _ unread)
-head-step Reset m l unread none e = reset-columns l.number (first_word l) (behind_first l) none
-head-step _ m l unread none e = cc
+head-step : (c : Command) (m : OpenModel) (l : LexLine) → inside_faults c m l ≡ [] → is_table c ≡ true → HasColumns c (behind_first l)
+head-step Table m l none e = line-columns l.number (first_word l) (behind_first l) none
+head-step Reset m l none e = reset-columns l.number (first_word l) (behind_first l) none
+head-step _ m l none e = cc
 
 row-entries : (n : ℕ) (t : OpenTable) (words : List (List ℕ)) → row_faults n t words ≡ [] → length words ≡ t.ins + t.outs
 unfolding row_faults
@@ -104,9 +103,9 @@ entry-step Row m l e none y t o =
     }
 entry-step _ m l e none y t o = cc
 
-pub IsOpen-push : (m : LexLine) (ls : List LexLine) (l : LexLine) → IsOpen m ls → unread_faults (command_at l) l ≡ []
-    → inside_faults (command_at l) (open_model m ls) l ≡ [] → IsOpen m (ls ++ l ∷ [])
-IsOpen-push m ls l h unread none =
+pub IsOpen-push : (m : LexLine) (ls : List LexLine) (l : LexLine) → IsOpen m ls → inside_faults (command_at l) (open_model m ls) l ≡ []
+    → IsOpen m (ls ++ l ∷ [])
+IsOpen-push m ls l h none =
     let c = command_at l in
     let o = open_model m ls in
     record {
@@ -114,7 +113,7 @@ IsOpen-push m ls l h unread none =
       inputs = subst (IsNames is_net_name) (sym (inputs-push ls l)) (inputs-step c o l none h.inputs);
       outputs = subst (IsNames is_net_name) (sym (outputs-push ls l)) (outputs-step c o l none h.outputs);
       decls = subst (All IsFileDecl) (sym (decls-push ls l)) (decls-step c o l none h.decls);
-      tables = tables-push ls l h.tables (head-step c o l unread none) (entry-step c o l refl none);
+      tables = tables-push ls l h.tables (head-step c o l none) (entry-step c o l refl none);
       latches = latches-push o ls l none h.latches;
       parts = parts-push o ls l none h.parts;
     }

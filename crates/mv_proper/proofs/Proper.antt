@@ -20,10 +20,10 @@ use Rattle.mv_parse.specs.declared.known.Root.{Root}
 use Rattle.mv_parse.specs.declared.known.Known.{Known}
 use Rattle.mv_parse.specs.Commands.{first_word, command_at, is_model, is_end, is_root}
 use Rattle.mv_parse.specs.Known.{says_root, decls_of, open_part, open_model, open_of, file_model, model_of, models_of, model_names, known}
-use Rattle.mv_parse.specs.Grammar.{model_faults, tables_faults, end_faults, unread_faults, inside_faults, body_faults, unended_faults, placed_faults, line_faults, behind_model, faults_at, lost_faults, last_faults, file_faults, faults_behind, faults_of, is_limit, root_place, design_of, IsDesign, IsWithin}
+use Rattle.mv_parse.specs.Grammar.{model_faults, tables_faults, end_faults, inside_faults, body_faults, unended_faults, line_faults, behind_model, faults_at, lost_faults, last_faults, file_faults, faults_behind, faults_of, is_limit, root_place, design_of, IsDesign, IsWithin}
 use Rattle.mv_parse.specs.Steps.{CanEnd, HasRoom}
 use Rattle.mv_parse.proofs.Parts.{opened_with, open_part-more, open_part-end}
-use Rattle.mv_parse.proofs.Knowns.{model-no_root, outside-none, models-end, models-more, placed_none, known-push}
+use Rattle.mv_parse.proofs.Knowns.{model-no_root, outside-none, models-end, models-more, known-push}
 use Rattle.mv_parse.proofs.Rooms.{line-room}
 use Rattle.mv_design.specs.Proper.{numbers_ascend, IsProperModel, IsProper}
 use Rattle.mv_proper.specs.Lines.{numbers_of}
@@ -77,7 +77,8 @@ record IsAlong (models : List FileModel) (part : List LexLine) : Type 0 where
 
 -- it begins one
 stands-model : (k : Known) (part : List LexLine) (l : LexLine) → k.inside ≡ open_of part → is_model (command_at l) ≡ true
-    → placed_faults (command_at l) k (behind_model part) l ≡ [] → Stands (opened_with part l)
+    → line_faults (command_at l) k (behind_model part) l ≡ [] → Stands (opened_with part l)
+unfolding line_faults
 stands-model k [] l is y none =
     let begins : unended_faults k.inside ++ model_faults l.number (first_word l) k.names (behind_first l) ≡ [] = rw y at none in
     let named = model-named l.number (first_word l) k.names (behind_first l) (right-nothing (unended_faults k.inside) _ begins) in
@@ -91,34 +92,35 @@ root-inside : (c : Command) (m : OpenModel) (l : LexLine) → is_root c ≡ true
 root-inside NamesRoot m l y = refl
 root-inside _ m l y = cc
 
-stands-root : (part : List LexLine) (l : LexLine) → Stands part → is_root (command_at l) ≡ true → unread_faults (command_at l) l ≡ []
-    → Stands (opened_with part l)
-stands-root [] l h y unread = rw y tt
-stands-root (m ∷ ls) l h y unread = IsOpen-push m ls l h unread (root-inside (command_at l) (open_model m ls) l y)
+stands-root : (part : List LexLine) (l : LexLine) → Stands part → is_root (command_at l) ≡ true → Stands (opened_with part l)
+stands-root [] l h y = rw y tt
+stands-root (m ∷ ls) l h y = IsOpen-push m ls l h (root-inside (command_at l) (open_model m ls) l y)
 
 -- it stands in a model
-stands-body : (part : List LexLine) (l : LexLine) → Stands part → is_end (command_at l) ≡ false → unread_faults (command_at l) l ≡ []
+stands-body : (part : List LexLine) (l : LexLine) → Stands part → is_end (command_at l) ≡ false
     → body_faults (command_at l) (open_of part) (behind_model part) l ≡ [] → Stands (opened_with part l)
-stands-body [] l h n unread none = absurd (outside-none (command_at l) l none)
-stands-body (m ∷ ls) l h n unread none = IsOpen-push m ls l h unread (rw n at none)
+stands-body [] l h n none = absurd (outside-none (command_at l) l none)
+stands-body (m ∷ ls) l h n none = IsOpen-push m ls l h (rw n at none)
 
 stands-more : (k : Known) (part : List LexLine) (l : LexLine) → k.inside ≡ open_of part → Stands part → is_end (command_at l) ≡ false
-    → unread_faults (command_at l) l ≡ [] → placed_faults (command_at l) k (behind_model part) l ≡ [] → Stands (opened_with part l)
-stands-more k part l is h n unread none =
+    → line_faults (command_at l) k (behind_model part) l ≡ [] → Stands (opened_with part l)
+unfolding line_faults
+stands-more k part l is h n none =
     ⊎_elim
     (λ (y : is_model (command_at l) ≡ true). stands-model k part l is y none)
     (λ (no_model : is_model (command_at l) ≡ false).
     ⊎_elim
-    (λ (y : is_root (command_at l) ≡ true). stands-root part l h y unread)
-    (λ (no_root : is_root (command_at l) ≡ false). stands-body part l h n unread (rw (no_model, no_root, is) at none))
+    (λ (y : is_root (command_at l) ≡ true). stands-root part l h y)
+    (λ (no_root : is_root (command_at l) ≡ false). stands-body part l h n (rw (no_model, no_root, is) at none))
     (cases_Bool (is_root (command_at l))))
     (cases_Bool (is_model (command_at l)))
 
 -- ---- one that ends a model
 
-ends-placed : (c : Command) (k : Known) (ls : List LexLine) (l : LexLine) → is_end c ≡ true → placed_faults c k ls l ≡ body_faults c k.inside ls l
-ends-placed End k ls l y = refl
-ends-placed _ k ls l y = cc
+ends-body : (c : Command) (k : Known) (ls : List LexLine) (l : LexLine) → is_end c ≡ true → line_faults c k ls l ≡ body_faults c k.inside ls l
+unfolding line_faults
+ends-body End k ls l y = refl
+ends-body _ k ls l y = cc
 
 -- the model that is open can end behind those of these models
 abbrev CanAllEnd : List FileModel → List LexLine → Type 0
@@ -147,24 +149,22 @@ abbrev Along : List LexLine → Type 0
 Along before = IsAlong (models_of before) (open_part before)
 
 along-next : (before : List LexLine) (l : LexLine) → Along before → HasRoom (known before) → numbers_ascend (numbers_of (open_part before)) ≡ true → faults_at before l ≡ [] → Along (before ++ l ∷ [])
-unfolding known line_faults
+unfolding known
 along-next before l h room up none =
     let part : List LexLine = open_part before in
-    let unread : unread_faults (command_at l) l ≡ [] = left-nothing _ (placed_faults (command_at l) (known before) (behind_model part) l) none in
-    let placed = placed_none (command_at l) (known before) (behind_model part) l none in
     ⊎_elim
     (λ (y : is_end (command_at l) ≡ true).
     rw (models-end before l y, open_part-end before l y)
-    (along-end (models_of before) part l h room.opened up y (sym (ends-placed (command_at l) (known before) (behind_model part) l y) ∙ placed)))
+    (along-end (models_of before) part l h room.opened up y (sym (ends-body (command_at l) (known before) (behind_model part) l y) ∙ none)))
     (λ (n : is_end (command_at l) ≡ false).
     rw (models-more before l n, open_part-more before l n)
-    (record { proper = h.proper; differ = h.differ; opened = stands-more (known before) part l refl h.opened n unread placed }))
+    (record { proper = h.proper; differ = h.differ; opened = stands-more (known before) part l refl h.opened n none }))
     (cases_Bool (is_end (command_at l)))
 
 room-next : (before : List LexLine) (l : LexLine) → HasRoom (known before) → faults_at before l ≡ [] → HasRoom (known (before ++ l ∷ []))
 room-next before l room none =
     let body : List LexLine = behind_model (open_part before) in
-    subst HasRoom (sym (known-push before l none)) (line-room (command_at l) (known before) body l room (placed_none (command_at l) (known before) body l none))
+    subst HasRoom (sym (known-push before l none)) (line-room (command_at l) (known before) body l room none)
 
 -- at the end of the file all models are proper, no two have one name, and the root is one of them
 record IsWhole (k : Known) : Type 0 where

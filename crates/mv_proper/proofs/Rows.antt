@@ -1,5 +1,5 @@
 -- A table whose rows and default have an entry for each column.
-use Rattle.std.proofs.Common.{◌≡◌, ℕ, ◌+◌, true, false, List, [], ◌∷◌, length, drop, Option, Some, None, subst, arith}
+use Rattle.std.proofs.Common.{◌≡◌, ℕ, ◌+◌, ◌<◌, true, false, List, [], ◌∷◌, length, drop, Option, Some, None, subst, arith}
 use Rattle.std.specs.Prelude.{All}
 use Rattle.std.specs.List.{list_all}
 use Rattle.std.specs.Option.{option_or}
@@ -14,7 +14,10 @@ use Rattle.mv_design.specs.declared.design.Decl.{Decl}
 use Rattle.mv_table.specs.Columns.{ins_of, outs_of}
 use Rattle.mv_table.specs.Entries.{outs_said}
 use Rattle.mv_table.specs.Tables.{behind_first, says_default, row_of_words, rows_at, rows_of, default_at, default_of, table_of}
-use Rattle.mv_design.specs.Proper.{FitOutputs, IsFileRow, IsFileTable}
+use Rattle.mv_parse.specs.declared.command.Command.{Command}
+use Rattle.mv_parse.specs.declared.command.Command.TheVariants.{Reset}
+use Rattle.mv_parse.specs.Commands.{command_at}
+use Rattle.mv_design.specs.Proper.{FitOutputs, IsFileRow, IsFileTable, IsFileReset}
 use Rattle.mv_proper.proofs.Entries.{ins-fit, outs-fit}
 
 -- a row has an entry for each of so many inputs and outputs, a default one for each output
@@ -22,18 +25,19 @@ pub record IsEntryLine (ins outs : ℕ) (l : LexLine) : Type 0 where
   pub row : says_default l ≡ false → length l.words ≡ ins + outs
   pub default : says_default l ≡ true → length (behind_first l) ≡ outs
 
--- the words behind the first of a table name lawful columns, and one output among them
-pub record HasColumns (words : List (List ℕ)) : Type 0 where
+-- the words behind the command that begins a table name lawful columns, some outputs among them, and one if it is a reset table
+pub record HasColumns (c : Command) (words : List (List ℕ)) : Type 0 where
   pub inputs : list_all is_net_name (ins_of words) ≡ true
   pub outputs : list_all is_net_name (outs_of words) ≡ true
-  pub single : length (outs_of words) ≡ 1
+  pub some : 0 < length (outs_of words)
+  pub single : c ≡ Reset → length (outs_of words) ≡ 1
 
 abbrev pub EntryLine : List (List ℕ) → LexLine → Type 0
 EntryLine words l = IsEntryLine (length (ins_of words)) (length (outs_of words)) l
 
 -- the first line of a table, and its rows and defaults
 pub record IsTableAt (head : LexLine) (rows : List LexLine) : Type 0 where
-  pub columns : HasColumns (behind_first head)
+  pub columns : HasColumns (command_at head) (behind_first head)
   pub entries : All (EntryLine (behind_first head)) rows
 
 module _ (ds : List Decl) (t : FileTable) where
@@ -91,7 +95,13 @@ table-fits ds head lines h =
     record {
       inputs = h.columns.inputs;
       outputs = h.columns.outputs;
-      single = h.columns.single;
+      some = h.columns.some;
       rows = rows-fit ds t lines h.entries;
       default = λ entries e. subst (IfFits ds t) e (default-fits ds t lines h.entries);
     }
+
+-- the reset table that they say, if the first of them begins one
+pub reset-fits : (ds : List Decl) (head : LexLine) (lines : List LexLine) → command_at head ≡ Reset → IsTableAt head lines
+    → IsFileReset ds (table_of ds head lines)
+unfolding table_of
+reset-fits ds head lines e h = record { table = table-fits ds head lines h; single = h.columns.single e }

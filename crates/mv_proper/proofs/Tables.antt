@@ -14,8 +14,8 @@ use Rattle.mv_parse.specs.declared.command.Command.TheVariants.{Table, Reset, De
 use Rattle.mv_parse.specs.declared.known.OpenTable.{OpenTable}
 use Rattle.mv_parse.specs.Commands.{command_at, keeps_table, is_table}
 use Rattle.mv_parse.specs.Known.{front_rows, table_at, tables_of, reset_at, resets_of, table_state, open_table}
-use Rattle.mv_design.specs.Proper.{IsFileTable}
-use Rattle.mv_proper.proofs.Rows.{IsEntryLine, EntryLine, HasColumns, IsTableAt, table-fits}
+use Rattle.mv_design.specs.Proper.{IsFileTable, IsFileReset}
+use Rattle.mv_proper.proofs.Rows.{IsEntryLine, EntryLine, HasColumns, IsTableAt, table-fits, reset-fits}
 
 -- each line that begins a table or a reset table does so with the rows and defaults right behind it
 abbrev pub AreTables : List LexLine → Type 0
@@ -77,7 +77,8 @@ nothing-open o t e f = cc
 open-here : (l : LexLine) (ls : List LexLine) → is_table (command_at l) ≡ true → all_keep ls ≡ true → open_table (l ∷ ls) ≡ Some (table_state l ls)
 open-here l ls e all = rw (e, all) refl
 
-pub tables-push : (ls : List LexLine) (x : LexLine) → AreTables ls → (is_table (command_at x) ≡ true → HasColumns (behind_first x)) → (keeps_table (command_at x) ≡ true → (t : OpenTable) → open_table ls ≡ Some t → IsEntryLine t.ins t.outs x) → AreTables (ls ++ x ∷ [])
+pub tables-push : (ls : List LexLine) (x : LexLine) → AreTables ls → (is_table (command_at x) ≡ true → HasColumns (command_at x) (behind_first x))
+    → (keeps_table (command_at x) ≡ true → (t : OpenTable) → open_table ls ≡ Some t → IsEntryLine t.ins t.outs x) → AreTables (ls ++ x ∷ [])
 tables-push [] x h head fits = (λ e. record { columns = head e; entries = All-nil (EntryLine (behind_first x)) }, tt)
 tables-push (l ∷ ls) x h head fits =
     ⊎_elim
@@ -102,26 +103,32 @@ tables-push (l ∷ ls) x h head fits =
 -- these tables and these reset tables fit
 pub record DoFit (ds : List Decl) (plain reset : List FileTable) : Type 0 where
   pub tables : All (IsFileTable ds) plain
-  pub resets : All (IsFileTable ds) reset
+  pub resets : All (IsFileReset ds) reset
 
 one-fits : (ds : List Decl) (l : LexLine) (rows : List LexLine) → IsTableAt l rows → All (IsFileTable ds) (table_of ds l rows ∷ [])
 one-fits ds l rows h = All-cons (IsFileTable ds) (table_of ds l rows) [] (table-fits ds l rows h) (All-nil (IsFileTable ds))
 
+one-resets : (ds : List Decl) (l : LexLine) (rows : List LexLine) → command_at l ≡ Reset → IsTableAt l rows → All (IsFileReset ds) (table_of ds l rows ∷ [])
+one-resets ds l rows e h = All-cons (IsFileReset ds) (table_of ds l rows) [] (reset-fits ds l rows e h) (All-nil (IsFileReset ds))
+
 none-fit : (ds : List Decl) → All (IsFileTable ds) []
 none-fit ds = All-nil (IsFileTable ds)
 
-table-here : (c : Command) (ds : List Decl) (l : LexLine) (ls : List LexLine) → (is_table c ≡ true → IsTableAt l (front_rows ls))
+none-resets : (ds : List Decl) → All (IsFileReset ds) []
+none-resets ds = All-nil (IsFileReset ds)
+
+table-here : (c : Command) (ds : List Decl) (l : LexLine) (ls : List LexLine) → command_at l ≡ c → (is_table c ≡ true → IsTableAt l (front_rows ls))
     → DoFit ds (table_at c ds l ls) (reset_at c ds l ls)
-table-here Table ds l ls h = record { tables = one-fits ds l (front_rows ls) (h refl); resets = none-fit ds }
-table-here Reset ds l ls h = record { tables = none-fit ds; resets = one-fits ds l (front_rows ls) (h refl) }
-table-here _ ds l ls h = record { tables = none-fit ds; resets = none-fit ds }
+table-here Table ds l ls e h = record { tables = one-fits ds l (front_rows ls) (h refl); resets = none-resets ds }
+table-here Reset ds l ls e h = record { tables = none-fit ds; resets = one-resets ds l (front_rows ls) e (h refl) }
+table-here _ ds l ls e h = record { tables = none-fit ds; resets = none-resets ds }
 
 pub tables-fit : (ds : List Decl) (ls : List LexLine) → AreTables ls → DoFit ds (tables_of ds ls) (resets_of ds ls)
-tables-fit ds [] h = record { tables = none-fit ds; resets = none-fit ds }
+tables-fit ds [] h = record { tables = none-fit ds; resets = none-resets ds }
 tables-fit ds (l ∷ ls) h =
-    let here = table-here (command_at l) ds l ls h.0 in
+    let here = table-here (command_at l) ds l ls refl h.0 in
     let behind = tables-fit ds ls h.1 in
     record {
       tables = All-append (IsFileTable ds) (table_at (command_at l) ds l ls) (tables_of ds ls) here.tables behind.tables;
-      resets = All-append (IsFileTable ds) (reset_at (command_at l) ds l ls) (resets_of ds ls) here.resets behind.resets;
+      resets = All-append (IsFileReset ds) (reset_at (command_at l) ds l ls) (resets_of ds ls) here.resets behind.resets;
     }

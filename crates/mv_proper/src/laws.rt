@@ -12,10 +12,11 @@ pub fn lines_ascend()
 {}
 
 /// A design that the grammar accepts, within the limits, has its root among its models, no two of which have one name. Of each
-/// model the names are lawful and different where they have to be, the declared nets have values, the entries of the tables and
-/// reset tables fit their columns, the input of each latch has as many values as its output, and no instance binds a formal
-/// twice. Where the numbers of the lines ascend the tables, latches, reset tables and instances of each model stand by ascending
-/// line, each kind for itself, and no two of them have one line, unless a reset table has that of its own latch.
+/// model the names are lawful and different where they have to be, the declared nets have values, tables have some outputs and
+/// reset tables one, their entries fit their columns, the input of each latch has as many values as its output, and no instance
+/// binds a formal twice. Where the numbers of the lines ascend the tables, latches, reset tables and instances of each model
+/// stand by ascending line, each kind for itself, and no two of them have one line, unless a reset table has that of its own
+/// latch.
 pub fn designs_are_proper()
     ensures { (lines : List LexLine) (d : Design) → numbers_ascend (numbers_of lines) ≡ true → IsDesign lines d → IsWithin lines → IsProper d }
 {}

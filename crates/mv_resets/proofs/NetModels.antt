@@ -1,5 +1,5 @@
 -- A lawful sound model, with a net for each reset value, is a model whose reset values have nets of their own.
-use Rattle.std.proofs.Common.{◌≡◌, ℕ, Bool, true, List, [], ◌∷◌, length, get_or, map, sym, ◌∙◌, ap, subst, ⊎_elim, All}
+use Rattle.std.proofs.Common.{◌≡◌, ℕ, ◌<◌, Bool, true, List, [], ◌∷◌, length, arith, get_or, map, sym, ◌∙◌, ap, subst, ⊎_elim, All}
 use Rattle.std.specs.List.{flat_map, list_all, list_any}
 use Rattle.std.proofs.lemmas.Bool.{false≢true, or_cases, or_left, or_right}
 use Rattle.std.proofs.lemmas.List.Elements.{All-map, All-weaker, Contains-get_or}
@@ -12,7 +12,7 @@ use Rattle.mv_design.specs.declared.design.FileModel.{FileModel}
 use Rattle.mv_design.specs.declared.table.Row.{Row}
 use Rattle.mv_design.specs.declared.table.FileTable.{FileTable}
 use Rattle.mv_design.specs.Nets.{columns_of, drivers, nets_driven, output_of}
-use Rattle.mv_design.specs.Proper.{IsFileRow, IsFileLatch, IsFileTable, IsLawful}
+use Rattle.mv_design.specs.Proper.{IsFileRow, IsFileLatch, IsFileTable, IsFileReset, IsLawful}
 use Rattle.mv_design.specs.Values.{count_of}
 use Rattle.mv_unfold.specs.Sound.{resets_named, HasResetsOfLatches, IsDrivenOnce, IsSoundModel}
 use Rattle.mv_unfold.proofs.Commands.{column_named, named_is_net, reset_named}
@@ -28,15 +28,16 @@ use Rattle.mv_resets.proofs.Values.{count_kept, count_of_reset, decls_lawful, va
 
 -- ---- tables
 
--- a table that fits declarations fits others, with another output of as many values
+-- a table that fits declarations fits others, with other outputs of as many values
 net_table : (ds es : List Decl) (t : FileTable) (outputs : List (List ℕ)) → IsFileTable ds t → map (count_of ds) t.inputs ≡ map (count_of es) t.inputs
-    → map (count_of ds) t.outputs ≡ map (count_of es) outputs → length outputs ≡ 1
+    → map (count_of ds) t.outputs ≡ map (count_of es) outputs → 0 < length outputs → (1 < length outputs → list_all is_net_name outputs ≡ true)
     → IsNetTable es (record { line = t.line; inputs = t.inputs; outputs = outputs; rows = t.rows; default = t.default })
-net_table ds es t outputs h e f single =
+net_table ds es t outputs h e f some several =
     let new : FileTable = record { line = t.line; inputs = t.inputs; outputs = outputs; rows = t.rows; default = t.default } in
     record {
       inputs = h.inputs;
-      single = single;
+      some = some;
+      several = several;
       rows = All-weaker (IsFileRow ds t) (IsFileRow es new)
           (λ (r : Row) k. record {
             sets = FitSets-alike ds es t.inputs t.inputs r.ins e k.sets;
@@ -50,16 +51,17 @@ counts_kept : (m : FileModel) (ws : List (List ℕ)) → list_all is_net_name ws
 counts_kept m ws h = map_alike (count_of m.decls) (count_of (with_reset_nets m).decls) is_net_name (λ w l. count_kept m w l) ws h
 
 kept_table : (m : FileModel) (t : FileTable) → IsFileTable m.decls t → IsNetTable (with_reset_nets m).decls t
-kept_table m t h = net_table m.decls (with_reset_nets m).decls t t.outputs h (counts_kept m t.inputs h.inputs) (counts_kept m t.outputs h.outputs) h.single
+kept_table m t h = net_table m.decls (with_reset_nets m).decls t t.outputs h (counts_kept m t.inputs h.inputs) (counts_kept m t.outputs h.outputs) h.some (λ several. h.outputs)
 
-made_table : (m : FileModel) (t : FileTable) → IsLawful m → among (output_of t) (resets_named m) ≡ true → IsFileTable m.decls t
+made_table : (m : FileModel) (t : FileTable) → IsLawful m → among (output_of t) (resets_named m) ≡ true → IsFileReset m.decls t
     → IsNetTable (with_reset_nets m).decls (reset_table t)
 made_table m t p listed h =
     let o = output_is t h.single in
+    let one : length (map reset_name t.outputs) ≡ 1 = ap (λ ws. length (map reset_name ws)) o in
     let P : List (List ℕ) → Type 0 = λ ws. map (count_of m.decls) ws ≡ map (count_of (with_reset_nets m).decls) (map reset_name ws) in
-    net_table m.decls (with_reset_nets m).decls t (map reset_name t.outputs) h (counts_kept m t.inputs h.inputs)
+    net_table m.decls (with_reset_nets m).decls t (map reset_name t.outputs) h.table (counts_kept m t.inputs h.table.inputs)
     (subst P (sym o) (ap (λ n. n ∷ []) (count_of_reset m (output_of t) p.decls listed)))
-    (ap (λ ws. length (map reset_name ws)) o)
+    (omega (arith, one)) (λ several. absurd (omega (arith, one, several)))
 
 -- the output of each table is among their outputs
 pub output_listed : (ts : List FileTable) → All (λ t. among (output_of t) (map output_of ts) ≡ true) ts
@@ -83,9 +85,9 @@ driven_flat m w p h =
     let drives : FileTable → Bool = λ t. among w t.outputs in
     ⊎_elim
     (λ (r : list_any (λ (t : FileTable). drives (reset_table t)) m.resets ≡ true).
-    let t = has (IsFileTable m.decls) (λ (t : FileTable). drives (reset_table t)) m.resets p.resets r in
+    let t = has (IsFileReset m.decls) (λ (t : FileTable). drives (reset_table t)) m.resets p.resets r in
     let n = named w t.item.outputs t.passes in
-    ap is_flat_name n.is ∙ or_right (is_net_name (reset_name n.latch)) _ (all_among is_net_name t.item.outputs n.latch t.holds.outputs n.listed))
+    ap is_flat_name n.is ∙ or_right (is_net_name (reset_name n.latch)) _ (all_among is_net_name t.item.outputs n.latch t.holds.table.outputs n.listed))
     (λ (y : list_any drives m.tables ≡ true).
     let t = has (IsFileTable m.decls) drives m.tables p.tables y in
     or_left _ _ (all_among is_net_name t.item.outputs w t.holds.outputs t.passes))

@@ -19,7 +19,7 @@ use Rattle.mv_design.specs.declared.design.FileModel.{FileModel}
 use Rattle.mv_design.specs.declared.table.FileTable.{FileTable}
 use Rattle.mv_design.specs.ByLine.{by_line}
 use Rattle.mv_design.specs.Nets.{columns_of, output_of, nets_of, nets_driven, latch_inputs, latch_outputs, drivers}
-use Rattle.mv_design.specs.Proper.{IsFileTable, IsLawful}
+use Rattle.mv_design.specs.Proper.{IsFileTable, IsFileReset, IsLawful}
 use Rattle.mv_unfold.specs.Sound.{resets_named, HasResetsOfLatches, IsDrivenOnce}
 use Rattle.mv_design.proofs.ByLine.{any-by_line}
 use Rattle.mv_unfold.proofs.Commands.{among-nets_named, driver_is_net}
@@ -56,6 +56,10 @@ table_lawful w ds ts all h =
     let lawful = list_all-append is_net_name t.item.inputs t.item.outputs ∙ and_from _ _ t.holds.inputs t.holds.outputs in
     all_among is_net_name (columns_of t.item) w lawful t.passes
 
+-- reset tables are tables
+resets_are_tables : (ds : List Decl) (ts : List FileTable) → All (IsFileReset ds) ts → All (IsFileTable ds) ts
+resets_are_tables ds ts all = λ k d l. (all k d l).table
+
 -- the nets of a lawful model have lawful names
 pub named_lawful : (w : List ℕ) (m : FileModel) → IsLawful m → among w (nets_of m) ≡ true → is_net_name w ≡ true
 named_lawful w m p h =
@@ -66,7 +70,7 @@ named_lawful w m p h =
     (λ b. ⊎_elim
     (λ l. ⊎_elim (all_among is_net_name (latch_inputs m) w nexts) (all_among is_net_name (latch_outputs m) w states)
     (or_cases (among w (latch_inputs m)) _ l))
-    (λ c. ⊎_elim (table_lawful w m.decls m.resets p.resets) (table_lawful w m.decls m.tables p.tables)
+    (λ c. ⊎_elim (table_lawful w m.decls m.resets (resets_are_tables m.decls m.resets p.resets)) (table_lawful w m.decls m.tables p.tables)
     (or_cases (among w (flat_map columns_of m.resets)) _ c))
     (or_cases (among w (latch_inputs m) || among w (latch_outputs m)) _ b))
     (or_cases (among w m.outputs) _ a))

@@ -10,7 +10,7 @@ use Rattle.mv_graph.specs.Above.{GoesOn, IsAcyclic}
 use Rattle.mv_design.specs.declared.design.FileModel.{FileModel}
 use Rattle.mv_design.specs.declared.table.FileTable.{FileTable}
 use Rattle.mv_design.specs.Nets.{drivers, latch_outputs, nets_driven, nets_of}
-use Rattle.mv_design.specs.Proper.{IsFileTable, IsLawful}
+use Rattle.mv_design.specs.Proper.{IsFileReset, IsLawful}
 use Rattle.mv_unfold.specs.Sound.{reads, reads_through, resets_named, HasResetsOfLatches, IsDrivenOnce, IsSoundModel, IsWithinLimits, StandsAlone}
 use Rattle.mv_unfold.proofs.Commands.{driver_is_net, read_is_net, reader_is_net}
 use Rattle.mv_unfold.proofs.Distinct.{apart_length, differ_counted, drivers_counted, few_drivers}
@@ -59,8 +59,8 @@ read_lawful : (m : FileModel) (net above : List ℕ) → IsLawful m → reads (w
 read_lawful m net above p h =
     ⊎_elim
     (λ r.
-    let t = has (IsFileTable m.decls) (λ (t : FileTable). reads_through net above (reset_table t)) m.resets p.resets r in
-    all_among is_net_name t.item.inputs above t.holds.inputs ((and_parts _ _ t.passes).1))
+    let t = has (IsFileReset m.decls) (λ (t : FileTable). reads_through net above (reset_table t)) m.resets p.resets r in
+    all_among is_net_name t.item.inputs above t.holds.table.inputs ((and_parts _ _ t.passes).1))
     (λ y. named_lawful above m p (read_is_net m net above y))
     (reads_either m net above h)
 
@@ -70,7 +70,7 @@ read_kept : (m : FileModel) (net above : List ℕ) → IsLawful m → is_net_nam
 read_kept m net above p lawful h =
     ⊎_elim
     (λ r.
-    let t = has (IsFileTable m.decls) (λ (t : FileTable). reads_through net above (reset_table t)) m.resets p.resets r in
+    let t = has (IsFileReset m.decls) (λ (t : FileTable). reads_through net above (reset_table t)) m.resets p.resets r in
     absurd (false≢true (sym (lawful_among net t.item.outputs lawful) ∙ (and_parts _ _ t.passes).0)))
     (λ y. y)
     (reads_either m net above h)

@@ -17,7 +17,7 @@ use Rattle.mv_design.specs.declared.table.FileTable.{FileTable}
 use Rattle.mv_design.specs.Meaning.{in_values, is_reset_of, has_reset_table, lets_begin, may_begin, may_begin_all, table_holds}
 use Rattle.mv_design.specs.Meaning.{port, latch_port, of_model, AllowsModel}
 use Rattle.mv_design.specs.Nets.{latch_inputs, latch_outputs, nets_named, output_of}
-use Rattle.mv_design.specs.Proper.{IsFileTable, IsLawful}
+use Rattle.mv_design.specs.Proper.{IsFileTable, IsFileReset, IsLawful}
 use Rattle.mv_design.specs.Tables.{table_allows}
 use Rattle.mv_design.specs.Values.{count_of, values_of}
 use Rattle.mv_unfold.specs.Sound.{resets_named, HasResetsOfLatches, IsSoundModel}
@@ -67,7 +67,7 @@ same_interface m p =
 -- ---- from the nets to the model
 
 -- a reset value of a latch is one of its reset net
-begins_net : (m : FileModel) (value : List ℕ → ℕ) (l : FileLatch) (r : ℕ) (t : FileTable) → IsFileTable m.decls t → table_holds value (reset_table t) ≡ true
+begins_net : (m : FileModel) (value : List ℕ → ℕ) (l : FileLatch) (r : ℕ) (t : FileTable) → IsFileReset m.decls t → table_holds value (reset_table t) ≡ true
     → r ≡ value (reset_name l.output) → lets_begin value l r t ≡ true
 begins_net m value l r t h holds e =
     ⊎_elim
@@ -230,7 +230,7 @@ table_kept m value r t h holds =
 
 -- the table of a reset net allows the reset value of the latch
 reset_holds : (m : FileModel) (value : List ℕ → ℕ) (r : List ℕ) (t : FileTable)
-    (b : Begins m value (output_of t) (value_in (latch_outputs m) r (output_of t))) → IsFileTable m.decls t
+    (b : Begins m value (output_of t) (value_in (latch_outputs m) r (output_of t))) → IsFileReset m.decls t
     → lets_begin value b.latch (value_in (latch_outputs m) r (output_of t)) t ≡ true → table_holds (nets_valued m value r) (reset_table t) ≡ true
 reset_holds m value r t b h lets =
     let o = output_is t h.single in
@@ -239,7 +239,7 @@ reset_holds m value r t b h lets =
     let allowed : table_allows t.rows t.default (map value t.inputs) (value_in (latch_outputs m) r v ∷ []) ≡ true =
     ⊎_elim (λ (y : not (is_reset_of b.latch t) ≡ true). absurd (false≢true (sym (not-true _ y) ∙ is_its))) (λ y. y)
     (or_cases (not (is_reset_of b.latch t)) _ lets) in
-    ap (λ vs. table_allows t.rows t.default vs (map (nets_valued m value r) (map reset_name t.outputs))) (same_values m value r t.inputs h.inputs)
+    ap (λ vs. table_allows t.rows t.default vs (map (nets_valued m value r) (map reset_name t.outputs))) (same_values m value r t.inputs h.table.inputs)
     ∙ (ap (λ ws. table_allows t.rows t.default (map value t.inputs) (map (nets_valued m value r) (map reset_name ws))) o ∙ allowed)
 
 -- each latch of a reset table begins with its reset value

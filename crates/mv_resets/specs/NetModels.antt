@@ -21,10 +21,12 @@ pub record HasLawfulValues (d : Decl) : Type 0 where
   pub lawful : list_all is_value_name d.values ≡ true
   pub differ : names_differ d.values ≡ true
 
--- a table of one output, whose inputs have lawful names, and whose rows and default fit it
+-- a table of some outputs, whose inputs have lawful names, and whose rows and default fit it; several outputs have lawful
+-- names: none of them is a reset net
 pub record IsNetTable (ds : List Decl) (t : FileTable) : Type 0 where
   pub inputs : list_all is_net_name t.inputs ≡ true
-  pub single : length t.outputs ≡ 1
+  pub some : 0 < length t.outputs
+  pub several : 1 < length t.outputs → list_all is_net_name t.outputs ≡ true
   pub rows : All (IsFileRow ds t) t.rows
   pub default : (entries : List Entry) → t.default ≡ Some entries → FitOutputs ds t.inputs t.outputs entries
 

@@ -10,6 +10,7 @@ use Rattle.mv_design.specs.declared.table.Entry.TheVariants.{Set, Same}
 use Rattle.mv_design.specs.declared.table.Row.{Row}
 use Rattle.mv_design.specs.declared.table.FileTable.{FileTable}
 use Rattle.mv_rows.specs.declared.column.Column.{Column}
+use Rattle.mv_rows.specs.Renumbered.{AreRenumbered}
 use Rattle.mv_rows.specs.Lines.{narrowed, count_at}
 use Rattle.mv_rows.specs.Flat.{only_entry, says_nothing}
 use Rattle.mv_rows.specs.Marked.{values_left, leaves_all, leaves_none, matches_all, matches_none, is_bare, some_row_bare, needs_mark, default_marked, is_marked}
@@ -38,11 +39,6 @@ default-alike cs ds alike rows (Some entries) =
     λ i. not (says_nothing (only_entry entries)) && not (bare i) && needs i
 
 -- ---- columns of words
-
--- for one word after the other, columns with as many values, of which the same are of one net
-pub record AreRenumbered (f g : List ℕ → Column) (ws : List (List ℕ)) : Type 0 where
-  pub counts : (u : List ℕ) → among u ws ≡ true → (f u).count ≡ (g u).count
-  pub nets : (u w : List ℕ) → among u ws ≡ true → among w ws ≡ true → nat_eq (f u).net.0 (f w).net.0 ≡ nat_eq (g u).net.0 (g w).net.0
 
 -- the first word is among the words, and those behind it are
 first_among : (w : List ℕ) (ws : List (List ℕ)) → among w (w ∷ ws) ≡ true

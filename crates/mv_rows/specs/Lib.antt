@@ -3,6 +3,7 @@ pub mod Lines
 pub mod Flat
 pub mod Covers
 pub mod Marked
+pub mod Renumbered
 -- what private functions alone cite
 pub mod Columns
 pub mod Meeting

@@ -1,3 +1,4 @@
 pub mod Places
 pub mod Ended
 pub mod Lines
+pub mod Outputs

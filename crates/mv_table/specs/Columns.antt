@@ -1,11 +1,11 @@
 -- The first line of a table, `.table COLUMNS`, and of a reset table, `.reset COLUMNS`: its columns and their faults.
-use Rattle.std.specs.Prelude.{ℕ, ◌+◌, ◌-◌, Bool, not, ◌&&◌, ◌==◌, nat_lt, nat_le, List, [], ◌∷◌, ◌++◌, length, take, drop, codes, if◌then◌else◌}
+use Rattle.std.specs.Prelude.{ℕ, ◌+◌, ◌-◌, Bool, not, ◌==◌, nat_lt, nat_le, List, [], ◌∷◌, ◌++◌, length, take, drop, codes, if◌then◌else◌}
 use Rattle.std.specs.List.{position_or_len}
-use Rattle.mv_base.specs.Names.{same_word, is_net_name}
+use Rattle.mv_base.specs.Names.{same_word, among, is_net_name}
 use Rattle.mv_base.specs.declared.limits.TheConstants.{MAX_COLUMNS}
 use Rattle.mv_fault.specs.declared.fault.Which.TheVariants.{Columns}
 use Rattle.mv_fault.specs.declared.fault.ParseFault.{ParseFault}
-use Rattle.mv_fault.specs.declared.fault.ParseFault.TheVariants.{Missing, Extra, Limit, BadName}
+use Rattle.mv_fault.specs.declared.fault.ParseFault.TheVariants.{Missing, Extra, Repeated, Limit, BadName}
 use Rattle.mv_fault.specs.Tells.{when}
 
 -- the word between the inputs and the outputs
@@ -32,20 +32,25 @@ ins_of words = take (ins_count words) words
 unfoldable pub outs_of : List (List ℕ) → List (List ℕ)
 outs_of words = drop (if has_arrow words then arrow_at words + 1 else length words - 1) words
 
--- the words say several outputs: more than one name behind the first `->`, and no second `->`, which is a fault of its own
-unfoldable pub has_several_outputs : List (List ℕ) → Bool
-has_several_outputs words = nat_lt 1 (length (outs_of words)) && not (has_arrow (outs_of words))
+-- the faults of a column of this name, behind so many columns
+abbrev pub column_faults : ℕ → ℕ → List ℕ → List ParseFault
+column_faults n at w = when (nat_le MAX_COLUMNS at) (Limit n Columns (MAX_COLUMNS + 1)) ++ when (not (is_net_name w)) (BadName n w)
 
--- the faults of column names behind so many columns
+-- the faults of columns behind so many others, where a name may stand twice, as among inputs
 abbrev pub names_faults : ℕ → ℕ → List (List ℕ) → List ParseFault
 names_faults n at [] = []
-names_faults n at (w ∷ ws) =
-    when (nat_le MAX_COLUMNS at) (Limit n Columns (MAX_COLUMNS + 1)) ++ when (not (is_net_name w)) (BadName n w) ++ names_faults n (at + 1) ws
+names_faults n at (w ∷ ws) = column_faults n at w ++ names_faults n (at + 1) ws
+
+-- the faults of the outputs of a table, behind so many columns, of which these are outputs: no output stands twice
+abbrev pub outputs_faults : ℕ → ℕ → List (List ℕ) → List (List ℕ) → List ParseFault
+outputs_faults n at earlier [] = []
+outputs_faults n at earlier (w ∷ ws) =
+    column_faults n at w ++ when (among w earlier) (Repeated n w) ++ outputs_faults n (at + 1) (earlier ++ w ∷ []) ws
 
 -- the faults of the words behind the command `word`: those of each column in turn, and an output that is lacking
 unfoldable pub columns_faults : ℕ → List ℕ → List (List ℕ) → List ParseFault
 columns_faults n word words =
-    names_faults n 0 (ins_of words) ++ names_faults n (length (ins_of words)) (outs_of words) ++ when (length (outs_of words) == 0) (Missing n word)
+    names_faults n 0 (ins_of words) ++ outputs_faults n (length (ins_of words)) [] (outs_of words) ++ when (length (outs_of words) == 0) (Missing n word)
 
 -- the faults of the outputs of a reset table, which has one, behind so many columns
 abbrev pub output_faults : ℕ → List ℕ → ℕ → List (List ℕ) → List ParseFault

@@ -1,11 +1,13 @@
-ghost use Rattle.std.specs.Prelude.{◌≡◌, ◌+◌, length};
+ghost use Rattle.std.specs.Prelude.{◌≡◌, ◌+◌, [], length};
 ghost use Rattle.std.specs.List.{position_or_len};
-ghost use Rattle.mv_table.specs.Columns.{is_arrow, arrow_at, has_arrow, ins_of, outs_of, has_several_outputs, names_faults, columns_faults, output_faults, reset_faults};
+ghost use Rattle.mv_table.specs.Columns.{is_arrow, arrow_at, ins_of, outs_of};
+ghost use Rattle.mv_table.specs.Columns.{column_faults, names_faults, outputs_faults, columns_faults, output_faults, reset_faults};
 ghost use Rattle.mv_fault.specs.Tells.{Tells};
 
-use mv_base::{MAX_COLUMNS, Name};
+use mv_base::{MAX_COLUMNS, Name, NameSet};
 use mv_fault::{ParseFault, Which};
 use mv_word::{is_net_name, is_text};
+use std::alloc::Global;
 
 /// The place of the first `->`, or the length where there is none.
 fn arrow_at(words: &[Name]) -> usize
@@ -17,13 +19,6 @@ fn arrow_at(words: &[Name]) -> usize
         }
     }
     words.len()
-}
-
-/// Whether one of the words is `->`.
-fn has_arrow(words: &[Name]) -> bool
-    ensures { result ≡ has_arrow words.now }
-{
-    arrow_at(words) < words.len()
 }
 
 /// The input columns among the words of a table's first line: the names before the first `->`, or all but the last.
@@ -52,30 +47,47 @@ pub fn outs(words: &[Name]) -> &[Name]
     }
 }
 
-/// Whether the words of a table's first line say several outputs: more than one name behind the first `->`, and no
-/// second `->`.
-#[tactic(auto, unfolding(crate::specs::Columns::has_several_outputs))]
-pub fn has_several_outputs(words: &[Name]) -> bool
-    ensures { result ≡ has_several_outputs words.now }
+/// Refuses a column of this name behind so many columns: one too many, or one whose name isn't lawful.
+fn check_column(number: u32, before: u128, name: &Name) -> Result<(), ParseFault>
+    ensures { Tells result (column_faults number before name.now) }
 {
-    let outs = outs(words);
-    outs.len() > 1 && !has_arrow(outs)
+    if before >= MAX_COLUMNS as u128 {
+        return Err(ParseFault::Limit {
+            line: number,
+            which: Which::Columns,
+            number: MAX_COLUMNS + 1,
+        });
+    }
+    if !is_net_name(name.bytes()) {
+        return Err(ParseFault::BadName {
+            line: number,
+            name: name.copy()?,
+        });
+    }
+    Ok(())
 }
 
-/// Tells the first fault of column names behind so many columns.
+/// Tells the first fault of column names behind so many columns, where a name may stand twice.
+#[tactic(auto, using(mv_fault::proofs::Firsts::firsts))]
 fn check_names(number: u32, before: usize, names: &[Name]) -> Result<(), ParseFault>
     ensures { Tells result (names_faults number before names.now) }
 {
     for (at, name) in names.iter().enumerate() {
-        if before as u128 + at as u128 >= MAX_COLUMNS as u128 {
-            return Err(ParseFault::Limit {
-                line: number,
-                which: Which::Columns,
-                number: MAX_COLUMNS + 1,
-            });
-        }
-        if !is_net_name(name.bytes()) {
-            return Err(ParseFault::BadName {
+        check_column(number, before as u128 + at as u128, name)?;
+    }
+    Ok(())
+}
+
+/// Tells the first fault of several outputs behind so many columns.
+#[tactic(auto, using(mv_fault::proofs::Firsts::firsts))]
+fn check_several(alloc: Global, number: u32, before: usize, outs: &[Name]) -> Result<(), ParseFault>
+    ensures { Tells result (outputs_faults number before [] outs.now) }
+{
+    let mut seen = NameSet::new(alloc);
+    for (at, name) in outs.iter().enumerate() {
+        check_column(number, before as u128 + at as u128, name)?;
+        if !seen.add(name.copy()?)? {
+            return Err(ParseFault::Repeated {
                 line: number,
                 name: name.copy()?,
             });
@@ -84,15 +96,32 @@ fn check_names(number: u32, before: usize, names: &[Name]) -> Result<(), ParseFa
     Ok(())
 }
 
+/// Tells the first fault of the outputs of a table behind so many columns. A single output takes no memory.
+#[tactic(auto, using(crate::proofs::Outputs::single_output))]
+fn check_outputs(alloc: Global, number: u32, before: usize, outs: &[Name]) -> Result<(), ParseFault>
+    ensures { Tells result (outputs_faults number before [] outs.now) }
+{
+    match outs {
+        [] => Ok(()),
+        [_output] => check_names(number, before, outs),
+        _ => check_several(alloc, number, before, outs),
+    }
+}
+
 /// Tells the first fault of the words behind the command `word` of a table's first line.
 #[tactic(auto, using(mv_fault::proofs::Firsts::firsts), unfolding(crate::specs::Columns::columns_faults))]
-pub fn check_columns(number: u32, word: &Name, words: &[Name]) -> Result<(), ParseFault>
+pub fn check_columns(
+    alloc: Global,
+    number: u32,
+    word: &Name,
+    words: &[Name],
+) -> Result<(), ParseFault>
     ensures { Tells result (columns_faults number word.now words.now) }
 {
     let ins = ins(words);
     let outs = outs(words);
     check_names(number, 0, ins)?;
-    check_names(number, ins.len(), outs)?;
+    check_outputs(alloc, number, ins.len(), outs)?;
     if outs.is_empty() {
         return Err(ParseFault::Missing {
             line: number,

@@ -5,5 +5,5 @@ mod columns;
 mod entries;
 mod table;
 
-pub use columns::{check_columns, check_reset, has_several_outputs, ins, outs};
+pub use columns::{check_columns, check_reset, ins, outs};
 pub use table::{behind_first, is_default_word, read_table};

@@ -80,7 +80,7 @@ table_fits ps p line t lawful h a f =
     record {
       inputs = lawful_names (homes ps) (map p.home t.inputs) lawful (homes_among ps p t.inputs h ins);
       outputs = lawful_names (homes ps) (map p.home t.outputs) lawful (homes_among ps p t.outputs h outs);
-      single = length-map t.outputs p.home ∙ f.single;
+      some = let e = length-map t.outputs p.home in let s = f.some in omega (arith, e, s);
       rows = All-from_recursion FitsThere t.rows
           (each-weaker FitsHere FitsThere
           (λ r g. record { sets = fit_sets ps p t.inputs r.ins h ins g.sets; outs = fit_outputs ps p t.inputs t.outputs r.outs h ins outs g.outs })

@@ -1,6 +1,7 @@
 -- The one model of a root and its instances is as the grammar has models, where the models of all places are.
 use Rattle.std.proofs.Common.{◌≡◌, ℕ, suc, ◌+◌, true, List, [], ◌∷◌, ◌++◌, length, map, None, All, refl, sym, ◌∙◌, ap, subst}
 use Rattle.std.specs.List.{AllByRecursion, flat_map}
+use Rattle.std.proofs.lemmas.List.{length-map}
 use Rattle.std.proofs.lemmas.List.Elements.{All-nil, All-from_recursion, recursion_from_All}
 use Rattle.mv_base.specs.Names.{among, names_differ, is_net_name}
 use Rattle.mv_design.specs.declared.design.Decl.{Decl}
@@ -10,10 +11,10 @@ use Rattle.mv_design.specs.declared.design.FileModel.{FileModel}
 use Rattle.mv_design.specs.declared.design.Part.{Part}
 use Rattle.mv_design.specs.declared.table.FileTable.{FileTable}
 use Rattle.mv_design.specs.Nets.{columns_of}
-use Rattle.mv_design.specs.Proper.{IsFileBind, IsFileTable, IsFileLatch, IsFileDecl, IsFilePart, IsLawful}
+use Rattle.mv_design.specs.Proper.{IsFileBind, IsFileTable, IsFileReset, IsFileLatch, IsFileDecl, IsFilePart, IsLawful}
 use Rattle.mv_tree.specs.Tree.{Instances, NoMore, Instance, Unfolds}
 use Rattle.mv_tree.specs.Places.{all_nets, actual_of, Place, root_place, path_in, place_in, places_in, places, own_nets, homes}
-use Rattle.mv_tree.specs.Unfolded.{placed_decl, decls_in, numbered, tables_in, placed_reset, resets_in, placed_latch, latches_in, joined, unfolded}
+use Rattle.mv_tree.specs.Unfolded.{placed_decl, decls_in, numbered, renamed, tables_in, placed_reset, resets_in, placed_latch, latches_in, joined, unfolded}
 use Rattle.mv_tree.specs.Bound.{AreBound, FollowsGrammar}
 use Rattle.mv_tree.proofs.Each.{each-append, each-both, each-from_flat, each-from_names, each-from_test, each-front, each-behind, each-map, each-named, each-weaker}
 use Rattle.mv_tree.proofs.Allowing.{input_is_net, output_is_net}
@@ -78,10 +79,10 @@ follows_grammar d root tree u l =
     (each-both IsLawfulPlace IsPlaced FollowsGrammar
     (λ p f s.
     let Single : FileTable → Type 0 = λ t. length t.outputs ≡ 1 in
-    let File : FileTable → Type 0 = IsFileTable p.model.decls in
+    let Reset : FileTable → Type 0 = IsFileReset p.model.decls in
     record {
       once = s.once;
-      single = All-from_recursion Single p.model.resets (each-weaker File Single (λ t g. g.single) p.model.resets (recursion_from_All File p.model.resets f.resets));
+      single = All-from_recursion Single p.model.resets (each-weaker Reset Single (λ t g. g.single) p.model.resets (recursion_from_All Reset p.model.resets f.resets));
     })
     ps lawful (all_placed d root tree u lawful))
 
@@ -108,11 +109,15 @@ latches_lawful : (ds : List Decl) (ls : List FileLatch) → AllByRecursion (IsFi
 latches_lawful ds ls h =
     each-from_flat IsNet latch_nets ls (each-weaker (IsFileLatch ds) (λ l. AllByRecursion IsNet (latch_nets l)) (λ l f. (f.input, (f.output, tt))) ls h)
 
+-- reset tables are tables
+resets_are_tables : (ds : List Decl) (ts : List FileTable) → All (IsFileReset ds) ts → AllByRecursion (IsFileTable ds) ts
+resets_are_tables ds ts h = each-weaker (IsFileReset ds) (IsFileTable ds) (λ t f. f.table) ts (recursion_from_All (IsFileReset ds) ts h)
+
 -- the nets of a lawful model have lawful names
 net_lawful : (m : FileModel) → IsLawful m → (net : List ℕ) → among net (all_nets m) ≡ true → IsNet net
 net_lawful m h net e =
     let latches = latches_lawful m.decls m.latches (recursion_from_All (IsFileLatch m.decls) m.latches h.latches) in
-    let resets = columns_lawful m.decls m.resets (recursion_from_All (IsFileTable m.decls) m.resets h.resets) in
+    let resets = columns_lawful m.decls m.resets (resets_are_tables m.decls m.resets h.resets) in
     let tables = columns_lawful m.decls m.tables (recursion_from_All (IsFileTable m.decls) m.tables h.tables) in
     let commands = each-append IsNet (flat_map latch_nets m.latches) _ latches (each-append IsNet (flat_map columns_of m.resets) _ resets tables) in
     let parts = each-append IsNet (flat_map actuals m.parts) _ (actuals_lawful m.parts (recursion_from_All IsFilePart m.parts h.parts)) commands in
@@ -168,16 +173,21 @@ tables_lawful ps at (q ∷ qs) names h =
     (numbered_lawful ps q at q.model.tables names h.0.1 (nets_among q.model).tables (recursion_from_All (IsFileTable q.model.decls) q.model.tables h.0.0.tables))
     (tables_lawful ps (at + length q.model.tables) qs names h.1)
 
+reset_fits : (ps : List Place) (p : Place) (line : ℕ) (t : FileTable) → AreLawful (homes ps) → Stands ps p → AreAmong (columns_of t) (all_nets p.model)
+    → IsFileReset p.model.decls t → IsFileReset (decls_in ps) (renamed p.home line t)
+reset_fits ps p line t names h a f = record { table = table_fits ps p line t names h a f.table; single = length-map t.outputs p.home ∙ f.single }
+
 resets_lawful : (ps : List Place) (at : ℕ) (qs : List Place) → AreLawful (homes ps) → AllByRecursion (IsGood ps) qs
-    → AllByRecursion (IsFileTable (decls_in ps)) (resets_in at qs)
+    → AllByRecursion (IsFileReset (decls_in ps)) (resets_in at qs)
 resets_lawful ps at [] names h = tt
 resets_lawful ps at (q ∷ qs) names h =
-    let There : FileTable → Type 0 = IsFileTable (decls_in ps) in
+    let There : FileTable → Type 0 = IsFileReset (decls_in ps) in
+    let Here : FileTable → Type 0 = IsFileReset q.model.decls in
     let Among : FileTable → Type 0 = λ t. AreAmong (columns_of t) (all_nets q.model) in
     each-append There (map (placed_reset at q) q.model.resets) (resets_in (at + length q.model.tables) qs)
     (each-map There (placed_reset at q) q.model.resets
-    (each-both Among (IsFileTable q.model.decls) (λ t. There (placed_reset at q t)) (λ t a f. table_fits ps q (placed_reset at q t).line t names h.0.1 a f)
-    q.model.resets (nets_among q.model).resets (recursion_from_All (IsFileTable q.model.decls) q.model.resets h.0.0.resets)))
+    (each-both Among Here (λ t. There (placed_reset at q t)) (λ t a f. reset_fits ps q (placed_reset at q t).line t names h.0.1 a f)
+    q.model.resets (nets_among q.model).resets (recursion_from_All Here q.model.resets h.0.0.resets)))
     (resets_lawful ps (at + length q.model.tables) qs names h.1)
 
 latch_fits : (ps : List Place) (q : Place) (l : FileLatch) → AreLawful (homes ps) → Stands ps q → AreAmong (latch_nets l) (all_nets q.model)
@@ -217,7 +227,7 @@ joined_lawful root ps l names h =
       decls = All-from_recursion IsFileDecl ds (decls_lawful ps ps names h);
       tables = All-from_recursion (IsFileTable ds) (tables_in 0 ps) (tables_lawful ps 0 ps names h);
       latches = All-from_recursion (IsFileLatch ds) (latches_in ps) (latches_lawful_in ps ps names h);
-      resets = All-from_recursion (IsFileTable ds) (resets_in 0 ps) (resets_lawful ps 0 ps names h);
+      resets = All-from_recursion (IsFileReset ds) (resets_in 0 ps) (resets_lawful ps 0 ps names h);
       parts = All-nil IsFilePart;
     }
 

@@ -9,8 +9,6 @@ mod laws;
 mod opened;
 mod paths;
 mod ports;
-#[cfg(test)]
-mod tests;
 mod walker;
 mod walking;
 

@@ -21,8 +21,6 @@ mod resets;
 mod spans;
 mod tables;
 mod tallies;
-#[cfg(test)]
-mod tests;
 
 pub use laws::{model_laws, sound_laws, whole_laws};
 pub use made::Whole;

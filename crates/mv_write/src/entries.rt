@@ -1,4 +1,4 @@
-ghost use Rattle.std.specs.Prelude.{◌≡◌, ◌<◌, ◌++◌, IsTrue, length};
+ghost use Rattle.std.specs.Prelude.{◌≡◌, ◌<◌, ◌∷◌, ◌++◌, [], IsTrue, IfSome, length};
 ghost use Rattle.std.specs.List.{flat_map};
 ghost use Rattle.mv_page.specs.Page.{AddsPiece, paged};
 ghost use Rattle.mv_base.specs.Set.{Within, full};
@@ -78,21 +78,43 @@ fn put_set<K: Sink>(
     page.put(b")", out)
 }
 
-/// Appends the entry of a set of values of this net, with this piece behind it.
+/// The entry of a set of a net's values where it is one byte, as most are: that of all values, or the number of one.
+fn short_entry(count: u16, names: &[Name], set: ValueSet) -> Option<u8>
+    requires values { AreValues count names.now }
+    requires set { IsOutput count set }
+    ensures { IfSome result (λ byte. entry_word (spelled_values count names.now) set ≡ byte ∷ []) }
+{
+    if set == ValueSet::full(count) {
+        return Some(b'-');
+    }
+    let first = set.least().unwrap();
+    let others = set.minus(ValueSet::one(first));
+    if names.is_empty() && first.0 < 10 && others == ValueSet::empty() {
+        return Some(b'0' + first.0 as u8);
+    }
+    None
+}
+
+/// Appends the entry of a set of values of this net, with this byte behind it.
 pub fn put_entry<K: Sink>(
     net: &Network,
     n: NetId,
     set: ValueSet,
-    behind: &[u8],
+    behind: u8,
     page: &mut Page,
     out: &mut K,
 ) -> Result<(), Failed>
     requires held { IsTrue (is_held net.now.nets n.0) }
     requires set { IsOutput (values_in (slot net.now.nets n.0)) set }
     ensures { AddsPiece (paged (K.state out.old) page.old) (paged (K.state out.new) page.new)
-        (entry_word (spelled_in (slot net.now.nets n.0)) set ++ behind.now) result }
+        (entry_word (spelled_in (slot net.now.nets n.0)) set ++ behind ∷ []) result }
 {
     net.well_formed();
-    put_set(net.values(n), net.value_names(n), set, page, out)?;
-    page.put(behind, out)
+    let count = net.values(n);
+    let names = net.value_names(n);
+    if let Some(byte) = short_entry(count, names, set) {
+        return page.put(&[byte, behind], out);
+    }
+    put_set(count, names, set, page, out)?;
+    page.put(&[behind], out)
 }

@@ -44,7 +44,7 @@ fn put_entries<K: Sink>(
     let mut left = lits;
     for n in fanins {
         let (set, rest) = first_of(net.values(*n), left, *n);
-        put_entry(net, *n, set, b" ", page, out)?;
+        put_entry(net, *n, set, b' ', page, out)?;
         left = rest;
     }
     Ok(())
@@ -67,7 +67,7 @@ fn put_row<K: Sink>(
         (line_text (line_words net.now.nets (spelled_in (slot net.now.nets n.0)) (numbers fanins.now) line.now)) result }
 {
     put_entries(net, line.cube.lits(), fanins, page, out)?;
-    put_entry(net, n, line.out, b"\n", page, out)
+    put_entry(net, n, line.out, b'\n', page, out)
 }
 
 /// Appends the rows of the table of this net.

@@ -4,6 +4,7 @@ mod commands;
 mod examples;
 mod faults;
 mod instances;
+mod joints;
 mod refusals;
 mod states;
 mod texts;

@@ -51,6 +51,25 @@ C HELD 0;.table last lock pick _m1 -> grant;A HELD - - A;B HELD - - B;C HELD - -
 .reset -> low;0;.table count low -> full;.default 0;1 2 1;.table high full -> second.next;0 0 0;1 0 1;2 0 2;0 1 1;\
 1 1 2;2 1 0;.reset -> high;0;.table high full -> carry;.default 0;2 1 1;.end; | \
 # begin drop;remove first.zero;remove second.zero;# end 28;# done 30 28;
+-- A table of three outputs in two instances: one choice each, and an output that nobody reads.
+# Two servers are asked at once, and each may answer or put off. What it says and how much it sends belong together.;\
+.model exchange;.inputs request;.outputs done size;.mv request 3 IDLE READ WRITE;.mv left, right 3 NONE READY LATER;\
+.mv left_size, right_size, size 3 ZERO ONE MANY;.subckt server first asked=request answer=left amount=left_size;\
+.subckt server second asked=request answer=right amount=right_size;;# it is done when both were ready;\
+.table left right -> done;.default 0;READY READY 1;;# the first counts, if it was ready, and else the second;\
+.table left left_size right_size -> size;READY - - =left_size;!READY - - =right_size;.end;;.model server;\
+.inputs asked;.outputs answer amount;.mv asked 3 IDLE READ WRITE;.mv answer 3 NONE READY LATER;\
+.mv amount 3 ZERO ONE MANY;;# one choice for three nets, the last of which nobody looks at;.table asked -> answer amount busy;\
+IDLE NONE ZERO 0;READ READY (ONE,MANY) 1;WRITE READY ONE 1;!IDLE LATER ZERO 0;.end; | \
+.model exchange;.inputs request;.outputs done size;.mv request 3 IDLE READ WRITE;.mv size 3 ZERO ONE MANY;.mv _m1 4;\
+.mv left 3 NONE READY LATER;.mv left_size 3 ZERO ONE MANY;.mv _m2 4;.mv right 3 NONE READY LATER;\
+.mv right_size 3 ZERO ONE MANY;.table left right -> done;.default 0;READY READY 1;\
+.table left left_size right_size -> size;READY ZERO - ZERO;READY ONE - ONE;READY MANY - MANY;(NONE,LATER) - ZERO ZERO;\
+(NONE,LATER) - ONE ONE;(NONE,LATER) - MANY MANY;.table request -> _m1;IDLE 0;READ 1;WRITE 2;(READ,WRITE) 3;\
+.table _m1 -> left;0 NONE;1 READY;2 READY;3 LATER;.table _m1 -> left_size;0 ZERO;1 (ONE,MANY);2 ONE;3 ZERO;\
+.table request -> _m2;IDLE 0;READ 1;WRITE 2;(READ,WRITE) 3;.table _m2 -> right;0 NONE;1 READY;2 READY;3 LATER;\
+.table _m2 -> right_size;0 ZERO;1 (ONE,MANY);2 ONE;3 ZERO;.end; | \
+# begin drop;remove first.busy;remove second.busy;# end 38;# done 46 38;
 ";
 
 /// The same of an example whose script is another one.

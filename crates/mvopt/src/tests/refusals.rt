@@ -184,10 +184,10 @@ const REFUSED: &str = "\
 .model a=b; | 36 BadName line 1 a=b
 .model m;0 1; | 37 NoTable line 2
  | 20 NoModel line 1
--- A line is judged by its place first, and tables that are not read yet are told apart.
+-- A line is judged by its place first.
 0 1; | 6 OutsideModel line 1
 .default 0; | 6 OutsideModel line 1
-.table -> z, z; | 39 NotBuilt line 1
+.table -> z, z; | 6 OutsideModel line 1
 .table -> z ->; | 6 OutsideModel line 1
 .model m;.table a -> b ->; | 36 BadName line 2 ->
 .model m;.table .a -> b ->; | 36 BadName line 2 .a
@@ -203,7 +203,7 @@ const REFUSED: &str = "\
 .model m;.r; | 8 Missing line 2 .r
 .model m;.reset; | 8 Missing line 2 .reset
 .model m;.subckt; | 8 Missing line 2 .subckt
-.model m;.table a, -> b c; | 39 NotBuilt line 2
+.model m;.table a, -> b c; | 36 BadName line 2 a,
 .model m;.model n; | 7 NoEnd line 1
  ;.model m;.model; | 7 NoEnd line 2
 .model a=b c; | 36 BadName line 1 a=b
@@ -536,7 +536,7 @@ fn long_table(alloc: Global, rows: usize) -> Result<Vec<u8>, Fail> {
 }
 
 /// A model of so many inputs, with these lines behind them.
-fn many_inputs(alloc: Global, count: u64, more: &[u8]) -> Result<Vec<u8>, Fail> {
+pub fn many_inputs(alloc: Global, count: u64, more: &[u8]) -> Result<Vec<u8>, Fail> {
     let mut text = Vec::from_slice(alloc, b".model m\n.inputs")?;
     for input in 0..count {
         text.extend_from_slice(format!(in alloc; " {input}")?.as_bytes())?;

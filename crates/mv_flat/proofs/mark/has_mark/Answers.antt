@@ -1,22 +1,47 @@
--- The covers that are made have a mark exactly where the table gets one.
-use Rattle.std.proofs.Common.{List, ◌∙◌, subst}
+-- The covers that are made have a mark exactly where the table gets one, and a joint table gets one by the numbers of its columns'
+-- nets as by any others.
+use Rattle.std.proofs.Common.{◌≡◌, Bool, List, sym, ◌∙◌, ap, subst}
+use Rattle.std.specs.Prelude.{IfOk}
 use Rattle.mv_rows.specs.declared.column.Column.{Column}
 use Rattle.mv_rows.specs.Flat.{IsMade}
+use Rattle.mv_joint.specs.Plain.{is_joint_marked}
 use Rattle.mv_flat.specs.Numbers.{mark_at}
-use Rattle.mv_flat.proofs.HasMark.{mark_is}
+use Rattle.mv_flat.proofs.HasMark.{mark_is, joint_marked_by}
+use Rattle.mv_flat.proofs.Singles.{single_output}
+use Rattle.mv_flat.proofs.Unmarked.{own_columns, own_file}
 use Rattle.mv_flat.proofs.mark.has_mark.Goals as goal
 
-pub covers-requires-clause-columns : goal.covers-requires-clause-columns
-covers-requires-clause-columns c = record {
+pub single_covers-requires-clause-columns : goal.single_covers-requires-clause-columns
+single_covers-requires-clause-columns c = record {
   decls = c.args.decls.now;
   proper = c.requires.proper;
   placed = c.requires.placed;
-  are = c.as_slice.ensures.value ∙ c.in_ok-columns.ensures;
+  are = c.as_slice-2.ensures.value ∙ c.in_ok-columns-2.ensures;
 }
+
+pub single_covers-requires-clause-single : goal.single_covers-requires-clause-single
+single_covers-requires-clause-single c = single_output c.args.table.now (sym c.is_joint.ensures ∙ c.if-is_joint.false) c.requires.placed.fits.some
+
+pub is_joint_marked-requires-clause-columns : goal.is_joint_marked-requires-clause-columns
+is_joint_marked-requires-clause-columns c =
+    own_columns c.args.names.now c.args.table.now _
+    (record { decls = c.args.decls.now; proper = c.requires.proper; placed = c.requires.placed; are = c.as_slice.ensures.value ∙ c.in_ok-columns.ensures })
+
+pub is_joint_marked-requires-clause-table : goal.is_joint_marked-requires-clause-table
+is_joint_marked-requires-clause-table c =
+    own_file c.args.names.now c.args.table.now _
+    (record { decls = c.args.decls.now; proper = c.requires.proper; placed = c.requires.placed; are = c.as_slice.ensures.value ∙ c.in_ok-columns.ensures })
+
+pub returns-then-is_joint : goal.returns-then-is_joint
+returns-then-is_joint c =
+    let P : Bool → Type 0 = λ y. IfOk c.is_joint_marked.result (λ b. b ≡ y) in
+    let own = ap (λ cs. is_joint_marked cs c.args.table.now) (c.as_slice.ensures.value ∙ c.in_ok-columns.ensures) in
+    let joint = sym c.is_joint.ensures ∙ c.if-is_joint.true in
+    subst P (own ∙ joint_marked_by c.args.decls.now c.args.names.now c.args.table.now c.requires.placed joint) c.is_joint_marked.ensures
 
 pub returns : goal.returns
 returns c =
     let P : List Column → Type 0 = λ cs. IsMade cs c.args.table.now (mark_at c.args.names.now c.args.table.now) c.in_ok-flat.flat in
     c.is_some.ensures
     ∙ mark_is c.args.decls.now c.args.names.now c.args.table.now _ c.requires.proper c.requires.placed
-    (subst P (c.as_slice.ensures.value ∙ c.in_ok-columns.ensures) c.in_ok-flat.ensures)
+    (sym c.is_joint.ensures ∙ c.if-is_joint.false) (subst P (c.as_slice-2.ensures.value ∙ c.in_ok-columns-2.ensures) c.in_ok-flat.ensures)

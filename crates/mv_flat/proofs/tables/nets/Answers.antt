@@ -8,15 +8,15 @@ use Rattle.mv_design.specs.declared.table.FileTable.{FileTable}
 use Rattle.mv_design.specs.declared.design.Decl.{Decl}
 use Rattle.mv_design.specs.Values.{count_of}
 use Rattle.mv_rows.specs.declared.column.Column.{Column}
-use Rattle.mv_rows.specs.Flat.{IsMade}
 use Rattle.mv_flat.specs.Built.{open_nets}
-use Rattle.mv_flat.specs.Numbers.{columns_at, mark_at}
+use Rattle.mv_flat.specs.Covers.{IsMadeTable}
+use Rattle.mv_flat.specs.Numbers.{choice_at, columns_at, mark_at}
 use Rattle.mv_flat.specs.Marks.{AddsNets, TableNets}
-use Rattle.mv_flat.specs.Sized.{AreSized}
-use Rattle.mv_flat.proofs.Behinds.{TablesMade, table_at, tables_more, tables_last, tables_room}
-use Rattle.mv_flat.proofs.Sizes.{sized_more, sized_last, past_limit, limit_told}
+use Rattle.mv_flat.specs.Sized.{AreSized, TellsWide}
+use Rattle.mv_flat.proofs.Behinds.{TablesMade, choice_at_table, outputs_few, table_at, tables_more, tables_last, tables_room}
+use Rattle.mv_flat.proofs.Sizes.{HasCovers, outputs_covered, sized_more, sized_last, past_limit, limit_told, wide_told}
 use Rattle.mv_flat.proofs.tables.nets.Goals as goal
-use Rattle.mv_flat.proofs.tables.nets.Goals.{In-Some, In-None, In_ok-flat, In_ok-put_table}
+use Rattle.mv_flat.proofs.tables.nets.Goals.{In-Some, In-None, In-Ok, In_ok-put_table}
 
 -- the table behind the first i ones
 record IsTableAt (m : FileModel) (i : ℕ) (t : FileTable) : Type 0 where
@@ -57,18 +57,47 @@ covers-requires-clause-columns c =
       are = c.as_slice-in-loop-table.ensures.value ∙ c.in_ok-columns.ensures c.args.model.decls c.requires.counts;
     }
 
+pub covers-requires-clause-chosen : goal.covers-requires-clause-chosen
+covers-requires-clause-chosen c =
+    let at = next (goal.at.covers-requires-clause-chosen c).In-Some in
+    choice_at_table c.args.model c.args.names.now (length c.loop-table.yielded) c.in-Some.table c.requires.placed.are at.low at.is
+
 -- its covers, over the model's nets
-covered : (c : In_ok-flat) → IsMade (columns_at c.args.model.decls c.args.names.now c.in-Some.table) c.in-Some.table (mark_at c.args.names.now c.in-Some.table) c.in_ok-flat.flat
+covered : (c : In-Ok) → HasCovers c.args.model.decls c.args.names.now c.in-Some.table c.in-Ok.covers
 covered c =
-    let P : List Column → Type 0 = λ cs. IsMade cs c.in-Some.table (mark_at c.args.names.now c.in-Some.table) c.in_ok-flat.flat in
-    subst P (c.as_slice-in-loop-table.ensures.value ∙ c.in_ok-columns.ensures c.args.model.decls c.requires.counts) c.in_ok-flat.ensures
+    let t = c.in-Some.table in
+    let P : List Column → Type 0 = λ cs. IsMadeTable cs t (mark_at c.args.names.now t) (choice_at c.args.names.now t) c.in-Ok.covers in
+    subst P (c.as_slice-in-loop-table.ensures.value ∙ c.in_ok-columns.ensures c.args.model.decls c.requires.counts) c.in-Ok.ensures.made
 
 pub returns-in-Err-clause-fault : goal.returns-in-Err-clause-fault
 returns-in-Err-clause-fault c =
     let at = next (goal.at.returns-in-Err-clause-fault c).In-Some in
-    limit_told c.args.file_nets c.args.model c.in-Err.fault
-    (past_limit c.args.file_nets c.args.model c.args.names.now (length c.loop-table.yielded) c.loop-table.size c.in-Some.table c.in_ok-flat.flat c.in-Err.fault
-    c.requires.placed.are c.loop-table.invariant.sized at.low at.is (covered (goal.at.returns-in-Err-clause-fault c).In_ok-flat) c.in-Err.ensures.fault)
+    let P : List Column → Type 0 = λ cs. TellsWide cs c.args.names.now c.in-Some.table c.in-Err.fault in
+    wide_told c.args.file_nets c.args.model c.args.names.now (length c.loop-table.yielded) c.loop-table.size c.in-Some.table c.in-Err.fault
+    c.requires.placed.are c.loop-table.invariant.sized at.low at.is
+    (subst P (c.as_slice-in-loop-table.ensures.value ∙ c.in_ok-columns.ensures c.args.model.decls c.requires.counts) c.in-Err.ensures.wide)
+
+pub with-requires-clause-some : goal.with-requires-clause-some
+with-requires-clause-some c =
+    let at = next (goal.at.with-requires-clause-some c).In-Some in
+    (table_at c.args.model c.args.names.now (length c.loop-table.yielded) c.in-Some.table c.requires.placed at.low at.is).fits.some
+
+pub with-requires-clause-few : goal.with-requires-clause-few
+with-requires-clause-few c =
+    let to = goal.at.with-requires-clause-few c in
+    let at = next to.In-Some in
+    let some = (table_at c.args.model c.args.names.now (length c.loop-table.yielded) c.in-Some.table c.requires.placed at.low at.is).fits.some in
+    let many = outputs_covered c.args.model.decls c.args.names.now c.in-Some.table c.in-Ok.covers some (covered to.In-Ok) in
+    let few = outputs_few c.args.model c.args.names.now (length c.loop-table.yielded) c.in-Some.table c.requires.placed at.low at.is in
+    omega (arith, many, few)
+
+pub returns-in-Err-with-clause-fault : goal.returns-in-Err-with-clause-fault
+returns-in-Err-with-clause-fault c =
+    let to = goal.at.returns-in-Err-with-clause-fault c in
+    let at = next to.In-Some in
+    limit_told c.args.file_nets c.args.model c.in-Err-with.fault
+    (past_limit c.args.file_nets c.args.model c.args.names.now (length c.loop-table.yielded) c.loop-table.size c.in-Some.table c.in-Ok.covers c.in-Err-with.fault
+    c.requires.placed.are c.loop-table.invariant.sized at.low at.is (covered to.In-Ok) c.in-Err-with.ensures.fault)
 
 -- the nets with those of the table behind them
 made_more : (c : In_ok-put_table) → IsTableAt c.args.model (length c.loop-table.yielded) c.in-Some.table
@@ -83,23 +112,23 @@ made_more c at =
 
 -- the size with the covers of the table
 sized_with : (c : In_ok-put_table) → IsTableAt c.args.model (length c.loop-table.yielded) c.in-Some.table
-    → IsMade (columns_at c.args.model.decls c.args.names.now c.in-Some.table) c.in-Some.table (mark_at c.args.names.now c.in-Some.table) c.in_ok-flat.flat
-    → AreSized c.args.file_nets c.args.model c.args.names.now (length (c.loop-table.yielded ++ c.in-Some.table ∷ [])) c.in-Ok.size
+    → HasCovers c.args.model.decls c.args.names.now c.in-Some.table c.in-Ok.covers
+    → AreSized c.args.file_nets c.args.model c.args.names.now (length (c.loop-table.yielded ++ c.in-Some.table ∷ [])) c.in-Ok-with.size
 sized_with c at covers =
-    let P : ℕ → Type 0 = λ i. AreSized c.args.file_nets c.args.model c.args.names.now i c.in-Ok.size in
+    let P : ℕ → Type 0 = λ i. AreSized c.args.file_nets c.args.model c.args.names.now i c.in-Ok-with.size in
     subst P (sym (length_push c.loop-table.yielded c.in-Some.table))
-    (sized_more c.args.file_nets c.args.model c.args.names.now (length c.loop-table.yielded) c.loop-table.size c.in-Ok.size c.in-Some.table c.in_ok-flat.flat
-    c.loop-table.invariant.sized at.low at.is covers c.in-Ok.ensures.size c.in-Ok.ensures.within)
+    (sized_more c.args.file_nets c.args.model c.args.names.now (length c.loop-table.yielded) c.loop-table.size c.in-Ok-with.size c.in-Some.table c.in-Ok.covers
+    c.loop-table.invariant.sized at.low at.is covers c.in-Ok-with.ensures.size c.in-Ok-with.ensures.within)
 
 pub loop-table-preserved-in_ok-put_table : goal.loop-table-preserved-in_ok-put_table
 loop-table-preserved-in_ok-put_table c =
     let to = goal.at.loop-table-preserved-in_ok-put_table c in
-    record { made = made_more to.In_ok-put_table (next to.In-Some); sized = sized_with to.In_ok-put_table (next to.In-Some) (covered to.In_ok-flat) }
+    record { made = made_more to.In_ok-put_table (next to.In-Some); sized = sized_with to.In_ok-put_table (next to.In-Some) (covered to.In-Ok) }
 
 pub loop-table-preserved : goal.loop-table-preserved
 loop-table-preserved c =
     let to = goal.at.loop-table-preserved c in
-    record { made = made_more to.In_ok-put_table (next to.In-Some); sized = sized_with to.In_ok-put_table (next to.In-Some) (covered to.In_ok-flat) }
+    record { made = made_more to.In_ok-put_table (next to.In-Some); sized = sized_with to.In_ok-put_table (next to.In-Some) (covered to.In-Ok) }
 
 end : (c : In-None) → length c.args.model.tables ≤ length c.loop-table.yielded
 end c =
