@@ -6,7 +6,11 @@ pub mod Tables
 pub mod Lists
 pub mod Anys
 pub mod Splitting
+pub mod Gathering
+pub mod Taken
+pub mod Resting
 pub mod PlainMeaning
+pub mod Wide
 pub mod Choosing
 pub mod Outs
 pub mod Whole

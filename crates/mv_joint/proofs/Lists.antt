@@ -10,7 +10,7 @@ use Rattle.mv_design.specs.declared.table.Row.{Row}
 use Rattle.mv_joint.specs.OutRows.{same_outs, same_outs-Decides}
 use Rattle.mv_joint.specs.Joint.{output_row, output_rows, output_table, choice_columns, IsCoverOf, AreOutputs}
 
-inserted_append : (keys xs ys : List (List ℕ)) → insert_all same_outs keys (xs ++ ys) ≡ insert_all same_outs (insert_all same_outs keys xs) ys
+pub inserted_append : (keys xs ys : List (List ℕ)) → insert_all same_outs keys (xs ++ ys) ≡ insert_all same_outs (insert_all same_outs keys xs) ys
 inserted_append keys [] ys = refl
 inserted_append keys (x ∷ xs) ys = inserted_append (insert_key same_outs keys x) xs ys
 

@@ -58,7 +58,7 @@ holds-said : (values outs : List ℕ) (rows : List PlainRow) → list_any (holds
 holds-said values outs rows =
     any-filter (holds_at values outs) (λ (r : PlainRow). not (is_silent r)) (λ r gone. and_right _ _ (silent_holds r.outs outs (not_false (is_silent r) gone))) rows
 
-all_said : (rows : List PlainRow) → list_any is_silent rows ≡ false → said rows ≡ rows
+pub all_said : (rows : List PlainRow) → list_any is_silent rows ≡ false → said rows ≡ rows
 all_said [] h = refl
 all_said (r ∷ rows) h =
     let p = or_parts (is_silent r) (list_any is_silent rows) h in

@@ -1,9 +1,8 @@
 -- Rows with one entry more still have a set for each column.
-use Rattle.std.proofs.Common.{◌≡◌, ℕ, zero, suc, ◌+◌, true, List, [], ◌∷◌, ◌++◌, sym, ◌∙◌, ap, arith, add-one, All}
+use Rattle.std.proofs.Common.{◌≡◌, ℕ, zero, suc, true, false, not, List, [], ◌∷◌, ◌++◌, filter, refl, sym, ◌∙◌, ap, All}
 use Rattle.std.specs.Prelude.{slice_index, slice_set}
 use Rattle.std.specs.List.{flat_map, range_with_len}
 use Rattle.std.proofs.lemmas.Bool.{cond_both, eqb-true}
-use Rattle.std.proofs.lemmas.List.{flat_map_more}
 use Rattle.std.proofs.lemmas.List.Elements.{All-nil, All-cons, All-head, All-tail, All-append}
 use Rattle.mv_base.specs.Set.{has, one}
 use Rattle.mv_base.proofs.Sets.{has-one}
@@ -12,8 +11,9 @@ use Rattle.mv_design.specs.declared.table.Entry.TheVariants.{Set, Same}
 use Rattle.mv_rows.specs.declared.column.Column.{Column}
 use Rattle.mv_rows.specs.Cubes.{FitRow}
 use Rattle.mv_rows.specs.Lines.{count_at}
+use Rattle.mv_rows.specs.Marked.{matches_none}
 use Rattle.mv_joint.specs.declared.split.PlainRow.{PlainRow}
-use Rattle.mv_joint.specs.Split.{narrowing, extended, IsFit}
+use Rattle.mv_joint.specs.Split.{narrowing, extended, is_possible, IsFit}
 
 pub fit_one : (cs : List Column) (sets : List ℕ) (k v : ℕ) → FitRow cs sets → has (slice_index sets k) v ≡ true → FitRow cs (slice_set sets k (one v))
 fit_one [] [] k v fit h = tt
@@ -23,7 +23,7 @@ fit_one (c ∷ cs) (s ∷ sets) zero v fit h =
     ((λ u m. let e : u ≡ v = eqb-true u v (sym (has-one v u) ∙ m) in fit.0 u (ap (has s) e ∙ h)), fit.1)
 fit_one (c ∷ cs) (s ∷ sets) (suc k) v fit h = (fit.0, fit_one cs sets k v fit.1 h)
 
-fit_narrowing : (cs : List Column) (k : ℕ) (r : PlainRow) (v : ℕ) → IsFit cs r → All (IsFit cs) (narrowing k r v)
+pub fit_narrowing : (cs : List Column) (k : ℕ) (r : PlainRow) (v : ℕ) → IsFit cs r → All (IsFit cs) (narrowing k r v)
 fit_narrowing cs k r v fit =
     let row : PlainRow = record { ins = slice_set r.ins k (one v); outs = r.outs ++ one v ∷ [] } in
     cond_both (has (slice_index r.ins k) v) (row ∷ []) [] (All (IsFit cs))
@@ -43,18 +43,14 @@ all_fit_extended cs e [] all = All-nil (IsFit cs)
 all_fit_extended cs e (r ∷ rows) all =
     All-append (IsFit cs) (extended cs e r) (flat_map (extended cs e) rows) (fit_extended cs e r (All-head (IsFit cs) r rows all)) (all_fit_extended cs e rows (All-tail (IsFit cs) r rows all))
 
--- ---- one more number
+-- ---- one row with a value alone
 
-numbers_push : (a n : ℕ) → range_with_len a (suc n) ≡ range_with_len a n ++ (a + n) ∷ []
-numbers_push a zero = ap (λ (x : ℕ). x ∷ []) (let e : a ≡ a + 0 = omega arith in e)
-numbers_push a (suc n) =
-    let e : (a + 1) + n ≡ a + suc n = omega arith in ap (λ (l : List ℕ). a ∷ l) (numbers_push (a + 1) n ∙ ap (λ (k : ℕ). range_with_len (a + 1) n ++ k ∷ []) e)
+pub narrowing_none : (cs : List Column) (k : ℕ) (r : PlainRow) (v : ℕ) → has (slice_index r.ins k) v ≡ false → [] ≡ filter (is_possible cs) (narrowing k r v)
+narrowing_none cs k r v gone = rw gone refl
 
-pub numbers_more : (n : ℕ) → range_with_len 0 (n + 1) ≡ range_with_len 0 n ++ n ∷ []
-numbers_more n = ap (range_with_len 0) (add-one n) ∙ (numbers_push 0 n ∙ ap (λ (k : ℕ). range_with_len 0 n ++ k ∷ []) (let e : 0 + n ≡ n = omega arith in e))
-
--- one value more
-pub values_more : {X : Type 0} (f : ℕ → List X) (a b c : List X) (n : ℕ) → b ≡ a ++ flat_map f (range_with_len 0 n) → c ≡ b ++ f n → c ≡ a ++ flat_map f (range_with_len 0 (n + 1))
-values_more f a b c n before more =
-    more ∙ (ap (λ xs. xs ++ f n) before
-    ∙ (flat_map_more f a (range_with_len 0 n) n ∙ ap (λ (ns : List ℕ). a ++ flat_map f ns) (sym (numbers_more n))))
+pub narrowing_kept : (cs : List Column) (k : ℕ) (r : PlainRow) (v : ℕ) (ins outs : List ℕ) → has (slice_index r.ins k) v ≡ true → ins ≡ slice_set r.ins k (one v) → outs ≡ r.outs ++ one v ∷ [] → not (matches_none cs ins) ≡ true → record { ins = ins; outs = outs } ∷ [] ≡ filter (is_possible cs) (narrowing k r v)
+narrowing_kept cs k r v ins outs there sets out possible =
+    let row : PlainRow = record { ins = slice_set r.ins k (one v); outs = r.outs ++ one v ∷ [] } in
+    let kept : is_possible cs row ≡ true = ap (λ (s : List ℕ). not (matches_none cs s)) (sym sets) ∙ possible in
+    let same : record { ins = ins; outs = outs } ∷ [] ≡ row ∷ [] = λ i. record { ins = sets i; outs = out i } ∷ [] in
+    rw there (rw kept same)

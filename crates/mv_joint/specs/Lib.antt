@@ -5,4 +5,5 @@ pub mod Joint
 pub mod Meaning
 -- what private functions alone cite
 pub mod Lawful
+pub mod Gather
 pub mod Looks

@@ -1,16 +1,14 @@
-ghost use Rattle.std.specs.Prelude.{◌≡◌, ◌∷◌, ◌++◌, [], ◌<◌, ◌≤◌, false, length, map, position, slice_index_or, Some, None, List, nat_eq, IfOk, IfErr, OnOk, All};
+ghost use Rattle.std.specs.Prelude.{◌≡◌, ◌<◌, ◌≤◌, false, length, position, slice_index_or, nat_eq, IfOk, IfErr};
 ghost use Rattle.std.specs.List.{list_any};
 ghost use Rattle.std.specs.Option.{unwrap_or};
-ghost use Rattle.indexmap.specs.IndexSet.{insert_all};
 ghost use Rattle.mv_base.specs.Set.{empty};
 ghost use Rattle.mv_base.specs.declared.limits.TheConstants.{MAX_VALUES};
 ghost use Rattle.mv_rows.specs.Cubes.{AreColumns};
 ghost use Rattle.mv_rows.specs.Flat.{with_mark, IsTable};
 ghost use Rattle.mv_rows.specs.Marked.{is_marked};
 ghost use Rattle.mv_joint.specs.OutRows.{same_outs};
-ghost use Rattle.mv_joint.specs.declared.split.PlainRow.{PlainRow};
-ghost use Rattle.mv_joint.specs.Plain.{IsJointFile, plain_of};
-ghost use Rattle.mv_joint.specs.Joint.{given, distinct, choice_count, choice_entry, choice_row, choice_default, choice_table, output_row, output_rows, output_table, table_of};
+ghost use Rattle.mv_joint.specs.Plain.{IsJointFile};
+ghost use Rattle.mv_joint.specs.Joint.{distinct, choice_count, choice_entry, choice_row, choice_default, choice_table, output_row, output_rows, output_table, table_of};
 ghost use Rattle.mv_joint.specs.Joint.{choice_columns, IsCoverOf, AreOutputs, IsMarkOf, IsMadeJoint, StopsBy};
 ghost use Rattle.mv_joint.specs.Meaning.{IsJointTable};
 ghost use Rattle.mv_joint.specs.Lawful.{IsPlain, IsMarkTable};
@@ -96,13 +94,16 @@ fn made(
     ensures made { IfOk result (λ joint. IsMadeJoint columns.now table.now mark choice joint) }
     ensures stop { IfErr result (λ stop. StopsBy columns.now table.now mark stop) }
 {
-    let plain = plain_table(alloc, columns, table, mark)?;
-    let all = distinct(alloc, &plain)?;
+    let found = match plain_table(alloc, columns, table, mark) {
+        Ok(found) => found,
+        Err(stop) => return Err(stop),
+    };
+    let all = &found.choices;
     if all.len() as u64 > MAX_JOINT_ROWS {
         return Err(JointStop::Wide);
     }
-    let marks = mark_cover(alloc, columns, &plain, mark)?;
-    let chosen = choice_cover(alloc, &plain, &all, mark)?;
+    let marks = mark_cover(alloc, columns, &found.table, mark)?;
+    let chosen = choice_cover(alloc, &found.table, all, mark)?;
     let all = all.as_slice();
     let outputs = output_covers(alloc, all, table.outputs.len(), mark, choice)?;
     Ok(JointTable {
@@ -111,36 +112,6 @@ fn made(
         outputs,
         mark: marks,
     })
-}
-
-/// The distinct rows of outputs in order of first appearance, the default's last.
-fn distinct(alloc: Global, plain: &PlainTable) -> Result<IndexSet<OutRow>, Memory>
-    ensures { IfOk result (λ all. all.keys ≡ distinct plain.now) }
-{
-    let mut all = row_outs(alloc, plain.rows.as_slice())?;
-    add_given(&mut all, &plain.default)?;
-    Ok(all)
-}
-
-/// Adds the default's row of outputs, if there is a default and it is new.
-fn add_given(all: &mut IndexSet<OutRow>, default: &Option<OutRow>) -> Result<(), Memory>
-    ensures { OnOk result (all.new.keys ≡ insert_all same_outs all.old.keys (given default.now)) }
-{
-    if let Some(outs) = default {
-        all.insert(outs.copy()?)?;
-    }
-    Ok(())
-}
-
-/// The distinct rows of outputs of the rows.
-fn row_outs(alloc: Global, rows: &[PlainRow]) -> Result<IndexSet<OutRow>, Memory>
-    ensures { IfOk result (λ all. all.keys ≡ insert_all same_outs [] (map (λ (r : PlainRow). r.outs) rows.now)) }
-{
-    let mut all = IndexSet::new(alloc);
-    for row in rows {
-        all.insert(row.outs.copy()?)?;
-    }
-    Ok(all)
 }
 
 /// How many values the choice net has: one for each row of outputs, and one if there is none.

@@ -2,6 +2,7 @@
 //! each output.
 #![tactic(auto)]
 
+mod gather;
 mod joint;
 mod laws;
 mod marked;
@@ -9,9 +10,10 @@ mod out_row;
 mod plain;
 mod split;
 
+pub use gather::Gathered;
 pub use joint::{JointStop, JointTable, joint_table};
 pub use laws::{at_most_one_joint_table, mark_laws};
 pub use marked::is_joint_marked;
 pub use out_row::OutRow;
-pub use plain::{PlainTable, plain_table};
+pub use plain::{PlainChoices, PlainTable, plain_table};
 pub use split::PlainRow;

@@ -2,12 +2,12 @@ ghost use Rattle.std.specs.Prelude.{◌≡◌, ◌&&◌, not, IfOk, All};
 ghost use Rattle.std.specs.List.{list_all, list_any};
 ghost use Rattle.mv_rows.specs.Cubes.{AreColumns, IsFrame, FitRow};
 ghost use Rattle.mv_rows.specs.Lines.{FitEntry};
-ghost use Rattle.mv_rows.specs.Flat.{says_nothing};
-ghost use Rattle.mv_rows.specs.Marked.{matches_all, matches_none};
-ghost use Rattle.mv_joint.specs.Plain.{IsJointFile, is_same, is_joint_marked};
+ghost use Rattle.mv_joint.specs.Plain.{IsJointFile, is_joint_marked};
 ghost use Rattle.mv_joint.specs.Looks.{is_single, gives_bare, gives_silent, stays_beside, marked_beside};
 
-use mv_base::{Memory, ValueSet};
+use crate::plain::{is_bare, names_column, some_empty};
+use crate::split::is_possible;
+use mv_base::Memory;
 use mv_design::{Entry, FileTable, Row};
 use mv_rows::{Column, Frame};
 use std::alloc::Global;
@@ -124,20 +124,6 @@ fn is_single(columns: &[Column], entry: &Entry) -> bool
     }
 }
 
-/// Whether a row with these sets matches everything.
-#[tactic(auto, using(crate::proofs::Possible::bare_from_cube))]
-fn is_bare(alloc: Global, frame: &Frame, sets: &[ValueSet]) -> Result<bool, Memory>
-    requires frame { IsFrame frame.now }
-    requires sets { FitRow frame.now.columns sets.now }
-    ensures { IfOk result (λ b. b ≡ matches_all frame.now.columns sets.now) }
-{
-    let cube = frame.cube(alloc, sets)?;
-    match &cube {
-        Some(cube) => Ok(cube.len() == 0),
-        None => Ok(false),
-    }
-}
-
 /// Whether some row matches something and says nothing of an output.
 fn some_silent(alloc: Global, frame: &Frame, table: &FileTable) -> Result<bool, Memory>
     requires frame { IsFrame frame.now }
@@ -162,49 +148,4 @@ fn gives_silent(alloc: Global, frame: &Frame, row: &Row) -> Result<bool, Memory>
         return Ok(false);
     }
     is_possible(alloc, frame, row.ins.as_slice())
-}
-
-/// Whether a row with these sets matches something.
-#[tactic(auto, using(crate::proofs::Possible::possible_from_cube))]
-fn is_possible(alloc: Global, frame: &Frame, sets: &[ValueSet]) -> Result<bool, Memory>
-    requires frame { IsFrame frame.now }
-    requires sets { FitRow frame.now.columns sets.now }
-    ensures { IfOk result (λ b. b ≡ not (matches_none frame.now.columns sets.now)) }
-{
-    let cube = frame.cube(alloc, sets)?;
-    Ok(cube.is_some())
-}
-
-/// Whether no value lies in some entry.
-fn some_empty(entries: &[Entry]) -> bool
-    ensures { result ≡ list_any says_nothing entries.now }
-{
-    entries.iter().any(is_empty)
-}
-
-/// Whether no value lies in the entry.
-fn is_empty(entry: &Entry) -> bool
-    ensures { result ≡ says_nothing entry.now }
-{
-    match entry {
-        Entry::Set(out) => *out == ValueSet::empty(),
-        Entry::Same(_) => false,
-    }
-}
-
-/// Whether an entry names a column.
-fn names_column(entries: &[Entry]) -> bool
-    ensures { result ≡ list_any is_same entries.now }
-{
-    entries.iter().any(is_same)
-}
-
-/// Whether the entry names a column.
-fn is_same(entry: &Entry) -> bool
-    ensures { result ≡ is_same entry.now }
-{
-    match entry {
-        Entry::Set(_) => false,
-        Entry::Same(_) => true,
-    }
 }

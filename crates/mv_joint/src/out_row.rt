@@ -1,7 +1,6 @@
-ghost use Rattle.std.specs.Prelude.{◌≡◌, ◌∷◌, ◌++◌, [], IfOk};
+ghost use Rattle.std.specs.Prelude.{◌≡◌, ◌∷◌, ◌++◌, [], IfOk, OnOk};
 
 use mv_base::{Memory, ValueSet};
-use std::alloc::Global;
 use std::hash::{Hash, Hasher};
 use std::marker::Model;
 
@@ -43,13 +42,12 @@ impl OutRow {
         })
     }
 
-    /// The row with a set for one output more.
-    pub fn with(&self, set: ValueSet) -> Result<OutRow, Memory>
-        ensures { IfOk result (λ row. row ≡ self.now ++ set ∷ []) }
+    /// Adds a set for one output more.
+    pub fn push(&mut self, set: ValueSet) -> Result<(), Memory>
+        ensures { OnOk result (self.new ≡ self.old ++ set ∷ []) }
     {
-        let mut sets = Vec::from_slice(*self.sets.allocator(), self.sets.as_slice())?;
-        sets.push(set)?;
-        Ok(OutRow { sets })
+        self.sets.push(set)?;
+        Ok(())
     }
 }
 

@@ -1,16 +1,23 @@
-ghost use Rattle.std.specs.Prelude.{◌≡◌, ◌∷◌, ◌++◌, [], ◌≤◌, length, map, Some, None, List, IfOk, OnOk, All};
+ghost use Rattle.std.specs.Prelude.{◌≡◌, ◌∷◌, [], false, map, IfOk, IfErr, OnOk, All};
 ghost use Rattle.std.specs.List.{list_any};
+ghost use Rattle.indexmap.specs.IndexSet.{insert_all};
 ghost use Rattle.mv_design.specs.declared.table.Entry.{Entry};
 ghost use Rattle.mv_rows.specs.Cubes.{AreColumns, IsFrame, FitRow};
 ghost use Rattle.mv_rows.specs.Lines.{FitEntry};
 ghost use Rattle.mv_rows.specs.Marked.{matches_all};
 ghost use Rattle.mv_rows.specs.Flat.{says_nothing, with_mark, marked_sets};
-ghost use Rattle.mv_joint.specs.Split.{all_rows, rows_of, IsFit};
-ghost use Rattle.mv_joint.specs.Plain.{IsJointRow, IsJointFile, is_silent, said, some_bare, stays, is_same, needs_mark, set_of};
+ghost use Rattle.mv_joint.specs.OutRows.{same_outs};
+ghost use Rattle.mv_joint.specs.Split.{all_rows, IsFit};
+ghost use Rattle.mv_joint.specs.Plain.{IsJointFile, is_silent, said, some_bare, stays, is_same, needs_mark, set_of};
 ghost use Rattle.mv_joint.specs.Plain.{with_any_mark, mark_row, mark_table, unmarked, marked, plain_of};
+ghost use Rattle.mv_joint.specs.Joint.{given, StopsBy};
+ghost use Rattle.mv_joint.specs.Gather.{IsGathered, StopsAt, StopsWith, AreChoices};
 
+use crate::gather::{Gathered, add_outs};
+use crate::joint::JointStop;
 use crate::out_row::OutRow;
-use crate::split::{PlainRow, put_rows};
+use crate::split::{PlainRow, is_silent, put_rows};
+use indexmap::IndexSet;
 use mv_base::{Items, Memory, NetId, Value, ValueSet};
 use mv_design::{Entry, FileTable, Row, Rows};
 use mv_rows::{Column, Frame};
@@ -26,54 +33,64 @@ pub struct PlainTable {
     pub mark: Option<FileTable>,
 }
 
+/// A table without `=`, and its distinct rows of outputs in order of first appearance, the default's last.
+#[derive(Drop)]
+pub struct PlainChoices {
+    pub table: PlainTable,
+    pub choices: IndexSet<OutRow>,
+}
+
 /// The table without `=`. A row whose entries name columns becomes one for each choice of their values. A default with an
 /// empty entry goes, and one beside a row that matches everything. One that names a column, or beside a row that says nothing
-/// of some output, becomes rows that have the mark at 1. Rows that match nothing, or say nothing of some output, go.
+/// of some output, becomes rows that have the mark at 1. Rows that match nothing, or say nothing of some output, go. There is
+/// no such table where more than `MAX_JOINT_ROWS` distinct rows of outputs are met on the way.
 pub fn plain_table(
     alloc: Global,
     columns: &[Column],
     table: &FileTable,
     mark: NetId,
-) -> Result<PlainTable, Memory>
+) -> Result<PlainChoices, JointStop>
     requires columns { AreColumns columns.now }
     requires with_mark { AreColumns (with_mark columns.now mark) }
     requires table { IsJointFile columns.now table.now }
-    ensures { IfOk result (λ plain. plain ≡ plain_of columns.now table.now mark) }
+    ensures found { IfOk result (λ found. AreChoices (plain_of columns.now table.now mark) found) }
+    ensures stop { IfErr result (λ stop. StopsBy columns.now table.now mark stop) }
 {
     let frame = Frame::new(alloc, columns)?;
-    let rows = all_rows(alloc, &frame, table)?;
+    let gathered = match all_rows(alloc, &frame, table) {
+        Ok(gathered) => gathered,
+        Err(stop) => return Err(stop),
+    };
     let Some(entries) = &table.default else {
-        return unmarked(alloc, columns, rows.as_slice(), None);
+        return Ok(unmarked(alloc, columns, gathered, None)?);
     };
     let entries = entries.as_slice();
-    if !stays(alloc, &frame, rows.as_slice(), entries)? {
-        return unmarked(alloc, columns, rows.as_slice(), None);
+    if !stays(alloc, &frame, gathered.rows.as_slice(), entries)? {
+        return Ok(unmarked(alloc, columns, gathered, None)?);
     }
-    if needs_mark(rows.as_slice(), entries) {
-        return marked(alloc, columns, mark, rows.as_slice(), entries);
+    if needs_mark(gathered.rows.as_slice(), entries) {
+        return marked(alloc, columns, mark, gathered, entries);
     }
     let default = sets_of(alloc, entries)?;
-    unmarked(alloc, columns, rows.as_slice(), Some(default))
+    Ok(unmarked(alloc, columns, gathered, Some(default))?)
 }
 
 /// The rows of all rows.
-fn all_rows(alloc: Global, frame: &Frame, table: &FileTable) -> Result<Vec<PlainRow>, Memory>
+fn all_rows(alloc: Global, frame: &Frame, table: &FileTable) -> Result<Gathered, JointStop>
     requires frame { IsFrame frame.now }
     requires table { IsJointFile frame.now.columns table.now }
-    ensures rows { IfOk result (λ rows. rows.items ≡ all_rows frame.now.columns table.now.rows) }
-    ensures fit { IfOk result (λ rows. All (IsFit frame.now.columns) rows.items) }
+    ensures rows { IfOk result (λ gathered. IsGathered (all_rows frame.now.columns table.now.rows) gathered) }
+    ensures stop { IfErr result (λ stop. StopsAt (all_rows frame.now.columns table.now.rows) stop) }
 {
-    let mut rows = Vec::new(alloc);
+    let mut gathered = Gathered::new(alloc);
     for row in table.rows.as_slice() {
-        put_rows(
-            &mut rows,
-            alloc,
-            frame,
-            row.ins.as_slice(),
-            row.outs.as_slice(),
-        )?;
+        let (ins, outs) = (row.ins.as_slice(), row.outs.as_slice());
+        match put_rows(&mut gathered, alloc, frame, ins, outs) {
+            Ok(()) => {}
+            Err(stop) => return Err(stop),
+        }
     }
-    Ok(rows)
+    Ok(gathered)
 }
 
 /// Whether the default stays: a value lies in each of its entries, and no row matches everything.
@@ -90,7 +107,7 @@ fn stays(alloc: Global, frame: &Frame, rows: &[PlainRow], entries: &[Entry]) -> 
 }
 
 /// Whether no value lies in some entry.
-fn some_empty(entries: &[Entry]) -> bool
+pub fn some_empty(entries: &[Entry]) -> bool
     ensures { result ≡ list_any says_nothing entries.now }
 {
     entries.iter().any(is_empty)
@@ -113,21 +130,21 @@ fn some_bare(alloc: Global, frame: &Frame, rows: &[PlainRow]) -> Result<bool, Me
     ensures { IfOk result (λ b. b ≡ some_bare frame.now.columns rows.now) }
 {
     for row in rows {
-        if is_bare(alloc, frame, row)? {
+        if is_bare(alloc, frame, row.ins.as_slice())? {
             return Ok(true);
         }
     }
     Ok(false)
 }
 
-/// Whether the row matches everything.
+/// Whether a row with these sets matches everything.
 #[tactic(auto, using(crate::proofs::Possible::bare_from_cube))]
-fn is_bare(alloc: Global, frame: &Frame, row: &PlainRow) -> Result<bool, Memory>
+pub fn is_bare(alloc: Global, frame: &Frame, sets: &[ValueSet]) -> Result<bool, Memory>
     requires frame { IsFrame frame.now }
-    requires row { IsFit frame.now.columns row.now }
-    ensures { IfOk result (λ b. b ≡ matches_all frame.now.columns row.now.ins) }
+    requires sets { FitRow frame.now.columns sets.now }
+    ensures { IfOk result (λ b. b ≡ matches_all frame.now.columns sets.now) }
 {
-    let cube = frame.cube(alloc, row.ins.as_slice())?;
+    let cube = frame.cube(alloc, sets)?;
     match &cube {
         Some(cube) => Ok(cube.len() == 0),
         None => Ok(false),
@@ -142,7 +159,7 @@ fn needs_mark(rows: &[PlainRow], entries: &[Entry]) -> bool
 }
 
 /// Whether an entry names a column.
-fn names_column(entries: &[Entry]) -> bool
+pub fn names_column(entries: &[Entry]) -> bool
     ensures { result ≡ list_any is_same entries.now }
 {
     entries.iter().any(is_same)
@@ -163,14 +180,6 @@ fn some_silent(rows: &[PlainRow]) -> bool
     ensures { result ≡ list_any is_silent rows.now }
 {
     rows.iter().any(is_silent)
-}
-
-/// Whether some output has no value in the row.
-fn is_silent(row: &PlainRow) -> bool
-    ensures { result ≡ is_silent row.now }
-{
-    let sets = row.outs.as_slice();
-    sets.iter().any(|set| *set == ValueSet::empty())
 }
 
 /// The sets of these entries.
@@ -198,27 +207,41 @@ fn set_of(entry: &Entry) -> ValueSet
 fn unmarked(
     alloc: Global,
     columns: &[Column],
-    rows: &[PlainRow],
+    gathered: Gathered,
     default: Option<OutRow>,
-) -> Result<PlainTable, Memory>
-    ensures { IfOk result (λ plain. plain ≡ unmarked columns.now rows.now default) }
+) -> Result<PlainChoices, Memory>
+    requires { IsGathered gathered.rows gathered }
+    ensures { IfOk result (λ found. AreChoices (unmarked columns.now gathered.rows default) found) }
 {
-    Ok(PlainTable {
+    let mut choices = gathered.outs;
+    add_given(&mut choices, &default)?;
+    let table = PlainTable {
         columns: Items::of(Vec::from_slice(alloc, columns)?),
-        rows: Items::of(said(alloc, rows)?),
+        rows: said(alloc, gathered.rows)?,
         default,
         mark: None,
-    })
+    };
+    Ok(PlainChoices { table, choices })
+}
+
+/// Adds the default's row of outputs, if there is a default and it is new.
+fn add_given(all: &mut IndexSet<OutRow>, default: &Option<OutRow>) -> Result<(), Memory>
+    ensures { OnOk result (all.new.keys ≡ insert_all same_outs all.old.keys (given default.now)) }
+{
+    match default {
+        None => Ok(()),
+        Some(outs) => add_outs(all, outs),
+    }
 }
 
 /// The rows that say some values of each output.
-fn said(alloc: Global, rows: &[PlainRow]) -> Result<Vec<PlainRow>, Memory>
-    ensures { IfOk result (λ all. all.items ≡ said rows.now) }
+fn said(alloc: Global, rows: Items<PlainRow>) -> Result<Items<PlainRow>, Memory>
+    ensures { IfOk result (λ all. all ≡ said rows) }
 {
-    let mut all = Vec::with_capacity(alloc, rows.len())?;
-    for row in rows {
-        if !is_silent(row) {
-            all.push(row.copy()?)?;
+    let mut all = Items::with_room(alloc, rows.len())?;
+    for row in rows.into_vec() {
+        if !is_silent(&row) {
+            all.push(row)?;
         }
     }
     Ok(all)
@@ -229,24 +252,38 @@ fn marked(
     alloc: Global,
     columns: &[Column],
     mark: NetId,
-    rows: &[PlainRow],
+    gathered: Gathered,
     entries: &[Entry],
-) -> Result<PlainTable, Memory>
+) -> Result<PlainChoices, JointStop>
     requires columns { AreColumns columns.now }
     requires with_mark { AreColumns (with_mark columns.now mark) }
+    requires gathered { IsGathered gathered.rows gathered }
     requires entries { All (FitEntry columns.now) entries.now }
-    ensures { IfOk result (λ plain. plain ≡ marked columns.now mark rows.now entries.now) }
+    requires some { list_any says_nothing entries.now ≡ false }
+    ensures found { IfOk result (λ found. AreChoices (marked columns.now mark gathered.rows entries.now) found) }
+    ensures stop { IfErr result (λ stop. StopsWith (marked columns.now mark gathered.rows entries.now) stop) }
 {
     let both = with_mark(alloc, columns, mark)?;
     let frame = Frame::new(alloc, both.as_slice())?;
-    let mut all = with_any_mark(alloc, rows)?;
+    let marks = mark_table(alloc, gathered.rows.as_slice())?;
+    let mut gathered = Gathered {
+        rows: with_any_mark(alloc, gathered.rows)?,
+        outs: gathered.outs,
+    };
     let sets = marked_sets(alloc, columns)?;
-    put_rows(&mut all, alloc, &frame, sets.as_slice(), entries)?;
-    Ok(PlainTable {
+    match put_rows(&mut gathered, alloc, &frame, sets.as_slice(), entries) {
+        Ok(()) => {}
+        Err(stop) => return Err(stop),
+    }
+    let table = PlainTable {
         columns: Items::of(both),
-        rows: Items::of(all),
+        rows: gathered.rows,
         default: None,
-        mark: Some(mark_table(alloc, rows)?),
+        mark: Some(marks),
+    };
+    Ok(PlainChoices {
+        table,
+        choices: gathered.outs,
     })
 }
 
@@ -276,27 +313,23 @@ fn marked_sets(alloc: Global, columns: &[Column]) -> Result<Vec<ValueSet>, Memor
 }
 
 /// Those of the rows that say some values of each output, where the mark has any value.
-fn with_any_mark(alloc: Global, rows: &[PlainRow]) -> Result<Vec<PlainRow>, Memory>
-    ensures { IfOk result (λ all. all.items ≡ map with_any_mark (said rows.now)) }
+fn with_any_mark(alloc: Global, rows: Items<PlainRow>) -> Result<Items<PlainRow>, Memory>
+    ensures { IfOk result (λ all. all ≡ map with_any_mark (said rows)) }
 {
-    let said = said(alloc, rows)?;
-    let mut all = Vec::with_capacity(alloc, said.len())?;
-    for row in &said {
+    let mut all = Items::with_room(alloc, rows.len())?;
+    for row in said(alloc, rows)?.into_vec() {
         all.push(one_with_any_mark(row)?)?;
     }
     Ok(all)
 }
 
 /// The row where the mark has any value.
-fn one_with_any_mark(row: &PlainRow) -> Result<PlainRow, Memory>
-    ensures { IfOk result (λ r. r ≡ with_any_mark row.now) }
+fn one_with_any_mark(row: PlainRow) -> Result<PlainRow, Memory>
+    ensures { IfOk result (λ r. r ≡ with_any_mark row) }
 {
-    let mut ins = row.ins.copy()?;
-    ins.push(ValueSet::full(2))?;
-    Ok(PlainRow {
-        ins,
-        outs: row.outs.copy()?,
-    })
+    let mut row = row;
+    row.ins.push(ValueSet::full(2))?;
+    Ok(row)
 }
 
 /// The mark's table: 0 where some row matches, and 1 elsewhere.

@@ -1,15 +1,18 @@
-ghost use Rattle.std.specs.Prelude.{◌≡◌, ◌<◌, ◌∷◌, ◌++◌, [], not, length, filter, IfOk, OnOk, All};
-ghost use Rattle.std.specs.List.{flat_map, range_with_len};
+ghost use Rattle.std.specs.Prelude.{◌≡◌, ◌<◌, ◌≤◌, [], true, not, length, filter, IfOk, IfErr, OnOk, All};
 ghost use Rattle.mv_base.specs.declared.limits.TheConstants.{MAX_VALUES};
-ghost use Rattle.mv_rows.specs.Cubes.{AreColumns, IsFrame, FitRow};
+ghost use Rattle.mv_rows.specs.Cubes.{IsFrame, FitRow};
 ghost use Rattle.mv_rows.specs.Lines.{FitEntry, count_at};
 ghost use Rattle.mv_rows.specs.Marked.{matches_none};
-ghost use Rattle.mv_joint.specs.Split.{narrowing, extended, split, is_possible, rows_of, IsFit};
+ghost use Rattle.mv_joint.specs.Split.{narrowing, is_possible, rows_of, IsFit};
+ghost use Rattle.mv_joint.specs.Plain.{is_silent};
+ghost use Rattle.mv_joint.specs.Gather.{rest_of, listed, Gathers, StopsOver};
 
+use crate::gather::Gathered;
+use crate::joint::JointStop;
 use crate::out_row::OutRow;
 use mv_base::{Items, Memory, Value, ValueSet};
 use mv_design::Entry;
-use mv_rows::{Column, Frame};
+use mv_rows::Frame;
 use std::alloc::Global;
 
 /// A row with a set for each input column and one for each output.
@@ -19,179 +22,132 @@ pub struct PlainRow {
     pub outs: OutRow,
 }
 
-impl PlainRow {
-    /// An equal row.
-    pub fn copy(&self) -> Result<PlainRow, Memory>
-        ensures { IfOk result (λ row. row ≡ self.now) }
-    {
-        Ok(PlainRow {
-            ins: self.ins.copy()?,
-            outs: self.outs.copy()?,
-        })
-    }
+/// Whether some output has no value in the row.
+pub fn is_silent(row: &PlainRow) -> bool
+    ensures { result ≡ is_silent row.now }
+{
+    let sets = row.outs.as_slice();
+    sets.iter().any(|set| *set == ValueSet::empty())
 }
 
 /// Adds the rows with these sets and these entries that match something: one, or where entries name columns one for each
 /// choice of their values.
 pub fn put_rows(
-    rows: &mut Vec<PlainRow>,
+    gathered: &mut Gathered,
     alloc: Global,
     frame: &Frame,
     ins: &[ValueSet],
     entries: &[Entry],
-) -> Result<(), Memory>
+) -> Result<(), JointStop>
     requires frame { IsFrame frame.now }
     requires sets { FitRow frame.now.columns ins.now }
     requires entries { All (FitEntry frame.now.columns) entries.now }
-    ensures { OnOk result (rows.new.items ≡ rows.old.items ++ rows_of frame.now.columns ins.now entries.now) }
+    ensures rows { OnOk result (Gathers (rows_of frame.now.columns ins.now entries.now) gathered.old gathered.new) }
+    ensures stop { IfErr result (λ stop. StopsOver (rows_of frame.now.columns ins.now entries.now) gathered.old stop) }
 {
-    let all = split(alloc, frame.columns.as_slice(), ins, entries)?;
-    for row in &all {
-        put_possible(rows, alloc, frame, row)?;
+    if !is_possible(alloc, frame, ins)? {
+        return Ok(());
     }
-    Ok(())
+    let row = bare_row(alloc, ins, entries.len())?;
+    put_rest(gathered, alloc, frame, row, entries)
 }
 
-/// Adds the row, if it matches something.
-fn put_possible(
-    rows: &mut Vec<PlainRow>,
-    alloc: Global,
-    frame: &Frame,
-    row: &PlainRow,
-) -> Result<(), Memory>
-    requires frame { IsFrame frame.now }
-    requires fit { IsFit frame.now.columns row.now }
-    ensures { OnOk result (rows.new.items ≡ rows.old.items ++ filter (is_possible frame.now.columns) (row.now ∷ [])) }
+/// The row with these sets and no output yet, with room for so many.
+fn bare_row(alloc: Global, ins: &[ValueSet], outputs: usize) -> Result<PlainRow, Memory>
+    ensures { IfOk result (λ row. row ≡ record { ins = ins.now; outs = [] }) }
 {
-    if is_possible(alloc, frame, row)? {
-        rows.push(row.copy()?)?;
-    }
-    Ok(())
+    Ok(PlainRow {
+        ins: Items::of(Vec::from_slice(alloc, ins)?),
+        outs: OutRow::of(Vec::with_capacity(alloc, outputs)?),
+    })
 }
 
-/// Whether the row matches something.
+/// Whether a row with these sets matches something.
 #[tactic(auto, using(crate::proofs::Possible::possible_from_cube))]
-fn is_possible(alloc: Global, frame: &Frame, row: &PlainRow) -> Result<bool, Memory>
+pub fn is_possible(alloc: Global, frame: &Frame, ins: &[ValueSet]) -> Result<bool, Memory>
     requires frame { IsFrame frame.now }
-    requires fit { IsFit frame.now.columns row.now }
-    ensures { IfOk result (λ possible. possible ≡ is_possible frame.now.columns row.now) }
+    requires sets { FitRow frame.now.columns ins.now }
+    ensures { IfOk result (λ possible. possible ≡ not (matches_none frame.now.columns ins.now)) }
 {
-    let cube = frame.cube(alloc, row.ins.as_slice())?;
+    let cube = frame.cube(alloc, ins)?;
     Ok(cube.is_some())
 }
 
-/// The rows with these sets and these entries.
-fn split(
+/// Adds the rows of the row with these entries more that match something. A row that matches nothing with the values of
+/// some of its entries is left there, so that no more rows are made than there are distinct rows of outputs.
+fn put_rest(
+    gathered: &mut Gathered,
     alloc: Global,
-    columns: &[Column],
-    ins: &[ValueSet],
+    frame: &Frame,
+    row: PlainRow,
     entries: &[Entry],
-) -> Result<Vec<PlainRow>, Memory>
-    requires columns { AreColumns columns.now }
-    requires sets { FitRow columns.now ins.now }
-    requires entries { All (FitEntry columns.now) entries.now }
-    ensures rows { IfOk result (λ rows. rows.items ≡ split columns.now entries.now (record { ins = ins.now; outs = [] } ∷ [])) }
-    ensures fit { IfOk result (λ rows. All (IsFit columns.now) rows.items) }
+) -> Result<(), JointStop>
+    requires frame { IsFrame frame.now }
+    requires fit { IsFit frame.now.columns row }
+    requires possible { is_possible frame.now.columns row ≡ true }
+    requires entries { All (FitEntry frame.now.columns) entries.now }
+    ensures rows { OnOk result (Gathers (rest_of frame.now.columns entries.now row) gathered.old gathered.new) }
+    ensures stop { IfErr result (λ stop. StopsOver (rest_of frame.now.columns entries.now row) gathered.old stop) }
 {
-    let mut rows = Vec::new(alloc);
-    rows.push(PlainRow {
-        ins: Items::of(Vec::from_slice(alloc, ins)?),
-        outs: OutRow::of(Vec::new(alloc)),
-    })?;
-    for entry in entries {
-        rows = all_extended(alloc, columns, rows.as_slice(), entry)?;
-    }
-    Ok(rows)
-}
-
-/// The rows of these rows with one entry more.
-#[tactic(auto, using(crate::proofs::Splits::all_fit_extended))]
-fn all_extended(
-    alloc: Global,
-    columns: &[Column],
-    rows: &[PlainRow],
-    entry: &Entry,
-) -> Result<Vec<PlainRow>, Memory>
-    requires columns { AreColumns columns.now }
-    requires rows { All (IsFit columns.now) rows.now }
-    requires entry { FitEntry columns.now entry.now }
-    ensures rows { IfOk result (λ all. all.items ≡ flat_map (extended columns.now entry.now) rows.now) }
-    ensures fit { IfOk result (λ all. All (IsFit columns.now) all.items) }
-{
-    let mut all = Vec::with_capacity(alloc, rows.len())?;
-    for row in rows {
-        put_extended(&mut all, columns, row, entry)?;
-    }
-    Ok(all)
-}
-
-/// Adds the rows of this row with one entry more.
-fn put_extended(
-    rows: &mut Vec<PlainRow>,
-    columns: &[Column],
-    row: &PlainRow,
-    entry: &Entry,
-) -> Result<(), Memory>
-    requires columns { AreColumns columns.now }
-    requires row { IsFit columns.now row.now }
-    requires entry { FitEntry columns.now entry.now }
-    ensures { OnOk result (rows.new.items ≡ rows.old.items ++ extended columns.now entry.now row.now) }
-{
+    let Some((entry, rest)) = entries.split_first() else {
+        return gathered.put(row);
+    };
     match *entry {
-        Entry::Set(out) => put_with(rows, row, out),
-        Entry::Same(place) => put_values(rows, columns, row, place as usize),
+        Entry::Set(out) => {
+            let mut row = row;
+            row.outs.push(out)?;
+            put_rest(gathered, alloc, frame, row, rest)
+        }
+        Entry::Same(place) => {
+            let place = place as usize;
+            for value in 0..count(frame, place) {
+                let Some(next) = narrowed(alloc, frame, &row, place, Value(value))? else {
+                    continue;
+                };
+                match put_rest(gathered, alloc, frame, next, rest) {
+                    Ok(()) => {}
+                    Err(stop) => return Err(stop),
+                }
+            }
+            Ok(())
+        }
     }
 }
 
-/// Adds the row with this set for one output more.
-fn put_with(rows: &mut Vec<PlainRow>, row: &PlainRow, out: ValueSet) -> Result<(), Memory>
-    ensures { OnOk result (rows.new.items ≡ rows.old.items ++ record { ins = row.now.ins; outs = row.now.outs ++ out ∷ [] } ∷ []) }
+/// How many values the net of the column at the place has.
+fn count(frame: &Frame, place: usize) -> u16
+    requires frame { IsFrame frame.now }
+    requires place { place < length frame.now.columns }
+    ensures value { result ≡ count_at frame.now.columns place }
+    ensures few { result ≤ MAX_VALUES }
 {
-    rows.push(PlainRow {
-        ins: row.ins.copy()?,
-        outs: row.outs.with(out)?,
-    })?;
-    Ok(())
+    frame.columns.as_slice()[place].count
 }
 
-/// Adds a row for each value that the row has in the column at the place.
-fn put_values(
-    rows: &mut Vec<PlainRow>,
-    columns: &[Column],
-    row: &PlainRow,
-    place: usize,
-) -> Result<(), Memory>
-    requires columns { AreColumns columns.now }
-    requires row { IsFit columns.now row.now }
-    requires place { place < length columns.now }
-    ensures { OnOk result (rows.new.items ≡ rows.old.items ++ flat_map (narrowing place row.now) (range_with_len 0 (count_at columns.now place))) }
-{
-    let count = columns[place].count;
-    for value in 0..count {
-        put_value(rows, row, place, Value(value))?;
-    }
-    Ok(())
-}
-
-/// Adds the row with the value alone at the place, if it has it there.
-fn put_value(
-    rows: &mut Vec<PlainRow>,
+/// The row that has the value alone at the place, and as the set of one output more, if the row has it there and then matches
+/// something.
+fn narrowed(
+    alloc: Global,
+    frame: &Frame,
     row: &PlainRow,
     place: usize,
     value: Value,
-) -> Result<(), Memory>
-    requires place { place < length row.now.ins }
+) -> Result<Option<PlainRow>, Memory>
+    requires frame { IsFrame frame.now }
+    requires fit { IsFit frame.now.columns row.now }
+    requires place { place < length frame.now.columns }
     requires value { value.0 < MAX_VALUES }
-    ensures { OnOk result (rows.new.items ≡ rows.old.items ++ narrowing place row.now value.0) }
+    ensures { IfOk result (λ found. listed found ≡ filter (is_possible frame.now.columns) (narrowing place row.now value.0)) }
 {
     if !row.ins.as_slice()[place].has(value) {
-        return Ok(());
+        return Ok(None);
     }
     let mut ins = row.ins.copy()?;
     ins.replace(place, ValueSet::one(value));
-    rows.push(PlainRow {
-        ins,
-        outs: row.outs.with(ValueSet::one(value))?,
-    })?;
-    Ok(())
+    if !is_possible(alloc, frame, ins.as_slice())? {
+        return Ok(None);
+    }
+    let mut outs = row.outs.copy()?;
+    outs.push(ValueSet::one(value))?;
+    Ok(Some(PlainRow { ins, outs }))
 }

@@ -80,6 +80,7 @@ const REFUSED: &str = "\
 -- More rows of outputs than a net may have values.
 .model m;.inputs a b;.mv a, b, p, q 128;.table a b -> p q;- - =a =b;.end; | 34 JointWide 129
 .model m;.inputs a b;.mv a, b, p, q 128;.table a b -> p q;.default =a =b;.end; | 34 JointWide 129
+.model m;.inputs a b c d;.mv a, b, c, d, p, q, r, s 128;.table a b c d -> p q r s;- - - - =a =b =c =d;.end; | 34 JointWide 129
 ";
 
 #[test]

@@ -1,6 +1,7 @@
-use Rattle.std.proofs.Common.{◌≡◌, take}
+use Rattle.std.proofs.Common.{take}
 use Rattle.mv_joint.specs.Split.{all_rows}
+use Rattle.mv_joint.specs.Gather.{IsGathered}
 use Rattle.mv_joint.proofs.plain.all_rows.Given as goal
 
 abbrev pub invariant-loop-row : goal.invariant-loop-row
-invariant-loop-row l = l.rows.items ≡ all_rows l.frame.columns (take l.row-index l.table.rows)
+invariant-loop-row l = IsGathered (all_rows l.frame.columns (take l.row-index l.table.rows)) l.gathered

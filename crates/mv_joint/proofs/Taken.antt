@@ -1,0 +1,36 @@
+-- The rows of the first rows of a table, gathered.
+use Rattle.std.proofs.Common.{◌≡◌, ℕ, ◌+◌, ◌<◌, List, [], ◌∷◌, ◌++◌, length, get_or, take, drop, sym, ◌∙◌, ap, subst, append-nil, take-append-drop}
+use Rattle.std.specs.List.{flat_map}
+use Rattle.std.proofs.lemmas.List.{take_more}
+use Rattle.std.proofs.lemmas.Grind.{flat_map-append}
+use Rattle.mv_design.specs.declared.table.Row.{Row}
+use Rattle.mv_rows.specs.declared.column.Column.{Column}
+use Rattle.mv_joint.specs.declared.split.PlainRow.{PlainRow}
+use Rattle.mv_joint.specs.declared.gather.Gathered.{Gathered}
+use Rattle.mv_joint.specs.declared.joint.JointStop.{JointStop}
+use Rattle.mv_joint.specs.Split.{rows_of, all_rows}
+use Rattle.mv_joint.specs.Gather.{IsGathered, Gathers, StopsOver, StopsAt}
+use Rattle.mv_joint.proofs.Gathering.{gathered_more, stops_at}
+
+-- those of the first rows and of one more
+pub rows_taken : (cs : List Column) (rows : List Row) (i : ℕ) (r : Row) → i < length rows → r ≡ get_or rows i r → all_rows cs (take (i + 1) rows) ≡ all_rows cs (take i rows) ++ rows_of cs r.ins r.outs
+rows_taken cs rows i r low is =
+    let f : Row → List PlainRow = λ x. rows_of cs x.ins x.outs in
+    let more : take (i + 1) rows ≡ take i rows ++ r ∷ [] = take_more rows i r low ∙ ap (λ (x : Row). take i rows ++ x ∷ []) (sym is) in
+    ap (flat_map f) more ∙ (flat_map-append f (take i rows) (r ∷ []) ∙ ap (λ (all : List PlainRow). flat_map f (take i rows) ++ all) (append-nil (f r)))
+
+-- those of the first rows, of one more, and of those behind
+pub rows_around : (cs : List Column) (rows : List Row) (i : ℕ) (r : Row) → i < length rows → r ≡ get_or rows i r → (all_rows cs (take i rows) ++ rows_of cs r.ins r.outs) ++ all_rows cs (drop (i + 1) rows) ≡ all_rows cs rows
+rows_around cs rows i r low is =
+    let f : Row → List PlainRow = λ x. rows_of cs x.ins x.outs in
+    ap (λ (all : List PlainRow). all ++ flat_map f (drop (i + 1) rows)) (sym (rows_taken cs rows i r low is))
+    ∙ (sym (flat_map-append f (take (i + 1) rows) (drop (i + 1) rows)) ∙ ap (flat_map f) (take-append-drop (i + 1) rows))
+
+pub gathered_row : (cs : List Column) (rows : List Row) (i : ℕ) (r : Row) (x y : Gathered) → i < length rows → r ≡ get_or rows i r → IsGathered (all_rows cs (take i rows)) x → Gathers (rows_of cs r.ins r.outs) x y → IsGathered (all_rows cs (take (i + 1) rows)) y
+gathered_row cs rows i r x y low is p q =
+    subst (λ (all : List PlainRow). IsGathered all y) (sym (rows_taken cs rows i r low is)) (gathered_more (all_rows cs (take i rows)) (rows_of cs r.ins r.outs) x y p q)
+
+pub stops_at_row : (cs : List Column) (rows : List Row) (i : ℕ) (r : Row) (x : Gathered) (stop : JointStop) → i < length rows → r ≡ get_or rows i r → IsGathered (all_rows cs (take i rows)) x → StopsOver (rows_of cs r.ins r.outs) x stop → StopsAt (all_rows cs rows) stop
+stops_at_row cs rows i r x stop low is p h =
+    subst (λ (all : List PlainRow). StopsAt all stop) (rows_around cs rows i r low is)
+    (stops_at (all_rows cs (take i rows)) (rows_of cs r.ins r.outs) (all_rows cs (drop (i + 1) rows)) x stop p h)
