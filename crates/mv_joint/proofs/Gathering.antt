@@ -1,7 +1,7 @@
 -- Rows that are gathered one after the other: their distinct rows of outputs only grow.
-use Rattle.std.proofs.Common.{◌≡◌, ℕ, ◌<◌, ◌≤◌, true, false, not, List, [], ◌∷◌, ◌++◌, length, map, refl, sym, ◌∙◌, ap, subst, arith, append_assoc, append-nil, length-append}
+use Rattle.std.proofs.Common.{◌≡◌, ℕ, ◌<◌, ◌≤◌, true, false, not, List, [], ◌∷◌, ◌++◌, length, map, refl, sym, ◌∙◌, ap, subst, arith, append_assoc, append-nil, length-append, inl, inr}
 use Rattle.std.specs.List.{list_any}
-use Rattle.std.proofs.lemmas.Bool.{cond_both}
+use Rattle.std.proofs.lemmas.Bool.{cases_Bool, cond_both}
 use Rattle.std.proofs.lemmas.List.{map-append}
 use Rattle.std.proofs.lemmas.List.Elements.{filter-append}
 use Rattle.indexmap.specs.IndexSet.{insert_key, insert_all}
@@ -25,6 +25,17 @@ said_outs-append a b =
 
 joined-append : (keys : List (List ℕ)) (a b : List PlainRow) → joined keys (a ++ b) ≡ joined (joined keys a) b
 joined-append keys a b = ap (insert_all same_outs keys) (said_outs-append a b) ∙ inserted_append keys (said_outs a) (said_outs b)
+
+said-said : (rows : List PlainRow) → said (said rows) ≡ said rows
+said-said [] = refl
+said-said (r ∷ rows) =
+    elim (cases_Bool (is_silent r)) [
+      | inl silent ↦ rw silent (said-said rows)
+      | inr says ↦ rw says (rw says (ap (λ (rs : List PlainRow). r ∷ rs) (said-said rows)))
+    ]
+
+pub joined-said : (keys : List (List ℕ)) (rows : List PlainRow) → joined keys (said rows) ≡ joined keys rows
+joined-said keys rows = ap (λ (rs : List PlainRow). insert_all same_outs keys (map (λ (r : PlainRow). r.outs) rs)) (said-said rows)
 
 key_grows : (keys : List (List ℕ)) (x : List ℕ) → length keys ≤ length (insert_key same_outs keys x)
 key_grows keys x =

@@ -1,5 +1,5 @@
 -- A row with `=` tells whether one of its rows without matches everything, and whether one says nothing of an output.
-use Rattle.std.proofs.Common.{◌≡◌, ℕ, zero, suc, ◌<◌, Bool, true, false, not, ◌&&◌, ◌||◌, nat_eq, Some, None, List, [], ◌∷◌, ◌++◌, length, get_or}
+use Rattle.std.proofs.Common.{◌≡◌, ℕ, zero, suc, ◌<◌, Bool, true, false, not, ◌&&◌, ◌||◌, nat_eq, List, [], ◌∷◌, ◌++◌, length, get_or}
 use Rattle.std.proofs.Common.{refl, sym, ◌∙◌, ap, subst, arith, inl, inr, All}
 use Rattle.std.specs.Prelude.{slice_index, slice_set}
 use Rattle.std.specs.List.{list_all, list_any, flat_map, range_with_len}
@@ -12,7 +12,6 @@ use Rattle.mv_cover.proofs.Points.{one_some}
 use Rattle.mv_design.specs.declared.table.Entry.{Entry}
 use Rattle.mv_design.specs.declared.table.Entry.TheVariants.{Set, Same}
 use Rattle.mv_design.specs.declared.table.Row.{Row}
-use Rattle.mv_design.specs.declared.table.FileTable.{FileTable}
 use Rattle.mv_design.specs.Tables.{row_matches}
 use Rattle.mv_rows.specs.declared.column.Column.{Column}
 use Rattle.mv_rows.specs.Cubes.{column_values, in_range, CountBy, IsColumn, AreColumns, FitRow}
@@ -24,8 +23,8 @@ use Rattle.mv_rows.proofs.Matching.{alone, alone-at, alone_ranges, matched_every
 use Rattle.mv_rows.proofs.Marked.{not_everywhere}
 use Rattle.mv_joint.specs.declared.split.PlainRow.{PlainRow}
 use Rattle.mv_joint.specs.Split.{narrowing, extended, split, is_possible, rows_of, all_rows, IsFit}
-use Rattle.mv_joint.specs.Plain.{IsJointRow, IsJointFile, is_silent, some_bare, is_same, default_marked, is_joint_marked}
-use Rattle.mv_joint.specs.Looks.{is_single, gives_bare, gives_silent, stays_beside, marked_beside}
+use Rattle.mv_joint.specs.Plain.{IsJointRow, is_silent, some_bare}
+use Rattle.mv_joint.specs.Looks.{is_single, gives_bare, gives_silent}
 use Rattle.mv_joint.proofs.Anys.{any_same, any-flat_map, any-filter_all, any-and}
 use Rattle.mv_joint.proofs.Splits.{fit_one, all_fit_extended}
 use Rattle.mv_joint.proofs.Fitting.{passing, split_fit}
@@ -34,7 +33,7 @@ use Rattle.mv_joint.proofs.Splitting.{matches_at, matched_alone, not_matched, va
 -- ---- rows that say nothing of an output
 
 -- the row says nothing of an output exactly where b is true
-abbrev SilentBy : Bool → PlainRow → Type 0
+abbrev pub SilentBy : Bool → PlainRow → Type 0
 SilentBy b r = is_silent r ≡ b
 
 silent_push : (b : Bool) (outs : List ℕ) (s : ℕ) → list_any (λ o. nat_eq o empty) outs ≡ b
@@ -117,15 +116,18 @@ some_row cs ins es columns fit entries =
           ∙ sym (ap not some)
     ]
 
+-- each of a row's rows says nothing of an output where an entry of the row has no value, and none does elsewhere
+pub silent_by_entries : (cs : List Column) (ins : List ℕ) (es : List Entry) → All (SilentBy (list_any says_nothing es)) (rows_of cs ins es)
+silent_by_entries cs ins es =
+    let start : PlainRow = record { ins = ins; outs = [] } in
+    let first : All (SilentBy false) (start ∷ []) = All-cons (SilentBy false) start [] refl (All-nil (SilentBy false)) in
+    All-filter (is_possible cs) (SilentBy (list_any says_nothing es)) (split cs es (start ∷ [])) (silent_split cs es false (start ∷ []) first)
+
 silent-rows : (cs : List Column) (ins : List ℕ) (es : List Entry) → AreColumns cs → FitRow cs ins → All (FitEntry cs) es
     → list_any is_silent (rows_of cs ins es) ≡ (list_any says_nothing es && not (matches_none cs ins))
 silent-rows cs ins es columns fit entries =
-    let start : PlainRow = record { ins = ins; outs = [] } in
     let b = list_any says_nothing es in
-    let first : All (SilentBy false) (start ∷ []) = All-cons (SilentBy false) start [] refl (All-nil (SilentBy false)) in
-    let all : All (SilentBy b) (rows_of cs ins es) =
-    All-filter (is_possible cs) (SilentBy b) (split cs es (start ∷ [])) (silent_split cs es false (start ∷ []) first) in
-    any_same (SilentBy b) is_silent (λ r. b && true) (λ r h. h ∙ sym (and-true b)) (rows_of cs ins es) all
+    any_same (SilentBy b) is_silent (λ r. b && true) (λ r h. h ∙ sym (and-true b)) (rows_of cs ins es) (silent_by_entries cs ins es)
     ∙ (any-and b (λ (r : PlainRow). true) (rows_of cs ins es) ∙ ap (λ c. b && c) (some_row cs ins es columns fit entries))
 
 -- ---- rows that match everything
@@ -286,34 +288,16 @@ everywhere-rows cs ins es columns fit entries =
 
 -- ---- the rows of all rows
 
-silent-all : (cs : List Column) (n : ℕ) (rows : List Row) → AreColumns cs → All (IsJointRow cs n) rows
+pub silent-all : (cs : List Column) (n : ℕ) (rows : List Row) → AreColumns cs → All (IsJointRow cs n) rows
     → list_any is_silent (all_rows cs rows) ≡ list_any (gives_silent cs) rows
 silent-all cs n rows columns all =
     any-flat_map is_silent (λ (r : Row). rows_of cs r.ins r.outs) rows
     ∙ any_same (IsJointRow cs n) (λ (r : Row). list_any is_silent (rows_of cs r.ins r.outs)) (gives_silent cs)
     (λ r is. silent-rows cs r.ins r.outs columns is.sets is.entries) rows all
 
-bare-all : (cs : List Column) (n : ℕ) (rows : List Row) → AreColumns cs → All (IsJointRow cs n) rows
+pub bare-all : (cs : List Column) (n : ℕ) (rows : List Row) → AreColumns cs → All (IsJointRow cs n) rows
     → some_bare cs (all_rows cs rows) ≡ list_any (gives_bare cs) rows
 bare-all cs n rows columns all =
     any-flat_map (everywhere cs) (λ (r : Row). rows_of cs r.ins r.outs) rows
     ∙ any_same (IsJointRow cs n) (λ (r : Row). list_any (everywhere cs) (rows_of cs r.ins r.outs)) (gives_bare cs)
     (λ r is. everywhere-rows cs r.ins r.outs columns is.sets is.entries) rows all
-
--- ---- the mark
-
-pub marked_by_looks : (cs : List Column) (t : FileTable) (entries : List Entry) → AreColumns cs → IsJointFile cs t → t.default ≡ Some entries
-    → is_joint_marked cs t ≡ (stays_beside cs t.rows entries && marked_beside cs t.rows entries)
-unfolding is_joint_marked
-marked_by_looks cs t entries columns table e =
-    let rows = all_rows cs t.rows in
-    let bare = bare-all cs (length t.outputs) t.rows columns table.rows in
-    let silent = silent-all cs (length t.outputs) t.rows columns table.rows in
-    ap (default_marked cs rows) e
-    ∙ (λ i. (not (list_any says_nothing entries) && not (bare i)) && (list_any is_same entries || silent i))
-
-pub unmarked_by_looks : (cs : List Column) (t : FileTable) → t.default ≡ None → is_joint_marked cs t ≡ false
-unfolding is_joint_marked
-unmarked_by_looks cs t e = ap (default_marked cs (all_rows cs t.rows)) e
-
-pub ruleset looks = (marked_by_looks, unmarked_by_looks)

@@ -48,11 +48,6 @@ abbrev pub StopsAt : List PlainRow → JointStop → Type 0
 StopsAt rows Wide = MAX_VALUES < length (joined [] rows)
 StopsAt rows Memory = Unit {0}
 
--- why a table without `=` has no covers
-abbrev pub StopsWith : PlainTable → JointStop → Type 0
-StopsWith p Wide = MAX_VALUES < length (distinct p)
-StopsWith p Memory = Unit {0}
-
 -- the table and its distinct rows of outputs
 pub record AreChoices (p : PlainTable) (found : PlainChoices) : Type 0 where
   pub table : found.table ≡ p

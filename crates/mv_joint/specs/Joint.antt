@@ -105,7 +105,11 @@ IsMadeJoint columns t mark choice joint = IsMadeOf columns (plain_of columns t m
 abbrev pub IsWide : List Column → FileTable → NetId → Type 0
 IsWide columns t mark = MAX_VALUES < length (distinct (plain_of columns t mark))
 
--- why there are no covers
+-- why a table without `=` has no covers
+abbrev pub StopsWith : PlainTable → JointStop → Type 0
+StopsWith p Wide = MAX_VALUES < length (distinct p)
+StopsWith p Memory = Unit {0}
+
+-- why a table of a file has no covers
 abbrev pub StopsBy : List Column → FileTable → NetId → JointStop → Type 0
-StopsBy columns t mark Wide = IsWide columns t mark
-StopsBy columns t mark Memory = Unit {0}
+StopsBy columns t mark stop = StopsWith (plain_of columns t mark) stop

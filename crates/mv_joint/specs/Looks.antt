@@ -1,5 +1,5 @@
--- What a row with `=` tells of its rows without, and the rows of a table of whether it gets a mark.
-use Rattle.std.specs.Prelude.{Bool, true, ◌&&◌, ◌||◌, not, nat_eq, List}
+-- What a row with `=` tells of its rows without.
+use Rattle.std.specs.Prelude.{Bool, true, ◌&&◌, not, nat_eq, List}
 use Rattle.std.specs.List.{list_all, list_any}
 use Rattle.mv_design.specs.declared.table.Entry.{Entry}
 use Rattle.mv_design.specs.declared.table.Entry.TheVariants.{Set, Same}
@@ -8,7 +8,6 @@ use Rattle.mv_rows.specs.declared.column.Column.{Column}
 use Rattle.mv_rows.specs.Lines.{count_at}
 use Rattle.mv_rows.specs.Flat.{says_nothing}
 use Rattle.mv_rows.specs.Marked.{matches_all, matches_none}
-use Rattle.mv_joint.specs.Plain.{is_same}
 
 -- an entry leaves its row one row: the column that it names, if it names one, has one value
 abbrev pub is_single : List Column → Entry → Bool
@@ -22,11 +21,3 @@ gives_bare columns r = list_all (is_single columns) r.outs && matches_all column
 -- one of the row's rows matches something and says nothing of an output: it does so itself
 abbrev pub gives_silent : List Column → Row → Bool
 gives_silent columns r = list_any says_nothing r.outs && not (matches_none columns r.ins)
-
--- a default stays beside these rows
-abbrev pub stays_beside : List Column → List Row → List Entry → Bool
-stays_beside columns rows entries = not (list_any says_nothing entries) && not (list_any (gives_bare columns) rows)
-
--- a default that stays can't stand as sets beside these rows
-abbrev pub marked_beside : List Column → List Row → List Entry → Bool
-marked_beside columns rows entries = list_any is_same entries || list_any (gives_silent columns) rows

@@ -1,19 +1,21 @@
-ghost use Rattle.std.specs.Prelude.{◌≡◌, ◌&&◌, not, IfOk, All};
+ghost use Rattle.std.specs.Prelude.{◌≡◌, ◌&&◌, IfOk, All};
 ghost use Rattle.std.specs.List.{list_all, list_any};
 ghost use Rattle.mv_rows.specs.Cubes.{AreColumns, IsFrame, FitRow};
+ghost use Rattle.mv_rows.specs.Flat.{says_nothing};
 ghost use Rattle.mv_rows.specs.Lines.{FitEntry};
-ghost use Rattle.mv_joint.specs.Plain.{IsJointFile, is_joint_marked};
-ghost use Rattle.mv_joint.specs.Looks.{is_single, gives_bare, gives_silent, stays_beside, marked_beside};
+ghost use Rattle.mv_rows.specs.Marked.{matches_all};
+ghost use Rattle.mv_joint.specs.Split.{all_rows};
+ghost use Rattle.mv_joint.specs.Plain.{IsJointFile, is_joint_marked, is_same, stays, needs_mark};
+ghost use Rattle.mv_joint.specs.Looks.{is_single, gives_bare, gives_silent};
 
-use crate::plain::{is_bare, names_column, some_empty};
 use crate::split::is_possible;
-use mv_base::Memory;
+use mv_base::{Memory, ValueSet};
 use mv_design::{Entry, FileTable, Row};
 use mv_rows::{Column, Frame};
 use std::alloc::Global;
 
 /// Whether the table gets a mark, as a look at its rows tells: none of them is split.
-#[tactic(auto, using(crate::proofs::Looks::looks))]
+#[tactic(auto, unfolding(crate::specs::Plain::is_joint_marked))]
 pub fn is_joint_marked(alloc: Global, columns: &[Column], table: &FileTable) -> Result<bool, Memory>
     requires columns { AreColumns columns.now }
     requires table { IsJointFile columns.now table.now }
@@ -35,7 +37,7 @@ fn default_marked(
 ) -> Result<bool, Memory>
     requires frame { IsFrame frame.now }
     requires table { IsJointFile frame.now.columns table.now }
-    ensures { IfOk result (λ b. b ≡ (stays_beside frame.now.columns table.now.rows entries.now && marked_beside frame.now.columns table.now.rows entries.now)) }
+    ensures { IfOk result (λ b. b ≡ (stays frame.now.columns (all_rows frame.now.columns table.now.rows) entries.now && needs_mark (all_rows frame.now.columns table.now.rows) entries.now)) }
 {
     if !stays(alloc, frame, table, entries)? {
         return Ok(false);
@@ -44,10 +46,15 @@ fn default_marked(
 }
 
 /// Whether the default stays: a value lies in each of its entries, and no row gives one that matches everything.
-fn stays(alloc: Global, frame: &Frame, table: &FileTable, entries: &[Entry]) -> Result<bool, Memory>
+pub fn stays(
+    alloc: Global,
+    frame: &Frame,
+    table: &FileTable,
+    entries: &[Entry],
+) -> Result<bool, Memory>
     requires frame { IsFrame frame.now }
     requires table { IsJointFile frame.now.columns table.now }
-    ensures { IfOk result (λ b. b ≡ stays_beside frame.now.columns table.now.rows entries.now) }
+    ensures { IfOk result (λ b. b ≡ stays frame.now.columns (all_rows frame.now.columns table.now.rows) entries.now) }
 {
     if some_empty(entries) {
         return Ok(false);
@@ -57,7 +64,7 @@ fn stays(alloc: Global, frame: &Frame, table: &FileTable, entries: &[Entry]) -> 
 }
 
 /// Whether an entry names a column, or some row matches something and says nothing of an output.
-fn needs_mark(
+pub fn needs_mark(
     alloc: Global,
     frame: &Frame,
     table: &FileTable,
@@ -65,7 +72,7 @@ fn needs_mark(
 ) -> Result<bool, Memory>
     requires frame { IsFrame frame.now }
     requires table { IsJointFile frame.now.columns table.now }
-    ensures { IfOk result (λ b. b ≡ marked_beside frame.now.columns table.now.rows entries.now) }
+    ensures { IfOk result (λ b. b ≡ needs_mark (all_rows frame.now.columns table.now.rows) entries.now) }
 {
     if names_column(entries) {
         return Ok(true);
@@ -124,6 +131,20 @@ fn is_single(columns: &[Column], entry: &Entry) -> bool
     }
 }
 
+/// Whether a row with these sets matches everything.
+#[tactic(auto, using(crate::proofs::Possible::bare_from_cube))]
+fn is_bare(alloc: Global, frame: &Frame, sets: &[ValueSet]) -> Result<bool, Memory>
+    requires frame { IsFrame frame.now }
+    requires sets { FitRow frame.now.columns sets.now }
+    ensures { IfOk result (λ b. b ≡ matches_all frame.now.columns sets.now) }
+{
+    let cube = frame.cube(alloc, sets)?;
+    match &cube {
+        Some(cube) => Ok(cube.len() == 0),
+        None => Ok(false),
+    }
+}
+
 /// Whether some row matches something and says nothing of an output.
 fn some_silent(alloc: Global, frame: &Frame, table: &FileTable) -> Result<bool, Memory>
     requires frame { IsFrame frame.now }
@@ -148,4 +169,38 @@ fn gives_silent(alloc: Global, frame: &Frame, row: &Row) -> Result<bool, Memory>
         return Ok(false);
     }
     is_possible(alloc, frame, row.ins.as_slice())
+}
+
+/// Whether no value lies in some entry.
+pub fn some_empty(entries: &[Entry]) -> bool
+    ensures { result ≡ list_any says_nothing entries.now }
+{
+    entries.iter().any(is_empty)
+}
+
+/// Whether no value lies in the entry.
+fn is_empty(entry: &Entry) -> bool
+    ensures { result ≡ says_nothing entry.now }
+{
+    match entry {
+        Entry::Set(out) => *out == ValueSet::empty(),
+        Entry::Same(_) => false,
+    }
+}
+
+/// Whether an entry names a column.
+fn names_column(entries: &[Entry]) -> bool
+    ensures { result ≡ list_any is_same entries.now }
+{
+    entries.iter().any(is_same)
+}
+
+/// Whether the entry names a column.
+fn is_same(entry: &Entry) -> bool
+    ensures { result ≡ is_same entry.now }
+{
+    match entry {
+        Entry::Set(_) => false,
+        Entry::Same(_) => true,
+    }
 }

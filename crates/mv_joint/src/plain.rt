@@ -2,19 +2,19 @@ ghost use Rattle.std.specs.Prelude.{◌≡◌, ◌∷◌, [], false, map, IfOk, 
 ghost use Rattle.std.specs.List.{list_any};
 ghost use Rattle.indexmap.specs.IndexSet.{insert_all};
 ghost use Rattle.mv_design.specs.declared.table.Entry.{Entry};
-ghost use Rattle.mv_rows.specs.Cubes.{AreColumns, IsFrame, FitRow};
+ghost use Rattle.mv_rows.specs.Cubes.{AreColumns, IsFrame};
 ghost use Rattle.mv_rows.specs.Lines.{FitEntry};
-ghost use Rattle.mv_rows.specs.Marked.{matches_all};
 ghost use Rattle.mv_rows.specs.Flat.{says_nothing, with_mark, marked_sets};
 ghost use Rattle.mv_joint.specs.OutRows.{same_outs};
-ghost use Rattle.mv_joint.specs.Split.{all_rows, IsFit};
-ghost use Rattle.mv_joint.specs.Plain.{IsJointFile, is_silent, said, some_bare, stays, is_same, needs_mark, set_of};
+ghost use Rattle.mv_joint.specs.Split.{all_rows};
+ghost use Rattle.mv_joint.specs.Plain.{IsJointFile, said, set_of};
 ghost use Rattle.mv_joint.specs.Plain.{with_any_mark, mark_row, mark_table, unmarked, marked, plain_of};
-ghost use Rattle.mv_joint.specs.Joint.{given, StopsBy};
-ghost use Rattle.mv_joint.specs.Gather.{IsGathered, StopsAt, StopsWith, AreChoices};
+ghost use Rattle.mv_joint.specs.Joint.{given, StopsBy, StopsWith};
+ghost use Rattle.mv_joint.specs.Gather.{IsGathered, StopsAt, AreChoices};
 
 use crate::gather::{Gathered, add_outs};
 use crate::joint::JointStop;
+use crate::marked::{needs_mark, some_empty, stays};
 use crate::out_row::OutRow;
 use crate::split::{PlainRow, is_silent, put_rows};
 use indexmap::IndexSet;
@@ -57,22 +57,18 @@ pub fn plain_table(
     ensures stop { IfErr result (λ stop. StopsBy columns.now table.now mark stop) }
 {
     let frame = Frame::new(alloc, columns)?;
-    let gathered = match all_rows(alloc, &frame, table) {
-        Ok(gathered) => gathered,
-        Err(stop) => return Err(stop),
-    };
     let Some(entries) = &table.default else {
-        return Ok(unmarked(alloc, columns, gathered, None)?);
+        return unmarked(alloc, &frame, table, None);
     };
     let entries = entries.as_slice();
-    if !stays(alloc, &frame, gathered.rows.as_slice(), entries)? {
-        return Ok(unmarked(alloc, columns, gathered, None)?);
+    if !stays(alloc, &frame, table, entries)? {
+        return unmarked(alloc, &frame, table, None);
     }
-    if needs_mark(gathered.rows.as_slice(), entries) {
-        return marked(alloc, columns, mark, gathered, entries);
+    if needs_mark(alloc, &frame, table, entries)? {
+        return marked(alloc, &frame, table, mark, entries);
     }
     let default = sets_of(alloc, entries)?;
-    Ok(unmarked(alloc, columns, gathered, Some(default))?)
+    unmarked(alloc, &frame, table, Some(default))
 }
 
 /// The rows of all rows.
@@ -93,93 +89,25 @@ fn all_rows(alloc: Global, frame: &Frame, table: &FileTable) -> Result<Gathered,
     Ok(gathered)
 }
 
-/// Whether the default stays: a value lies in each of its entries, and no row matches everything.
-fn stays(alloc: Global, frame: &Frame, rows: &[PlainRow], entries: &[Entry]) -> Result<bool, Memory>
+/// Those of the rows of all rows that say some values of each output. A row that says nothing of one is not split.
+fn said_rows(alloc: Global, frame: &Frame, table: &FileTable) -> Result<Gathered, JointStop>
     requires frame { IsFrame frame.now }
-    requires rows { All (IsFit frame.now.columns) rows.now }
-    ensures { IfOk result (λ b. b ≡ stays frame.now.columns rows.now entries.now) }
+    requires table { IsJointFile frame.now.columns table.now }
+    ensures rows { IfOk result (λ gathered. IsGathered (said (all_rows frame.now.columns table.now.rows)) gathered) }
+    ensures stop { IfErr result (λ stop. StopsAt (all_rows frame.now.columns table.now.rows) stop) }
 {
-    if some_empty(entries) {
-        return Ok(false);
-    }
-    let bare = some_bare(alloc, frame, rows)?;
-    Ok(!bare)
-}
-
-/// Whether no value lies in some entry.
-pub fn some_empty(entries: &[Entry]) -> bool
-    ensures { result ≡ list_any says_nothing entries.now }
-{
-    entries.iter().any(is_empty)
-}
-
-/// Whether no value lies in the entry.
-fn is_empty(entry: &Entry) -> bool
-    ensures { result ≡ says_nothing entry.now }
-{
-    match entry {
-        Entry::Set(out) => *out == ValueSet::empty(),
-        Entry::Same(_) => false,
-    }
-}
-
-/// Whether some row matches everything.
-fn some_bare(alloc: Global, frame: &Frame, rows: &[PlainRow]) -> Result<bool, Memory>
-    requires frame { IsFrame frame.now }
-    requires rows { All (IsFit frame.now.columns) rows.now }
-    ensures { IfOk result (λ b. b ≡ some_bare frame.now.columns rows.now) }
-{
-    for row in rows {
-        if is_bare(alloc, frame, row.ins.as_slice())? {
-            return Ok(true);
+    let mut gathered = Gathered::new(alloc);
+    for row in table.rows.as_slice() {
+        let (ins, outs) = (row.ins.as_slice(), row.outs.as_slice());
+        if some_empty(outs) {
+            continue;
+        }
+        match put_rows(&mut gathered, alloc, frame, ins, outs) {
+            Ok(()) => {}
+            Err(stop) => return Err(stop),
         }
     }
-    Ok(false)
-}
-
-/// Whether a row with these sets matches everything.
-#[tactic(auto, using(crate::proofs::Possible::bare_from_cube))]
-pub fn is_bare(alloc: Global, frame: &Frame, sets: &[ValueSet]) -> Result<bool, Memory>
-    requires frame { IsFrame frame.now }
-    requires sets { FitRow frame.now.columns sets.now }
-    ensures { IfOk result (λ b. b ≡ matches_all frame.now.columns sets.now) }
-{
-    let cube = frame.cube(alloc, sets)?;
-    match &cube {
-        Some(cube) => Ok(cube.len() == 0),
-        None => Ok(false),
-    }
-}
-
-/// Whether an entry names a column, or some row says nothing of an output.
-fn needs_mark(rows: &[PlainRow], entries: &[Entry]) -> bool
-    ensures { result ≡ needs_mark rows.now entries.now }
-{
-    names_column(entries) || some_silent(rows)
-}
-
-/// Whether an entry names a column.
-pub fn names_column(entries: &[Entry]) -> bool
-    ensures { result ≡ list_any is_same entries.now }
-{
-    entries.iter().any(is_same)
-}
-
-/// Whether the entry names a column.
-fn is_same(entry: &Entry) -> bool
-    ensures { result ≡ is_same entry.now }
-{
-    match entry {
-        Entry::Set(_) => false,
-        Entry::Same(_) => true,
-    }
-}
-
-/// Whether some row says nothing of an output.
-fn some_silent(rows: &[PlainRow]) -> bool
-    ensures { result ≡ list_any is_silent rows.now }
-{
-    rows.iter().any(is_silent)
+    Ok(gathered)
 }
 
 /// The sets of these entries.
@@ -203,21 +131,27 @@ fn set_of(entry: &Entry) -> ValueSet
     }
 }
 
-/// The table with these rows and this default.
+/// The table without a mark, with this default.
 fn unmarked(
     alloc: Global,
-    columns: &[Column],
-    gathered: Gathered,
+    frame: &Frame,
+    table: &FileTable,
     default: Option<OutRow>,
-) -> Result<PlainChoices, Memory>
-    requires { IsGathered gathered.rows gathered }
-    ensures { IfOk result (λ found. AreChoices (unmarked columns.now gathered.rows default) found) }
+) -> Result<PlainChoices, JointStop>
+    requires frame { IsFrame frame.now }
+    requires table { IsJointFile frame.now.columns table.now }
+    ensures found { IfOk result (λ found. AreChoices (unmarked frame.now.columns (all_rows frame.now.columns table.now.rows) default) found) }
+    ensures stop { IfErr result (λ stop. StopsWith (unmarked frame.now.columns (all_rows frame.now.columns table.now.rows) default) stop) }
 {
+    let gathered = match said_rows(alloc, frame, table) {
+        Ok(gathered) => gathered,
+        Err(stop) => return Err(stop),
+    };
     let mut choices = gathered.outs;
     add_given(&mut choices, &default)?;
     let table = PlainTable {
-        columns: Items::of(Vec::from_slice(alloc, columns)?),
-        rows: said(alloc, gathered.rows)?,
+        columns: frame.columns.copy()?,
+        rows: gathered.rows,
         default,
         mark: None,
     };
@@ -247,8 +181,31 @@ fn said(alloc: Global, rows: Items<PlainRow>) -> Result<Items<PlainRow>, Memory>
     Ok(all)
 }
 
-/// The table with these rows, and with the default as rows that have the mark at 1.
+/// The table with the default as rows that have the mark at 1.
 fn marked(
+    alloc: Global,
+    frame: &Frame,
+    table: &FileTable,
+    mark: NetId,
+    entries: &[Entry],
+) -> Result<PlainChoices, JointStop>
+    requires frame { IsFrame frame.now }
+    requires with_mark { AreColumns (with_mark frame.now.columns mark) }
+    requires table { IsJointFile frame.now.columns table.now }
+    requires entries { All (FitEntry frame.now.columns) entries.now }
+    requires some { list_any says_nothing entries.now ≡ false }
+    ensures found { IfOk result (λ found. AreChoices (marked frame.now.columns mark (all_rows frame.now.columns table.now.rows) entries.now) found) }
+    ensures stop { IfErr result (λ stop. StopsWith (marked frame.now.columns mark (all_rows frame.now.columns table.now.rows) entries.now) stop) }
+{
+    let gathered = match all_rows(alloc, frame, table) {
+        Ok(gathered) => gathered,
+        Err(stop) => return Err(stop),
+    };
+    with_default_rows(alloc, frame.columns.as_slice(), mark, gathered, entries)
+}
+
+/// The table of these rows and of the default's, which have the mark at 1.
+fn with_default_rows(
     alloc: Global,
     columns: &[Column],
     mark: NetId,

@@ -1,19 +1,39 @@
-use Rattle.std.proofs.Common.{◌∙◌, ap}
-use Rattle.std.proofs.lemmas.List.Elements.{All-same}
-use Rattle.mv_joint.specs.Split.{all_rows, IsFit}
-use Rattle.mv_joint.proofs.Fitting.{all_rows_fit}
-use Rattle.mv_joint.proofs.Wide.{stops_by_rows}
+use Rattle.std.proofs.Common.{◌≡◌, true, false, IfErr, sym, subst, arith}
+use Rattle.mv_joint.specs.declared.plain.PlainTable.{PlainTable}
+use Rattle.mv_joint.specs.Split.{all_rows}
+use Rattle.mv_joint.specs.Plain.{stays, needs_mark}
+use Rattle.mv_joint.specs.Joint.{StopsWith}
+use Rattle.mv_joint.proofs.Wide.{plain_none, plain_gone, plain_marked, plain_sets}
 use Rattle.mv_joint.proofs.plain.plain_table.Goals as goal
 
-pub returns-in-Err-clause-stop : goal.returns-in-Err-clause-stop
-returns-in-Err-clause-stop c =
-    stops_by_rows c.args.columns.now c.args.table.now c.args.mark c.in-Err.stop (rw c.in_ok-frame.ensures.columns at c.in-Err.ensures.stop)
+pub returns-in_default-clause-stop : goal.returns-in_default-clause-stop
+returns-in_default-clause-stop c =
+    subst (λ (p : PlainTable). IfErr c.unmarked.result (λ stop. StopsWith p stop))
+    (sym (plain_none c.args.columns.now c.args.table.now c.args.mark c.in_default.is))
+    (rw c.in_ok-frame.ensures.columns at c.unmarked.ensures.stop)
 
-pub stays-requires-clause-rows : goal.stays-requires-clause-rows
-stays-requires-clause-rows c =
+pub returns-then-not-branch-clause-stop : goal.returns-then-not-branch-clause-stop
+returns-then-not-branch-clause-stop c =
     let columns = c.args.columns.now in
-    let rows = c.args.table.now.rows in
-    rw c.in_ok-frame.ensures.columns
-    (All-same (IsFit columns) c.as_slice.result.now (all_rows columns rows)
-    (c.as_slice.ensures ∙ (c.in-Ok.ensures.rows.rows ∙ ap (λ cs. all_rows cs rows) c.in_ok-frame.ensures.columns))
-    (all_rows_fit columns _ rows c.requires.table.rows))
+    let gone : stays columns (all_rows columns c.args.table.now.rows) c.in-Some.entries ≡ false = grind arith in
+    subst (λ (p : PlainTable). IfErr c.unmarked-then-not-branch.result (λ stop. StopsWith p stop))
+    (sym (plain_gone columns c.args.table.now c.args.mark c.in-Some.entries c.in-Some.is gone))
+    (rw c.in_ok-frame.ensures.columns at c.unmarked-then-not-branch.ensures.stop)
+
+pub returns-then-branch-clause-stop : goal.returns-then-branch-clause-stop
+returns-then-branch-clause-stop c =
+    let columns = c.args.columns.now in
+    let left : stays columns (all_rows columns c.args.table.now.rows) c.in-Some.entries ≡ true = grind arith in
+    let needs : needs_mark (all_rows columns c.args.table.now.rows) c.in-Some.entries ≡ true = grind arith in
+    subst (λ (p : PlainTable). IfErr c.marked.result (λ stop. StopsWith p stop))
+    (sym (plain_marked columns c.args.table.now c.args.mark c.in-Some.entries c.in-Some.is left needs))
+    (rw (c.in_ok-frame.ensures.columns, c.as_slice-entries.ensures) at c.marked.ensures.stop)
+
+pub returns-clause-stop : goal.returns-clause-stop
+returns-clause-stop c =
+    let columns = c.args.columns.now in
+    let left : stays columns (all_rows columns c.args.table.now.rows) c.in-Some.entries ≡ true = grind arith in
+    let stands : needs_mark (all_rows columns c.args.table.now.rows) c.in-Some.entries ≡ false = grind arith in
+    subst (λ (p : PlainTable). IfErr c.unmarked-2.result (λ stop. StopsWith p stop))
+    (sym (plain_sets columns c.args.table.now c.args.mark c.in-Some.entries c.in-Some.is left stands))
+    (rw (c.in_ok-frame.ensures.columns, c.in_ok-default.ensures, c.as_slice-entries.ensures) at c.unmarked-2.ensures.stop)

@@ -1,19 +1,31 @@
-use Rattle.std.proofs.Common.{None, ◌∙◌, ap}
+use Rattle.std.proofs.Common.{[], None, ◌∙◌, ap}
 use Rattle.indexmap.specs.IndexSet.{insert_all}
 use Rattle.mv_joint.specs.OutRows.{same_outs}
+use Rattle.mv_joint.specs.Split.{all_rows}
 use Rattle.mv_joint.specs.Joint.{given}
-use Rattle.mv_joint.proofs.Wide.{distinct_unmarked}
+use Rattle.mv_joint.proofs.Gathering.{joined-said}
+use Rattle.mv_joint.proofs.Wide.{distinct_unmarked, stops_unmarked}
 use Rattle.mv_joint.proofs.plain.unmarked.Goals as goal
 
-pub returns : goal.returns
-returns c =
-    let given_keys = c.in_ok-add_given.ensures ∙ ap (λ keys. insert_all same_outs keys (given c.args.default)) c.requires.outs in
+pub returns-in-Err-clause-stop : goal.returns-in-Err-clause-stop
+returns-in-Err-clause-stop c =
+    let columns = c.args.frame.now.columns in
+    stops_unmarked columns (all_rows columns c.args.table.now.rows) c.args.default c.in-Err.stop c.in-Err.ensures.stop
+
+pub returns-clause-found : goal.returns-clause-found
+returns-clause-found c =
+    let columns = c.args.frame.now.columns in
+    let rows = all_rows columns c.args.table.now.rows in
+    let default = c.args.default in
+    let gathered = c.in-Ok.ensures.rows in
     record {
       table = λ i. record {
-        columns = (c.of.ensures ∙ c.in_ok-from_slice.ensures.items) i;
-        rows = c.in_ok-said.ensures i;
-        default = c.args.default;
+        columns = c.in_ok-copy.ensures i;
+        rows = gathered.rows i;
+        default = default;
         mark = None;
       };
-      choices = distinct_unmarked c.args.columns.now c.args.gathered.rows c.args.default _ given_keys;
+      choices =
+          distinct_unmarked columns rows default _
+          (c.in_ok-add_given.ensures ∙ ap (λ keys. insert_all same_outs keys (given default)) (gathered.outs ∙ joined-said [] rows));
     }
