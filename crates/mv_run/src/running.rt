@@ -1,11 +1,8 @@
-ghost use Rattle.std.specs.Prelude.{◌≡◌, ◌≤◌, ◌⊎◌, map, string_bytes, None, Some, IfSome};
+ghost use Rattle.std.specs.Prelude.{◌≡◌, ◌≤◌, map, string_bytes, None, IfSome};
 ghost use Rattle.mv_base.specs.Outside.{Rose};
-ghost use Rattle.mv_check.specs.Checked.{Checks};
-ghost use Rattle.mv_opt.specs.Optimised.{Optimises};
-ghost use Rattle.mv_opt.specs.Drawn.{drawn};
-ghost use Rattle.mv_task.specs.Lines.{TellsLine, words_line, memory_line};
-ghost use Rattle.mv_task.specs.Inputs.{named};
-ghost use Rattle.mv_words.specs.CommandLine.{Files as FilesAsked, Draw as DrawAsked, opt as opt_asked, check as check_asked, work as work_asked, task_of};
+ghost use Rattle.mv_task.specs.Lines.{TellsLine};
+ghost use Rattle.mv_words.specs.CommandLine.{task_of};
+ghost use Rattle.mv_run.specs.Doing.{Does};
 ghost use Rattle.mv_run.specs.Replacing.{IsReplaced, network_asked};
 
 use mv_base::{Files, Sink};
@@ -43,17 +40,7 @@ pub fn run<F: Files, O: Sink, E: Sink>(
     ensures replaced { result ≡ 0 → IfSome (network_asked (task_of (map string_bytes words.now)))
         (IsReplaced (F.state files.old) (F.state files.new) (O.state out.old) (O.state out.new)) }
     ensures words { result ≡ 1 → task_of (map string_bytes words.now) ≡ None }
-    ensures refused { task_of (map string_bytes words.now) ≡ None → (result ≡ 1) ⊎ (result ≡ 6) }
-    ensures words_told { result ≡ 1 → TellsLine (E.state notes.old) (E.state notes.new) words_line }
-    ensures short { task_of (map string_bytes words.now) ≡ None → result ≡ 6 → TellsLine (E.state notes.old) (E.state notes.new) memory_line }
-    ensures optimises { (f : FilesAsked) → task_of (map string_bytes words.now) ≡ Some (opt_asked f)
-        → Optimises (named f.net f.other) (F.state files.old) (F.state files.new)
-        (O.state out.old) (O.state out.new) (E.state notes.old) (E.state notes.new) result }
-    ensures checks { (f : FilesAsked) → task_of (map string_bytes words.now) ≡ Some (check_asked f)
-        → Checks f.net f.other (F.state files.old) (F.state files.new)
-        (O.state out.old) (O.state out.new) (E.state notes.old) (E.state notes.new) result }
-    ensures works { (d : DrawAsked) → task_of (map string_bytes words.now) ≡ Some (work_asked d)
-        → Optimises (drawn d.size d.seed d.script) (F.state files.old) (F.state files.new)
+    ensures does { Does (task_of (map string_bytes words.now)) (F.state files.old) (F.state files.new)
         (O.state out.old) (O.state out.new) (E.state notes.old) (E.state notes.new) result }
     ensures read { result ≡ 4 → Rose (F.state files.old).faults (F.state files.new).faults }
     ensures untouched { (result ≡ 0 → ⊥) → (result ≡ 5 → ⊥) → O.state out.new ≡ O.state out.old }

@@ -1,6 +1,5 @@
 -- A network that is asked for has a lawful size; and where no memory is there for the words, a run of any task ends so.
-use Rattle.mv_opt.specs.Drawn.{drawn}
-use Rattle.mv_task.specs.Inputs.{named}
+use Rattle.mv_run.proofs.Ends.{short_at_once}
 use Rattle.mv_run.proofs.Sizes.{sizes}
 use Rattle.mv_run.proofs.running.run.Goals as goal
 
@@ -10,10 +9,7 @@ work-requires-clause-least g c = (sizes _ _ (rw c.in-Ok-Work.field-0-is at c.in-
 pub work-requires-clause-most : goal.work-requires-clause-most
 work-requires-clause-most g c = (sizes _ _ (rw c.in-Ok-Work.field-0-is at c.in-Ok-Work.ensures)).1
 
-pub returns-in-Err-Memory-clause-optimises : goal.returns-in-Err-Memory-clause-optimises
-returns-in-Err-Memory-clause-optimises g c =
-    λ f e. c.short_at_once.ensures (named f.net f.other) _ _ _ _ c.tell-in-Err-Memory.ensures
-
-pub returns-in-Err-Memory-clause-works : goal.returns-in-Err-Memory-clause-works
-returns-in-Err-Memory-clause-works g c =
-    λ d e. c.short_at_once.ensures (drawn d.size d.seed d.script) _ _ _ _ c.tell-in-Err-Memory.ensures
+pub returns-in-Err-Memory-clause-does : goal.returns-in-Err-Memory-clause-does
+returns-in-Err-Memory-clause-does g c =
+    let told = c.tell-in-Err-Memory.ensures in
+    short_at_once _ _ _ _ _ (λ given. c.short_at_once.ensures given _ _ _ _ told) (λ net certificate. c.short_at_once-in-Err-Memory.ensures net certificate _ _ _ _ told) told

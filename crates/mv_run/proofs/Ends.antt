@@ -1,0 +1,20 @@
+-- A run for which no memory is there before its words are read ends so, whatever they ask for.
+use Rattle.std.proofs.Common.{ℕ, Option, Some, None, List, inr, refl}
+use Rattle.mv_base.specs.Outside.{Stored, Written}
+use Rattle.mv_check.specs.Checked.{Checks}
+use Rattle.mv_opt.specs.Drawn.{drawn}
+use Rattle.mv_opt.specs.Optimised.{Optimises}
+use Rattle.mv_task.specs.Inputs.{Inputs, named}
+use Rattle.mv_task.specs.Lines.{TellsLine, memory_line}
+use Rattle.mv_words.specs.CommandLine.{Asked, opt, check, work}
+use Rattle.mv_run.specs.Doing.{Does}
+
+pub short_at_once : (asked : Option Asked) (files : Stored) (out notes notes' : Written)
+    → ((given : Inputs) → Optimises given files files out out notes notes' 6)
+    → ((net certificate : List ℕ) → Checks net certificate files files out out notes notes' 6)
+    → TellsLine notes notes' memory_line
+    → Does asked files files out out notes notes' 6
+short_at_once (Some (opt f)) files out notes notes' optimises checks told = optimises (named f.net f.other)
+short_at_once (Some (check f)) files out notes notes' optimises checks told = checks f.net f.other
+short_at_once (Some (work d)) files out notes notes' optimises checks told = optimises (drawn d.size d.seed d.script)
+short_at_once None files out notes notes' optimises checks told = inr (refl, told)
