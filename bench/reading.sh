@@ -26,7 +26,7 @@ seconds() {
 
 # COMMAND..: the millions of instructions of a run
 instructions() {
-    valgrind --tool=callgrind --callgrind-out-file=/dev/null "$@" 2>&1 > /dev/null | awk '/Collected/ { printf "%.1f\n", $NF / 1000000 }'
+    { valgrind --tool=callgrind --callgrind-out-file=/dev/null "$@" 2>&1 > /dev/null || true; } | awk '/Collected/ { printf "%.1f\n", $NF / 1000000 }'
 }
 
 # FILE: whether both did the same with the file
