@@ -1,5 +1,5 @@
 ghost use Rattle.std.specs.Prelude.{IfOk};
-ghost use Rattle.mv_proper.specs.Lines.{AreOfFile};
+ghost use Rattle.mv_parse_laws.specs.Lines.{AreOfFile};
 
 use crate::stop::Stop;
 use mv_base::{Files, HostFiles};

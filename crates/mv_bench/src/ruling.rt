@@ -108,7 +108,7 @@ fn apply_each(
 }
 
 /// Reads standard input as a network file, and applies rules of a kind to the nets that are numbered for it.
-#[tactic(auto, using(mv_proper::proofs::FileLines::file_ascends))]
+#[tactic(auto, using(mv_parse_laws::proofs::FileLines::file_ascends))]
 pub fn ruled(rt: &HostRuntime, kind: &str, count: &str) -> Result<Applied, Stop> {
     let count: u32 = count.parse().map_err(|_error| Stop::Words)?;
     let mut net = match network_of(rt.alloc(), lines_of_input(rt)?) {

@@ -14,7 +14,7 @@ use Rattle.mv_step.specs.declared.step.Step.{Step}
 use Rattle.mv_cert.specs.Certificates.{Certifies, steps_in}
 use Rattle.mv_cert.specs.declared.fault.ReplayFault.{ReplayFault}
 use Rattle.mv_cert.specs.declared.fault.ReplayFault.TheVariants.{Rule as RuleFails, Memory}
-use Rattle.mv_cert.specs.Replay.{LeadPart, FailsAt, StopsAt, rules_in}
+use Rattle.mv_cert.specs.Replay.{LeadPart, FailsAt, EndsEarly, rules_in}
 use Rattle.mv_cert.proofs.Causes.{never_memory}
 
 -- rules that all apply, and a front of them behind which one fails
@@ -59,11 +59,11 @@ module _ (steps : List Step) (i : ℕ) (old mid : NetParts) (ran : Replays (rule
 
   -- the rule of the next step isn't applied
   pub stops_here : (d : Step) (line : ℕ) (fault : RuleFault) (answer : ReplayFault) → i < length steps → line ≡ (get_or steps i d).line → (fault ≡ out_of_memory) ⊎ Fails (get_or steps i d).rule mid fault
-      → (fault ≡ out_of_memory → answer ≡ Memory) → ((fault ≡ out_of_memory → ⊥) → answer ≡ RuleFails line fault) → StopsAt steps old mid answer
-  stops_here d line fault answer low at (inl e) memory rule = subst (λ a. StopsAt steps old mid a) (sym (memory e)) part_led
+      → (fault ≡ out_of_memory → answer ≡ Memory) → ((fault ≡ out_of_memory → ⊥) → answer ≡ RuleFails line fault) → EndsEarly steps old mid answer
+  stops_here d line fault answer low at (inl e) memory rule = subst (λ a. EndsEarly steps old mid a) (sym (memory e)) part_led
   stops_here d line fault answer low at (inr fails) memory rule =
       let known = rule (λ e. never_memory (get_or steps i d).rule mid (subst (λ f. Fails (get_or steps i d).rule mid f) e fails)) in
-      subst (λ a. StopsAt steps old mid a) (sym known) (fails_here d line fault low at fails)
+      subst (λ a. EndsEarly steps old mid a) (sym known) (fails_here d line fault low at fails)
 
 -- ---- certificates
 

@@ -32,6 +32,6 @@ pub record FailsAt (steps : List Step) (old new : NetParts) (line : ℕ) (fault 
   pub fails : Fails step.rule new fault
 
 -- how a replay that ends early leaves the network
-abbrev pub StopsAt : List Step → NetParts → NetParts → ReplayFault → Type 0
-StopsAt steps old new (rule_fault line fault) = FailsAt steps old new line fault
-StopsAt steps old new Memory = LeadPart steps old new
+abbrev pub EndsEarly : List Step → NetParts → NetParts → ReplayFault → Type 0
+EndsEarly steps old new (rule_fault line fault) = FailsAt steps old new line fault
+EndsEarly steps old new Memory = LeadPart steps old new

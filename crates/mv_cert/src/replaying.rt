@@ -3,7 +3,7 @@ ghost use Rattle.mv_entry.specs.declared.fault.RuleFault.TheVariants.{Memory as 
 ghost use Rattle.mv_base.specs.Meaning.{SameMeaning};
 ghost use Rattle.mv_net.specs.Allowed.{of_net};
 ghost use Rattle.mv_rules.specs.Replaying.{Replays};
-ghost use Rattle.mv_cert.specs.Replay.{StopsAt, rules_in};
+ghost use Rattle.mv_cert.specs.Replay.{EndsEarly, rules_in};
 
 use crate::ReplayFault;
 use mv_entry::RuleFault;
@@ -33,7 +33,7 @@ pub fn replay(
     budget: u32,
 ) -> Result<(), ReplayFault>
     ensures replays { OnOk result (Replays (rules_in steps.now) net.old net.new) }
-    ensures stops { IfErr result (StopsAt steps.now net.old net.new) }
+    ensures stops { IfErr result (EndsEarly steps.now net.old net.new) }
     ensures means { SameMeaning (of_net net.new) (of_net net.old) }
 {
     for step in steps {

@@ -24,7 +24,7 @@ use Rattle.mv_task.proofs.Sources.{replaced}
 use Rattle.mv_task.proofs.Statuses.{IsOwn, ended_network, ended_read, ended_not_done, ended_not_cut}
 use Rattle.mv_check.specs.declared.stop.Stop.{Stop}
 use Rattle.mv_check.specs.declared.stop.Stop.TheVariants.{Text, Read, Memory, Source}
-use Rattle.mv_check.specs.declared.stop.TextFault.{TextFault}
+use Rattle.mv_check.specs.declared.stop.CertificateFault.{CertificateFault}
 use Rattle.mv_check.specs.declared.trial.TrialStop.{TrialStop}
 use Rattle.mv_check.specs.declared.trial.TrialStop.TheVariants.{Rule as Refused, Write, Memory as OutOfMemory}
 use Rattle.mv_check.specs.Certificates.{HasSteps, RefusesCertificate}
@@ -74,7 +74,7 @@ fault_told net_name old (Source unread) notes notes' t faulty e = absurd (omega 
 fault_told net_name old (Source short_source) notes notes' t faulty e = absurd (omega arith)
 
 text_told : (certificate_name : List ℕ) (old : Stored) (stop : Stop) (notes notes' : Written) → TellsLine notes notes' (line_of stop)
-    → ((f : TextFault) → stop ≡ Text f → RefusesCertificate certificate_name old f) → status_of stop ≡ 7 → TellsText certificate_name old notes notes'
+    → ((f : CertificateFault) → stop ≡ Text f → RefusesCertificate certificate_name old f) → status_of stop ≡ 7 → TellsText certificate_name old notes notes'
 text_told certificate_name old (Text f) notes notes' t refused e = record { fault = f; refuses = refused f refl; tells = t }
 text_told certificate_name old Read notes notes' t refused e = absurd (omega arith)
 text_told certificate_name old Memory notes notes' t refused e = absurd (omega arith)
@@ -118,7 +118,7 @@ early_replayed net_name certificate_name old new out out' notes notes' status en
     inr ((ended_complete IsCertificate 7 (named net_name certificate_name) (λ s. s ≡ 6) old new out out' notes notes' status (λ e. e) ended).succeeds (all_held net_name certificate_name old.held h) o n)
 
 early_of : (net_name certificate_name : List ℕ) (old new : Stored) (out notes notes' : Written) (stop : Stop) → Ended IsCertificate 7 (named net_name certificate_name) old new (status_of stop)
-    → ((f : TextFault) → stop ≡ Text f → RefusesCertificate certificate_name old f) → ((f : FileFault) → stop ≡ Source (Fault f) → IfSome old.held (RefusesNetwork (File net_name) f))
+    → ((f : CertificateFault) → stop ≡ Text f → RefusesCertificate certificate_name old f) → ((f : FileFault) → stop ≡ Source (Fault f) → IfSome old.held (RefusesNetwork (File net_name) f))
     → TellsLine notes notes' (line_of stop) → Checks net_name certificate_name old new out out notes notes' (status_of stop)
 early_of net_name certificate_name old new out notes notes' stop ended refused faulty tells = record {
   done = λ e. absurd (ended_not_done own ended e);
@@ -139,7 +139,7 @@ early_of net_name certificate_name old new out notes notes' stop ended refused f
 }
 
 pub early : (net_name certificate_name : List ℕ) (old new : Stored) (out notes notes' : Written) (stop : Stop) (status : ℕ) → status ≡ status_of stop → Ended IsCertificate 7 (named net_name certificate_name) old new (status_of stop)
-    → ((f : TextFault) → stop ≡ Text f → RefusesCertificate certificate_name old f) → ((f : FileFault) → stop ≡ Source (Fault f) → IfSome old.held (RefusesNetwork (File net_name) f))
+    → ((f : CertificateFault) → stop ≡ Text f → RefusesCertificate certificate_name old f) → ((f : FileFault) → stop ≡ Source (Fault f) → IfSome old.held (RefusesNetwork (File net_name) f))
     → TellsLine notes notes' (line_of stop) → Checks net_name certificate_name old new out out notes notes' status
 early net_name certificate_name old new out notes notes' stop status is ended refused faulty tells =
     subst (λ s. Checks net_name certificate_name old new out out notes notes' s) (sym is) (early_of net_name certificate_name old new out notes notes' stop ended refused faulty tells)

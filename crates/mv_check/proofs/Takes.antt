@@ -18,19 +18,19 @@ use Rattle.mv_task.specs.Taken.{IsTaken, IsRefused}
 use Rattle.mv_task.specs.Inputs.{Source, Inputs}
 use Rattle.mv_task.proofs.Networks.{prepared_earlier, faulty_earlier, named_of}
 use Rattle.mv_task.proofs.Seconds.{ended_second_file, ended_behind}
-use Rattle.mv_check.specs.declared.stop.TextFault.{TextFault}
-use Rattle.mv_check.specs.declared.stop.TextFault.TheVariants.{Lex, Step as step_fault}
+use Rattle.mv_check.specs.declared.stop.CertificateFault.{CertificateFault}
+use Rattle.mv_check.specs.declared.stop.CertificateFault.TheVariants.{Lex, Step as step_fault}
 use Rattle.mv_cert.specs.Certificates.{IsCertificate}
 use Rattle.mv_check.specs.Certificates.{HasSteps, RefusesCertificate, RefusesText}
 
 -- ---- the certificate
 
 -- bytes that are refused for a fault are no certificate
-refused_none : (content : List ℕ) (f : TextFault) → RefusesText content f → IsCertificate content → ⊥
+refused_none : (content : List ℕ) (f : CertificateFault) → RefusesText content f → IsCertificate content → ⊥
 refused_none content (Lex f) r c = let none = c.lexed in cc
 refused_none content (step_fault f) r c = let some = r.1 in let none = c.form in cc
 
-refused_of : (name : List ℕ) (old : Option Held) (content : List ℕ) (f : TextFault) → IfSome old (λ h. file_named name h.files ≡ Some content) → RefusesText content f → IfSome old (IsRefused IsCertificate name)
+refused_of : (name : List ℕ) (old : Option Held) (content : List ℕ) (f : CertificateFault) → IfSome old (λ h. file_named name h.files ≡ Some content) → RefusesText content f → IfSome old (IsRefused IsCertificate name)
 refused_of name None content f n r = tt
 refused_of name (Some o) content f n r = record { content = content; named = n; refused = refused_none content f r }
 
@@ -43,7 +43,7 @@ pub steps_taken : (name : List ℕ) (old : Stored) (steps : List Step) → HasSt
 steps_taken name old steps h = taken_of name old.held h.content h.named h.accepted
 
 -- a refused certificate
-pub certificate_ends : (name : List ℕ) (old new : Stored) (f : TextFault) → RefusesCertificate name old f → SecondEnded IsCertificate 7 name old new 7
+pub certificate_ends : (name : List ℕ) (old new : Stored) (f : CertificateFault) → RefusesCertificate name old f → SecondEnded IsCertificate 7 name old new 7
 certificate_ends name old new f r = Refused refl (refused_of name old.held r.content f r.named r.refused)
 
 -- a fault of the bytes

@@ -6,11 +6,11 @@ use Rattle.mv_lex.specs.Lines.{lines_of, lex_fault}
 use Rattle.mv_step.specs.declared.step.Step.{Step}
 use Rattle.mv_step.specs.Certificates.{fault_of}
 use Rattle.mv_cert.specs.Certificates.{IsCertificate, steps_in}
-use Rattle.mv_check.specs.declared.stop.TextFault.{TextFault}
-use Rattle.mv_check.specs.declared.stop.TextFault.TheVariants.{Lex, Step as step_fault}
+use Rattle.mv_check.specs.declared.stop.CertificateFault.{CertificateFault}
+use Rattle.mv_check.specs.declared.stop.CertificateFault.TheVariants.{Lex, Step as step_fault}
 
 -- the bytes are no certificate, for this fault
-abbrev pub RefusesText : List ℕ → TextFault → Type 0
+abbrev pub RefusesText : List ℕ → CertificateFault → Type 0
 RefusesText bytes (Lex f) = lex_fault MAX_CERTIFICATE_BYTES bytes ≡ Some f
 RefusesText bytes (step_fault f) = (lex_fault MAX_CERTIFICATE_BYTES bytes ≡ None) × (fault_of (lines_of bytes) ≡ Some f)
 
@@ -19,7 +19,7 @@ abbrev pub IsNamed : List ℕ → Stored → List ℕ → Type 0
 IsNamed name files content = IfSome files.held (λ held. file_named name held.files ≡ Some content)
 
 -- the named certificate is refused for this fault
-pub record RefusesCertificate (name : List ℕ) (files : Stored) (fault : TextFault) : Type 0 where
+pub record RefusesCertificate (name : List ℕ) (files : Stored) (fault : CertificateFault) : Type 0 where
   pub content : List ℕ
   pub named : IsNamed name files content
   pub refused : RefusesText content fault

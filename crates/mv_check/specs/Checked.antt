@@ -17,7 +17,7 @@ use Rattle.mv_task.specs.Made.{Prepared}
 use Rattle.mv_task.specs.Replaced.{Replaced}
 use Rattle.mv_task.specs.Taken.{IsTaken}
 use Rattle.mv_task.specs.Inputs.{File, named}
-use Rattle.mv_check.specs.declared.stop.TextFault.{TextFault}
+use Rattle.mv_check.specs.declared.stop.CertificateFault.{CertificateFault}
 use Rattle.mv_check.specs.Certificates.{RefusesCertificate, IsNamed}
 use Rattle.mv_check.specs.Tellings.{text_line, rule_line}
 
@@ -39,7 +39,7 @@ pub record IsChecked (net_name certificate_name : List ℕ) (old new : Stored) (
 
 -- the named certificate is refused for a fault of its bytes or of its lines, and the notes tell it
 pub record TellsText (certificate_name : List ℕ) (files : Stored) (notes notes' : Written) : Type 0 where
-  pub fault : TextFault
+  pub fault : CertificateFault
   pub refuses : RefusesCertificate certificate_name files fault
   pub tells : TellsLine notes notes' (text_line fault)
 

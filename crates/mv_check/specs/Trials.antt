@@ -8,7 +8,7 @@ use Rattle.mv_net.specs.Allowed.{of_net}
 use Rattle.mv_net.specs.Formed.{WellFormed}
 use Rattle.mv_net.specs.Nets.{literals_in}
 use Rattle.mv_text.specs.Text.{text_of}
-use Rattle.mv_back.specs.Back.{ReadsBack}
+use Rattle.mv_text_back.specs.Back.{ReadsBack}
 use Rattle.mv_rules.specs.Replaying.{Replays}
 use Rattle.mv_step.specs.declared.step.Step.{Step}
 use Rattle.mv_cert.specs.Replay.{FailsAt, rules_in}

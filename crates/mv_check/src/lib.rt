@@ -11,4 +11,4 @@ mod trial;
 
 pub use checking::check;
 pub use laws::short_at_once;
-pub use stop::TextFault;
+pub use stop::CertificateFault;

@@ -10,7 +10,7 @@ use mv_task::{SourceStop, put_source_line, source_status};
 
 /// Why a file is no certificate: for a fault of its bytes, or of its lines.
 #[derive(Clone, Copy, Debug, PartialEq, Eq)]
-pub enum TextFault {
+pub enum CertificateFault {
     Lex(LexFault),
     Step(StepFault),
 }
@@ -18,7 +18,7 @@ pub enum TextFault {
 /// Why a check has nothing to work on: its certificate is refused, can't be read, or finds no memory, or no network comes.
 #[derive(Debug, Drop)]
 pub enum Stop {
-    Text(TextFault),
+    Text(CertificateFault),
     Read,
     Memory,
     Source(SourceStop),

@@ -6,12 +6,12 @@ ghost use Rattle.mv_task.specs.Exact.{SecondEnded, Ended};
 ghost use Rattle.mv_task.specs.Faults.{RefusesNetwork};
 ghost use Rattle.mv_task.specs.Made.{Prepared};
 ghost use Rattle.mv_task.specs.Inputs.{File, named};
-ghost use Rattle.mv_check.specs.declared.stop.TextFault.{TextFault};
+ghost use Rattle.mv_check.specs.declared.stop.CertificateFault.{CertificateFault};
 ghost use Rattle.mv_cert.specs.Certificates.{IsCertificate};
 ghost use Rattle.mv_check.specs.Certificates.{HasSteps, RefusesCertificate};
 ghost use Rattle.mv_check.specs.Stops.{status_of};
 
-use crate::stop::{Stop, TextFault};
+use crate::stop::{CertificateFault, Stop};
 use mv_base::{Files, Items, MAX_CERTIFICATE_BYTES};
 use mv_cert::{Step, StepFault, read_cert};
 use mv_files::{LinesStop, read_lines};
@@ -25,7 +25,7 @@ use std::alloc::Global;
 fn take_certificate<F: Files>(alloc: Global, name: &str, files: &mut F) -> Result<Items<Step>, Stop>
     ensures steps { IfOk result (HasSteps name.now (F.state files.old)) }
     ensures stay { Stay (F.state files.old) (F.state files.new) }
-    ensures text { (fault : TextFault) → result ≡ Err (Stop.Text fault)
+    ensures text { (fault : CertificateFault) → result ≡ Err (Stop.Text fault)
         → RefusesCertificate name.now (F.state files.old) fault }
     ensures own { (fault : FileFault) → result ≡ Err (Stop.Source (faulty fault)) → ⊥ }
     ensures ended { IfErr result (λ stop.
@@ -35,12 +35,12 @@ fn take_certificate<F: Files>(alloc: Global, name: &str, files: &mut F) -> Resul
         Ok(lines) => lines,
         Err(LinesStop::Failed) => return Err(Stop::Read),
         Err(LinesStop::Lex(LexFault::Memory)) => return Err(Stop::Memory),
-        Err(LinesStop::Lex(fault)) => return Err(Stop::Text(TextFault::Lex(fault))),
+        Err(LinesStop::Lex(fault)) => return Err(Stop::Text(CertificateFault::Lex(fault))),
     };
     match read_cert(&lines) {
         Ok(steps) => Ok(steps),
         Err(StepFault::Memory) => Err(Stop::Memory),
-        Err(fault) => Err(Stop::Text(TextFault::Step(fault))),
+        Err(fault) => Err(Stop::Text(CertificateFault::Step(fault))),
     }
 }
 
@@ -61,7 +61,7 @@ pub fn prepare<F: Files>(
 ) -> Result<Trial, Stop>
     ensures steps { IfOk result (λ trial. HasSteps certificate.now (F.state files.old) trial.steps) }
     ensures made { IfOk result (λ trial. Prepared (File network.now) (F.state files.old) (F.state files.new) trial.net) }
-    ensures text { (fault : TextFault) → result ≡ Err (Stop.Text fault)
+    ensures text { (fault : CertificateFault) → result ≡ Err (Stop.Text fault)
         → RefusesCertificate certificate.now (F.state files.old) fault }
     ensures faulty { (fault : FileFault) → result ≡ Err (Stop.Source (faulty fault))
         → IfSome (F.state files.old).held (RefusesNetwork (File network.now) fault) }

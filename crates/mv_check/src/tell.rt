@@ -2,7 +2,7 @@ ghost use Rattle.std.specs.Prelude.{◌≡◌};
 ghost use Rattle.mv_base.specs.Outside.{Appends};
 ghost use Rattle.mv_check.specs.Tellings.{told_line, fault_name, rule_line, text_line};
 
-use crate::stop::TextFault;
+use crate::stop::CertificateFault;
 use itoa::Buffer;
 use mv_base::{Failed, Sink, put_both};
 use mv_cert::StepFault;
@@ -50,18 +50,18 @@ fn put_told<E: Sink>(line: u32, cause: &[u8], notes: &mut E) -> Result<(), Faile
 }
 
 /// Puts the line of a fault of a certificate's bytes or lines. It takes no memory.
-pub fn put_text_line<E: Sink>(fault: TextFault, notes: &mut E) -> Result<(), Failed>
+pub fn put_text_line<E: Sink>(fault: CertificateFault, notes: &mut E) -> Result<(), Failed>
     ensures { Appends (E.state notes.old) (E.state notes.new) (text_line fault) result }
 {
     match fault {
-        TextFault::Lex(LexFault::BadByte { line, .. }) => put_told(line, b"Lex 1", notes),
-        TextFault::Lex(LexFault::LongWord { line }) => put_told(line, b"Lex 2", notes),
-        TextFault::Lex(LexFault::OpenBracket { line }) => put_told(line, b"Lex 3", notes),
-        TextFault::Lex(LexFault::TooLarge { line }) => put_told(line, b"Lex 4", notes),
-        TextFault::Lex(LexFault::Memory) => notes.put(b"# fault memory\n"),
-        TextFault::Step(StepFault::Syntax { line }) => put_told(line, b"Syntax", notes),
-        TextFault::Step(StepFault::NotBuilt { line }) => put_told(line, b"NotBuilt", notes),
-        TextFault::Step(StepFault::Memory) => notes.put(b"# fault memory\n"),
+        CertificateFault::Lex(LexFault::BadByte { line, .. }) => put_told(line, b"Lex 1", notes),
+        CertificateFault::Lex(LexFault::LongWord { line }) => put_told(line, b"Lex 2", notes),
+        CertificateFault::Lex(LexFault::OpenBracket { line }) => put_told(line, b"Lex 3", notes),
+        CertificateFault::Lex(LexFault::TooLarge { line }) => put_told(line, b"Lex 4", notes),
+        CertificateFault::Lex(LexFault::Memory) => notes.put(b"# fault memory\n"),
+        CertificateFault::Step(StepFault::Syntax { line }) => put_told(line, b"Syntax", notes),
+        CertificateFault::Step(StepFault::NotBuilt { line }) => put_told(line, b"NotBuilt", notes),
+        CertificateFault::Step(StepFault::Memory) => notes.put(b"# fault memory\n"),
     }
 }
 

@@ -3,11 +3,11 @@ ghost use Rattle.mv_entry.specs.declared.fault.RuleFault.{RuleFault};
 ghost use Rattle.mv_check.specs.Trials.{HasTried, FailsTrial, IsTrialCut};
 
 use crate::take::Trial;
-use mv_back::reads_back;
 use mv_base::Sink;
 use mv_cert::{ReplayFault, replay};
 use mv_entry::RuleFault;
 use mv_task::finish;
+use mv_text_back::reads_back;
 use std::alloc::Global;
 
 /// Why the work on a certificate ends early.

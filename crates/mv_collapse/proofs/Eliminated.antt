@@ -7,12 +7,12 @@ use Rattle.mv_agenda.proofs.Looking.{all_at_first, all_but_taken, all_with_near,
 use Rattle.mv_entry.specs.declared.rule.Rule.TheVariants.{Collapse}
 use Rattle.mv_entry.specs.Entries.{Entry, Applied}
 use Rattle.mv_entry.specs.Tallies.{Journaled}
-use Rattle.mv_local.specs.Local.{StaysAround}
-use Rattle.mv_local.specs.Same.{KeepsReaders}
-use Rattle.mv_local.proofs.Places.{place_kept, place_back, far_stays, AreNarrow-same, CanCollapse-same}
-use Rattle.mv_local.proofs.Savings.{saving_same}
-use Rattle.mv_local.proofs.Steps.{names_itself, steps_left, collapses_around, collapses_fewer}
-use Rattle.mv_local.proofs.Tables.{IsInnerOf-same}
+use Rattle.mv_locality.specs.Local.{StaysAround}
+use Rattle.mv_locality.specs.Same.{KeepsReaders}
+use Rattle.mv_locality.proofs.Places.{place_kept, place_back, far_stays, AreNarrow-same, CanCollapse-same}
+use Rattle.mv_locality.proofs.Savings.{saving_same}
+use Rattle.mv_locality.proofs.Steps.{names_itself, steps_left, collapses_around, collapses_fewer}
+use Rattle.mv_locality.proofs.Tables.{IsInnerOf-same}
 use Rattle.mv_net.specs.declared.parts.FlatNet.{FlatNet}
 use Rattle.mv_net.specs.declared.parts.NetParts.{NetParts}
 use Rattle.mv_net.specs.Changes.{with_nets}
@@ -26,8 +26,8 @@ use Rattle.mv_pass.proofs.Taken.{Took-as, TookPart-as, Took-then, TookPart-then}
 use Rattle.mv_rules.specs.Applies.{Applies}
 use Rattle.mv_rules.specs.Checks.{IsTabled}
 use Rattle.mv_rules.specs.Collapsing.{collapsed}
-use Rattle.mv_saving.specs.Savings.{IsSaving, IsLeastSaving, NoneSaves}
-use Rattle.mv_saving.proofs.Going.{named_itself}
+use Rattle.mv_gain.specs.Savings.{IsSaving, IsLeastSaving, NoneSaves}
+use Rattle.mv_gain.proofs.Going.{named_itself}
 use Rattle.mv_collapse.specs.Eliminates.{Eliminates, EndsEliminate, IsEliminateStep, NotesWide}
 use Rattle.mv_collapse.specs.Eliminating.{IsNextSaving, NotesFirst, WentInto}
 

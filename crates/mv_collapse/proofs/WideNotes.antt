@@ -18,7 +18,7 @@ use Rattle.mv_net.specs.Nets.{slot, name_in, table_in}
 use Rattle.mv_pass.specs.Taking.{Took, TookPart}
 use Rattle.mv_pass.proofs.Taken.{Took-none, Took-as, TookPart-as, Took-then, TookPart-then}
 use Rattle.mv_rules.proofs.Spoken.{held_visible}
-use Rattle.mv_saving.specs.Savings.{IsWideNet}
+use Rattle.mv_gain.specs.Savings.{IsWideNet}
 use Rattle.mv_collapse.specs.Eliminates.{NotesWide, wide_note}
 use Rattle.mv_collapse.specs.Eliminating.{NotesFirst, NotesOne, IsNoteOf}
 

@@ -9,7 +9,7 @@ use Rattle.mv_graph.specs.Nets.{ids_ascend, has_id}
 use Rattle.mv_net.specs.declared.parts.NetParts.{NetParts}
 use Rattle.mv_net.specs.Nets.{slot, name_in}
 use Rattle.mv_pass.specs.Going.{Goes}
-use Rattle.mv_saving.specs.Savings.{NoneSaves, IsLeastSaving, IsWideNet}
+use Rattle.mv_gain.specs.Savings.{NoneSaves, IsLeastSaving, IsWideNet}
 
 -- the least-numbered net that saves has this name
 pub record IsLeastNamed (net : NetParts) (name : List ℕ) : Type 0 where

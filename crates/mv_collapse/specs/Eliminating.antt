@@ -6,7 +6,7 @@ use Rattle.mv_entry.specs.Entries.{Entry}
 use Rattle.mv_net.specs.declared.parts.NetParts.{NetParts}
 use Rattle.mv_net.specs.Formed.{WellFormed}
 use Rattle.mv_rules.specs.Collapsing.{Collapses}
-use Rattle.mv_saving.specs.Savings.{IsSaving, IsLeastSaving, IsWideNet}
+use Rattle.mv_gain.specs.Savings.{IsSaving, IsLeastSaving, IsWideNet}
 use Rattle.mv_collapse.specs.Eliminates.{NotesWide, wide_note}
 
 -- the net at n is the least that saves, and each other that saves waits

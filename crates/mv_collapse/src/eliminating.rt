@@ -8,17 +8,17 @@ ghost use Rattle.mv_entry.specs.declared.note.Command.TheVariants.{Eliminate as 
 ghost use Rattle.mv_net.specs.Allowed.{of_net};
 ghost use Rattle.mv_pass.specs.Passing.{Passes};
 ghost use Rattle.mv_pass.specs.Taking.{GoesOn, Took, TookPart, Went, WentPart};
-ghost use Rattle.mv_saving.specs.Kept.{AreRight};
-ghost use Rattle.mv_saving.specs.Savings.{IsSaving, IsLeastSaving, NoneSaves};
+ghost use Rattle.mv_gain.specs.Kept.{AreRight};
+ghost use Rattle.mv_gain.specs.Savings.{IsSaving, IsLeastSaving, NoneSaves};
 
 use crate::noting::note_wide;
 use crate::{NO_BUDGET, Stop};
 use mv_agenda::{Agenda, put_near};
 use mv_base::{Memory, Name, NetId};
 use mv_entry::{Command, Journal, Note, Rule};
+use mv_gain::KeptComposites;
 use mv_net::Network;
 use mv_pass::{few_literals, take};
-use mv_saving::KeptComposites;
 use std::alloc::Global;
 
 /// The least net that waits and saves, if one does; those before it wait no more.

@@ -3,14 +3,14 @@ ghost use Rattle.mv_base.specs.Outside.{Rose};
 ghost use Rattle.mv_collapse.specs.Eliminates.{NotesWide};
 ghost use Rattle.mv_collapse.specs.Eliminating.{NotesFirst, NotesOne, IsNoteOf};
 ghost use Rattle.mv_pass.specs.Taking.{GoesOn, Took, TookPart};
-ghost use Rattle.mv_saving.specs.Kept.{AreRight};
-ghost use Rattle.mv_saving.specs.Savings.{IsWideNet};
+ghost use Rattle.mv_gain.specs.Kept.{AreRight};
+ghost use Rattle.mv_gain.specs.Savings.{IsWideNet};
 
 use crate::Stop;
 use mv_base::{Memory, Name, NetId};
 use mv_entry::{Journal, Note, Why};
+use mv_gain::{KeptComposites, Verdict};
 use mv_net::Network;
-use mv_saving::{KeptComposites, Verdict};
 use std::alloc::Global;
 
 /// Whether the rule refuses to collapse the net of this number for this alone that a composite is too wide.

@@ -10,7 +10,7 @@ use Rattle.mv_base.proofs.Lists.{all-weaker}
 use Rattle.mv_fault.specs.declared.fault.ParseFault.{ParseFault}
 use Rattle.mv_fault.specs.declared.fault.ParseFault.TheVariants.{Missing}
 use Rattle.mv_design.specs.declared.design.Decl.{Decl}
-use Rattle.mv_decl.specs.Line.{is_comma, is_digits, Front, lacking, with_net, front_of, behind_name, net_name_faults, lacking_faults, front_faults, number_said, numbers_below, value_names, named_values, count_faults, name_faults, length_faults, is_redeclared, redeclared_faults, pieces_of, commas_apart, values_from, front_said, nets_said, values_said, count_line_faults, decl_faults}
+use Rattle.mv_decl.specs.Line.{is_comma, is_digits, Front, lacking, with_net, front_of, behind_name, net_name_faults, lacking_faults, front_faults, number_said, numbers_below, value_names, named_values, count_faults, value_name_faults, length_faults, is_redeclared, redeclared_faults, pieces_of, commas_apart, values_from, front_said, nets_said, values_said, count_line_faults, decl_faults}
 use Rattle.mv_design.specs.Values.{declared_of}
 use Rattle.mv_decl.proofs.Fronts.{front_left}
 use Rattle.mv_decl.specs.Plain.{IsPlainLine, SayTheSame}
@@ -83,8 +83,8 @@ plain_names words nets count values line some = (read_all words nets count value
 pub plain_numbers : (words nets : List (List ℕ)) (count : List ℕ) → IsPlainLine words nets count [] → values_said words ≡ numbers_below (number_said count)
 plain_numbers words nets count line = (read_all words nets count [] line).valued
 
-pub plain_faults : (words nets : List (List ℕ)) (count : List ℕ) (values : List (List ℕ)) → IsPlainLine words nets count values → (n : ℕ) (word : List ℕ) (ds : List Decl) → decl_faults n word ds words ≡ count_faults n count ++ name_faults n [] values ++ length_faults n (number_said count) values ++ redeclared_faults n ds (named_values (number_said count) values) nets
-plain_faults words nets count values line n word ds = (read_all words nets count values line).faults n word ds ∙ ap (λ names. count_faults n count ++ name_faults n [] names ++ length_faults n (number_said count) names ++ redeclared_faults n ds (named_values (number_said count) names) nets) (names_kept values (all-weaker is_value_name is_piece value_piece values line.spelled))
+pub plain_faults : (words nets : List (List ℕ)) (count : List ℕ) (values : List (List ℕ)) → IsPlainLine words nets count values → (n : ℕ) (word : List ℕ) (ds : List Decl) → decl_faults n word ds words ≡ count_faults n count ++ value_name_faults n [] values ++ length_faults n (number_said count) values ++ redeclared_faults n ds (named_values (number_said count) values) nets
+plain_faults words nets count values line n word ds = (read_all words nets count values line).faults n word ds ∙ ap (λ names. count_faults n count ++ value_name_faults n [] names ++ length_faults n (number_said count) names ++ redeclared_faults n ds (named_values (number_said count) names) nets) (names_kept values (all-weaker is_value_name is_piece value_piece values line.spelled))
 
 -- ---- a comma where a name has to stand, and behind a name
 
@@ -157,7 +157,7 @@ module _ (n : ℕ) (word : List ℕ) (ds : List Decl) where
   rest_faults : (nets ws vs : List (List ℕ)) → SameRest ws vs → faults_with nets ws ≡ faults_with nets vs
   rest_faults nets [] [] s = refl
   rest_faults nets (c ∷ ws) (d ∷ vs) s =
-      ap₂ (λ k names. (flat_map (net_name_faults n) nets ++ []) ++ (count_faults n k ++ name_faults n [] names ++ length_faults n (number_said k) names ++ redeclared_faults n ds (named_values (number_said k) names) nets)) s.0 s.1
+      ap₂ (λ k names. (flat_map (net_name_faults n) nets ++ []) ++ (count_faults n k ++ value_name_faults n [] names ++ length_faults n (number_said k) names ++ redeclared_faults n ds (named_values (number_said k) names) nets)) s.0 s.1
   rest_faults nets [] (d ∷ vs) s = absurd s
   rest_faults nets (c ∷ ws) [] s = absurd s
 

@@ -116,9 +116,9 @@ unfoldable pub value_faults : ℕ → List (List ℕ) → List ℕ → List Pars
 value_faults n earlier w = when (not (is_value_name w)) (BadName n w) ++ when (among w earlier) (Repeated n w)
 
 -- names of values, behind these others
-abbrev pub name_faults : ℕ → List (List ℕ) → List (List ℕ) → List ParseFault
-name_faults n earlier [] = []
-name_faults n earlier (w ∷ ws) = value_faults n earlier w ++ name_faults n (earlier ++ w ∷ []) ws
+abbrev pub value_name_faults : ℕ → List (List ℕ) → List (List ℕ) → List ParseFault
+value_name_faults n earlier [] = []
+value_name_faults n earlier (w ∷ ws) = value_faults n earlier w ++ value_name_faults n (earlier ++ w ∷ []) ws
 
 -- as many names as the count, or none
 abbrev pub length_faults : ℕ → ℕ → List (List ℕ) → List ParseFault
@@ -169,7 +169,7 @@ decls_said words = decls_for (values_said words) (nets_said words)
 abbrev pub count_line_faults : ℕ → List Decl → List (List ℕ) → List (List ℕ) → List ParseFault
 count_line_faults n ds nets [] = []
 count_line_faults n ds nets (w ∷ ws) =
-    count_faults n w ++ name_faults n [] (value_names ws) ++ length_faults n (number_said w) (value_names ws)
+    count_faults n w ++ value_name_faults n [] (value_names ws) ++ length_faults n (number_said w) (value_names ws)
     ++ redeclared_faults n ds (named_values (number_said w) (value_names ws)) nets
 
 -- all faults of the words behind `.mv`, which is `word`, on the line n, behind these declarations

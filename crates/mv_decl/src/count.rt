@@ -2,7 +2,7 @@ ghost use Rattle.std.specs.Prelude.{◌≡◌, ◌<◌, ◌≤◌, ◌∷◌, �
 ghost use Rattle.mv_base.specs.declared.limits.TheConstants.{MAX_VALUES as most_values};
 ghost use Rattle.mv_fault.specs.Tells.{Tells};
 ghost use Rattle.mv_decl.specs.Line.{is_digits, number_said, told_number, numbers_below, value_names, named_values};
-ghost use Rattle.mv_decl.specs.Line.{count_faults, value_faults, name_faults, length_faults};
+ghost use Rattle.mv_decl.specs.Line.{count_faults, value_faults, value_name_faults, length_faults};
 
 use crate::commas::is_comma;
 use itoa::Buffer;
@@ -60,7 +60,7 @@ fn count(line: u32, word: &Name) -> Result<u16, ParseFault>
 /// The names of values among these words, without the commas.
 #[tactic(auto, using(mv_fault::proofs::Firsts::firsts))]
 fn value_names(alloc: Global, line: u32, words: &[Name]) -> Result<Items<Name>, ParseFault>
-    ensures fault { Tells result (name_faults line [] (value_names words.now)) }
+    ensures fault { Tells result (value_name_faults line [] (value_names words.now)) }
     ensures ok { IfOk result (λ names. names ≡ value_names words.now) }
 {
     let mut names = Items::new(alloc);
@@ -118,7 +118,7 @@ pub fn values(
     word: &Name,
     words: &[Name],
 ) -> Result<Items<Name>, ParseFault>
-    ensures fault { Tells result (count_faults line word.now ++ name_faults line [] (value_names words.now)
+    ensures fault { Tells result (count_faults line word.now ++ value_name_faults line [] (value_names words.now)
         ++ length_faults line (number_said word.now) (value_names words.now)) }
     ensures ok { IfOk result (λ values. values ≡ named_values (number_said word.now) (value_names words.now)) }
     ensures some { IfOk result (λ values. 0 < length values) }

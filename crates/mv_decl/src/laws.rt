@@ -1,7 +1,7 @@
 ghost use Rattle.std.specs.Prelude.{◌≡◌, ℕ, ◌<◌, List, [], ◌∷◌, ◌++◌, false, length, codes, IsTrue};
 ghost use Rattle.mv_base.specs.Names.{among, is_net_name};
 ghost use Rattle.mv_design.specs.declared.design.Decl.{Decl};
-ghost use Rattle.mv_decl.specs.Line.{number_said, numbers_below, named_values, count_faults, name_faults, length_faults, redeclared_faults};
+ghost use Rattle.mv_decl.specs.Line.{number_said, numbers_below, named_values, count_faults, value_name_faults, length_faults, redeclared_faults};
 ghost use Rattle.mv_decl.specs.Line.{nets_said, values_said, decl_faults};
 ghost use Rattle.mv_design.specs.Values.{declared_of};
 ghost use Rattle.mv_decl.specs.Plain.{IsPlainLine, SayTwoNames};
@@ -22,7 +22,7 @@ pub fn line_laws()
         → values_said words ≡ numbers_below (number_said count) }
     ensures faults { (words nets : List (List ℕ)) (count : List ℕ) (values : List (List ℕ)) → IsPlainLine words nets count values
         → (n : ℕ) (word : List ℕ) (ds : List Decl) → decl_faults n word ds words
-        ≡ count_faults n count ++ name_faults n [] values ++ length_faults n (number_said count) values
+        ≡ count_faults n count ++ value_name_faults n [] values ++ length_faults n (number_said count) values
         ++ redeclared_faults n ds (named_values (number_said count) values) nets }
     ensures comma { SayTwoNames (λ w x. w ∷ codes "," ∷ x ∷ []) }
     ensures joined { SayTwoNames (λ w x. (w ++ codes "," ++ x) ∷ []) }

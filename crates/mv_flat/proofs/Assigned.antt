@@ -13,11 +13,11 @@ use Rattle.mv_net.specs.declared.parts.NetParts.{NetParts}
 use Rattle.mv_net.specs.Allowed.{net_allows, Agrees}
 use Rattle.mv_design.specs.Values.{count_of}
 use Rattle.mv_design.specs.Nets.{nets_named, nets_driven, output_of}
-use Rattle.mv_flat.specs.Places.{places, has_mark}
-use Rattle.mv_unfold.specs.Numbers.{number_in}
+use Rattle.mv_flat.specs.Places.{net_places, has_mark}
+use Rattle.mv_acyclic.specs.Numbers.{number_in}
 use Rattle.mv_design.specs.Meaning.{in_values, table_holds}
 use Rattle.mv_flat.specs.Numbers.{mark_at}
-use Rattle.mv_unfold.proofs.Names.{all_among}
+use Rattle.mv_acyclic.proofs.Names.{all_among}
 use Rattle.mv_flat.proofs.Places.{IsModelNet, open_slot, OpenPlace, OutputPlace, MarkPlace, ChoicePlace, place_at, no_slot}
 use Rattle.mv_flat.proofs.Naming.{in_tables, open_named}
 use Rattle.mv_flat.proofs.Drivers.{apart_behind, behind_only, tables_apart, first_output}
@@ -71,7 +71,7 @@ abbrev with_choices : FileModel → (List ℕ → ℕ) → (List ℕ → ℕ) �
 with_choices m value choices = of_number m value (marked_in value m.tables) choices
 
 module _ (m : FileModel) (net : NetParts) (is : IsModelNet m net) (value : List ℕ → ℕ) (range : in_values m.decls value (nets_named m) ≡ true) where
-  net_value : (choices : List ℕ → ℕ) (w : List ℕ) → among w (nets_named m) ≡ true → value w ≡ with_choices m value choices (number_in (places m) w)
+  net_value : (choices : List ℕ → ℕ) (w : List ℕ) → among w (nets_named m) ≡ true → value w ≡ with_choices m value choices (number_in (net_places m) w)
   net_value choices w h = sym (at_net m net is value (marked_in value m.tables) choices w h)
 
   choices_follow : (choices : List ℕ → ℕ) → Follows m (with_choices m value choices) value
@@ -83,7 +83,7 @@ module _ (m : FileModel) (net : NetParts) (is : IsModelNet m net) (value : List 
   }
 
   mark_is : (choices : List ℕ → ℕ) (k : ℕ) (t : FileTable) → slice_get m.tables k ≡ Some t → has_mark m.decls t ≡ true
-      → with_choices m value choices (mark_at (places m) t).0 ≡ mark_value t.rows (map value t.inputs)
+      → with_choices m value choices (mark_at (net_places m) t).0 ≡ mark_value t.rows (map value t.inputs)
   mark_is choices k t e may =
       at_mark m net is value (marked_in value m.tables) choices k t e may
       ∙ value_found (IsMarkValue value) m.tables (has_mark_value value m.tables) k t (output_of t) (tables_apart m net is) e (first_output m net is k t e)
@@ -120,7 +120,7 @@ module _ (m : FileModel) (net : NetParts) (is : IsModelNet m net) (value : List 
 
     allows_open : (n : ℕ) → OpenPlace m n → AllowsAt net by_number n
     allows_open n p =
-        let k : ℕ = number_in (places m) p.name in
+        let k : ℕ = number_in (net_places m) p.name in
         subst (AllowsAt net by_number) (sym p.number)
         (ap (λ s. net_allows s by_number (by_number k)) (open_slot m net is p.kind p.name p.listed)
         ∙ and_from (nat_lt (by_number k) (count_of m.decls p.name)) true (number_follows.range p.name (open_named m p.kind p.name p.listed)) refl)
@@ -146,11 +146,11 @@ module _ (m : FileModel) (net : NetParts) (is : IsModelNet m net) (value : List 
     number_agrees = record {
       each = λ n.
           ⊎_elim
-          (λ (low : n < length (places m)).
+          (λ (low : n < length (net_places m)).
           ⊎_elim (allows_open n)
           (λ (q : OutputPlace m n ⊎ (MarkPlace m n ⊎ ChoicePlace m n)).
           ⊎_elim (allows_output n) (λ (r : MarkPlace m n ⊎ ChoicePlace m n). ⊎_elim (allows_mark n) (allows_choice n) r) q)
           (place_at m net is n low))
-          (λ (high : length (places m) ≤ n). ap (λ s. net_allows s by_number (by_number n)) (no_slot m net is n high))
-          (cases_lt n (length (places m)));
+          (λ (high : length (net_places m) ≤ n). ap (λ s. net_allows s by_number (by_number n)) (no_slot m net is n high))
+          (cases_lt n (length (net_places m)));
     }

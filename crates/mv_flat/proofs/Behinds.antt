@@ -18,14 +18,14 @@ use Rattle.mv_design.specs.Nets.{nets_driven, columns_of, drivers, output_of}
 use Rattle.mv_flat.specs.declared.covers.TableCovers.{TableCovers}
 use Rattle.mv_flat.specs.declared.covers.TableCovers.TheVariants.{Single, Joint}
 use Rattle.mv_flat.specs.Covers.{MadeNet, IsMadeTable, made_mark, made_of, outputs_of}
-use Rattle.mv_flat.specs.Places.{is_joint, marks_of, choices_of, made_places, table_places, places}
+use Rattle.mv_flat.specs.Places.{is_joint, marks_of, choices_of, made_places, table_places, net_places}
 use Rattle.mv_resets.specs.NetModels.{HasSoundNets, IsNetModel, IsNetTable}
-use Rattle.mv_unfold.specs.Sound.{IsDrivenOnce}
-use Rattle.mv_unfold.proofs.Soundness.{in_left, in_right}
+use Rattle.mv_acyclic.specs.Sound.{IsDrivenOnce}
+use Rattle.mv_acyclic.proofs.Soundness.{in_left, in_right}
 use Rattle.mv_flat.proofs.Lawful.{open_names, drivers_split}
 use Rattle.mv_flat.proofs.Distinct.{places_split, places_driven, driver_is_place}
-use Rattle.mv_unfold.proofs.Distinct.{net_is_driven}
-use Rattle.mv_unfold.proofs.Commands.{column_named, named_is_net}
+use Rattle.mv_acyclic.proofs.Distinct.{net_is_driven}
+use Rattle.mv_acyclic.proofs.Commands.{column_named, named_is_net}
 use Rattle.mv_flat.specs.Numbers.{columns_at, mark_at, choice_name, choice_at, made_name}
 use Rattle.mv_flat.specs.Built.{file_net, kind_of, output_nets, AreTables}
 use Rattle.mv_flat.specs.Marks.{IsLast, AddsMade, AddsMark, AddsNets, TableNets}
@@ -137,7 +137,7 @@ pub tables_last : (m : FileModel) (names : List (List ℕ)) (i last : ℕ) (old 
 tables_last m names i last old new p high made =
     let P : List FileTable → Type 0 = λ ts. AreTables m.decls names ts made.held [] in
     let Q : List (List ℕ) → Type 0 = λ ns. AreTables m.decls ns m.tables (drivers m) (made.here ++ []) in
-    let R : List (Option FlatNet) → Type 0 = AreTables m.decls (places m) m.tables (drivers m) in
+    let R : List (Option FlatNet) → Type 0 = AreTables m.decls (net_places m) m.tables (drivers m) in
     record {
       here = made.here;
       joined = made.joined;
@@ -168,7 +168,7 @@ within_tables ds w (t ∷ ts) (suc i) d low h =
     in_right w (table_places ds t) (flat_map (table_places ds) ts) (within_tables ds w ts i d (omega (arith, low)) h)
 
 -- the choice net of a table of several outputs has a number
-choice_listed : (m : FileModel) (names : List (List ℕ)) (i : ℕ) (d : FileTable) → names ≡ places m → i < length m.tables → is_joint (get_or m.tables i d) ≡ true
+choice_listed : (m : FileModel) (names : List (List ℕ)) (i : ℕ) (d : FileTable) → names ≡ net_places m → i < length m.tables → is_joint (get_or m.tables i d) ≡ true
     → among (choice_name (output_of (get_or m.tables i d))) names ≡ true
 choice_listed m names i d are low joint =
     let t = get_or m.tables i d in
@@ -177,13 +177,13 @@ choice_listed m names i d are low joint =
     let here : among w (table_places m.decls t) ≡ true = in_left w (made_places m.decls t) t.outputs (in_right w (marks_of m.decls t) (choices_of t) there) in
     ap (among w) (are ∙ places_split m) ∙ in_right w (open_names m) _ (within_tables m.decls w m.tables i d low here)
 
-pub choice_at_table : (m : FileModel) (names : List (List ℕ)) (i : ℕ) (t : FileTable) → names ≡ places m → i < length m.tables → t ≡ get_or m.tables i t
+pub choice_at_table : (m : FileModel) (names : List (List ℕ)) (i : ℕ) (t : FileTable) → names ≡ net_places m → i < length m.tables → t ≡ get_or m.tables i t
     → is_joint t ≡ true → among (choice_name (output_of t)) names ≡ true
 choice_at_table m names i t are low is joint =
     let P : FileTable → Type 0 = λ u. among (choice_name (output_of u)) names ≡ true in
     subst P (sym is) (choice_listed m names i t are low (ap is_joint (sym is) ∙ joint))
 
-pub tables_chosen : (m : FileModel) (names : List (List ℕ)) → names ≡ places m
+pub tables_chosen : (m : FileModel) (names : List (List ℕ)) → names ≡ net_places m
     → All (λ (t : FileTable). is_joint t ≡ true → among (choice_name (output_of t)) names ≡ true) m.tables
 tables_chosen m names are = λ k d low joint. choice_listed m names k d are low joint
 
@@ -191,7 +191,7 @@ pub ruleset tabled = (tables_first, tables_more, tables_last, tables_room, table
 
 -- ---- a sound model's nets have numbers
 
-column_known : (m : FileModel) (w : List ℕ) → IsNetModel m → IsDrivenOnce m → among w (flat_map columns_of m.tables) ≡ true → among w (places m) ≡ true
+column_known : (m : FileModel) (w : List ℕ) → IsNetModel m → IsDrivenOnce m → among w (flat_map columns_of m.tables) ≡ true → among w (net_places m) ≡ true
 column_known m w p once h = driver_is_place m p w (net_is_driven m w once (named_is_net m w (column_named m w h)))
 
 drivers_few : (ds : List Decl) (ts : List FileTable) → length (flat_map nets_driven ts) ≤ length (flat_map (table_places ds) ts)
@@ -233,7 +233,7 @@ outputs_few m names i t p low is =
     let f = p.few in
     omega arith
 
-driven_few : (m : FileModel) → IsNetModel m → length (places m) ≤ MAX_NETS → length (drivers m) + 2 * length m.tables ≤ 3 * MAX_NETS
+driven_few : (m : FileModel) → IsNetModel m → length (net_places m) ≤ MAX_NETS → length (drivers m) + 2 * length m.tables ≤ 3 * MAX_NETS
 driven_few m p few =
     let a = ap length (drivers_split m) ∙ length-append (open_names m) (flat_map nets_driven m.tables) in
     let b = ap length (places_split m) ∙ length-append (open_names m) (flat_map (table_places m.decls) m.tables) in
@@ -241,12 +241,12 @@ driven_few m p few =
     let d = tables_few m.decls m.tables p.tables in
     omega arith
 
-pub placed : (m : FileModel) (names : List (List ℕ)) → IsNetModel m → HasSoundNets m → names ≡ places m → length names ≤ MAX_NETS → ArePlaced m names
+pub placed : (m : FileModel) (names : List (List ℕ)) → IsNetModel m → HasSoundNets m → names ≡ net_places m → length names ≤ MAX_NETS → ArePlaced m names
 placed m names p s e few =
     let P : List (List ℕ) → Type 0 = λ ns. All (IsPlacedTable m.decls ns) m.tables in
     record {
       are = e;
       few = few;
       driven = driven_few m p (let l = ap length e in omega arith);
-      tables = subst P (sym e) (tables_known m.decls (places m) m.tables p.tables (λ w y. column_known m w p s.once y));
+      tables = subst P (sym e) (tables_known m.decls (net_places m) m.tables p.tables (λ w y. column_known m w p s.once y));
     }

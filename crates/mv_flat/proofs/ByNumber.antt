@@ -9,10 +9,10 @@ use Rattle.mv_design.specs.declared.design.FileModel.{FileModel}
 use Rattle.mv_design.specs.declared.table.FileTable.{FileTable}
 use Rattle.mv_design.specs.Nets.{nets_named, output_of}
 use Rattle.mv_net.specs.declared.parts.NetParts.{NetParts}
-use Rattle.mv_unfold.specs.Numbers.{number_in}
-use Rattle.mv_unfold.proofs.Listed.{name_at}
+use Rattle.mv_acyclic.specs.Numbers.{number_in}
+use Rattle.mv_acyclic.proofs.Listed.{name_at}
 use Rattle.mv_flat.specs.Numbers.{mark_name, mark_at, choice_name, choice_at}
-use Rattle.mv_flat.specs.Places.{places, has_mark, is_joint}
+use Rattle.mv_flat.specs.Places.{net_places, has_mark, is_joint}
 use Rattle.mv_flat.proofs.Lawful.{is_spaced, flat_unspaced}
 use Rattle.mv_flat.proofs.Numbered.{mark_number, choice_number}
 use Rattle.mv_flat.proofs.Places.{IsModelNet, table_of, named_file}
@@ -30,7 +30,7 @@ of_name of_net of_mark of_choice (b ∷ bs) = if b == 32 then of_made of_mark of
 
 -- and of a number
 abbrev pub of_number : {X : Type 0} → FileModel → (List ℕ → X) → (List ℕ → X) → (List ℕ → X) → ℕ → X
-of_number m of_net of_mark of_choice n = of_name of_net of_mark of_choice (get_or (places m) n [])
+of_number m of_net of_mark of_choice n = of_name of_net of_mark of_choice (get_or (net_places m) n [])
 
 unspaced_made : {X : Type 0} (of_mark of_choice : List ℕ → X) (w : List ℕ) → is_spaced w ≡ false → of_made of_mark of_choice w ≡ of_mark w
 unspaced_made of_mark of_choice [] h = refl
@@ -41,9 +41,9 @@ unspaced of_net of_mark of_choice [] h = refl
 unspaced of_net of_mark of_choice (b ∷ bs) h = cond-false (b == 32) _ _ h
 
 pub at_net : {X : Type 0} (m : FileModel) (net : NetParts) → IsModelNet m net → (of_net of_mark of_choice : List ℕ → X) (w : List ℕ)
-    → among w (nets_named m) ≡ true → of_number m of_net of_mark of_choice (number_in (places m) w) ≡ of_net w
+    → among w (nets_named m) ≡ true → of_number m of_net of_mark of_choice (number_in (net_places m) w) ≡ of_net w
 at_net m net is of_net of_mark of_choice w h =
-    ap (of_name of_net of_mark of_choice) (name_at (places m) w (named_file m net is w h).listed)
+    ap (of_name of_net of_mark of_choice) (name_at (net_places m) w (named_file m net is w h).listed)
     ∙ unspaced of_net of_mark of_choice w (flat_unspaced w (named_flat m net is w h))
 
 -- the name of a table's first output has no space
@@ -54,16 +54,16 @@ output_unspaced m net is k t e =
     flat_unspaced (output_of t) (named_flat m net is (output_of t) (table_output_named m k t (output_of t) e (output_of_among t some)))
 
 pub at_mark : {X : Type 0} (m : FileModel) (net : NetParts) → IsModelNet m net → (of_net of_mark of_choice : List ℕ → X) (k : ℕ) (t : FileTable)
-    → slice_get m.tables k ≡ Some t → has_mark m.decls t ≡ true → of_number m of_net of_mark of_choice (mark_at (places m) t).0 ≡ of_mark (output_of t)
+    → slice_get m.tables k ≡ Some t → has_mark m.decls t ≡ true → of_number m of_net of_mark of_choice (mark_at (net_places m) t).0 ≡ of_mark (output_of t)
 at_mark m net is of_net of_mark of_choice k t e may =
     let listed = (table_of m net is k t e).marked may in
-    ap (of_number m of_net of_mark of_choice) (mark_number (places m) t listed)
-    ∙ (ap (of_name of_net of_mark of_choice) (name_at (places m) (mark_name (output_of t)) listed)
+    ap (of_number m of_net of_mark of_choice) (mark_number (net_places m) t listed)
+    ∙ (ap (of_name of_net of_mark of_choice) (name_at (net_places m) (mark_name (output_of t)) listed)
     ∙ unspaced_made of_mark of_choice (output_of t) (output_unspaced m net is k t e))
 
 pub at_choice : {X : Type 0} (m : FileModel) (net : NetParts) → IsModelNet m net → (of_net of_mark of_choice : List ℕ → X) (k : ℕ) (t : FileTable)
-    → slice_get m.tables k ≡ Some t → is_joint t ≡ true → of_number m of_net of_mark of_choice (choice_at (places m) t).0 ≡ of_choice (output_of t)
+    → slice_get m.tables k ≡ Some t → is_joint t ≡ true → of_number m of_net of_mark of_choice (choice_at (net_places m) t).0 ≡ of_choice (output_of t)
 at_choice m net is of_net of_mark of_choice k t e joint =
     let listed = (table_of m net is k t e).chosen joint in
-    ap (of_number m of_net of_mark of_choice) (choice_number (places m) t listed)
-    ∙ ap (of_name of_net of_mark of_choice) (name_at (places m) (choice_name (output_of t)) listed)
+    ap (of_number m of_net of_mark of_choice) (choice_number (net_places m) t listed)
+    ∙ ap (of_name of_net of_mark of_choice) (name_at (net_places m) (choice_name (output_of t)) listed)

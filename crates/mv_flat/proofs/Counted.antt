@@ -7,8 +7,8 @@ use Rattle.mv_base.specs.declared.number.NetId.{NetId}
 use Rattle.mv_design.specs.declared.design.Decl.{Decl}
 use Rattle.mv_design.specs.Values.{count_of}
 use Rattle.mv_rows.specs.declared.column.Column.{Column}
-use Rattle.mv_unfold.specs.Numbers.{net_in, number_in}
-use Rattle.mv_unfold.proofs.Listed.{IsNumber-among, name_at}
+use Rattle.mv_acyclic.specs.Numbers.{net_in, number_in}
+use Rattle.mv_acyclic.proofs.Listed.{IsNumber-among, name_at}
 use Rattle.mv_flat.specs.Gathered.{counts_of}
 use Rattle.mv_flat.specs.Numbers.{column_of}
 use Rattle.mv_flat.specs.Placed.{are_known}

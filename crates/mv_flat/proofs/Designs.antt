@@ -27,10 +27,10 @@ use Rattle.mv_tree.proofs.Models.{lawful_models}
 use Rattle.mv_tree.proofs.Same.{same_meaning}
 use Rattle.mv_walk.specs.Trees.{IsRootNamed}
 use Rattle.mv_walk.specs.Walk.{HasTree}
-use Rattle.mv_unfold.specs.Sound.{reads, AreNetsOf, HasResetsOfLatches, IsDrivenOnce, IsSoundModel, IsWithinLimits, StandsAlone}
-use Rattle.mv_whole.specs.Sound.{IsSound, IsWithinDesignLimits, model_of, of_sound}
-use Rattle.mv_whole.specs.Whole.{HasGoodNets, HasShortNames}
-use Rattle.mv_whole.proofs.OfWhole.{is_whole, driven_once, resets_of_whole, same_nets, within_limits}
+use Rattle.mv_acyclic.specs.Sound.{reads, AreNetsOf, HasResetsOfLatches, IsDrivenOnce, IsSoundModel, IsWithinLimits, StandsAlone}
+use Rattle.mv_unfold.specs.Sound.{IsSound, IsWithinDesignLimits, model_of, of_sound}
+use Rattle.mv_unfold.specs.Whole.{HasGoodNets, HasShortNames}
+use Rattle.mv_unfold.proofs.OfWhole.{is_whole, driven_once, resets_of_whole, same_nets, within_limits}
 use Rattle.mv_resets.specs.Resets.{with_reset_nets}
 use Rattle.mv_flat.specs.Built.{IsBuilt}
 use Rattle.mv_flat.specs.Flat.{HasSmallNetwork, IsFlat}

@@ -14,11 +14,11 @@ use Rattle.mv_design.specs.declared.table.FileTable.{FileTable}
 use Rattle.mv_design.specs.declared.design.FileModel.{FileModel}
 use Rattle.mv_design.specs.Nets.{nets_driven, drivers, latch_outputs, output_of}
 use Rattle.mv_resets.specs.NetModels.{IsNetModel, IsNetTable, is_flat_name}
-use Rattle.mv_unfold.specs.Sound.{IsDrivenOnce}
-use Rattle.mv_unfold.proofs.Names.{among_counted, all_from_among, count_of_cons, count_of_append}
-use Rattle.mv_unfold.proofs.Distinct.{differ_counted, drivers_counted}
+use Rattle.mv_acyclic.specs.Sound.{IsDrivenOnce}
+use Rattle.mv_acyclic.proofs.Names.{among_counted, all_from_among, count_of_cons, count_of_append}
+use Rattle.mv_acyclic.proofs.Distinct.{differ_counted, drivers_counted}
 use Rattle.mv_flat.specs.Numbers.{mark_name, choice_name}
-use Rattle.mv_flat.specs.Places.{has_mark, is_joint, marks_of, choices_of, made_places, table_places, places}
+use Rattle.mv_flat.specs.Places.{has_mark, is_joint, marks_of, choices_of, made_places, table_places, net_places}
 use Rattle.mv_flat.proofs.Lawful.{is_spaced, flat_unspaced, open_names, open_lawful, drivers_split, driver_flat}
 
 abbrev times : List ℕ → List (List ℕ) → ℕ
@@ -122,14 +122,14 @@ tables_nets ds w (t ∷ ts) h =
     ∙ (ap (λ n. n + times w (flat_map (table_places ds) ts)) (table_nets ds w t h)
     ∙ (ap (λ n. times w t.outputs + n) (tables_nets ds w ts h) ∙ sym (count_of_append w t.outputs (flat_map nets_driven ts))))
 
-pub places_split : (m : FileModel) → places m ≡ open_names m ++ flat_map (table_places m.decls) m.tables
-unfolding places
+pub places_split : (m : FileModel) → net_places m ≡ open_names m ++ flat_map (table_places m.decls) m.tables
+unfolding net_places
 places_split m = sym (append_assoc m.inputs (latch_outputs m) (flat_map (table_places m.decls) m.tables))
 
 -- a made net's name stands among the places as often as the net's among the drivers, at most
 places_made : (m : FileModel) (v u : List ℕ) → IsNetModel m
     → ((t : FileTable) → HasFlatOutputs t → times (mark_name v) (table_places m.decls t) ≤ times u t.outputs)
-    → times (mark_name v) (places m) ≤ times u (drivers m)
+    → times (mark_name v) (net_places m) ≤ times u (drivers m)
 places_made m v u p each =
     let a = ap (times (mark_name v)) (places_split m) ∙ count_of_append (mark_name v) (open_names m) (flat_map (table_places m.decls) m.tables) in
     let b = ap (times u) (drivers_split m) ∙ count_of_append u (open_names m) (flat_map nets_driven m.tables) in
@@ -137,7 +137,7 @@ places_made m v u p each =
     let r = tables_times m.decls (mark_name v) u each m.tables p.tables p.driven in
     omega arith
 
-places_nets : (m : FileModel) (w : List ℕ) → is_spaced w ≡ false → times w (places m) ≡ times w (drivers m)
+places_nets : (m : FileModel) (w : List ℕ) → is_spaced w ≡ false → times w (net_places m) ≡ times w (drivers m)
 places_nets m w h =
     ap (times w) (places_split m)
     ∙ (count_of_append w (open_names m) (flat_map (table_places m.decls) m.tables)
@@ -147,41 +147,41 @@ places_nets m w h =
 spaced : (b : ℕ) (bs : List ℕ) → nat_eq b 32 ≡ true → b ∷ bs ≡ mark_name bs
 spaced b bs h = ap (λ c. c ∷ bs) (eqb-true b 32 h)
 
-marks_counted : (m : FileModel) → IsNetModel m → IsDrivenOnce m → (u : List ℕ) → is_spaced u ≡ false → times (mark_name u) (places m) ≤ 1
+marks_counted : (m : FileModel) → IsNetModel m → IsDrivenOnce m → (u : List ℕ) → is_spaced u ≡ false → times (mark_name u) (net_places m) ≤ 1
 marks_counted m p d u h =
     let r = places_made m u u p (table_marks m.decls u h) in
     let l = drivers_counted m d u in
     omega arith
 
-made_counted : (m : FileModel) → IsNetModel m → IsDrivenOnce m → (u : List ℕ) → times (mark_name u) (places m) ≤ 1
+made_counted : (m : FileModel) → IsNetModel m → IsDrivenOnce m → (u : List ℕ) → times (mark_name u) (net_places m) ≤ 1
 made_counted m p d [] = marks_counted m p d [] refl
 made_counted m p d (b ∷ bs) =
     ⊎_elim
     (λ (y : nat_eq b 32 ≡ true).
-    let P : List ℕ → Type 0 = λ w. times (mark_name w) (places m) ≤ 1 in
+    let P : List ℕ → Type 0 = λ w. times (mark_name w) (net_places m) ≤ 1 in
     let r = places_made m (mark_name bs) bs p (table_choices m.decls bs) in
     let l = drivers_counted m d bs in
     subst P (sym (spaced b bs y)) (omega arith))
     (λ (n : nat_eq b 32 ≡ false). marks_counted m p d (b ∷ bs) n) (cases_Bool (nat_eq b 32))
 
-places_counted : (m : FileModel) → IsNetModel m → IsDrivenOnce m → (w : List ℕ) → times w (places m) ≤ 1
+places_counted : (m : FileModel) → IsNetModel m → IsDrivenOnce m → (w : List ℕ) → times w (net_places m) ≤ 1
 places_counted m p d [] = let e = places_nets m [] refl in let l = drivers_counted m d [] in omega arith
 places_counted m p d (b ∷ bs) =
-    ⊎_elim (λ (y : nat_eq b 32 ≡ true). let P : List ℕ → Type 0 = λ w. times w (places m) ≤ 1 in subst P (sym (spaced b bs y)) (made_counted m p d bs))
-    (λ (n : nat_eq b 32 ≡ false). let e = places_nets m (b ∷ bs) n in let l = drivers_counted m d (b ∷ bs) in let g : times (b ∷ bs) (places m) ≤ 1 = omega arith in g)
+    ⊎_elim (λ (y : nat_eq b 32 ≡ true). let P : List ℕ → Type 0 = λ w. times w (net_places m) ≤ 1 in subst P (sym (spaced b bs y)) (made_counted m p d bs))
+    (λ (n : nat_eq b 32 ≡ false). let e = places_nets m (b ∷ bs) n in let l = drivers_counted m d (b ∷ bs) in let g : times (b ∷ bs) (net_places m) ≤ 1 = omega arith in g)
     (cases_Bool (nat_eq b 32))
 
 -- the places of a model differ
-pub places_differ : (m : FileModel) → IsNetModel m → IsDrivenOnce m → names_differ (places m) ≡ true
-places_differ m p d = differ_counted (places m) (places_counted m p d)
+pub places_differ : (m : FileModel) → IsNetModel m → IsDrivenOnce m → names_differ (net_places m) ≡ true
+places_differ m p d = differ_counted (net_places m) (places_counted m p d)
 
 -- ---- which names are places
 
 -- a name that begins as no made net's does is a place where it is driven
-pub places_driven : (m : FileModel) (w : List ℕ) → is_spaced w ≡ false → among w (places m) ≡ among w (drivers m)
-places_driven m w h = among_counted w (places m) ∙ (ap (nat_lt 0) (places_nets m w h) ∙ sym (among_counted w (drivers m)))
+pub places_driven : (m : FileModel) (w : List ℕ) → is_spaced w ≡ false → among w (net_places m) ≡ among w (drivers m)
+places_driven m w h = among_counted w (net_places m) ∙ (ap (nat_lt 0) (places_nets m w h) ∙ sym (among_counted w (drivers m)))
 
-pub driver_is_place : (m : FileModel) → IsNetModel m → (w : List ℕ) → among w (drivers m) ≡ true → among w (places m) ≡ true
+pub driver_is_place : (m : FileModel) → IsNetModel m → (w : List ℕ) → among w (drivers m) ≡ true → among w (net_places m) ≡ true
 driver_is_place m p w h = places_driven m w (flat_unspaced w (driver_flat m p w h)) ∙ h
 
 -- ---- how many places there are
@@ -217,7 +217,7 @@ tables_length ds (t ∷ ts) h =
     omega arith
 
 -- there are at most two places for each driven net
-pub few_places : (m : FileModel) → IsNetModel m → length (places m) ≤ 2 * length (drivers m)
+pub few_places : (m : FileModel) → IsNetModel m → length (net_places m) ≤ 2 * length (drivers m)
 few_places m p =
     let a = ap length (places_split m) ∙ length-append (open_names m) (flat_map (table_places m.decls) m.tables) in
     let b = ap length (drivers_split m) ∙ length-append (open_names m) (flat_map nets_driven m.tables) in

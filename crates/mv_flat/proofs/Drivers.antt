@@ -10,7 +10,7 @@ use Rattle.mv_design.specs.declared.design.FileModel.{FileModel}
 use Rattle.mv_design.specs.declared.table.FileTable.{FileTable}
 use Rattle.mv_design.specs.Nets.{nets_driven, output_of}
 use Rattle.mv_net.specs.declared.parts.NetParts.{NetParts}
-use Rattle.mv_unfold.proofs.Soundness.{in_right}
+use Rattle.mv_acyclic.proofs.Soundness.{in_right}
 use Rattle.mv_flat.proofs.Lawful.{open_names, drivers_split}
 use Rattle.mv_flat.proofs.Places.{IsModelNet, file_table}
 use Rattle.mv_flat.proofs.Naming.{in_tables, output_of_among}

@@ -15,9 +15,9 @@ use Rattle.mv_net.specs.Nets.{reads_in}
 use Rattle.mv_net.specs.Formed.{IsKind, ResetsStandAlone}
 use Rattle.mv_resets.specs.NetModels.{HasSoundNets}
 use Rattle.mv_resets.proofs.Words.{not_lawful}
-use Rattle.mv_unfold.specs.Numbers.{number_in}
-use Rattle.mv_unfold.specs.Sound.{reads}
-use Rattle.mv_flat.specs.Places.{places}
+use Rattle.mv_acyclic.specs.Numbers.{number_in}
+use Rattle.mv_acyclic.specs.Sound.{reads}
+use Rattle.mv_flat.specs.Places.{net_places}
 use Rattle.mv_flat.proofs.Lawful.{kind_open, kind_reset, open_lawful}
 use Rattle.mv_flat.proofs.Places.{IsModelNet}
 use Rattle.mv_flat.proofs.Naming.{among_first, driver_named, open_named, table_input_named, table_output_named}
@@ -52,7 +52,7 @@ only_one : (w u : List ℕ) → among w (u ∷ []) ≡ true → w ≡ u
 only_one w u h = ⊎_elim (λ (y : same_word w u ≡ true). same_word_is w u y) (λ (n : false ≡ true). absurd (false≢true n)) (or_cases (same_word w u) false h)
 
 module _ (m : FileModel) (net : NetParts) (is : IsModelNet m net) where
-  net_owners : (w : List ℕ) → among w (nets_named m) ≡ true → owners m (number_in (places m) w) ≡ beside m.tables w
+  net_owners : (w : List ℕ) → among w (nets_named m) ≡ true → owners m (number_in (net_places m) w) ≡ beside m.tables w
   net_owners w h = at_net m net is (beside m.tables) (beside m.tables) (beside m.tables) w h
 
   beside_is : (k : ℕ) (t : FileTable) (w : List ℕ) → slice_get m.tables k ≡ Some t → among w t.outputs ≡ true → beside m.tables w ≡ t.outputs
@@ -106,7 +106,7 @@ module _ (m : FileModel) (net : NetParts) (is : IsModelNet m net) where
   along last l n (j ∷ path) start g = from_step last n j g.0 (along last l j path start g.1)
 
   -- a net without a table belongs to itself alone
-  open_from : (w : List ℕ) (n : ℕ) → among w (latch_outputs m) ≡ true → number_in (places m) w ≡ n → IsFrom w n
+  open_from : (w : List ℕ) (n : ℕ) → among w (latch_outputs m) ≡ true → number_in (net_places m) w ≡ n → IsFrom w n
   open_from w n h e u y =
       let alone : beside m.tables w ≡ w ∷ [] = no_driver (λ t. t.outputs) (w ∷ []) m.tables w (open_undriven m net is w (kind_open m Latch w h)) in
       let own : owners m n ≡ w ∷ [] = ap (owners m) (sym e) ∙ (net_owners w (open_named m Latch w h) ∙ alone) in

@@ -19,14 +19,14 @@ use Rattle.mv_net.specs.Nets.{values_in}
 use Rattle.mv_net.specs.Formed.{IsKind, IsLatch, IsResetNet, AllLatches, AreKind, latch_resets, with_reset}
 use Rattle.mv_resets.specs.Resets.{reset_name}
 use Rattle.mv_resets.proofs.Words.{IsNamed, named, reset_among}
-use Rattle.mv_unfold.specs.Numbers.{net_in, number_in}
+use Rattle.mv_acyclic.specs.Numbers.{net_in, number_in}
 use Rattle.mv_flat.specs.Built.{flat_latch, kind_of}
 use Rattle.mv_flat.specs.Numbers.{kept_names}
-use Rattle.mv_flat.specs.Places.{places}
+use Rattle.mv_flat.specs.Places.{net_places}
 use Rattle.mv_flat.proofs.Distinct.{places_driven}
 use Rattle.mv_flat.proofs.Lawful.{kind_reset}
 use Rattle.mv_flat.proofs.Places.{IsModelNet, open_slot, driven_file, named_file}
-use Rattle.mv_unfold.proofs.Commands.{latch_input_named}
+use Rattle.mv_acyclic.proofs.Commands.{latch_input_named}
 use Rattle.mv_flat.proofs.Naming.{IsNumberOf, among_first, among_later, driver_named}
 use Rattle.mv_flat.proofs.FormedTables.{file_readable}
 use Rattle.mv_flat.proofs.FormedLists.{reset_output, names_formed}
@@ -48,7 +48,7 @@ reset_at names latch n (Some k) e h = record {
 }
 
 reset_formed : (m : FileModel) (net : NetParts) → IsModelNet m net → (w : List ℕ) → among w (latch_outputs m) ≡ true → among (reset_name w) (drivers m) ≡ true
-    → IsResetNet net.nets (number_in (places m) w) (number_in (places m) (reset_name w))
+    → IsResetNet net.nets (number_in (net_places m) w) (number_in (net_places m) (reset_name w))
 reset_formed m net is w state driven =
     let f = driven_file m net is (reset_name w) driven in
     let same = (is.proper.resets w driven).values in
@@ -64,7 +64,7 @@ reset_formed m net is w state driven =
 -- ---- latches
 
 latch_formed : (m : FileModel) (net : NetParts) → IsModelNet m net → (l : FileLatch) → IsFileLatch m.decls l → among l.input (nets_named m) ≡ true
-    → among l.output (latch_outputs m) ≡ true → IsLatch net.nets (flat_latch (places m) l)
+    → among l.output (latch_outputs m) ≡ true → IsLatch net.nets (flat_latch (net_places m) l)
 latch_formed m net is l proper input state =
     let read = named_file m net is l.input input in
     let held = open_slot m net is Latch l.output state in
@@ -73,15 +73,15 @@ latch_formed m net is l proper input state =
       output = record { net = _; held = held; is = refl };
       values = ap values_in read.held ∙ (proper.counts ∙ sym (ap values_in held));
       reset = λ n e.
-          let at = reset_at (places m) l.output n (place_of (reset_name l.output) (places m)) refl e in
-          let P : ℕ → Type 0 = IsResetNet net.nets (number_in (places m) l.output) in
+          let at = reset_at (net_places m) l.output n (place_of (reset_name l.output) (net_places m)) refl e in
+          let P : ℕ → Type 0 = IsResetNet net.nets (number_in (net_places m) l.output) in
           subst P at.number (reset_formed m net is l.output state (sym (places_driven m (reset_name l.output) refl) ∙ at.listed));
     }
 
 all_formed : (m : FileModel) (net : NetParts) → IsModelNet m net → (ls : List FileLatch) → All (IsFileLatch m.decls) ls
     → ((w : List ℕ) → among w (map (λ (l : FileLatch). l.input) ls) ≡ true → among w (nets_named m) ≡ true)
     → ((w : List ℕ) → among w (map (λ (l : FileLatch). l.output) ls) ≡ true → among w (latch_outputs m) ≡ true)
-    → AllLatches net.nets (map (flat_latch (places m)) ls)
+    → AllLatches net.nets (map (flat_latch (net_places m)) ls)
 all_formed m net is [] proper inputs states = tt
 all_formed m net is (l ∷ ls) proper inputs states = (
   latch_formed m net is l (All-head (IsFileLatch m.decls) l ls proper) (inputs l.input (among_first l.input _)) (states l.output (among_first l.output _)),
@@ -137,7 +137,7 @@ resets_listed names [] = refl
 resets_listed names (l ∷ ls) = one_reset names l.output _ _ (place_of (reset_name l.output) names) refl (resets_listed names ls)
 
 reset_only : (m : FileModel) (net : NetParts) → IsModelNet m net → (n : ℕ) → IsKind net.nets n Reset
-    → IsNumberOf (places m) (kept (places m) (map reset_name (latch_outputs m))) n
+    → IsNumberOf (net_places m) (kept (net_places m) (map reset_name (latch_outputs m))) n
 reset_only m net is n k =
     let o = reset_output m net is n k in
     let r = kind_reset o.name o.is in
@@ -145,29 +145,29 @@ reset_only m net is n k =
     record {
       name = reset_name r.latch;
       listed =
-          among-kept (reset_name r.latch) (places m) (map reset_name (latch_outputs m))
+          among-kept (reset_name r.latch) (net_places m) (map reset_name (latch_outputs m))
           ∙ and_from _ _ (places_driven m (reset_name r.latch) refl ∙ driven)
           (reset_among r.latch (latch_outputs m) ∙ (is.proper.resets r.latch driven).listed);
-      number = ap (number_in (places m)) (sym r.is) ∙ o.number;
+      number = ap (number_in (net_places m)) (sym r.is) ∙ o.number;
     }
 
 pub resets_formed : (m : FileModel) (net : NetParts) → IsModelNet m net → names_differ (latch_outputs m) ≡ true
     → AreKind net.nets Reset (latch_resets net.latches)
 resets_formed m net is differ =
-    let ws : List (List ℕ) = kept (places m) (map reset_name (latch_outputs m)) in
+    let ws : List (List ℕ) = kept (net_places m) (map reset_name (latch_outputs m)) in
     names_formed m net is Reset ws (λ w h. driver_named m w (driven w h))
-    (differ-kept (places m) (map reset_name (latch_outputs m)) (differ-resets (latch_outputs m) ∙ differ)) (reset_only m net is)
+    (differ-kept (net_places m) (map reset_name (latch_outputs m)) (differ-resets (latch_outputs m) ∙ differ)) (reset_only m net is)
     (λ w h. let f = driven_file m net is w (driven w h) in record { net = _; held = f.held; is = f.reset (ap kind_of (of_latch w h).is) })
-    (latch_resets net.latches) (ap latch_resets is.built.latches ∙ resets_listed (places m) m.latches)
+    (latch_resets net.latches) (ap latch_resets is.built.latches ∙ resets_listed (net_places m) m.latches)
   where
-    parts : (w : List ℕ) → among w (kept (places m) (map reset_name (latch_outputs m))) ≡ true
-        → (among w (places m) ≡ true) × (among w (map reset_name (latch_outputs m)) ≡ true)
-    parts w h = and_parts _ _ (sym (among-kept w (places m) (map reset_name (latch_outputs m))) ∙ h)
+    parts : (w : List ℕ) → among w (kept (net_places m) (map reset_name (latch_outputs m))) ≡ true
+        → (among w (net_places m) ≡ true) × (among w (map reset_name (latch_outputs m)) ≡ true)
+    parts w h = and_parts _ _ (sym (among-kept w (net_places m) (map reset_name (latch_outputs m))) ∙ h)
 
-    of_latch : (w : List ℕ) → among w (kept (places m) (map reset_name (latch_outputs m))) ≡ true → IsNamed (latch_outputs m) w
+    of_latch : (w : List ℕ) → among w (kept (net_places m) (map reset_name (latch_outputs m))) ≡ true → IsNamed (latch_outputs m) w
     of_latch w h = named w (latch_outputs m) (parts w h).1
 
-    driven : (w : List ℕ) → among w (kept (places m) (map reset_name (latch_outputs m))) ≡ true → among w (drivers m) ≡ true
+    driven : (w : List ℕ) → among w (kept (net_places m) (map reset_name (latch_outputs m))) ≡ true → among w (drivers m) ≡ true
     driven w h =
         let r = of_latch w h in
-        ap (λ v. among v (drivers m)) r.is ∙ (sym (places_driven m (reset_name r.latch) refl) ∙ (ap (λ v. among v (places m)) (sym r.is) ∙ (parts w h).0))
+        ap (λ v. among v (drivers m)) r.is ∙ (sym (places_driven m (reset_name r.latch) refl) ∙ (ap (λ v. among v (net_places m)) (sym r.is) ∙ (parts w h).0))

@@ -10,7 +10,7 @@ use Rattle.mv_net.specs.declared.parts.FlatNet.{FlatNet}
 use Rattle.mv_net.specs.Nets.{slot}
 use Rattle.mv_rows.specs.declared.column.Column.{Column}
 use Rattle.mv_base.specs.declared.number.NetId.{NetId}
-use Rattle.mv_unfold.specs.Numbers.{number_in}
+use Rattle.mv_acyclic.specs.Numbers.{number_in}
 use Rattle.mv_flat.specs.declared.covers.TableCovers.{TableCovers}
 use Rattle.mv_flat.specs.declared.covers.TableCovers.TheVariants.{Single, Joint}
 use Rattle.mv_flat.specs.Built.{file_net, kind_of}

@@ -17,14 +17,14 @@ use Rattle.mv_net.specs.declared.parts.Kind.{Kind}
 use Rattle.mv_net.specs.declared.parts.Kind.TheVariants.{Input, Latch}
 use Rattle.mv_net.specs.Nets.{slot}
 use Rattle.mv_design.specs.Nets.{drivers, latch_outputs, nets_driven}
-use Rattle.mv_flat.specs.Places.{places}
+use Rattle.mv_flat.specs.Places.{net_places}
 use Rattle.mv_flat.specs.Built.{file_net, output_nets, AreMade, AreTables}
 use Rattle.mv_flat.specs.Covers.{MadeNet, made_of, outputs_of}
 use Rattle.mv_flat.specs.Numbers.{columns_at, mark_at, choice_at}
 use Rattle.mv_flat.proofs.Blocks.{outputs_size}
 use Rattle.mv_flat.proofs.Places.{IsModelNet}
 use Rattle.mv_resets.specs.NetModels.{IsNetTable}
-use Rattle.mv_unfold.proofs.Soundness.{in_left, in_right}
+use Rattle.mv_acyclic.proofs.Soundness.{in_left, in_right}
 use Rattle.mv_flat.proofs.Naming.{among_first, among_later}
 
 -- ---- nets whose names are those of drivers in order, or new
@@ -169,7 +169,7 @@ all_named m net is =
     subst P (sym (is.built.nets_are ∙ append_assoc (map (file_net m.decls Input None) m.inputs) states is.built.of_tables))
     (open_nets_named m.decls Input m.inputs (latch_outputs m ++ outputs) (drivers m) (states ++ is.built.of_tables)
     (open_nets_named m.decls Latch (latch_outputs m) outputs (drivers m) is.built.of_tables
-    (tables_named m.decls (places m) m.tables (drivers m) is.built.of_tables is.proper.tables is.built.are_tables)))
+    (tables_named m.decls (net_places m) m.tables (drivers m) is.built.of_tables is.proper.tables is.built.are_tables)))
 
 -- no two nets have one name
 pub nets_differ : (m : FileModel) (net : NetParts) → IsModelNet m net → (n k : ℕ) (f g : FlatNet) → slot net.nets n ≡ Some f → slot net.nets k ≡ Some g

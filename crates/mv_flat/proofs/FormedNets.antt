@@ -15,7 +15,7 @@ use Rattle.mv_net.specs.declared.parts.Kind.{Kind}
 use Rattle.mv_net.specs.declared.parts.Kind.TheVariants.{Input, Latch, Table, Reset}
 use Rattle.mv_net.specs.Nets.{slot}
 use Rattle.mv_net.specs.Formed.{has_table, IsCover, IsNet}
-use Rattle.mv_flat.specs.Places.{places}
+use Rattle.mv_flat.specs.Places.{net_places}
 use Rattle.mv_flat.specs.Numbers.{made_name, mark_at, choice_at}
 use Rattle.mv_flat.specs.Built.{file_net, kind_of}
 use Rattle.mv_flat.specs.Covers.{MadeNet}
@@ -71,7 +71,7 @@ open_formed m net is n p =
 output_formed : (m : FileModel) (net : NetParts) → IsModelNet m net → (n : ℕ) → OutputPlace m n → IsFormed net.nets (slot net.nets n)
 output_formed m net is n p =
     let P : Option FlatNet → Type 0 = IsFormed net.nets in
-    let o = output_net m.decls (places m) net.nets p.table (table_of m net is p.place p.table p.listed) p.index p.name p.output in
+    let o = output_net m.decls (net_places m) net.nets p.table (table_of m net is p.place p.table p.listed) p.index p.name p.output in
     let named = table_output_named m p.place p.table p.name p.listed (among-at p.table.outputs p.index p.name p.output) in
     let Q : Cover → Type 0 = IsCover net.nets (count_of m.decls p.name) in
     subst P (sym (ap (slot net.nets) p.number ∙ o.slot_is))
@@ -103,18 +103,18 @@ made_formed nets n made stands some few cover =
 mark_formed : (m : FileModel) (net : NetParts) → IsModelNet m net → (n : ℕ) → MarkPlace m n → IsFormed net.nets (slot net.nets n)
 mark_formed m net is n p =
     let P : Option FlatNet → Type 0 = IsFormed net.nets in
-    let o = mark_net m.decls (places m) net.nets p.table (table_of m net is p.place p.table p.listed) p.may in
+    let o = mark_net m.decls (net_places m) net.nets p.table (table_of m net is p.place p.table p.listed) p.may in
     subst P (sym (ap (slot net.nets) p.number))
-    (made_formed net.nets (mark_at (places m) p.table).0 (record { values = 2; cover = o.cover }) o.stands (omega arith) (omega arith)
+    (made_formed net.nets (mark_at (net_places m) p.table).0 (record { values = 2; cover = o.cover }) o.stands (omega arith) (omega arith)
     (mark_cover m net is p.place p.table p.listed o.cover o.is))
 
 choice_formed : (m : FileModel) (net : NetParts) → IsModelNet m net → (n : ℕ) → ChoicePlace m n → IsFormed net.nets (slot net.nets n)
 choice_formed m net is n p =
     let P : Option FlatNet → Type 0 = IsFormed net.nets in
-    let o = choice_net m.decls (places m) net.nets p.table (table_of m net is p.place p.table p.listed) p.joint in
+    let o = choice_net m.decls (net_places m) net.nets p.table (table_of m net is p.place p.table p.listed) p.joint in
     let size = choice_size m net is p.place p.table p.listed o.made o.is in
     subst P (sym (ap (slot net.nets) p.number))
-    (made_formed net.nets (choice_at (places m) p.table).0 o.made o.stands size.some size.few (choice_cover m net is p.place p.table p.listed o.made o.is))
+    (made_formed net.nets (choice_at (net_places m) p.table).0 o.made o.stands size.some size.few (choice_cover m net is p.place p.table p.listed o.made o.is))
 
 table_formed : (m : FileModel) (net : NetParts) → IsModelNet m net → (n : ℕ) → TablePlace m n → IsFormed net.nets (slot net.nets n)
 table_formed m net is n p =
@@ -126,7 +126,7 @@ table_formed m net is n p =
 pub nets_formed : (m : FileModel) (net : NetParts) → IsModelNet m net → (n : ℕ) (f : FlatNet) → slot net.nets n ≡ Some f → IsNet net.nets f
 nets_formed m net is n =
     ⊎_elim
-    (λ (low : n < length (places m)).
+    (λ (low : n < length (net_places m)).
     ⊎_elim (λ (p : OpenPlace m n). open_formed m net is n p) (λ (p : TablePlace m n). table_formed m net is n p) (place_at m net is n low))
-    (λ (high : length (places m) ≤ n). let P : Option FlatNet → Type 0 = IsFormed net.nets in subst P (sym (no_slot m net is n high)) (formed_none net.nets))
-    (cases_lt n (length (places m)))
+    (λ (high : length (net_places m) ≤ n). let P : Option FlatNet → Type 0 = IsFormed net.nets in subst P (sym (no_slot m net is n high)) (formed_none net.nets))
+    (cases_lt n (length (net_places m)))

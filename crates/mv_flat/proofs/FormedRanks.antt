@@ -12,8 +12,8 @@ use Rattle.mv_net.specs.declared.parts.NetParts.{NetParts}
 use Rattle.mv_net.specs.Nets.{reads_in}
 use Rattle.mv_graph.specs.Above.{IsAcyclic}
 use Rattle.mv_graph.proofs.Ranks.{IsRanked, ranked_acyclic}
-use Rattle.mv_unfold.proofs.Turns.{not_unranked_model}
-use Rattle.mv_unfold.specs.Sound.{reads}
+use Rattle.mv_acyclic.proofs.Turns.{not_unranked_model}
+use Rattle.mv_acyclic.specs.Sound.{reads}
 use Rattle.mv_resets.specs.NetModels.{HasSoundNets}
 use Rattle.mv_flat.proofs.Places.{IsModelNet}
 use Rattle.mv_flat.proofs.Naming.{among_first, among_later, table_input_named, table_output_named}

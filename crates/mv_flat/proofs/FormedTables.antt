@@ -28,13 +28,13 @@ use Rattle.mv_net.specs.declared.parts.NetParts.{NetParts}
 use Rattle.mv_net.specs.Nets.{slot, values_in}
 use Rattle.mv_net.specs.Formed.{IsReadable, IsCover}
 use Rattle.mv_resets.specs.NetModels.{IsNetTable}
-use Rattle.mv_unfold.specs.Numbers.{number_in}
-use Rattle.mv_unfold.proofs.Names.{all_among}
+use Rattle.mv_acyclic.specs.Numbers.{number_in}
+use Rattle.mv_acyclic.proofs.Names.{all_among}
 use Rattle.mv_flat.specs.declared.covers.TableCovers.{TableCovers}
 use Rattle.mv_flat.specs.declared.covers.TableCovers.TheVariants.{Single, Joint}
 use Rattle.mv_flat.specs.Covers.{MadeNet, mark_of, choices_in, outputs_of}
 use Rattle.mv_flat.specs.Numbers.{column_of, columns_at, mark_at, choice_at}
-use Rattle.mv_flat.specs.Places.{places}
+use Rattle.mv_flat.specs.Places.{net_places}
 use Rattle.mv_flat.proofs.Slots.{StandsMade, IsTableAt}
 use Rattle.mv_flat.proofs.Places.{IsModelNet, IsFileNet, table_of, file_table, named_file}
 use Rattle.mv_flat.proofs.Naming.{IsNumberOf, number_listed, listed_number, among_first, among_later, table_input_named}
@@ -247,17 +247,17 @@ choice_sized columns t mark choice (Joint joint) is made e =
 -- ---- the tables of a model
 
 pub file_readable : (m : FileModel) (nets : List (Option FlatNet)) (w : List ℕ) → is_net_name w ≡ true → IsFileNet m nets w
-    → IsReadable nets (number_in (places m) w)
+    → IsReadable nets (number_in (net_places m) w)
 file_readable m nets w lawful f = record { net = _; held = f.held; plain = f.plain lawful }
 
 module _ (m : FileModel) (net : NetParts) (is : IsModelNet m net) (k : ℕ) (t : FileTable) (e : slice_get m.tables k ≡ Some t) where
-  abbrev here : IsTableAt m.decls (places m) net.nets t
+  abbrev here : IsTableAt m.decls (net_places m) net.nets t
   here = table_of m net is k t e
 
   file_input : (w : List ℕ) → among w t.inputs ≡ true → IsFileNet m net.nets w
   file_input w y = named_file m net is w (table_input_named m k t w e y)
 
-  has_nets : HasNets m.decls (places m) net.nets t here.covers
+  has_nets : HasNets m.decls (net_places m) net.nets t here.covers
   has_nets = record {
     fits = file_table m net is k t e;
     readable = λ w y. file_readable m net.nets w (all_among is_net_name t.inputs w (file_table m net is k t e).inputs y) (file_input w y);
@@ -266,64 +266,64 @@ module _ (m : FileModel) (net : NetParts) (is : IsModelNet m net) (k : ℕ) (t :
     choice = here.choice;
   }
 
-  covers_are : IsCovered (columns_at m.decls (places m) t) t (mark_at (places m) t) (choice_at (places m) t) here.covers
-  covers_are = covered m.decls (places m) net.nets t is.proper.decls here
+  covers_are : IsCovered (columns_at m.decls (net_places m) t) t (mark_at (net_places m) t) (choice_at (net_places m) t) here.covers
+  covers_are = covered m.decls (net_places m) net.nets t is.proper.decls here
 
   -- what the covers of the outputs may read
   abbrev below_outputs : ℕ → Bool
-  below_outputs = outputs_read (columns_at m.decls (places m) t) (mark_at (places m) t) (choice_at (places m) t) here.covers
+  below_outputs = outputs_read (columns_at m.decls (net_places m) t) (mark_at (net_places m) t) (choice_at (net_places m) t) here.covers
 
   -- and covers over the columns and this mark
   abbrev below : Option Cover → ℕ → Bool
-  below o = is_above (columns_at m.decls (places m) t) o (mark_at (places m) t)
+  below o = is_above (columns_at m.decls (net_places m) t) o (mark_at (net_places m) t)
 
   output_table : (j : ℕ) (w : List ℕ) (c : Cover) → slice_get t.outputs j ≡ Some w → slice_get (outputs_of here.covers) j ≡ Some c
       → IsTableCover (count_above below_outputs (values_at net.nets)) (count_of m.decls w) c
-  output_table j w c y z = output_formed m.decls (places m) net.nets t here.covers has_nets covers_are j w c y z
+  output_table j w c y z = output_formed m.decls (net_places m) net.nets t here.covers has_nets covers_are j w c y z
 
   pub output_cover : (j : ℕ) (w : List ℕ) (c : Cover) → slice_get t.outputs j ≡ Some w
       → slice_get (outputs_of (table_of m net is k t e).covers) j ≡ Some c → IsCover net.nets (count_of m.decls w) c
   output_cover j w c y z =
-      cover_from net.nets below_outputs (count_of m.decls w) c (outputs_readable m.decls (places m) net.nets t here.covers has_nets)
+      cover_from net.nets below_outputs (count_of m.decls w) c (outputs_readable m.decls (net_places m) net.nets t here.covers has_nets)
       (output_table j w c y z)
 
   pub output_above : (j : ℕ) (w : List ℕ) (c : Cover) → slice_get t.outputs j ≡ Some w
       → slice_get (outputs_of (table_of m net is k t e).covers) j ≡ Some c → (n : ℕ) → cover_reads c n ≡ true
-      → IsNumberOf (places m) t.inputs n
-      ⊎ (IsMarkOf (mark_of (table_of m net is k t e).covers) (mark_at (places m) t) n ⊎ IsChoiceOf (table_of m net is k t e).covers (choice_at (places m) t) n)
+      → IsNumberOf (net_places m) t.inputs n
+      ⊎ (IsMarkOf (mark_of (table_of m net is k t e).covers) (mark_at (net_places m) t) n ⊎ IsChoiceOf (table_of m net is k t e).covers (choice_at (net_places m) t) n)
   output_above j w c y z n h =
-      output_reads m.decls (places m) net.nets t here.covers n
+      output_reads m.decls (net_places m) net.nets t here.covers n
       (cover_above below_outputs (values_at net.nets) (count_of m.decls w) c n (output_table j w c y z) h)
 
   mark_table : (c : Cover) → mark_of here.covers ≡ Some c → IsTableCover (count_above (below None) (values_at net.nets)) 2 c
-  mark_table c x = mark_formed m.decls (places m) net.nets t here.covers has_nets covers_are c x
+  mark_table c x = mark_formed m.decls (net_places m) net.nets t here.covers has_nets covers_are c x
 
   pub mark_cover : (c : Cover) → mark_of (table_of m net is k t e).covers ≡ Some c → IsCover net.nets 2 c
   mark_cover c x =
       cover_from net.nets (below None) 2 c
-      (columns_readable m.decls (places m) net.nets t here.covers has_nets None (λ d y. absurd (none-some d y))) (mark_table c x)
+      (columns_readable m.decls (net_places m) net.nets t here.covers has_nets None (λ d y. absurd (none-some d y))) (mark_table c x)
 
-  pub mark_above : (c : Cover) → mark_of (table_of m net is k t e).covers ≡ Some c → (n : ℕ) → cover_reads c n ≡ true → IsNumberOf (places m) t.inputs n
+  pub mark_above : (c : Cover) → mark_of (table_of m net is k t e).covers ≡ Some c → (n : ℕ) → cover_reads c n ≡ true → IsNumberOf (net_places m) t.inputs n
   mark_above c x n h =
-      ⊎_elim (λ (y : IsNumberOf (places m) t.inputs n). y) (λ (y : IsMarkOf None (mark_at (places m) t) n). absurd (none-some y.cover y.there))
-      (above m.decls (places m) t.inputs None (mark_at (places m) t) n
+      ⊎_elim (λ (y : IsNumberOf (net_places m) t.inputs n). y) (λ (y : IsMarkOf None (mark_at (net_places m) t) n). absurd (none-some y.cover y.there))
+      (above m.decls (net_places m) t.inputs None (mark_at (net_places m) t) n
       (cover_above (below None) (values_at net.nets) 2 c n (mark_table c x) h))
 
   choice_table : (made : MadeNet) → choices_in here.covers ≡ made ∷ []
       → IsTableCover (count_above (below (mark_of here.covers)) (values_at net.nets)) made.values made.cover
-  choice_table made x = choice_formed m.decls (places m) net.nets t here.covers has_nets covers_are made x
+  choice_table made x = choice_formed m.decls (net_places m) net.nets t here.covers has_nets covers_are made x
 
   pub choice_cover : (made : MadeNet) → choices_in (table_of m net is k t e).covers ≡ made ∷ [] → IsCover net.nets made.values made.cover
   choice_cover made x =
       cover_from net.nets (below (mark_of here.covers)) made.values made.cover
-      (columns_readable m.decls (places m) net.nets t here.covers has_nets (mark_of here.covers) (λ c y. y)) (choice_table made x)
+      (columns_readable m.decls (net_places m) net.nets t here.covers has_nets (mark_of here.covers) (λ c y. y)) (choice_table made x)
 
   pub choice_above : (made : MadeNet) → choices_in (table_of m net is k t e).covers ≡ made ∷ [] → (n : ℕ) → cover_reads made.cover n ≡ true
-      → IsNumberOf (places m) t.inputs n ⊎ IsMarkOf (mark_of (table_of m net is k t e).covers) (mark_at (places m) t) n
+      → IsNumberOf (net_places m) t.inputs n ⊎ IsMarkOf (mark_of (table_of m net is k t e).covers) (mark_at (net_places m) t) n
   choice_above made x n h =
-      above m.decls (places m) t.inputs (mark_of here.covers) (mark_at (places m) t) n
+      above m.decls (net_places m) t.inputs (mark_of here.covers) (mark_at (net_places m) t) n
       (cover_above (below (mark_of here.covers)) (values_at net.nets) made.values made.cover n (choice_table made x) h)
 
   -- a choice net has some values, and no more than a net may have
   pub choice_size : (made : MadeNet) → choices_in (table_of m net is k t e).covers ≡ made ∷ [] → HasSize made
-  choice_size made x = choice_sized (columns_at m.decls (places m) t) t (mark_at (places m) t) (choice_at (places m) t) here.covers covers_are made x
+  choice_size made x = choice_sized (columns_at m.decls (net_places m) t) t (mark_at (net_places m) t) (choice_at (net_places m) t) here.covers covers_are made x

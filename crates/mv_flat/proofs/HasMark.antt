@@ -15,8 +15,8 @@ use Rattle.mv_rows.proofs.Marked.{marked_exactly}
 use Rattle.mv_rows.proofs.Renumbered.{marked_alike}
 use Rattle.mv_joint.specs.Plain.{is_joint_marked}
 use Rattle.mv_joint.proofs.JointMarked.{joint_marked_alike, joint_marked_exactly}
-use Rattle.mv_unfold.specs.Numbers.{number_in}
-use Rattle.mv_unfold.proofs.Names.{all_among}
+use Rattle.mv_acyclic.specs.Numbers.{number_in}
+use Rattle.mv_acyclic.proofs.Names.{all_among}
 use Rattle.mv_flat.specs.declared.covers.TableCovers.{TableCovers}
 use Rattle.mv_flat.specs.declared.covers.TableCovers.TheVariants.{Single, Joint}
 use Rattle.mv_flat.specs.Covers.{IsMadeTable, mark_of}

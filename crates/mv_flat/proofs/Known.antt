@@ -9,7 +9,7 @@ use Rattle.mv_design.specs.declared.design.Decl.{Decl}
 use Rattle.mv_design.specs.declared.table.FileTable.{FileTable}
 use Rattle.mv_design.specs.Nets.{columns_of}
 use Rattle.mv_resets.specs.NetModels.{IsNetTable}
-use Rattle.mv_unfold.proofs.Soundness.{in_left, in_right}
+use Rattle.mv_acyclic.proofs.Soundness.{in_left, in_right}
 use Rattle.mv_flat.specs.Placed.{are_known, IsPlacedTable}
 
 pub known : (names ws : List (List ℕ)) → ((w : List ℕ) → among w ws ≡ true → among w names ≡ true) → are_known names ws ≡ true

@@ -19,8 +19,8 @@ use Rattle.mv_net.specs.Formed.{has_table}
 use Rattle.mv_resets.specs.Resets.{reset_name}
 use Rattle.mv_resets.specs.NetModels.{IsNetModel, is_flat_name, is_reset_name}
 use Rattle.mv_resets.proofs.Words.{not_lawful}
-use Rattle.mv_unfold.proofs.Names.{all_among}
-use Rattle.mv_unfold.proofs.Soundness.{in_left, in_right, in_either}
+use Rattle.mv_acyclic.proofs.Names.{all_among}
+use Rattle.mv_acyclic.proofs.Soundness.{in_left, in_right, in_either}
 use Rattle.mv_flat.specs.Built.{kind_of}
 
 -- ---- how names begin

@@ -10,8 +10,8 @@ use Rattle.mv_base.specs.Names.{same_word, among, place_of, AreApart}
 use Rattle.mv_base.proofs.NameLemmas.{same_word_is, same_word_refl, among-append, is_some-place_of}
 use Rattle.mv_cover.specs.declared.cover.Cover.{Cover}
 use Rattle.mv_net.specs.declared.parts.FlatNet.{FlatNet}
-use Rattle.mv_unfold.proofs.Distinct.{apart_length}
-use Rattle.mv_unfold.proofs.Soundness.{in_left, in_right}
+use Rattle.mv_acyclic.proofs.Distinct.{apart_length}
+use Rattle.mv_acyclic.proofs.Soundness.{in_left, in_right}
 use Rattle.mv_flat.specs.Numbers.{made_name}
 use Rattle.mv_flat.specs.Covers.{MadeNet, made_mark}
 use Rattle.mv_flat.specs.Built.{fresh_net, IsFreshName, AreMade}

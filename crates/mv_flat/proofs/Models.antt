@@ -13,18 +13,18 @@ use Rattle.mv_net.specs.declared.parts.NetParts.{NetParts}
 use Rattle.mv_design.specs.Meaning.{of_model}
 use Rattle.mv_design.specs.Nets.{nets_named, drivers}
 use Rattle.mv_design.specs.Proper.{IsLawful}
-use Rattle.mv_flat.specs.Places.{places}
+use Rattle.mv_flat.specs.Places.{net_places}
 use Rattle.mv_resets.specs.NetModels.{HasFewNets, HasSoundNets, IsNetModel}
 use Rattle.mv_resets.specs.Resets.{with_reset_nets}
 use Rattle.mv_resets.specs.Valued.{of_nets}
 use Rattle.mv_resets.proofs.NetModels.{net_model, inputs_driven}
 use Rattle.mv_resets.proofs.SoundNets.{sound_nets, few_nets as few_drivers}
 use Rattle.mv_resets.proofs.Valued.{same_meaning as same_with_resets}
-use Rattle.mv_unfold.specs.Sound.{IsDrivenOnce, IsSoundModel, IsWithinLimits}
-use Rattle.mv_unfold.proofs.Distinct.{differ_counted, drivers_counted, net_is_driven}
+use Rattle.mv_acyclic.specs.Sound.{IsDrivenOnce, IsSoundModel, IsWithinLimits}
+use Rattle.mv_acyclic.proofs.Distinct.{differ_counted, drivers_counted, net_is_driven}
 use Rattle.mv_flat.proofs.Distinct.{places_differ, few_places}
 use Rattle.mv_flat.proofs.Known.{tables_placed}
-use Rattle.mv_unfold.proofs.Commands.{named_is_net}
+use Rattle.mv_acyclic.proofs.Commands.{named_is_net}
 use Rattle.mv_flat.specs.Built.{IsBuilt}
 use Rattle.mv_flat.specs.Flat.{AreShort}
 use Rattle.mv_flat.specs.Placed.{IsPlacedTable}
@@ -41,7 +41,7 @@ named_driven m d w h = net_is_driven m w d (named_is_net m w h)
 pub model_net : (m : FileModel) (net : NetParts) → IsNetModel m → HasSoundNets m → IsBuilt m net → IsModelNet m net
 model_net m net proper sound built = record {
   proper = proper;
-  distinct = IsDistinct-from_differ (places m) (places_differ m proper sound.once);
+  distinct = IsDistinct-from_differ (net_places m) (places_differ m proper sound.once);
   once = IsDistinct-from_differ (drivers m) (differ_counted (drivers m) (drivers_counted m sound.once));
   driven = named_driven m sound.once;
   built = built;
@@ -50,7 +50,7 @@ model_net m net proper sound built = record {
 pub well_formed : (m : FileModel) (net : NetParts) → IsNetModel m → HasSoundNets m → IsBuilt m net → WellFormed net
 well_formed m net proper sound built = net_formed m net (model_net m net proper sound built) sound
 
-pub places_few : (m : FileModel) → IsNetModel m → HasFewNets m → length (places m) ≤ MAX_NETS
+pub places_few : (m : FileModel) → IsNetModel m → HasFewNets m → length (net_places m) ≤ MAX_NETS
 places_few m proper limits =
     let twice = few_places m proper in
     let few = limits.few in

@@ -4,8 +4,8 @@ use Rattle.std.specs.List.{flat_map}
 use Rattle.mv_base.specs.Names.{names_differ}
 use Rattle.mv_design.specs.declared.design.Decl.{Decl}
 use Rattle.mv_design.specs.declared.table.FileTable.{FileTable}
-use Rattle.mv_unfold.specs.Driving.{with_names}
-use Rattle.mv_unfold.proofs.Names.{with_names_append, with_names_new}
+use Rattle.mv_acyclic.specs.Driving.{with_names}
+use Rattle.mv_acyclic.proofs.Names.{with_names_append, with_names_new}
 use Rattle.mv_flat.specs.Places.{made_places, table_places}
 use Rattle.mv_flat.specs.Gathered.{with_places}
 

@@ -15,13 +15,13 @@ use Rattle.mv_net.specs.declared.parts.FlatLatch.{FlatLatch}
 use Rattle.mv_net.specs.declared.parts.Kind.{Kind}
 use Rattle.mv_net.specs.declared.parts.NetParts.{NetParts}
 use Rattle.mv_design.specs.Nets.{columns_of, drivers, nets_driven, nets_named, output_of}
-use Rattle.mv_unfold.specs.Numbers.{net_in, number_in}
+use Rattle.mv_acyclic.specs.Numbers.{net_in, number_in}
 use Rattle.mv_flat.specs.Built.{flat_latch}
-use Rattle.mv_flat.specs.Places.{places}
+use Rattle.mv_flat.specs.Places.{net_places}
 use Rattle.mv_resets.specs.NetModels.{is_flat_name}
-use Rattle.mv_unfold.proofs.Commands.{column_named, driver_is_net}
-use Rattle.mv_unfold.proofs.Named.{among-nets_of}
-use Rattle.mv_unfold.proofs.Soundness.{in_left, in_right}
+use Rattle.mv_acyclic.proofs.Commands.{column_named, driver_is_net}
+use Rattle.mv_acyclic.proofs.Named.{among-nets_of}
+use Rattle.mv_acyclic.proofs.Soundness.{in_left, in_right}
 use Rattle.mv_flat.proofs.Lawful.{open_names, open_of, kind_open, drivers_split, driver_flat}
 use Rattle.mv_flat.proofs.Places.{IsModelNet}
 
@@ -97,10 +97,10 @@ output_of_among t some = first_among t.outputs some
 
 -- the nets on one side of the latches by number
 pub sides_are : (m : FileModel) (net : NetParts) → IsModelNet m net → (side : FlatLatch → NetId) (name : FileLatch → List ℕ)
-    → ((l : FileLatch) → side (flat_latch (places m) l) ≡ net_in (places m) (name l)) → map side net.latches ≡ map (net_in (places m)) (map name m.latches)
+    → ((l : FileLatch) → side (flat_latch (net_places m) l) ≡ net_in (net_places m) (name l)) → map side net.latches ≡ map (net_in (net_places m)) (map name m.latches)
 sides_are m net is side name same =
     ap (map side) is.built.latches
-    ∙ (map-map side (flat_latch (places m)) m.latches ∙ ((λ i. map (λ l. same l i) m.latches) ∙ sym (map-map (net_in (places m)) name m.latches)))
+    ∙ (map-map side (flat_latch (net_places m)) m.latches ∙ ((λ i. map (λ l. same l i) m.latches) ∙ sym (map-map (net_in (net_places m)) name m.latches)))
 
 -- ---- lawful names
 

@@ -7,8 +7,8 @@ use Rattle.std.proofs.lemmas.Option.{same_Some, slice_get-get_or}
 use Rattle.mv_base.specs.Names.{among, place_of, IsDistinct}
 use Rattle.mv_base.proofs.NameLemmas.{IsPlace-from_among, IsPlace-from_place}
 use Rattle.mv_design.specs.declared.table.FileTable.{FileTable}
-use Rattle.mv_unfold.specs.Numbers.{number_in}
-use Rattle.mv_unfold.proofs.Listed.{IsNumber-among, number_at, name_at}
+use Rattle.mv_acyclic.specs.Numbers.{number_in}
+use Rattle.mv_acyclic.proofs.Listed.{IsNumber-among, number_at, name_at}
 use Rattle.mv_design.specs.Nets.{output_of}
 use Rattle.mv_flat.specs.Gathered.{number_or_past}
 use Rattle.mv_flat.specs.Numbers.{mark_name, mark_at, choice_name, choice_at}

@@ -14,7 +14,7 @@ use Rattle.mv_joint.proofs.OneJoint.{one_joint}
 use Rattle.mv_flat.specs.declared.covers.TableCovers.{TableCovers}
 use Rattle.mv_flat.specs.declared.covers.TableCovers.TheVariants.{Single, Joint}
 use Rattle.mv_flat.specs.Numbers.{columns_at, mark_at, choice_name, choice_at}
-use Rattle.mv_flat.specs.Places.{is_joint, places}
+use Rattle.mv_flat.specs.Places.{is_joint, net_places}
 use Rattle.mv_flat.specs.Placed.{IsPlacedTable}
 use Rattle.mv_flat.proofs.Behinds.{tables_chosen}
 use Rattle.mv_flat.proofs.Shapes.{table_columns, marked_columns, joint_file, apart}
@@ -26,8 +26,8 @@ pub record IsChosenTable (ds : List Decl) (names : List (List ℕ)) (t : FileTab
   pub chosen : is_joint t ≡ true → among (choice_name (output_of t)) names ≡ true
 
 -- so are the tables of a model
-pub all_chosen : (m : FileModel) → All (IsPlacedTable m.decls (places m)) m.tables → All (IsChosenTable m.decls (places m)) m.tables
-all_chosen m known = λ k d low. record { placed = known k d low; chosen = tables_chosen m (places m) refl k d low }
+pub all_chosen : (m : FileModel) → All (IsPlacedTable m.decls (net_places m)) m.tables → All (IsChosenTable m.decls (net_places m)) m.tables
+all_chosen m known = λ k d low. record { placed = known k d low; chosen = tables_chosen m (net_places m) refl k d low }
 
 one_single : (ds : List Decl) (names : List (List ℕ)) (t : FileTable) (f g : FlatTable) → All HasLawfulValues ds → IsChosenTable ds names t
     → HasCovers ds names t (Single f) → HasCovers ds names t (Single g) → f ≡ g

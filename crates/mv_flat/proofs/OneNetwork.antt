@@ -12,10 +12,10 @@ use Rattle.mv_net.specs.declared.parts.NetParts.{NetParts}
 use Rattle.mv_tree.specs.Tree.{Instances}
 use Rattle.mv_tree.specs.Unfolded.{unfolded}
 use Rattle.mv_walk.proofs.Unique.{one_tree}
-use Rattle.mv_unfold.specs.Sound.{IsSoundModel, IsWithinLimits}
-use Rattle.mv_whole.specs.Sound.{model_of}
+use Rattle.mv_acyclic.specs.Sound.{IsSoundModel, IsWithinLimits}
+use Rattle.mv_unfold.specs.Sound.{model_of}
 use Rattle.mv_design.specs.Nets.{root_of, drivers}
-use Rattle.mv_flat.specs.Places.{places}
+use Rattle.mv_flat.specs.Places.{net_places}
 use Rattle.mv_resets.specs.NetModels.{HasLawfulValues}
 use Rattle.mv_design.specs.Proper.{IsLawful, IsProper}
 use Rattle.mv_flat.specs.Numbers.{made_name}
@@ -91,9 +91,9 @@ module _ (ds : List Decl) (names : List (List ℕ)) (proper : All HasLawfulValue
 same_parts : (a b : NetParts) → a.root ≡ b.root → a.inputs ≡ b.inputs → a.outputs ≡ b.outputs → a.latches ≡ b.latches → a.nets ≡ b.nets → a ≡ b
 same_parts a b r x y l n = λ i. record { root = r i; inputs = x i; outputs = y i; latches = l i; nets = n i }
 
-one_built : (m : FileModel) (a b : NetParts) → All HasLawfulValues m.decls → ArePlaced m (places m) → IsBuilt m a → IsBuilt m b → a ≡ b
+one_built : (m : FileModel) (a b : NetParts) → All HasLawfulValues m.decls → ArePlaced m (net_places m) → IsBuilt m a → IsBuilt m b → a ≡ b
 one_built m a b proper known p q =
-    let tables = one_tables m.decls (places m) proper m.tables (drivers m) p.of_tables q.of_tables (all_chosen m known.tables) p.are_tables q.are_tables in
+    let tables = one_tables m.decls (net_places m) proper m.tables (drivers m) p.of_tables q.of_tables (all_chosen m known.tables) p.are_tables q.are_tables in
     same_parts a b (p.root ∙ sym q.root) (p.inputs ∙ sym q.inputs) (p.outputs ∙ sym q.outputs) (p.latches ∙ sym q.latches)
     (p.nets_are ∙ (ap (λ fs. open_nets m ++ fs) tables ∙ sym q.nets_are))
 
@@ -103,7 +103,7 @@ one_of_model : (m : FileModel) (one other : NetParts) → IsLawful m → IsSound
 one_of_model m one other lawful sound limits p q =
     let nets = with_reset_nets m in
     let are = with_nets m nets lawful sound limits refl in
-    let known = placed nets (places nets) are.proper are.sound refl (places_few nets are.proper are.few) in
+    let known = placed nets (net_places nets) are.proper are.sound refl (places_few nets are.proper are.few) in
     one_built nets one other are.proper.decls known p q
 
 -- a design has at most one network

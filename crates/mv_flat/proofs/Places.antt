@@ -18,19 +18,19 @@ use Rattle.mv_net.specs.declared.parts.Kind.{Kind}
 use Rattle.mv_net.specs.declared.parts.Kind.TheVariants.{Input, Latch, Table, Reset}
 use Rattle.mv_net.specs.Nets.{slot}
 use Rattle.mv_design.specs.Nets.{drivers, latch_outputs, nets_driven, nets_named, output_of}
-use Rattle.mv_flat.specs.Places.{places, marks_of, choices_of, made_places, table_places, has_mark, is_joint}
-use Rattle.mv_unfold.specs.Numbers.{number_in}
+use Rattle.mv_flat.specs.Places.{net_places, marks_of, choices_of, made_places, table_places, has_mark, is_joint}
+use Rattle.mv_acyclic.specs.Numbers.{number_in}
 use Rattle.mv_resets.specs.NetModels.{IsNetModel, IsNetTable}
 use Rattle.mv_flat.specs.Numbers.{mark_name, mark_at, choice_name, choice_at}
 use Rattle.mv_flat.specs.Built.{file_net, kind_of, open_nets, IsBuilt}
 use Rattle.mv_base.proofs.Lists.{get_front}
-use Rattle.mv_unfold.proofs.Listed.{number_at}
+use Rattle.mv_acyclic.proofs.Listed.{number_at}
 use Rattle.mv_flat.proofs.Numbered.{number_of_name, mark_number, choice_number}
 use Rattle.mv_flat.specs.Placed.{IsPlacedTable}
-use Rattle.mv_unfold.proofs.Soundness.{in_left, in_either}
+use Rattle.mv_acyclic.proofs.Soundness.{in_left, in_either}
 use Rattle.mv_flat.proofs.Lawful.{open_names, open_of, drivers_split, IsOpen, open_kind, kind_open, open_lawful, lawful_kind}
 use Rattle.mv_flat.proofs.Distinct.{places_split, driver_is_place}
-use Rattle.mv_unfold.proofs.Commands.{column_named}
+use Rattle.mv_acyclic.proofs.Commands.{column_named}
 use Rattle.mv_flat.proofs.Known.{tables_known}
 use Rattle.mv_flat.proofs.Blocks.{blocks_size, block_at}
 use Rattle.mv_flat.proofs.Slots.{IsTableAt, table_at, get_behind, cover_at}
@@ -39,7 +39,7 @@ use Rattle.mv_flat.proofs.Slots.{IsTableAt, table_at, get_behind, cover_at}
 -- each of whose nets is driven
 pub record IsModelNet (m : FileModel) (net : NetParts) : Type 0 where
   pub proper : IsNetModel m
-  pub distinct : IsDistinct (places m)
+  pub distinct : IsDistinct (net_places m)
   pub once : IsDistinct (drivers m)
   pub driven : (w : List ℕ) → among w (nets_named m) ≡ true → among w (drivers m) ≡ true
   pub built : IsBuilt m net
@@ -52,8 +52,8 @@ file_table m net is k t e =
     subst P (get_or_from_slice_get m.tables k t t e) (All-get_or P m.tables k t (slice_get_within m.tables k t e) is.proper.tables)
 
 -- the columns of each table have numbers
-placed_tables : (m : FileModel) (net : NetParts) → IsModelNet m net → All (IsPlacedTable m.decls (places m)) m.tables
-placed_tables m net is = tables_known m.decls (places m) m.tables is.proper.tables (λ w h. driver_is_place m is.proper w (is.driven w (column_named m w h)))
+placed_tables : (m : FileModel) (net : NetParts) → IsModelNet m net → All (IsPlacedTable m.decls (net_places m)) m.tables
+placed_tables m net is = tables_known m.decls (net_places m) m.tables is.proper.tables (λ w h. driver_is_place m is.proper w (is.driven w (column_named m w h)))
 
 -- as many nets without a table as names
 open_size : (m : FileModel) → length (open_nets m) ≡ length (open_names m)
@@ -65,19 +65,19 @@ open_size m =
     ∙ sym (length-append m.inputs (latch_outputs m)))
 
 -- what stands at the numbers of each table
-pub table_of : (m : FileModel) (net : NetParts) → IsModelNet m net → (k : ℕ) (t : FileTable) → slice_get m.tables k ≡ Some t → IsTableAt m.decls (places m) net.nets t
+pub table_of : (m : FileModel) (net : NetParts) → IsModelNet m net → (k : ℕ) (t : FileTable) → slice_get m.tables k ≡ Some t → IsTableAt m.decls (net_places m) net.nets t
 table_of m net is k t e =
-    table_at m.decls (places m) net.nets t is.proper.decls is.distinct
-    (block_at m.decls (places m) is.proper.decls net.nets (open_names m) (open_nets m) m.tables (drivers m) is.built.of_tables (placed_tables m net is)
+    table_at m.decls (net_places m) net.nets t is.proper.decls is.distinct
+    (block_at m.decls (net_places m) is.proper.decls net.nets (open_names m) (open_nets m) m.tables (drivers m) is.built.of_tables (placed_tables m net is)
     is.built.are_tables (places_split m) is.built.nets_are (open_size m) k t e)
 
 -- as many nets as names
-pub nets_size : (m : FileModel) (net : NetParts) → IsModelNet m net → length net.nets ≡ length (places m)
+pub nets_size : (m : FileModel) (net : NetParts) → IsModelNet m net → length net.nets ≡ length (net_places m)
 nets_size m net is =
     ap length is.built.nets_are
     ∙ (length-append (open_nets m) is.built.of_tables
     ∙ ((λ i.
-    open_size m i + blocks_size m.decls (places m) is.proper.decls (drivers m) m.tables is.built.of_tables (placed_tables m net is) is.built.are_tables i)
+    open_size m i + blocks_size m.decls (net_places m) is.proper.decls (drivers m) m.tables is.built.of_tables (placed_tables m net is) is.built.are_tables i)
     ∙ sym (ap length (places_split m) ∙ length-append (open_names m) (flat_map (table_places m.decls) m.tables))))
 
 -- ---- the nets without a table
@@ -100,16 +100,16 @@ between f names front ws rest nets before behind distinct names_are nets_are lev
     ∙ (ap (λ ns. slot ns (length before + p.0)) nets_are ∙ (get_or-append-add before (map f ws ++ behind) p.0 None ∙ slot_left f ws behind p.0 w p.1.found))
 
 pub open_slot : (m : FileModel) (net : NetParts) → IsModelNet m net → (kind : Kind) (w : List ℕ) → among w (open_of m kind) ≡ true
-    → slot net.nets (number_in (places m) w) ≡ file_net m.decls kind None w
-unfolding places
+    → slot net.nets (number_in (net_places m) w) ≡ file_net m.decls kind None w
+unfolding net_places
 open_slot m net is Input w h =
     let states : List (Option FlatNet) = map (file_net m.decls Latch None) (latch_outputs m) in
-    between (file_net m.decls Input None) (places m) [] m.inputs (latch_outputs m ++ flat_map (table_places m.decls) m.tables) net.nets []
+    between (file_net m.decls Input None) (net_places m) [] m.inputs (latch_outputs m ++ flat_map (table_places m.decls) m.tables) net.nets []
     (states ++ is.built.of_tables) is.distinct refl
     (is.built.nets_are ∙ append_assoc (map (file_net m.decls Input None) m.inputs) states is.built.of_tables) refl w h
 open_slot m net is Latch w h =
     let inputs : List (Option FlatNet) = map (file_net m.decls Input None) m.inputs in
-    between (file_net m.decls Latch None) (places m) m.inputs (latch_outputs m) (flat_map (table_places m.decls) m.tables) net.nets inputs
+    between (file_net m.decls Latch None) (net_places m) m.inputs (latch_outputs m) (flat_map (table_places m.decls) m.tables) net.nets inputs
     is.built.of_tables is.distinct refl
     (is.built.nets_are ∙ append_assoc inputs (map (file_net m.decls Latch None) (latch_outputs m)) is.built.of_tables)
     (length-map m.inputs (file_net m.decls Input None)) w h
@@ -205,7 +205,7 @@ pub record OpenPlace (m : FileModel) (n : ℕ) : Type 0 where
   pub kind : Kind
   pub name : List ℕ
   pub listed : among name (open_of m kind) ≡ true
-  pub number : n ≡ number_in (places m) name
+  pub number : n ≡ number_in (net_places m) name
 
 pub record OutputPlace (m : FileModel) (n : ℕ) : Type 0 where
   pub place : ℕ
@@ -214,75 +214,75 @@ pub record OutputPlace (m : FileModel) (n : ℕ) : Type 0 where
   pub index : ℕ
   pub name : List ℕ
   pub output : slice_get table.outputs index ≡ Some name
-  pub number : n ≡ number_in (places m) name
+  pub number : n ≡ number_in (net_places m) name
 
 pub record MarkPlace (m : FileModel) (n : ℕ) : Type 0 where
   pub place : ℕ
   pub table : FileTable
   pub listed : slice_get m.tables place ≡ Some table
   pub may : has_mark m.decls table ≡ true
-  pub number : n ≡ (mark_at (places m) table).0
+  pub number : n ≡ (mark_at (net_places m) table).0
 
 pub record ChoicePlace (m : FileModel) (n : ℕ) : Type 0 where
   pub place : ℕ
   pub table : FileTable
   pub listed : slice_get m.tables place ≡ Some table
   pub joint : is_joint table ≡ true
-  pub number : n ≡ (choice_at (places m) table).0
+  pub number : n ≡ (choice_at (net_places m) table).0
 
 -- the number is that of a table's output, its mark or its choice net
 abbrev pub TablePlace : FileModel → ℕ → Type 0
 TablePlace m n = OutputPlace m n ⊎ (MarkPlace m n ⊎ ChoicePlace m n)
 
-open_place : (m : FileModel) (w : List ℕ) → IsOpen m w → OpenPlace m (number_in (places m) w)
+open_place : (m : FileModel) (w : List ℕ) → IsOpen m w → OpenPlace m (number_in (net_places m) w)
 open_place m w o = record { kind = o.kind; name = w; listed = o.listed; number = refl }
 
-output_place : (m : FileModel) (w : List ℕ) → IsTableOutput m.tables w → OutputPlace m (number_in (places m) w)
+output_place : (m : FileModel) (w : List ℕ) → IsTableOutput m.tables w → OutputPlace m (number_in (net_places m) w)
 output_place m w o =
     let p = IsPlace-from_among w o.table.outputs o.among_them in
     record { place = o.place; table = o.table; listed = o.listed; index = p.0; name = w; output = p.1.found; number = refl }
 
-mark_place : (m : FileModel) (net : NetParts) → IsModelNet m net → (w : List ℕ) → IsMarked m.decls m.tables w → MarkPlace m (number_in (places m) w)
+mark_place : (m : FileModel) (net : NetParts) → IsModelNet m net → (w : List ℕ) → IsMarked m.decls m.tables w → MarkPlace m (number_in (net_places m) w)
 mark_place m net is w o = record {
   place = o.place;
   table = o.table;
   listed = o.listed;
   may = o.may;
-  number = ap (number_in (places m)) o.is ∙ sym (mark_number (places m) o.table ((table_of m net is o.place o.table o.listed).marked o.may));
+  number = ap (number_in (net_places m)) o.is ∙ sym (mark_number (net_places m) o.table ((table_of m net is o.place o.table o.listed).marked o.may));
 }
 
-choice_place : (m : FileModel) (net : NetParts) → IsModelNet m net → (w : List ℕ) → IsChosen m.tables w → ChoicePlace m (number_in (places m) w)
+choice_place : (m : FileModel) (net : NetParts) → IsModelNet m net → (w : List ℕ) → IsChosen m.tables w → ChoicePlace m (number_in (net_places m) w)
 choice_place m net is w o = record {
   place = o.place;
   table = o.table;
   listed = o.listed;
   joint = o.joint;
-  number = ap (number_in (places m)) o.is ∙ sym (choice_number (places m) o.table ((table_of m net is o.place o.table o.listed).chosen o.joint));
+  number = ap (number_in (net_places m)) o.is ∙ sym (choice_number (net_places m) o.table ((table_of m net is o.place o.table o.listed).chosen o.joint));
 }
 
-table_place : (m : FileModel) (net : NetParts) → IsModelNet m net → (w : List ℕ) → IsTableName m.decls m.tables w → TablePlace m (number_in (places m) w)
+table_place : (m : FileModel) (net : NetParts) → IsModelNet m net → (w : List ℕ) → IsTableName m.decls m.tables w → TablePlace m (number_in (net_places m) w)
 table_place m net is w n =
     ⊎_elim (λ (o : IsTableOutput m.tables w). inl (output_place m w o))
     (λ (made : IsMarked m.decls m.tables w ⊎ IsChosen m.tables w).
     ⊎_elim (λ (o : IsMarked m.decls m.tables w). inr (inl (mark_place m net is w o))) (λ (o : IsChosen m.tables w). inr (inr (choice_place m net is w o))) made)
     n
 
-named_place : (m : FileModel) (net : NetParts) → IsModelNet m net → (w : List ℕ) → among w (places m) ≡ true
-    → OpenPlace m (number_in (places m) w) ⊎ TablePlace m (number_in (places m) w)
+named_place : (m : FileModel) (net : NetParts) → IsModelNet m net → (w : List ℕ) → among w (net_places m) ≡ true
+    → OpenPlace m (number_in (net_places m) w) ⊎ TablePlace m (number_in (net_places m) w)
 named_place m net is w h =
     ⊎_elim (λ (y : among w (open_names m) ≡ true). inl (open_place m w (open_kind m w y)))
     (λ (y : among w (flat_map (table_places m.decls) m.tables) ≡ true). inr (table_place m net is w (places_in m.decls m.tables w y)))
     (in_either w (open_names m) (flat_map (table_places m.decls) m.tables) (ap (among w) (sym (places_split m)) ∙ h))
 
 -- each number within the names is that of a net without a table, or of one of a table's
-pub place_at : (m : FileModel) (net : NetParts) → IsModelNet m net → (n : ℕ) → n < length (places m) → OpenPlace m n ⊎ TablePlace m n
+pub place_at : (m : FileModel) (net : NetParts) → IsModelNet m net → (n : ℕ) → n < length (net_places m) → OpenPlace m n ⊎ TablePlace m n
 place_at m net is n low =
-    let w : List ℕ = get_or (places m) n [] in
+    let w : List ℕ = get_or (net_places m) n [] in
     let P : ℕ → Type 0 = λ k. OpenPlace m k ⊎ TablePlace m k in
-    subst P (sym (number_of_name (places m) n is.distinct low)) (named_place m net is w (among-at (places m) n w (slice_get-get_or (places m) n [] low)))
+    subst P (sym (number_of_name (net_places m) n is.distinct low)) (named_place m net is w (among-at (net_places m) n w (slice_get-get_or (net_places m) n [] low)))
 
 -- and no net stands at another
-pub no_slot : (m : FileModel) (net : NetParts) → IsModelNet m net → (n : ℕ) → length (places m) ≤ n → slot net.nets n ≡ None
+pub no_slot : (m : FileModel) (net : NetParts) → IsModelNet m net → (n : ℕ) → length (net_places m) ≤ n → slot net.nets n ≡ None
 no_slot m net is n high = get_or_past net.nets n None (let size = nets_size m net is in omega arith)
 
 -- ---- driven nets
@@ -298,8 +298,8 @@ driven_by m w h =
 pub record IsFileNet (m : FileModel) (nets : List (Option FlatNet)) (w : List ℕ) : Type 0 where
   pub kind : Kind
   pub table : Option Cover
-  pub listed : among w (places m) ≡ true
-  pub held : slot nets (number_in (places m) w) ≡ file_net m.decls kind table w
+  pub listed : among w (net_places m) ≡ true
+  pub held : slot nets (number_in (net_places m) w) ≡ file_net m.decls kind table w
   pub plain : is_net_name w ≡ true → kind ≡ Reset → ⊥
   pub reset : kind_of w ≡ Reset → kind ≡ Reset
 
@@ -317,7 +317,7 @@ output_file : (m : FileModel) (net : NetParts) → IsModelNet m net → (w : Lis
 output_file m net is w o =
     let at = table_of m net is o.place o.table o.listed in
     let p = IsPlace-from_among w o.table.outputs o.among_them in
-    let c = cover_at m.decls (places m) net.nets o.table at p.0 w p.1.found in
+    let c = cover_at m.decls (net_places m) net.nets o.table at p.0 w p.1.found in
     record {
       kind = kind_of w;
       table = Some c.cover;

@@ -16,8 +16,8 @@ use Rattle.mv_net.specs.declared.parts.Kind.TheVariants.{Input, Latch}
 use Rattle.mv_net.specs.declared.parts.NetParts.{NetParts}
 use Rattle.mv_net.specs.Nets.{name_in, spelled_values, spelled_in, port_of, has_reset, latch_port_of, interface_of}
 use Rattle.mv_design.specs.Nets.{nets_named}
-use Rattle.mv_flat.specs.Places.{places}
-use Rattle.mv_unfold.specs.Numbers.{net_in}
+use Rattle.mv_flat.specs.Places.{net_places}
+use Rattle.mv_acyclic.specs.Numbers.{net_in}
 use Rattle.mv_design.specs.Meaning.{port}
 use Rattle.mv_flat.specs.Numbers.{are_numbers, kept_names}
 use Rattle.mv_flat.specs.Built.{flat_latch, reset_in}
@@ -25,7 +25,7 @@ use Rattle.mv_resets.specs.Resets.{reset_name}
 use Rattle.mv_resets.specs.Valued.{has_reset_net, latch_seen}
 use Rattle.mv_flat.proofs.Distinct.{places_driven}
 use Rattle.mv_flat.proofs.Places.{IsModelNet, named_file}
-use Rattle.mv_unfold.proofs.Commands.{output_named}
+use Rattle.mv_acyclic.proofs.Commands.{output_named}
 use Rattle.mv_flat.proofs.Naming.{among_first, among_later, map_same, open_named}
 
 -- words that are found alike, one by one, are the same
@@ -41,14 +41,14 @@ spelled-kept values = spelled values (are_numbers values) refl
     spelled [] false e = refl
     spelled (v ∷ vs) false e = refl
 
-port_is : (m : FileModel) (net : NetParts) → IsModelNet m net → (w : List ℕ) → among w (nets_named m) ≡ true → port_of net.nets (net_in (places m) w) ≡ port m w
+port_is : (m : FileModel) (net : NetParts) → IsModelNet m net → (w : List ℕ) → among w (nets_named m) ≡ true → port_of net.nets (net_in (net_places m) w) ≡ port m w
 port_is m net is w h =
     ap (λ (s : Option FlatNet). let p : Port = record { name = name_in s; values = spelled_in s } in p) (named_file m net is w h).held
     ∙ λ i. record { name = w; values = spelled-kept (values_of m.decls w) i }
 
-ports_are : (m : FileModel) (net : NetParts) → IsModelNet m net → (ns : List NetId) (ws : List (List ℕ)) → ns ≡ map (net_in (places m)) ws → ((w : List ℕ) → among w ws ≡ true → among w (nets_named m) ≡ true) → map (port_of net.nets) ns ≡ map (port m) ws
+ports_are : (m : FileModel) (net : NetParts) → IsModelNet m net → (ns : List NetId) (ws : List (List ℕ)) → ns ≡ map (net_in (net_places m)) ws → ((w : List ℕ) → among w ws ≡ true → among w (nets_named m) ≡ true) → map (port_of net.nets) ns ≡ map (port m) ws
 ports_are m net is ns ws e named =
-    ap (map (port_of net.nets)) e ∙ map_same (net_in (places m)) (port_of net.nets) (port m) ws (λ w h. port_is m net is w (named w h))
+    ap (map (port_of net.nets)) e ∙ map_same (net_in (net_places m)) (port_of net.nets) (port m) ws (λ w h. port_is m net is w (named w h))
 
 -- ---- latches
 
@@ -57,18 +57,18 @@ there_is None = refl
 there_is (Some n) = refl
 
 -- a latch has a reset net in the network where it has one in the model
-reset_there : (m : FileModel) (w : List ℕ) → has_reset (reset_in (places m) w) ≡ has_reset_net m w
-reset_there m w = there_is (place_of (reset_name w) (places m)) ∙ (is_some-place_of (reset_name w) (places m) ∙ places_driven m (reset_name w) refl)
+reset_there : (m : FileModel) (w : List ℕ) → has_reset (reset_in (net_places m) w) ≡ has_reset_net m w
+reset_there m w = there_is (place_of (reset_name w) (net_places m)) ∙ (is_some-place_of (reset_name w) (net_places m) ∙ places_driven m (reset_name w) refl)
 
 latch_is : (m : FileModel) (net : NetParts) → IsModelNet m net → (l : FileLatch) → among l.output (nets_named m) ≡ true
-    → latch_port_of net.nets (flat_latch (places m) l) ≡ latch_seen m l
+    → latch_port_of net.nets (flat_latch (net_places m) l) ≡ latch_seen m l
 latch_is m net is l h =
     let p = port_is m net is l.output h in
     λ i. record { name = (p i).name; values = (p i).values; has_reset = reset_there m l.output i }
 
 latches_are : (m : FileModel) (net : NetParts) → IsModelNet m net → (ls : List FileLatch)
     → ((w : List ℕ) → among w (map (λ (l : FileLatch). l.output) ls) ≡ true → among w (nets_named m) ≡ true)
-    → map (latch_port_of net.nets) (map (flat_latch (places m)) ls) ≡ map (latch_seen m) ls
+    → map (latch_port_of net.nets) (map (flat_latch (net_places m)) ls) ≡ map (latch_seen m) ls
 latches_are m net is [] named = refl
 latches_are m net is (l ∷ ls) named =
     λ i. latch_is m net is l (named l.output (among_first l.output _)) i ∷ latches_are m net is ls (λ w h. named w (among_later w l.output _ h)) i

@@ -20,23 +20,23 @@ use Rattle.mv_design.specs.Nets.{root_of}
 use Rattle.mv_tree.specs.Tree.{Instances}
 use Rattle.mv_tree.specs.Unfolded.{unfolded}
 use Rattle.mv_walk.proofs.Unique.{one_tree}
-use Rattle.mv_unfold.specs.Sound.{reads, IsSoundModel, IsWithinLimits, StandsAlone, TellsAbove}
+use Rattle.mv_acyclic.specs.Sound.{reads, IsSoundModel, IsWithinLimits, StandsAlone, TellsAbove}
 use Rattle.mv_walk.specs.Walk.{walk_faults}
 use Rattle.mv_graph.specs.Above.{IsAcyclic}
-use Rattle.mv_whole.specs.Sound.{IsSound, IsFault, IsWithinDesignLimits, model_of}
-use Rattle.mv_whole.specs.Whole.{HasWholeFault}
-use Rattle.mv_whole.proofs.Faultless.{no_faults}
-use Rattle.mv_whole.proofs.Sound.{fault_excludes}
+use Rattle.mv_unfold.specs.Sound.{IsSound, IsFault, IsWithinDesignLimits, model_of}
+use Rattle.mv_unfold.specs.Whole.{HasWholeFault}
+use Rattle.mv_unfold.proofs.Faultless.{no_faults}
+use Rattle.mv_unfold.proofs.Sound.{fault_excludes}
 use Rattle.mv_design.specs.Proper.{IsProper}
 use Rattle.mv_flat.specs.declared.covers.TableCovers.{TableCovers}
 use Rattle.mv_flat.specs.declared.covers.TableCovers.TheVariants.{Single, Joint}
 use Rattle.mv_flat.specs.Covers.{IsTooWide}
 use Rattle.mv_flat.specs.Numbers.{columns_at, mark_at}
-use Rattle.mv_flat.specs.Places.{places}
+use Rattle.mv_flat.specs.Places.{net_places}
 use Rattle.mv_flat.specs.Placed.{IsPlacedTable}
 use Rattle.mv_flat.specs.Size.{size_faults, size_of, AreCovers, FitsLimits, PassesLimit, IsPastLimit}
-use Rattle.mv_flat.specs.Sized.{IsWithin, TellsLimit}
-use Rattle.mv_flat.specs.Flat.{HasSmallNetwork, HasLargeNetwork, IsRefused}
+use Rattle.mv_flat.specs.Sized.{IsWithinSize, TellsLimit}
+use Rattle.mv_flat.specs.Flat.{HasSmallNetwork, HasLargeNetwork, IsRefusedDesign}
 use Rattle.mv_flat.proofs.Behinds.{placed}
 use Rattle.mv_flat.proofs.OneCovers.{IsChosenTable, all_chosen, one_table}
 use Rattle.mv_flat.proofs.Sizes.{HasCovers, none_past, within_limits, within_front}
@@ -89,24 +89,24 @@ none_told fs f e h = cc
 
 -- the first tables pass no limit where all pass none
 limit_excludes : (nets : ℕ) (m : FileModel) (f : FlatFault) (ts us : List FileTable) → All HasLawfulValues m.decls
-    → All (IsPlacedTable m.decls (places m)) m.tables → m.tables ≡ ts ++ us → PassesLimit nets m ts f → FitsLimits nets m → ⊥
+    → All (IsPlacedTable m.decls (net_places m)) m.tables → m.tables ≡ ts ++ us → PassesLimit nets m ts f → FitsLimits nets m → ⊥
 limit_excludes nets m f ts us proper known tables p fits =
-    let C : List FileTable → Type 0 = λ vs. AreCovers m.decls (places m) vs fits.has.covers in
-    let K : List FileTable → Type 0 = All (IsChosenTable m.decls (places m)) in
-    let front = covers_front m.decls (places m) ts us fits.has.covers (subst C tables fits.has.are) in
-    let same = one_covers m.decls (places m) proper ts us front.front p.has.covers (subst K tables (all_chosen m known)) front.are p.has.are in
+    let C : List FileTable → Type 0 = λ vs. AreCovers m.decls (net_places m) vs fits.has.covers in
+    let K : List FileTable → Type 0 = All (IsChosenTable m.decls (net_places m)) in
+    let front = covers_front m.decls (net_places m) ts us fits.has.covers (subst C tables fits.has.are) in
+    let same = one_covers m.decls (net_places m) proper ts us front.front p.has.covers (subst K tables (all_chosen m known)) front.are p.has.are in
     let all : fits.size ≡ size_of nets (ts ++ us) (front.front ++ front.rest) = fits.has.is ∙ (λ i. size_of nets (tables i) (front.joined i)) in
-    let within = within_front nets ts us front.front front.rest (subst IsWithin all (within_limits fits.size fits.none)) in
+    let within = within_front nets ts us front.front front.rest (subst IsWithinSize all (within_limits fits.size fits.none)) in
     let size : size_of nets ts front.front ≡ p.size = ap (size_of nets ts) same ∙ sym p.has.is in
-    none_told (size_faults p.size) f (none_past p.size (subst IsWithin size within)) p.told
+    none_told (size_faults p.size) f (none_past p.size (subst IsWithinSize size within)) p.told
 
-pub past_excludes : (nets : ℕ) (m : FileModel) (f : FlatFault) → All HasLawfulValues m.decls → All (IsPlacedTable m.decls (places m)) m.tables → IsPastLimit nets m f
+pub past_excludes : (nets : ℕ) (m : FileModel) (f : FlatFault) → All HasLawfulValues m.decls → All (IsPlacedTable m.decls (net_places m)) m.tables → IsPastLimit nets m f
     → FitsLimits nets m → ⊥
 past_excludes nets m f proper known p fits =
-    let C : List FileTable → Type 0 = λ ts. AreCovers m.decls (places m) ts fits.has.covers in
+    let C : List FileTable → Type 0 = λ ts. AreCovers m.decls (net_places m) ts fits.has.covers in
     ⊎_elim
-    (λ (wide : IsTooWide (columns_at m.decls (places m) p.table) p.table (mark_at (places m) p.table) f).
-    wide_between m.decls (places m) p.before p.after p.table f fits.has.covers wide (subst C p.place fits.has.are))
+    (λ (wide : IsTooWide (columns_at m.decls (net_places m) p.table) p.table (mark_at (net_places m) p.table) f).
+    wide_between m.decls (net_places m) p.before p.after p.table f fits.has.covers wide (subst C p.place fits.has.are))
     (λ (limit : PassesLimit nets m (p.before ++ p.table ∷ []) f).
     limit_excludes nets m f (p.before ++ p.table ∷ []) p.after proper known (p.place ∙ sym (append_assoc p.before (p.table ∷ []) p.after)) limit fits)
     p.told
@@ -116,7 +116,7 @@ past_of_model : (m : FileModel) (f : FlatFault) → IsLawful m → IsSoundModel 
 past_of_model m f lawful sound limits past small =
     let nets = with_reset_nets m in
     let are = with_nets m nets lawful sound limits refl in
-    let known = placed nets (places nets) are.proper are.sound refl (places_few nets are.proper are.few) in
+    let known = placed nets (net_places nets) are.proper are.sound refl (places_few nets are.proper are.few) in
     past_excludes _ nets f are.proper.decls known.tables past small
 
 large_excludes : (d : Design) (f : FlatFault) → IsProper d → HasLargeNetwork d f → (s : IsSound d) → HasSmallNetwork (model_of d s) → ⊥
@@ -127,34 +127,34 @@ large_excludes d f proper large s small =
     past_of_model (model_of d large.sound) f h.one.lawful h.sound h.one.limits large.past (subst P same small)
 
 -- why a design is refused excludes that it is sound and within all limits
-pub refused_excludes : (d : Design) (f : FlatFault) → IsProper d → IsRefused d f → (f ≡ Memory → ⊥) → (s : IsSound d) → IsWithinDesignLimits d s.tree → HasSmallNetwork (model_of d s) → ⊥
+pub refused_excludes : (d : Design) (f : FlatFault) → IsProper d → IsRefusedDesign d f → (f ≡ Memory → ⊥) → (s : IsSound d) → IsWithinDesignLimits d s.tree → HasSmallNetwork (model_of d s) → ⊥
 refused_excludes d f proper refused cause s limits small =
     ⊎_elim (λ (h : IsFault d f). fault_excludes d (root_named d proper) s limits f h cause) (λ (h : HasLargeNetwork d f). large_excludes d f proper h s small) refused
 
 -- ---- what is told of a design
 
-pub memory_refused : (d : Design) (f : FlatFault) → f ≡ Memory → IsRefused d f
-memory_refused d f e = let P : FlatFault → Type 0 = IsRefused d in subst P (sym e) (inl tt)
+pub memory_refused : (d : Design) (f : FlatFault) → f ≡ Memory → IsRefusedDesign d f
+memory_refused d f e = let P : FlatFault → Type 0 = IsRefusedDesign d in subst P (sym e) (inl tt)
 
-pub walk_refused : (d : Design) (f : FlatFault) → (f ≡ Memory) ⊎ (first (walk_faults d) ≡ Some f) → IsRefused d f
+pub walk_refused : (d : Design) (f : FlatFault) → (f ≡ Memory) ⊎ (first (walk_faults d) ≡ Some f) → IsRefusedDesign d f
 walk_refused d f told = inl (walk_is_fault d f told)
 
-pub whole_refused : (d : Design) (f : FlatFault) → (f ≡ Memory) ⊎ HasWholeFault d f → IsRefused d f
+pub whole_refused : (d : Design) (f : FlatFault) → (f ≡ Memory) ⊎ HasWholeFault d f → IsRefusedDesign d f
 whole_refused d f told = inl (whole_is_fault d f told)
 
-pub above_refused : (d : Design) (m : FileModel) (nets : List (List ℕ)) (f : FlatFault) → IsModelOf d m nets → TellsAbove nets m f → IsRefused d f
+pub above_refused : (d : Design) (m : FileModel) (nets : List (List ℕ)) (f : FlatFault) → IsModelOf d m nets → TellsAbove nets m f → IsRefusedDesign d f
 above_refused d m nets f h told =
     let P : FileModel → Type 0 = λ n. TellsAbove nets n f in
     let Q : List (List ℕ) → Type 0 = λ ws. TellsAbove ws (unfolded (root_of d) h.tree) f in
     inl (above_is_fault d h.tree f h.has (no_faults (root_of d) h.tree h.good h.short) (subst Q h.nets_are (subst P h.model_is told)))
 
 limit_refused : (d : Design) (s : IsSound d) (f : FlatFault) → IsWithinDesignLimits d s.tree → TellsLimit (length (drivers (model_of d s))) (with_reset_nets (model_of d s)) f
-    → IsRefused d f
+    → IsRefusedDesign d f
 limit_refused d s Memory limits told = inl tt
 limit_refused d s _ limits told = inr (record { sound = s; limits = limits; past = told })
 
 pub network_refused : (d : Design) (m : FileModel) (nets : List (List ℕ)) (f : FlatFault) → IsModelOf d m nets → IsAcyclic (reads m) → All (StandsAlone m) m.resets
-    → TellsLimit (length (drivers m)) (with_reset_nets m) f → IsRefused d f
+    → TellsLimit (length (drivers m)) (with_reset_nets m) f → IsRefusedDesign d f
 network_refused d m nets f h acyclic alone told =
     let s = design_sound d m nets h acyclic alone in
     let P : FileModel → Type 0 = λ n. TellsLimit (length (drivers n)) (with_reset_nets n) f in
@@ -162,7 +162,7 @@ network_refused d m nets f h acyclic alone told =
 
 -- the same of an answer
 pub answered_refused : {T : Type 0} (r : Result T FlatFault) (d : Design) (m : FileModel) (nets : List (List ℕ)) → IsModelOf d m nets → IsAcyclic (reads m) → All (StandsAlone m) m.resets
-    → IfErr r (TellsLimit (length (drivers m)) (with_reset_nets m)) → IfErr r (IsRefused d)
+    → IfErr r (TellsLimit (length (drivers m)) (with_reset_nets m)) → IfErr r (IsRefusedDesign d)
 answered_refused (Ok x) d m nets h acyclic alone told = tt
 answered_refused (Err f) d m nets h acyclic alone told = network_refused d m nets f h acyclic alone told
 

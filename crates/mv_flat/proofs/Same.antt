@@ -21,16 +21,16 @@ use Rattle.mv_net.specs.Allowed.{net_allows, Agrees, Allows, reset_gives, resets
 use Rattle.mv_design.specs.Values.{count_of}
 use Rattle.mv_design.specs.Nets.{latch_outputs, nets_named}
 use Rattle.mv_flat.specs.Built.{flat_latch}
-use Rattle.mv_flat.specs.Places.{places}
-use Rattle.mv_unfold.specs.Numbers.{net_in, number_in}
+use Rattle.mv_flat.specs.Places.{net_places}
+use Rattle.mv_acyclic.specs.Numbers.{net_in, number_in}
 use Rattle.mv_design.specs.Meaning.{table_holds}
 use Rattle.mv_resets.specs.Resets.{reset_name}
 use Rattle.mv_resets.specs.Valued.{has_reset_net, reset_is, resets_are, AllowsNets, of_nets}
 use Rattle.mv_base.proofs.Lists.{all_from}
-use Rattle.mv_unfold.proofs.Names.{all_from_among}
+use Rattle.mv_acyclic.proofs.Names.{all_from_among}
 use Rattle.mv_flat.proofs.Distinct.{places_driven}
 use Rattle.mv_flat.proofs.Places.{IsModelNet, named_file}
-use Rattle.mv_unfold.proofs.Commands.{latch_input_named, output_named}
+use Rattle.mv_acyclic.proofs.Commands.{latch_input_named, output_named}
 use Rattle.mv_flat.proofs.Naming.{among_first, among_later, map_same, driver_named, open_named, sides_are}
 use Rattle.mv_flat.proofs.Valuations.{Follows, table_down}
 use Rattle.mv_flat.proofs.Assigned.{by_number, number_follows, number_agrees}
@@ -38,14 +38,14 @@ use Rattle.mv_flat.proofs.Ports.{looks_alike}
 
 -- ---- values of lists of nets
 
-ports_follow : (m : FileModel) (at : ℕ → ℕ) (value : List ℕ → ℕ) (ns : List NetId) (ws : List (List ℕ)) → Follows m at value → ns ≡ map (net_in (places m)) ws
+ports_follow : (m : FileModel) (at : ℕ → ℕ) (value : List ℕ → ℕ) (ns : List NetId) (ws : List (List ℕ)) → Follows m at value → ns ≡ map (net_in (net_places m)) ws
     → ((w : List ℕ) → among w ws ≡ true → among w (nets_named m) ≡ true) → map (λ (n : NetId). at n.0) ns ≡ map value ws
 ports_follow m at value ns ws f e named =
-    ap (map (λ (n : NetId). at n.0)) e ∙ map_same (net_in (places m)) (λ (n : NetId). at n.0) value ws (λ w h. sym (f.each w (named w h)))
+    ap (map (λ (n : NetId). at n.0)) e ∙ map_same (net_in (net_places m)) (λ (n : NetId). at n.0) value ws (λ w h. sym (f.each w (named w h)))
 
 -- the values of one side of the latches
 sides_follow : (m : FileModel) (net : NetParts) → IsModelNet m net → (at : ℕ → ℕ) (value : List ℕ → ℕ) (side : FlatLatch → NetId) (name : FileLatch → List ℕ)
-    → Follows m at value → ((l : FileLatch) → side (flat_latch (places m) l) ≡ net_in (places m) (name l))
+    → Follows m at value → ((l : FileLatch) → side (flat_latch (net_places m) l) ≡ net_in (net_places m) (name l))
     → ((w : List ℕ) → among w (map name m.latches) ≡ true → among w (nets_named m) ≡ true)
     → map (λ (l : FlatLatch). (at (side l).0)) net.latches ≡ map value (map name m.latches)
 sides_follow m net is at value side name f same named =
@@ -57,27 +57,27 @@ sides_follow m net is at value side name f same named =
 
 module _ (m : FileModel) (net : NetParts) (is : IsModelNet m net) (at : ℕ → ℕ) (value : List ℕ → ℕ) (f : Follows m at value) where
   -- a latch may begin with a value in the network where it may in the model
-  begins_by : (w : List ℕ) (v : ℕ) (o : Option ℕ) → among w (nets_named m) ≡ true → place_of (reset_name w) (places m) ≡ o
-      → reset_gives net.nets at (net_in (places m) w) (option_map (λ n. record { 0 = n }) o) v ↔ (reset_is m value w v ≡ true)
+  begins_by : (w : List ℕ) (v : ℕ) (o : Option ℕ) → among w (nets_named m) ≡ true → place_of (reset_name w) (net_places m) ≡ o
+      → reset_gives net.nets at (net_in (net_places m) w) (option_map (λ n. record { 0 = n }) o) v ↔ (reset_is m value w v ≡ true)
   unfolding number_in
   begins_by w v None named e =
-      let none : has_reset_net m w ≡ false = sym (places_driven m (reset_name w) refl) ∙ (sym (is_some-place_of (reset_name w) (places m)) ∙ ap is_some e) in
-      let count : values_in (slot net.nets (number_in (places m) w)) ≡ count_of m.decls w = ap values_in (named_file m net is w named).held in
+      let none : has_reset_net m w ≡ false = sym (places_driven m (reset_name w) refl) ∙ (sym (is_some-place_of (reset_name w) (net_places m)) ∙ ap is_some e) in
+      let count : values_in (slot net.nets (number_in (net_places m) w)) ≡ count_of m.decls w = ap values_in (named_file m net is w named).held in
       let is_low : reset_is m value w v ≡ nat_lt v (count_of m.decls w) = cond-false (has_reset_net m w) _ _ none in
       (λ h. is_low ∙ lt-ltb v _ (omega (arith, h, count)), λ h. let l = ltb-true v _ (sym is_low ∙ h) in omega (arith, l, count))
   begins_by w v (Some k) named e =
-      let some : has_reset_net m w ≡ true = sym (places_driven m (reset_name w) refl) ∙ (sym (is_some-place_of (reset_name w) (places m)) ∙ ap is_some e) in
+      let some : has_reset_net m w ≡ true = sym (places_driven m (reset_name w) refl) ∙ (sym (is_some-place_of (reset_name w) (net_places m)) ∙ ap is_some e) in
       let there : value (reset_name w) ≡ at k = f.each (reset_name w) (driver_named m (reset_name w) some) ∙ ap at (ap (λ p. unwrap_or p 0) e) in
       let is_there : reset_is m value w v ≡ nat_eq v (value (reset_name w)) = cond-true (has_reset_net m w) _ _ some in
       (λ h. is_there ∙ eq-eqb v _ (h ∙ sym there), λ h. eqb-true v _ (sym is_there ∙ h) ∙ there)
 
   begin_alike : (ls : List FileLatch) (r : List ℕ) → ((w : List ℕ) → among w (map (λ (l : FileLatch). l.output) ls) ≡ true → among w (nets_named m) ≡ true)
-      → resets_give net.nets at (map (flat_latch (places m)) ls) r ↔ (resets_are m value (map (λ (l : FileLatch). l.output) ls) r ≡ true)
+      → resets_give net.nets at (map (flat_latch (net_places m)) ls) r ↔ (resets_are m value (map (λ (l : FileLatch). l.output) ls) r ≡ true)
   begin_alike [] [] named = (λ h. refl, λ h. tt)
   begin_alike [] (v ∷ vs) named = (λ h. absurd h, λ h. absurd (false≢true h))
   begin_alike (l ∷ ls) [] named = (λ h. absurd h, λ h. absurd (false≢true h))
   begin_alike (l ∷ ls) (v ∷ vs) named =
-      let here = begins_by l.output v (place_of (reset_name l.output) (places m)) (named l.output (among_first l.output _)) refl in
+      let here = begins_by l.output v (place_of (reset_name l.output) (net_places m)) (named l.output (among_first l.output _)) refl in
       let rest = begin_alike ls vs (λ w h. named w (among_later w l.output _ h)) in
       (λ h. and_from _ _ (here.0 h.0) (rest.0 h.1), λ h. let p = and_parts (reset_is m value l.output v) _ h in (here.1 p.0, rest.1 p.1))
 
@@ -90,14 +90,14 @@ module _ (m : FileModel) (net : NetParts) (is : IsModelNet m net) (at : ℕ → 
 -- ---- from the network to the model
 
 abbrev by_name : FileModel → (ℕ → ℕ) → List ℕ → ℕ
-by_name m at w = at (number_in (places m) w)
+by_name m at w = at (number_in (net_places m) w)
 
 name_follows : (m : FileModel) (net : NetParts) → IsModelNet m net → (at : ℕ → ℕ) → Agrees net.nets at → Follows m at (by_name m at)
 name_follows m net is at agrees = record {
   each = λ w h. refl;
   range = λ w h.
       let file = named_file m net is w h in
-      let n : ℕ = number_in (places m) w in
+      let n : ℕ = number_in (net_places m) w in
       (and_parts (nat_lt (at n) (count_of m.decls w)) _ (sym (ap (λ s. net_allows s at (at n)) file.held) ∙ agrees.each n)).0;
 }
 

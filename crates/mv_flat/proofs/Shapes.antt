@@ -20,10 +20,10 @@ use Rattle.mv_rows.specs.Lines.{FitEntry}
 use Rattle.mv_rows.specs.Flat.{only_entry, with_mark, IsRow, IsTable}
 use Rattle.mv_joint.specs.Plain.{IsJointRow, IsJointFile, AreApart}
 use Rattle.mv_design.specs.Values.{count_of}
-use Rattle.mv_unfold.specs.Numbers.{number_in}
+use Rattle.mv_acyclic.specs.Numbers.{number_in}
 use Rattle.mv_resets.specs.NetModels.{HasLawfulValues}
 use Rattle.mv_design.specs.Proper.{FitSets, FitOutput, FitOutputs, IsFileRow}
-use Rattle.mv_unfold.proofs.Listed.{IsNumber-among, name_at}
+use Rattle.mv_acyclic.proofs.Listed.{IsNumber-among, name_at}
 use Rattle.mv_design.specs.Nets.{output_of}
 use Rattle.mv_flat.proofs.Lawful.{lawful_unspaced}
 use Rattle.mv_flat.specs.Numbers.{column_of, columns_at, mark_at, choice_name, choice_at}

@@ -19,9 +19,9 @@ use Rattle.mv_net.specs.declared.parts.NetParts.{NetParts}
 use Rattle.mv_net.specs.declared.parts.Kind.{Kind}
 use Rattle.mv_net.specs.declared.parts.Kind.TheVariants.{Input, Latch}
 use Rattle.mv_design.specs.Nets.{drivers, latch_outputs, nets_driven}
-use Rattle.mv_flat.specs.Places.{places}
+use Rattle.mv_flat.specs.Places.{net_places}
 use Rattle.mv_resets.specs.NetModels.{HasFewNets}
-use Rattle.mv_unfold.proofs.Soundness.{in_left, in_right}
+use Rattle.mv_acyclic.proofs.Soundness.{in_left, in_right}
 use Rattle.mv_flat.specs.Numbers.{made_name}
 use Rattle.mv_flat.specs.Built.{file_net, fresh_net, kind_of, open_nets, output_nets, AreMade, AreTables, IsBuilt}
 use Rattle.mv_flat.specs.Covers.{MadeNet, made_of, outputs_of}
@@ -87,5 +87,5 @@ names_short m net few built =
     (All-append IsShort (map (file_net m.decls Input None) m.inputs) (map (file_net m.decls Latch None) (latch_outputs m))
     (open_short m.decls Input m.inputs (λ w h. few.short w (in_left w m.inputs _ h)))
     (open_short m.decls Latch (latch_outputs m) (λ w h. few.short w (in_right w m.inputs _ (in_left w (latch_outputs m) outputs h)))))
-    (tables_short m.decls (places m) m.tables (drivers m) built.of_tables
+    (tables_short m.decls (net_places m) m.tables (drivers m) built.of_tables
     (λ w h. few.short w (in_right w m.inputs _ (in_right w (latch_outputs m) outputs h))) built.are_tables))

@@ -26,10 +26,10 @@ use Rattle.mv_flat.specs.declared.covers.TableCovers.{TableCovers}
 use Rattle.mv_flat.specs.declared.covers.TableCovers.TheVariants.{Single, Joint}
 use Rattle.mv_flat.specs.Covers.{MadeNet, made_mark, made_of, outputs_of, lines_of, IsMadeTable, IsTooWide}
 use Rattle.mv_flat.specs.Numbers.{columns_at, mark_at, choice_at}
-use Rattle.mv_flat.specs.Places.{places}
+use Rattle.mv_flat.specs.Places.{net_places}
 use Rattle.mv_flat.specs.declared.size.Size.{Size}
 use Rattle.mv_flat.specs.Size.{gives_reset, size_faults, size_of, AreCovers, PassesNone, FitsLimits, IsPastLimit}
-use Rattle.mv_flat.specs.Sized.{IsWithin, with_lines, with_net, with_nets, with_covers, AreSized, TellsWide, TellsLimit}
+use Rattle.mv_flat.specs.Sized.{IsWithinSize, with_lines, with_net, with_nets, with_covers, AreSized, TellsWide, TellsLimit}
 
 -- ---- sums
 
@@ -169,7 +169,7 @@ pub ruleset counted = (counted_single, counted_joint)
 
 -- ---- limits
 
-pub none_past : (s : Size) → IsWithin s → size_faults s ≡ []
+pub none_past : (s : Size) → IsWithinSize s → size_faults s ≡ []
 none_past s w =
     let nets = when (nat_lt MAX_FLAT_NETS s.nets) (Limit Nets (MAX_FLAT_NETS + 1)) in
     let lines = when (nat_lt MAX_FLAT_LINES s.lines) (Limit FlatLines (MAX_FLAT_LINES + 1)) in
@@ -178,7 +178,7 @@ none_past s w =
     (append-nothing lines literals (ap (λ b. when b (Limit FlatLines (MAX_FLAT_LINES + 1))) (le-ltb MAX_FLAT_LINES s.lines w.lines))
     (ap (λ b. when b (Limit FlatEntries (MAX_FLAT_LITERALS + 1))) (le-ltb MAX_FLAT_LITERALS s.literals w.literals)))
 
-pub within_limits : (s : Size) → size_faults s ≡ [] → IsWithin s
+pub within_limits : (s : Size) → size_faults s ≡ [] → IsWithinSize s
 within_limits s e =
     let nets = when (nat_lt MAX_FLAT_NETS s.nets) (Limit Nets (MAX_FLAT_NETS + 1)) in
     let lines = when (nat_lt MAX_FLAT_LINES s.lines) (Limit FlatLines (MAX_FLAT_LINES + 1)) in
@@ -191,8 +191,8 @@ within_limits s e =
     }
 
 -- a size with more behind it passes no fewer limits
-pub within_front : (nets : ℕ) (ts us : List FileTable) (all others : List TableCovers) → IsWithin (size_of nets (ts ++ us) (all ++ others))
-    → IsWithin (size_of nets ts all)
+pub within_front : (nets : ℕ) (ts us : List FileTable) (all others : List TableCovers) → IsWithinSize (size_of nets (ts ++ us) (all ++ others))
+    → IsWithinSize (size_of nets ts all)
 within_front nets ts us all others w =
     let a = counted_both gives_reset ts us in
     let b = ap length (flat_map-append made_of all others) ∙ length-append (flat_map made_of all) (flat_map made_of others) in
@@ -225,7 +225,7 @@ outputs_covered ds names t (Joint joint) some made = let m = made.1.many in omeg
 
 -- ---- the tables, from the first on
 
-pub sized_first : (nets : ℕ) (m : FileModel) (names : List (List ℕ)) (size : Size) → size ≡ size_of nets [] [] → IsWithin size → AreSized nets m names 0 size
+pub sized_first : (nets : ℕ) (m : FileModel) (names : List (List ℕ)) (size : Size) → size ≡ size_of nets [] [] → IsWithinSize size → AreSized nets m names 0 size
 sized_first nets m names size is within = record { covers = []; are = tt; is = is; within = within }
 
 -- the first tables and one more
@@ -234,7 +234,7 @@ tables_more ts i t low is = ap (λ x. take i ts ++ x ∷ []) is ∙ sym (take_mo
 
 pub sized_more : (nets : ℕ) (m : FileModel) (names : List (List ℕ)) (i : ℕ) (old size : Size) (t : FileTable) (covers : TableCovers)
     → AreSized nets m names i old → i < length m.tables → t ≡ get_or m.tables i t → HasCovers m.decls names t covers → size ≡ with_covers old t covers
-    → IsWithin size → AreSized nets m names (i + 1) size
+    → IsWithinSize size → AreSized nets m names (i + 1) size
 sized_more nets m names i old size t covers sized low is made size_is within =
     let all = sized.covers ++ covers ∷ [] in
     let P : List FileTable → Type 0 = λ ts. AreCovers m.decls names ts all in
@@ -250,12 +250,12 @@ sized_more nets m names i old size t covers sized low is made size_is within =
     }
 
 -- so far no limit is passed
-so_far : (nets : ℕ) (m : FileModel) (names : List (List ℕ)) (i : ℕ) (size : Size) → names ≡ places m → AreSized nets m names i size → PassesNone nets m (take i m.tables)
+so_far : (nets : ℕ) (m : FileModel) (names : List (List ℕ)) (i : ℕ) (size : Size) → names ≡ net_places m → AreSized nets m names i size → PassesNone nets m (take i m.tables)
 so_far nets m names i size are sized =
     let P : List (List ℕ) → Type 0 = λ ns. AreCovers m.decls ns (take i m.tables) sized.covers in
     record { size = size; has = record { covers = sized.covers; are = subst P are sized.are; is = sized.is }; none = none_past size sized.within }
 
-pub sized_last : (nets : ℕ) (m : FileModel) (names : List (List ℕ)) (i : ℕ) (size : Size) → names ≡ places m → length m.tables ≤ i → AreSized nets m names i size
+pub sized_last : (nets : ℕ) (m : FileModel) (names : List (List ℕ)) (i : ℕ) (size : Size) → names ≡ net_places m → length m.tables ≤ i → AreSized nets m names i size
     → FitsLimits nets m
 sized_last nets m names i size are high sized =
     let P : List FileTable → Type 0 = PassesNone nets m in
@@ -270,7 +270,7 @@ place_of_table ts i t low is =
 
 -- the limit that is passed with one more table
 pub past_limit : (nets : ℕ) (m : FileModel) (names : List (List ℕ)) (i : ℕ) (size : Size) (t : FileTable) (covers : TableCovers) (f : FlatFault)
-    → names ≡ places m → AreSized nets m names i size → i < length m.tables → t ≡ get_or m.tables i t → HasCovers m.decls names t covers
+    → names ≡ net_places m → AreSized nets m names i size → i < length m.tables → t ≡ get_or m.tables i t → HasCovers m.decls names t covers
     → first (size_faults (with_covers size t covers)) ≡ Some f → IsPastLimit nets m f
 past_limit nets m names i size t covers f are sized low is made told =
     let all = sized.covers ++ covers ∷ [] in
@@ -293,7 +293,7 @@ past_limit nets m names i size t covers f are sized low is made told =
     }
 
 -- the next table is too wide
-past_wide : (nets : ℕ) (m : FileModel) (names : List (List ℕ)) (i : ℕ) (size : Size) (t : FileTable) (f : FlatFault) → names ≡ places m
+past_wide : (nets : ℕ) (m : FileModel) (names : List (List ℕ)) (i : ℕ) (size : Size) (t : FileTable) (f : FlatFault) → names ≡ net_places m
     → AreSized nets m names i size → i < length m.tables → t ≡ get_or m.tables i t → IsTooWide (columns_at m.decls names t) t (mark_at names t) f
     → IsPastLimit nets m f
 past_wide nets m names i size t f are sized low is wide =
@@ -313,7 +313,7 @@ pub limit_told : (nets : ℕ) (m : FileModel) (f : FlatFault) → IsPastLimit ne
 limit_told nets m Memory h = tt
 limit_told nets m _ h = h
 
-pub wide_told : (nets : ℕ) (m : FileModel) (names : List (List ℕ)) (i : ℕ) (size : Size) (t : FileTable) (f : FlatFault) → names ≡ places m
+pub wide_told : (nets : ℕ) (m : FileModel) (names : List (List ℕ)) (i : ℕ) (size : Size) (t : FileTable) (f : FlatFault) → names ≡ net_places m
     → AreSized nets m names i size → i < length m.tables → t ≡ get_or m.tables i t → TellsWide (columns_at m.decls names t) names t f → TellsLimit nets m f
 wide_told nets m names i size t Memory are sized low is told = tt
 wide_told nets m names i size t _ are sized low is told = past_wide nets m names i size t _ are sized low is told

@@ -17,8 +17,8 @@ use Rattle.mv_net.specs.declared.parts.FlatNet.{FlatNet}
 use Rattle.mv_net.specs.Nets.{slot}
 use Rattle.mv_resets.specs.NetModels.{HasLawfulValues}
 use Rattle.mv_rows.specs.declared.column.Column.{Column}
-use Rattle.mv_unfold.specs.Numbers.{number_in}
-use Rattle.mv_unfold.proofs.Listed.{number_at}
+use Rattle.mv_acyclic.specs.Numbers.{number_in}
+use Rattle.mv_acyclic.proofs.Listed.{number_at}
 use Rattle.mv_flat.specs.declared.covers.TableCovers.{TableCovers}
 use Rattle.mv_flat.specs.declared.covers.TableCovers.TheVariants.{Single, Joint}
 use Rattle.mv_flat.specs.Covers.{MadeNet, IsMadeTable, made_mark, mark_of, choices_in, made_of, outputs_of}

@@ -21,10 +21,10 @@ use Rattle.mv_tree.specs.Tree.{Instances as Tree, model_named}
 use Rattle.mv_tree.specs.Places.{Place, homes, is_bound, path_in, places}
 use Rattle.mv_tree.specs.Bound.{formals_of}
 use Rattle.mv_tree.specs.Unfolded.{unfolded}
-use Rattle.mv_walk.specs.Walk.{Level, Visit, bind_faults, open_faults, port_faults, root_level, visit_faults, visits, visits_faults, walk_faults, HasTree}
-use Rattle.mv_unfold.specs.Sound.{resets_named, long_at, twice_at, undriven_at, TellsAbove}
-use Rattle.mv_whole.specs.Sound.{IsFault}
-use Rattle.mv_whole.specs.Whole.{home_faults, name_faults, place_faults, resets_faults, whole_faults, HasWholeFault}
+use Rattle.mv_walk.specs.Walk.{Level, Visit, bind_faults, open_faults, bound_port_faults, root_level, visit_faults, visits, visits_faults, walk_faults, HasTree}
+use Rattle.mv_acyclic.specs.Sound.{resets_named, long_at, twice_at, undriven_at, TellsAbove}
+use Rattle.mv_unfold.specs.Sound.{IsFault}
+use Rattle.mv_unfold.specs.Whole.{home_faults, flat_name_faults, place_faults, resets_faults, whole_faults, HasWholeFault}
 
 -- ---- lists of faults without one of what is above what
 
@@ -59,7 +59,7 @@ none_of_bind l path m b =
     none_both (when (not (among b.formal (formals_of m))) (NoFormal (path ++ b.formal))) _ (none_when _ (NoFormal (path ++ b.formal)) refl)
     (none_when (not (count_of m.decls b.formal == count_of l.model.decls b.actual)) (PortValues (path ++ b.formal) (l.path ++ b.actual)) refl)
 
-none_of_ports : (l : Level) (p : Part) (m : FileModel) → NoneAbove (port_faults l p m)
+none_of_ports : (l : Level) (p : Part) (m : FileModel) → NoneAbove (bound_port_faults l p m)
 none_of_ports l p m =
     let path = path_in l.path p.instance in
     none_both (flat_map (bind_faults l path m) p.binds) _ (none_flat (bind_faults l path m) (none_of_bind l path m) p.binds)
@@ -87,7 +87,7 @@ none_of_walk d = none_of_visits d 0 (visits MAX_DEPTH d (root_level (root_of d))
 
 -- ---- the faults of nets and reset tables
 
-none_of_names : (seen ws : List (List ℕ)) → NoneAbove (name_faults seen ws)
+none_of_names : (seen ws : List (List ℕ)) → NoneAbove (flat_name_faults seen ws)
 none_of_names seen [] = refl
 none_of_names seen (w ∷ ws) =
     none_both (long_at w) _ (none_when (nat_lt MAX_FLAT_NAME_BYTES (length w)) (Limit NetName (length w)) refl)
@@ -96,7 +96,7 @@ none_of_names seen (w ∷ ws) =
 none_of_homes : (ws : List (List ℕ)) → NoneAbove (home_faults ws)
 unfolding home_faults
 none_of_homes ws =
-    none_both (name_faults [] (take MAX_FLAT_NETS ws)) _ (none_of_names [] (take MAX_FLAT_NETS ws))
+    none_both (flat_name_faults [] (take MAX_FLAT_NETS ws)) _ (none_of_names [] (take MAX_FLAT_NETS ws))
     (none_when (nat_lt MAX_FLAT_NETS (length ws)) (Limit Nets (MAX_FLAT_NETS + 1)) refl)
 
 none_of_resets : (p : Place) (seen ws : List (List ℕ)) → NoneAbove (resets_faults p seen ws)

@@ -13,8 +13,8 @@ use Rattle.mv_flat.specs.declared.covers.TableCovers.{TableCovers}
 use Rattle.mv_flat.specs.Covers.{MadeNet, made_of, outputs_of, IsMadeTable}
 use Rattle.mv_design.specs.declared.design.FileLatch.{FileLatch}
 use Rattle.mv_design.specs.Nets.{drivers, latch_outputs}
-use Rattle.mv_flat.specs.Places.{places}
-use Rattle.mv_unfold.specs.Numbers.{net_in}
+use Rattle.mv_flat.specs.Places.{net_places}
+use Rattle.mv_acyclic.specs.Numbers.{net_in}
 use Rattle.mv_net.specs.declared.parts.Kind.{Kind}
 use Rattle.mv_net.specs.declared.parts.Kind.TheVariants.{Input, Latch, Table, Reset}
 use Rattle.mv_net.specs.declared.parts.FlatNet.{FlatNet}
@@ -108,9 +108,9 @@ open_nets m = map (file_net m.decls Input None) m.inputs ++ map (file_net m.decl
 -- the parts of a model's network
 pub record IsBuilt (m : FileModel) (net : NetParts) : Type 0 where
   pub root : net.root ≡ m.name
-  pub inputs : net.inputs ≡ map (net_in (places m)) m.inputs
-  pub outputs : net.outputs ≡ map (net_in (places m)) m.outputs
-  pub latches : net.latches ≡ map (flat_latch (places m)) m.latches
+  pub inputs : net.inputs ≡ map (net_in (net_places m)) m.inputs
+  pub outputs : net.outputs ≡ map (net_in (net_places m)) m.outputs
+  pub latches : net.latches ≡ map (flat_latch (net_places m)) m.latches
   pub of_tables : List (Option FlatNet)
-  pub are_tables : AreTables m.decls (places m) m.tables (drivers m) of_tables
+  pub are_tables : AreTables m.decls (net_places m) m.tables (drivers m) of_tables
   pub nets_are : net.nets ≡ open_nets m ++ of_tables

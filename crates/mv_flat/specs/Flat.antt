@@ -9,7 +9,7 @@ use Rattle.mv_net.specs.declared.parts.FlatNet.{FlatNet}
 use Rattle.mv_net.specs.declared.parts.NetParts.{NetParts}
 use Rattle.mv_net.specs.Allowed.{of_net}
 use Rattle.mv_design.specs.Nets.{drivers}
-use Rattle.mv_whole.specs.Sound.{IsSound, IsFault, IsWithinDesignLimits, model_of, of_sound}
+use Rattle.mv_unfold.specs.Sound.{IsSound, IsFault, IsWithinDesignLimits, model_of, of_sound}
 use Rattle.mv_resets.specs.Resets.{with_reset_nets}
 use Rattle.mv_flat.specs.Built.{IsBuilt}
 use Rattle.mv_flat.specs.Size.{FitsLimits, IsPastLimit}
@@ -39,5 +39,5 @@ pub record HasLargeNetwork (d : Design) (f : FlatFault) : Type 0 where
   pub past : IsPastLimit (length (drivers (model_of d sound))) (with_reset_nets (model_of d sound)) f
 
 -- why a design has no network: for the fault of its instances, nets and reset tables, or for the limit that its network passes
-abbrev pub IsRefused : Design → FlatFault → Type 0
-IsRefused d f = IsFault d f ⊎ HasLargeNetwork d f
+abbrev pub IsRefusedDesign : Design → FlatFault → Type 0
+IsRefusedDesign d f = IsFault d f ⊎ HasLargeNetwork d f

@@ -12,7 +12,7 @@ use Rattle.mv_base.specs.Set.{full}
 use Rattle.mv_base.specs.declared.number.NetId.{NetId}
 use Rattle.mv_design.specs.Values.{count_of}
 use Rattle.mv_rows.specs.Flat.{only_entry, says_nothing}
-use Rattle.mv_unfold.specs.Driving.{with_names}
+use Rattle.mv_acyclic.specs.Driving.{with_names}
 use Rattle.mv_flat.specs.Numbers.{mark_at}
 use Rattle.mv_flat.specs.Places.{made_places}
 

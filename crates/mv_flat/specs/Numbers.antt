@@ -9,7 +9,7 @@ use Rattle.mv_design.specs.declared.table.FileTable.{FileTable}
 use Rattle.mv_rows.specs.declared.column.Column.{Column}
 use Rattle.mv_design.specs.Nets.{output_of}
 use Rattle.mv_design.specs.Values.{count_of}
-use Rattle.mv_unfold.specs.Numbers.{net_in}
+use Rattle.mv_acyclic.specs.Numbers.{net_in}
 
 -- a column's net, and how many values it has
 abbrev pub column_of : List Decl → List (List ℕ) → List ℕ → Column

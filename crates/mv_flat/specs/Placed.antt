@@ -11,7 +11,7 @@ use Rattle.mv_rows.specs.declared.column.Column.{Column}
 use Rattle.mv_resets.specs.NetModels.{HasLawfulValues, IsNetTable}
 use Rattle.mv_net.specs.declared.parts.FlatNet.{FlatNet}
 use Rattle.mv_flat.specs.Numbers.{columns_at}
-use Rattle.mv_flat.specs.Places.{places}
+use Rattle.mv_flat.specs.Places.{net_places}
 use Rattle.mv_flat.specs.Built.{AreTables}
 
 -- each of these nets has a number
@@ -32,7 +32,7 @@ pub record AreColumnsOf (names : List (List ℕ)) (t : FileTable) (columns : Lis
 
 -- the names are those of a model's nets by number, with the columns of its tables among them
 pub record ArePlaced (m : FileModel) (names : List (List ℕ)) : Type 0 where
-  pub are : names ≡ places m
+  pub are : names ≡ net_places m
   pub few : length names ≤ MAX_NETS
   pub driven : length (drivers m) + 2 * length m.tables ≤ 3 * MAX_NETS
   pub tables : All (IsPlacedTable m.decls names) m.tables
@@ -41,4 +41,4 @@ pub record ArePlaced (m : FileModel) (names : List (List ℕ)) : Type 0 where
 pub record AddsTables (m : FileModel) (old new : List (Option FlatNet)) : Type 0 where
   pub here : List (Option FlatNet)
   pub joined : new ≡ old ++ here
-  pub are : AreTables m.decls (places m) m.tables (drivers m) here
+  pub are : AreTables m.decls (net_places m) m.tables (drivers m) here

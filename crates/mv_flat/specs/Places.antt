@@ -34,5 +34,5 @@ abbrev pub table_places : List Decl → FileTable → List (List ℕ)
 table_places ds t = made_places ds t ++ t.outputs
 
 -- the nets of a model by number: the inputs, the outputs of the latches, then the nets of each table
-unfoldable pub places : FileModel → List (List ℕ)
-places m = m.inputs ++ (latch_outputs m ++ flat_map (table_places m.decls) m.tables)
+unfoldable pub net_places : FileModel → List (List ℕ)
+net_places m = m.inputs ++ (latch_outputs m ++ flat_map (table_places m.decls) m.tables)

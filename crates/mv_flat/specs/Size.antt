@@ -14,7 +14,7 @@ use Rattle.mv_fault.specs.declared.flat.FlatFault.TheVariants.{Limit}
 use Rattle.mv_flat.specs.declared.covers.TableCovers.{TableCovers}
 use Rattle.mv_flat.specs.Covers.{made_of, lines_of, IsMadeTable, IsTooWide}
 use Rattle.mv_flat.specs.Numbers.{columns_at, mark_at, choice_at}
-use Rattle.mv_flat.specs.Places.{places}
+use Rattle.mv_flat.specs.Places.{net_places}
 use Rattle.mv_flat.specs.declared.size.Size.{Size}
 
 -- the name begins with a full stop, as that of a reset net does
@@ -53,7 +53,7 @@ size_faults s =
 -- each reset value
 pub record HasSize (nets : ℕ) (m : FileModel) (tables : List FileTable) (size : Size) : Type 0 where
   pub covers : List TableCovers
-  pub are : AreCovers m.decls (places m) tables covers
+  pub are : AreCovers m.decls (net_places m) tables covers
   pub is : size ≡ size_of nets tables covers
 
 -- the first of a model's tables have covers, and pass no limit
@@ -80,4 +80,4 @@ pub record IsPastLimit (nets : ℕ) (m : FileModel) (f : FlatFault) : Type 0 whe
   pub after : List FileTable
   pub place : m.tables ≡ before ++ table ∷ after
   pub within : PassesNone nets m before
-  pub told : IsTooWide (columns_at m.decls (places m) table) table (mark_at (places m) table) f ⊎ PassesLimit nets m (before ++ table ∷ []) f
+  pub told : IsTooWide (columns_at m.decls (net_places m) table) table (mark_at (net_places m) table) f ⊎ PassesLimit nets m (before ++ table ∷ []) f

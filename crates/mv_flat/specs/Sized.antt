@@ -15,7 +15,7 @@ use Rattle.mv_flat.specs.Size.{gives_reset, size_of, AreCovers, IsPastLimit}
 use Rattle.mv_flat.specs.declared.size.Size.{Size}
 
 -- a size that passes no limit
-pub record IsWithin (s : Size) : Type 0 where
+pub record IsWithinSize (s : Size) : Type 0 where
   pub nets : s.nets ≤ MAX_FLAT_NETS
   pub lines : s.lines ≤ MAX_FLAT_LINES
   pub literals : s.literals ≤ MAX_FLAT_LITERALS
@@ -46,7 +46,7 @@ pub record AreSized (nets : ℕ) (m : FileModel) (names : List (List ℕ)) (i : 
   pub covers : List TableCovers
   pub are : AreCovers m.decls names (take i m.tables) covers
   pub is : size ≡ size_of nets (take i m.tables) covers
-  pub within : IsWithin size
+  pub within : IsWithinSize size
 
 -- want of memory, or a table that is too wide
 abbrev pub TellsWide : List Column → List (List ℕ) → FileTable → FlatFault → Type 0

@@ -7,11 +7,11 @@ ghost use Rattle.mv_flat.specs.Gathered.{counts_of};
 ghost use Rattle.mv_flat.specs.Placed.{are_known};
 
 use crate::values::count_of;
+use mv_acyclic::Numbers;
 use mv_base::Memory;
 use mv_decl::Declared;
 use mv_design::FileTable;
 use mv_rows::Column;
-use mv_unfold::Numbers;
 use std::alloc::Global;
 
 /// The input columns of the table. How many values each net has is told by its number, so that a net is looked up once a column.

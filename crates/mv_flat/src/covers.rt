@@ -12,12 +12,12 @@ ghost use Rattle.mv_flat.specs.Places.{is_joint};
 ghost use Rattle.mv_flat.specs.Sized.{TellsWide};
 
 use crate::mark::{choice_name, is_joint, is_plain, mark_name};
+use mv_acyclic::Numbers;
 use mv_base::{MAX_JOINT_ROWS, Memory, Name, NetId};
 use mv_design::FileTable;
 use mv_fault::FlatFault;
 use mv_joint::{JointStop, JointTable, joint_table};
 use mv_rows::{Column, FlatTable, flat_table};
-use mv_unfold::Numbers;
 use std::alloc::Global;
 
 /// The covers of a table: those of its output and its mark, where it has one output; else those of its outputs, its choice net

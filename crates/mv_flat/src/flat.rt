@@ -1,14 +1,14 @@
 ghost use Rattle.std.specs.Prelude.{◌≡◌, ◌≤◌, length, IfOk, IfErr, OnOk};
 ghost use Rattle.mv_base.specs.declared.limits.TheConstants.{MAX_FLAT_NETS, MAX_NETS};
 ghost use Rattle.mv_design.specs.Nets.{drivers};
-ghost use Rattle.mv_flat.specs.Places.{places};
+ghost use Rattle.mv_flat.specs.Places.{net_places};
 ghost use Rattle.mv_design.specs.Proper.{IsLawful, IsProper};
 ghost use Rattle.mv_flat.specs.Built.{IsBuilt};
 ghost use Rattle.mv_flat.specs.Gathered.{counts_of};
-ghost use Rattle.mv_flat.specs.Flat.{HasSmallNetwork, IsFlat, IsRefused};
+ghost use Rattle.mv_flat.specs.Flat.{HasSmallNetwork, IsFlat, IsRefusedDesign};
 ghost use Rattle.mv_resets.specs.NetModels.{HasSoundNets, IsNetModel};
 ghost use Rattle.mv_resets.specs.Resets.{with_reset_nets};
-ghost use Rattle.mv_unfold.specs.Sound.{IsSoundModel, IsWithinLimits};
+ghost use Rattle.mv_acyclic.specs.Sound.{IsSoundModel, IsWithinLimits};
 ghost use Rattle.mv_flat.specs.Placed.{ArePlaced};
 ghost use Rattle.mv_flat.specs.Size.{FitsLimits};
 ghost use Rattle.mv_flat.specs.Sized.{TellsLimit};
@@ -16,14 +16,14 @@ ghost use Rattle.mv_flat.specs.Sized.{TellsLimit};
 use crate::latches::flat_latches;
 use crate::numbers::{NumberedNets, numbered};
 use crate::tables::nets;
+use mv_acyclic::{Numbers, check};
 use mv_base::Memory;
 use mv_design::{Design, FileModel};
 use mv_fault::FlatFault;
 use mv_net::{NetParts, Network};
 use mv_resets::with_reset_nets;
-use mv_unfold::{Numbers, check};
+use mv_unfold::{Whole, whole};
 use mv_walk::walk;
-use mv_whole::{Whole, whole};
 use std::alloc::Global;
 
 /// The network of a sound design, over all nets of its instances: a net for each input of the root and for each latch, and for
@@ -33,7 +33,7 @@ use std::alloc::Global;
 pub fn flatten(alloc: Global, design: &Design) -> Result<Network, FlatFault>
     requires { IsProper design.now }
     ensures ok { IfOk result (λ net. IsFlat net design.now) }
-    ensures fault { IfErr result (IsRefused design.now) }
+    ensures fault { IfErr result (IsRefusedDesign design.now) }
 {
     flatten_owned(alloc, design.copy()?)
 }
@@ -44,7 +44,7 @@ pub fn flatten(alloc: Global, design: &Design) -> Result<Network, FlatFault>
 pub fn flatten_owned(alloc: Global, design: Design) -> Result<Network, FlatFault>
     requires { IsProper design }
     ensures ok { IfOk result (λ net. IsFlat net design) }
-    ensures fault { IfErr result (IsRefused design) }
+    ensures fault { IfErr result (IsRefusedDesign design) }
 {
     let opened = walk(alloc, &design)?;
     let Whole { model, nets } = whole(alloc, design, opened.as_slice())?;
@@ -87,7 +87,7 @@ fn built(
 ) -> Result<NetParts, FlatFault>
     requires proper { IsNetModel model }
     requires sound { HasSoundNets model }
-    requires names { names.now ≡ places model }
+    requires names { names.now ≡ net_places model }
     requires counts { counts.now ≡ counts_of model.decls names.now }
     requires few { length names.now ≤ MAX_NETS }
     requires few_nets { file_nets ≤ MAX_FLAT_NETS }

@@ -4,8 +4,8 @@ ghost use Rattle.mv_flat.specs.Numbers.{made_name};
 ghost use Rattle.mv_flat.specs.Marks.{IsNext};
 
 use itoa::Buffer;
+use mv_acyclic::Numbers;
 use mv_base::{Memory, Name};
-use mv_unfold::Numbers;
 use std::alloc::Global;
 
 /// The name of a made net, and its number.

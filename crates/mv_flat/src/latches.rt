@@ -3,11 +3,11 @@ ghost use Rattle.std.specs.Prelude.{◌≡◌, ◌≤◌, length, map, IfOk};
 ghost use Rattle.mv_base.specs.declared.limits.TheConstants.{MAX_NETS};
 ghost use Rattle.mv_flat.specs.Built.{flat_latch, reset_in};
 
+use mv_acyclic::Numbers;
 use mv_base::{Items, Memory, Name, NetId};
 use mv_design::FileLatch;
 use mv_net::FlatLatch;
 use mv_resets::reset_name;
-use mv_unfold::Numbers;
 use std::alloc::Global;
 
 /// The latches by the numbers of their nets.

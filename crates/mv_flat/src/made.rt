@@ -4,10 +4,10 @@ ghost use Rattle.mv_flat.specs.Marks.{AddsMade, AddsMark};
 
 use crate::fresh::next_made;
 use crate::nets::fresh_net;
+use mv_acyclic::Numbers;
 use mv_base::{Items, Memory};
 use mv_cover::Cover;
 use mv_net::FlatNet;
-use mv_unfold::Numbers;
 use std::alloc::Global;
 
 /// Adds the net of a table's mark, if it gets one. `last` is the number of the last made name.

@@ -11,11 +11,11 @@ ghost use Rattle.mv_flat.specs.Gathered.{can_stand, has_all, is_plain, some_has_
 use crate::columns::declared_columns;
 use crate::covers::single_covers;
 use crate::values::count_of;
+use mv_acyclic::Numbers;
 use mv_base::{Items, Memory, Name, ValueSet};
 use mv_decl::Declared;
 use mv_design::{Entry, FileTable, Row};
 use mv_joint::is_joint_marked;
-use mv_unfold::Numbers;
 use std::alloc::Global;
 
 /// The name by which the mark of the table with this first output stands among the nets.

@@ -4,16 +4,16 @@ ghost use Rattle.mv_base.specs.Names.{names_differ};
 ghost use Rattle.mv_base.specs.declared.limits.TheConstants.{MAX_NETS};
 ghost use Rattle.mv_resets.specs.NetModels.{HasLawfulValues, IsNetModel};
 ghost use Rattle.mv_flat.specs.Placed.{IsPlacedTable};
-ghost use Rattle.mv_flat.specs.Places.{made_places, places};
-ghost use Rattle.mv_unfold.specs.Driving.{with_names};
+ghost use Rattle.mv_flat.specs.Places.{made_places, net_places};
+ghost use Rattle.mv_acyclic.specs.Driving.{with_names};
 ghost use Rattle.mv_flat.specs.Gathered.{counts_of, with_places};
 
 use crate::mark::{choice_name, has_mark, is_joint, mark_name};
 use crate::values::count_of;
+use mv_acyclic::{Numbers, add_net, add_nets};
 use mv_base::{Memory, Name, NameSet};
 use mv_decl::Declared;
 use mv_design::{FileLatch, FileModel, FileTable};
-use mv_unfold::{Numbers, add_net, add_nets};
 use std::alloc::Global;
 
 /// Nets by number, and how many values each has.
@@ -26,13 +26,13 @@ pub struct NumberedNets {
 /// The nets of the model by number: the inputs, the outputs of the latches, then those of the tables in order. Before the outputs
 /// of a table there is its mark, if it gets one, which stands here by a space and the first output's name, and its choice net, if
 /// it has several outputs, which stands by two spaces and that name. `driven` are nets among which the columns of the tables are.
-#[tactic(auto, using(crate::proofs::Names::with_places_of), unfolding(crate::specs::Places::places))]
+#[tactic(auto, using(crate::proofs::Names::with_places_of), unfolding(crate::specs::Places::net_places))]
 pub fn numbered(alloc: Global, model: &FileModel, driven: &Numbers) -> Result<NumberedNets, Memory>
     requires proper { IsNetModel model.now }
     requires placed { All (IsPlacedTable model.now.decls driven.now) model.now.tables }
     requires few { length driven.now ≤ MAX_NETS }
-    requires differ { names_differ (places model.now) ≡ true }
-    ensures names { IfOk result (λ n. n.names ≡ places model.now) }
+    requires differ { names_differ (net_places model.now) ≡ true }
+    ensures names { IfOk result (λ n. n.names ≡ net_places model.now) }
     ensures counts { IfOk result (λ n. n.counts.items ≡ counts_of model.now.decls n.names) }
 {
     let decls = Declared::of(alloc, model.decls.as_slice())?;

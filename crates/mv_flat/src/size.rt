@@ -6,7 +6,7 @@ ghost use Rattle.mv_cover.specs.declared.cover.Cover.{Cover};
 ghost use Rattle.mv_fault.specs.Tells.{first};
 ghost use Rattle.mv_flat.specs.Covers.{made_mark, outputs_of};
 ghost use Rattle.mv_flat.specs.Size.{gives_reset, has_stop, size_faults, size_of};
-ghost use Rattle.mv_flat.specs.Sized.{IsWithin, with_covers, with_lines, with_net, with_nets};
+ghost use Rattle.mv_flat.specs.Sized.{IsWithinSize, with_covers, with_lines, with_net, with_nets};
 
 use crate::covers::TableCovers;
 use mv_base::{MAX_FLAT_LINES, MAX_FLAT_LITERALS, MAX_FLAT_NETS, Name};
@@ -28,7 +28,7 @@ impl Size {
     pub fn of_nets(nets: u64) -> Size
         requires { nets ≤ MAX_FLAT_NETS }
         ensures size { result ≡ size_of nets [] [] }
-        ensures within { IsWithin result }
+        ensures within { IsWithinSize result }
     {
         Size {
             nets,
@@ -39,11 +39,11 @@ impl Size {
 
     /// The size with the covers of one more table, or the first limit that is passed then. It takes no memory.
     pub fn with(self, table: &FileTable, covers: &TableCovers) -> Result<Size, FlatFault>
-        requires within { IsWithin self }
+        requires within { IsWithinSize self }
         requires some { 0 < length table.now.outputs }
         requires few { length (outputs_of covers.now) ≤ MAX_NETS }
         ensures size { IfOk result (λ size. size ≡ with_covers self table.now covers.now) }
-        ensures within { IfOk result IsWithin }
+        ensures within { IfOk result IsWithinSize }
         ensures fault { IfErr result (λ f. first (size_faults (with_covers self table.now covers.now)) ≡ Some f) }
     {
         self.with_covers(table, covers).checked()
@@ -52,7 +52,7 @@ impl Size {
     /// The size with the covers of one more table.
     #[tactic(auto, using(crate::proofs::Sizes::counted))]
     fn with_covers(self, table: &FileTable, covers: &TableCovers) -> Size
-        requires within { IsWithin self }
+        requires within { IsWithinSize self }
         requires some { 0 < length table.now.outputs }
         requires few { length (outputs_of covers.now) ≤ MAX_NETS }
         ensures { result ≡ with_covers self table.now covers.now }
@@ -144,7 +144,7 @@ impl Size {
     /// The same size, or the first limit that it passes.
     fn checked(self) -> Result<Size, FlatFault>
         ensures same { IfOk result (λ size. size ≡ self) }
-        ensures within { IfOk result IsWithin }
+        ensures within { IfOk result IsWithinSize }
         ensures fault { IfErr result (λ f. first (size_faults self) ≡ Some f) }
     {
         if self.nets > MAX_FLAT_NETS {

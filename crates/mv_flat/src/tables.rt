@@ -16,12 +16,12 @@ use crate::covers::{TableCovers, covers};
 use crate::made::{put_made, put_mark};
 use crate::nets::{open_nets, put_output, put_outputs};
 use crate::size::Size;
+use mv_acyclic::Numbers;
 use mv_base::{Items, Memory};
 use mv_decl::Declared;
 use mv_design::{FileModel, FileTable};
 use mv_fault::FlatFault;
 use mv_net::FlatNet;
-use mv_unfold::Numbers;
 use std::alloc::Global;
 
 /// The nets of the model, of as many nets as its file has: those of its inputs and of its latches, and those of its tables, table

@@ -12,7 +12,7 @@ use Rattle.mv_joint.specs.declared.joint.JointStop.{JointStop}
 use Rattle.mv_joint.specs.declared.joint.JointStop.TheVariants.{Wide, Memory}
 use Rattle.mv_joint.specs.OutRows.{same_outs}
 use Rattle.mv_joint.specs.Plain.{is_silent, said}
-use Rattle.mv_joint.specs.Gather.{joined, IsGathered, Gathers, StopsOver, StopsAt}
+use Rattle.mv_joint.specs.Gather.{joined, IsGathered, Gathers, StopsOver, StopsRows}
 use Rattle.mv_joint.proofs.Lists.{inserted_append}
 
 -- the rows of outputs of the rows that say some values of each output
@@ -88,7 +88,7 @@ gathered_more a b x y p q = record {
   outs = q.outs ∙ (ap (λ (ks : List (List ℕ)). joined ks b) p.outs ∙ sym (joined-append [] a b));
 }
 
-pub stops_at : (a b c : List PlainRow) (x : Gathered) (stop : JointStop) → IsGathered a x → StopsOver b x stop → StopsAt ((a ++ b) ++ c) stop
+pub stops_at : (a b c : List PlainRow) (x : Gathered) (stop : JointStop) → IsGathered a x → StopsOver b x stop → StopsRows ((a ++ b) ++ c) stop
 stops_at a b c x Wide p h =
     wide_by _ _ (sym (joined-append [] (a ++ b) c))
     (wide_grows (joined [] (a ++ b)) (said_outs c) (wide_by _ _ (ap (λ (ks : List (List ℕ)). joined ks b) p.outs ∙ sym (joined-append [] a b)) h))

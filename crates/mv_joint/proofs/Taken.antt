@@ -13,7 +13,7 @@ use Rattle.mv_joint.specs.declared.joint.JointStop.{JointStop}
 use Rattle.mv_joint.specs.declared.joint.JointStop.TheVariants.{Wide, Memory}
 use Rattle.mv_joint.specs.Split.{rows_of, all_rows}
 use Rattle.mv_joint.specs.Plain.{is_silent, said}
-use Rattle.mv_joint.specs.Gather.{joined, IsGathered, Gathers, StopsOver, StopsAt}
+use Rattle.mv_joint.specs.Gather.{joined, IsGathered, Gathers, StopsOver, StopsRows}
 use Rattle.mv_joint.proofs.Gathering.{joined-said, gathered_more, stops_at, wide_by}
 use Rattle.mv_joint.proofs.Wide.{rows_said, rows_unsaid}
 
@@ -35,9 +35,9 @@ pub gathered_row : (cs : List Column) (rows : List Row) (i : ℕ) (r : Row) (x y
 gathered_row cs rows i r x y low is p q =
     subst (λ (all : List PlainRow). IsGathered all y) (sym (rows_taken cs rows i r low is)) (gathered_more (all_rows cs (take i rows)) (rows_of cs r.ins r.outs) x y p q)
 
-pub stops_at_row : (cs : List Column) (rows : List Row) (i : ℕ) (r : Row) (x : Gathered) (stop : JointStop) → i < length rows → r ≡ get_or rows i r → IsGathered (all_rows cs (take i rows)) x → StopsOver (rows_of cs r.ins r.outs) x stop → StopsAt (all_rows cs rows) stop
+pub stops_at_row : (cs : List Column) (rows : List Row) (i : ℕ) (r : Row) (x : Gathered) (stop : JointStop) → i < length rows → r ≡ get_or rows i r → IsGathered (all_rows cs (take i rows)) x → StopsOver (rows_of cs r.ins r.outs) x stop → StopsRows (all_rows cs rows) stop
 stops_at_row cs rows i r x stop low is p h =
-    subst (λ (all : List PlainRow). StopsAt all stop) (rows_around cs rows i r low is)
+    subst (λ (all : List PlainRow). StopsRows all stop) (rows_around cs rows i r low is)
     (stops_at (all_rows cs (take i rows)) (rows_of cs r.ins r.outs) (all_rows cs (drop (i + 1) rows)) x stop p h)
 
 -- ---- those that say some values of each output
@@ -60,11 +60,11 @@ said_row cs rows i r x y low is some p q =
     (sym (said_taken cs rows i r low is ∙ ap (λ (all : List PlainRow). before ++ all) (rows_said cs r.ins r.outs some)))
     (gathered_more before (rows_of cs r.ins r.outs) x y p q)
 
-stops_said : (a b : List PlainRow) (stop : JointStop) → said a ≡ b → StopsAt b stop → StopsAt a stop
+stops_said : (a b : List PlainRow) (stop : JointStop) → said a ≡ b → StopsRows b stop → StopsRows a stop
 stops_said a b Wide e h = wide_by _ _ (ap (joined []) (sym e) ∙ joined-said [] a) h
 stops_said a b Memory e h = tt
 
-pub stops_at_said : (cs : List Column) (rows : List Row) (i : ℕ) (r : Row) (x : Gathered) (stop : JointStop) → i < length rows → r ≡ get_or rows i r → list_any says_nothing r.outs ≡ false → IsGathered (said (all_rows cs (take i rows))) x → StopsOver (rows_of cs r.ins r.outs) x stop → StopsAt (all_rows cs rows) stop
+pub stops_at_said : (cs : List Column) (rows : List Row) (i : ℕ) (r : Row) (x : Gathered) (stop : JointStop) → i < length rows → r ≡ get_or rows i r → list_any says_nothing r.outs ≡ false → IsGathered (said (all_rows cs (take i rows))) x → StopsOver (rows_of cs r.ins r.outs) x stop → StopsRows (all_rows cs rows) stop
 stops_at_said cs rows i r x stop low is some p h =
     let Says : PlainRow → Bool = λ x. not (is_silent x) in
     let before = all_rows cs (take i rows) in

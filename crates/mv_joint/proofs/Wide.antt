@@ -18,7 +18,7 @@ use Rattle.mv_joint.specs.OutRows.{same_outs}
 use Rattle.mv_joint.specs.Split.{rows_of, all_rows}
 use Rattle.mv_joint.specs.Plain.{is_silent, said, stays, needs_mark, set_of, with_any_mark, unmarked, marked, plain_by, plain_of}
 use Rattle.mv_joint.specs.Joint.{given, distinct, StopsWith}
-use Rattle.mv_joint.specs.Gather.{joined, StopsOver, StopsAt}
+use Rattle.mv_joint.specs.Gather.{joined, StopsOver, StopsRows}
 use Rattle.mv_joint.proofs.Lists.{inserted_distinct}
 use Rattle.mv_joint.proofs.Gathering.{said_outs, wide_by, wide_grows}
 use Rattle.mv_joint.proofs.PlainMeaning.{all_said}
@@ -76,11 +76,11 @@ joined_default cs mark es keys some = ap (λ (rows : List PlainRow). insert_all 
 
 -- ---- too many of them
 
-pub stops_unmarked : (cs : List Column) (rows : List PlainRow) (d : Option (List ℕ)) (stop : JointStop) → StopsAt rows stop → StopsWith (unmarked cs rows d) stop
+pub stops_unmarked : (cs : List Column) (rows : List PlainRow) (d : Option (List ℕ)) (stop : JointStop) → StopsRows rows stop → StopsWith (unmarked cs rows d) stop
 stops_unmarked cs rows d Wide h = wide_by _ _ (distinct_unmarked cs rows d _ refl) (wide_grows (joined [] rows) (given d) h)
 stops_unmarked cs rows d Memory h = tt
 
-pub stops_marked : (cs : List Column) (mark : NetId) (rows : List PlainRow) (es : List Entry) (stop : JointStop) → StopsAt rows stop → StopsWith (marked cs mark rows es) stop
+pub stops_marked : (cs : List Column) (mark : NetId) (rows : List PlainRow) (es : List Entry) (stop : JointStop) → StopsRows rows stop → StopsWith (marked cs mark rows es) stop
 stops_marked cs mark rows es Wide h = wide_by _ _ (distinct_marked cs mark rows es _ refl) (wide_grows (joined [] rows) (row_outs (default_rows cs mark es)) h)
 stops_marked cs mark rows es Memory h = tt
 

@@ -44,9 +44,9 @@ StopsOver more g Wide = MAX_VALUES < length (joined g.outs.keys more)
 StopsOver more g Memory = Unit {0}
 
 -- why rows can't be gathered
-abbrev pub StopsAt : List PlainRow → JointStop → Type 0
-StopsAt rows Wide = MAX_VALUES < length (joined [] rows)
-StopsAt rows Memory = Unit {0}
+abbrev pub StopsRows : List PlainRow → JointStop → Type 0
+StopsRows rows Wide = MAX_VALUES < length (joined [] rows)
+StopsRows rows Memory = Unit {0}
 
 -- the table and its distinct rows of outputs
 pub record AreChoices (p : PlainTable) (found : PlainChoices) : Type 0 where

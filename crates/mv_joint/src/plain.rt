@@ -10,7 +10,7 @@ ghost use Rattle.mv_joint.specs.Split.{all_rows};
 ghost use Rattle.mv_joint.specs.Plain.{IsJointFile, said, set_of};
 ghost use Rattle.mv_joint.specs.Plain.{with_any_mark, mark_row, mark_table, unmarked, marked, plain_of};
 ghost use Rattle.mv_joint.specs.Joint.{given, StopsBy, StopsWith};
-ghost use Rattle.mv_joint.specs.Gather.{IsGathered, StopsAt, AreChoices};
+ghost use Rattle.mv_joint.specs.Gather.{IsGathered, StopsRows, AreChoices};
 
 use crate::gather::{Gathered, add_outs};
 use crate::joint::JointStop;
@@ -76,7 +76,7 @@ fn all_rows(alloc: Global, frame: &Frame, table: &FileTable) -> Result<Gathered,
     requires frame { IsFrame frame.now }
     requires table { IsJointFile frame.now.columns table.now }
     ensures rows { IfOk result (λ gathered. IsGathered (all_rows frame.now.columns table.now.rows) gathered) }
-    ensures stop { IfErr result (λ stop. StopsAt (all_rows frame.now.columns table.now.rows) stop) }
+    ensures stop { IfErr result (λ stop. StopsRows (all_rows frame.now.columns table.now.rows) stop) }
 {
     let mut gathered = Gathered::new(alloc);
     for row in table.rows.as_slice() {
@@ -94,7 +94,7 @@ fn said_rows(alloc: Global, frame: &Frame, table: &FileTable) -> Result<Gathered
     requires frame { IsFrame frame.now }
     requires table { IsJointFile frame.now.columns table.now }
     ensures rows { IfOk result (λ gathered. IsGathered (said (all_rows frame.now.columns table.now.rows)) gathered) }
-    ensures stop { IfErr result (λ stop. StopsAt (all_rows frame.now.columns table.now.rows) stop) }
+    ensures stop { IfErr result (λ stop. StopsRows (all_rows frame.now.columns table.now.rows) stop) }
 {
     let mut gathered = Gathered::new(alloc);
     for row in table.rows.as_slice() {

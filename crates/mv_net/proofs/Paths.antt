@@ -13,7 +13,7 @@ use Rattle.mv_net.specs.declared.search.Way.TheVariants.{Down, Up}
 use Rattle.mv_net.specs.Nets.{reads_in}
 use Rattle.mv_net.specs.Formed.{WellFormed}
 use Rattle.mv_net.specs.Index.{is_held}
-use Rattle.mv_net.specs.Window.{Lists, IsNear, IsWithin, IsAround}
+use Rattle.mv_net.specs.Window.{Lists, IsStepsAbove, IsAtMostAbove, IsAround}
 use Rattle.mv_net.specs.Searching.{Reached, HasExactly, HasAdded, HasAll}
 use Rattle.mv_net.proofs.Known.{reads_readable}
 use Rattle.mv_net.proofs.Reaching.{reached_up}
@@ -64,19 +64,19 @@ below_none net n formed none = record {
 
 -- ---- so many steps down
 
-within_more : {N : Type 0} (reads : N → N → Bool) (steps : ℕ) (above n : N) → IsWithin reads steps above n → IsWithin reads (suc steps) above n
+within_more : {N : Type 0} (reads : N → N → Bool) (steps : ℕ) (above n : N) → IsAtMostAbove reads steps above n → IsAtMostAbove reads (suc steps) above n
 within_more reads steps above n w =
-    ⊎_elim (λ (e : above ≡ n). inl e) (λ (p : IsNear reads steps above n). let s = p.short in inr (record { path = p.path; short = omega arith; goes = p.goes })) w
+    ⊎_elim (λ (e : above ≡ n). inl e) (λ (p : IsStepsAbove reads steps above n). let s = p.short in inr (record { path = p.path; short = omega arith; goes = p.goes })) w
 
 -- one step more at the near end
-within_first : (reads : ℕ → ℕ → Bool) (steps above n m : ℕ) → reads n m ≡ true → IsWithin reads steps above m → IsWithin reads (suc steps) above n
+within_first : (reads : ℕ → ℕ → Bool) (steps above n m : ℕ) → reads n m ≡ true → IsAtMostAbove reads steps above m → IsAtMostAbove reads (suc steps) above n
 within_first reads steps above n m h w =
     ⊎_elim
     (λ (e : above ≡ m). inr (record { path = []; short = omega arith; goes = ap (reads n) e ∙ h }))
-    (λ (p : IsNear reads steps above m). let s = p.short in inr (record { path = m ∷ p.path; short = omega arith; goes = (h, p.goes) }))
+    (λ (p : IsStepsAbove reads steps above m). let s = p.short in inr (record { path = m ∷ p.path; short = omega arith; goes = (h, p.goes) }))
     w
 
-within_down : (nets : List (Option FlatNet)) (n : NetId) (steps m : ℕ) → Reached nets Down (n ∷ []) steps m → IsWithin (reads_in nets) steps n.0 m
+within_down : (nets : List (Option FlatNet)) (n : NetId) (steps m : ℕ) → Reached nets Down (n ∷ []) steps m → IsAtMostAbove (reads_in nets) steps n.0 m
 unfolding Reached
 within_down nets n zero m r =
     ⊎_elim (λ (y : nat_eq n.0 m ≡ true). inl (eqb-true n.0 m y)) (λ (y : false ≡ true). absurd (false≢true y)) (or_cases (nat_eq n.0 m) false r)
@@ -95,21 +95,21 @@ unfolding Reached
 down_path nets n [] m g = inr (n.0, first_down nets n, g)
 down_path nets n (x ∷ path) m g = inr (x, down_path nets n path x g.1, g.0)
 
-down_within : (nets : List (Option FlatNet)) (n : NetId) (steps m : ℕ) → IsWithin (reads_in nets) steps n.0 m → Reached nets Down (n ∷ []) steps m
+down_within : (nets : List (Option FlatNet)) (n : NetId) (steps m : ℕ) → IsAtMostAbove (reads_in nets) steps n.0 m → Reached nets Down (n ∷ []) steps m
 down_within nets n steps m w =
     ⊎_elim
     (λ (e : n.0 ≡ m). subst (Reached nets Down (n ∷ []) steps) e (reached_up nets Down (n ∷ []) 0 steps n.0 (omega arith) (first_down nets n)))
-    (λ (p : IsNear (reads_in nets) steps n.0 m). let s = p.short in reached_up nets Down (n ∷ []) (suc (length p.path)) steps m (omega arith) (down_path nets n p.path m p.goes))
+    (λ (p : IsStepsAbove (reads_in nets) steps n.0 m). let s = p.short in reached_up nets Down (n ∷ []) (suc (length p.path)) steps m (omega arith) (down_path nets n p.path m p.goes))
     w
 
 -- ---- so many steps up
 
 -- one step more at the far end
-within_last : (reads : ℕ → ℕ → Bool) (steps above n m : ℕ) → reads above m ≡ true → IsWithin reads steps above n → IsWithin reads (suc steps) m n
+within_last : (reads : ℕ → ℕ → Bool) (steps above n m : ℕ) → reads above m ≡ true → IsAtMostAbove reads steps above n → IsAtMostAbove reads (suc steps) m n
 within_last reads steps above n m h w =
     ⊎_elim
     (λ (e : above ≡ n). inr (record { path = []; short = omega arith; goes = ap (λ k. reads k m) (sym e) ∙ h }))
-    (λ (p : IsNear reads steps above n).
+    (λ (p : IsStepsAbove reads steps above n).
     let s = p.short in
     inr (record { path = p.path ++ above ∷ []; short = omega (arith, length-append p.path (above ∷ [])); goes = goes_more reads n above m p.path p.goes h }))
     w
@@ -118,7 +118,7 @@ within_last reads steps above n m h w =
 record IsOver (nets : List (Option FlatNet)) (first : List NetId) (steps m : ℕ) : Type 0 where
   net : ℕ
   has : has_id first net ≡ true
-  within : IsWithin (reads_in nets) steps m net
+  within : IsAtMostAbove (reads_in nets) steps m net
 
 within_up : (nets : List (Option FlatNet)) (first : List NetId) (steps m : ℕ) → Reached nets Up first steps m → IsOver nets first steps m
 unfolding Reached
@@ -141,11 +141,11 @@ first_up : (nets : List (Option FlatNet)) (first : List NetId) (n : ℕ) → has
 unfolding Reached
 first_up nets first n h = h
 
-up_within : (nets : List (Option FlatNet)) (first : List NetId) (steps n m : ℕ) → has_id first n ≡ true → IsWithin (reads_in nets) steps m n → Reached nets Up first steps m
+up_within : (nets : List (Option FlatNet)) (first : List NetId) (steps n m : ℕ) → has_id first n ≡ true → IsAtMostAbove (reads_in nets) steps m n → Reached nets Up first steps m
 up_within nets first steps n m h w =
     ⊎_elim
     (λ (e : m ≡ n). subst (Reached nets Up first steps) (sym e) (reached_up nets Up first 0 steps n (omega arith) (first_up nets first n h)))
-    (λ (p : IsNear (reads_in nets) steps m n). let s = p.short in up_path nets first m p.path 0 steps n (omega arith) (first_up nets first n h) p.goes)
+    (λ (p : IsStepsAbove (reads_in nets) steps m n). let s = p.short in up_path nets first m p.path 0 steps n (omega arith) (first_up nets first n h) p.goes)
     w
 
 -- ---- first down, then up

@@ -16,20 +16,20 @@ pub record Lists (Claim : ℕ → Type 0) (list : List NetId) : Type 0 where
   pub members : (n : ℕ) → (has_id list n ≡ true) ↔ Claim n
 
 -- a path of at most so many steps leads from the net n to the net `above`, each step to a net that the one before reads
-pub record IsNear {N : Type 0} (reads : N → N → Bool) (steps : ℕ) (above n : N) : Type 0 where
+pub record IsStepsAbove {N : Type 0} (reads : N → N → Bool) (steps : ℕ) (above n : N) : Type 0 where
   pub path : List N
   pub short : length path < steps
   pub goes : GoesOn reads above n path
 
 -- the net `above` is n, or is above it by at most so many steps
-abbrev pub IsWithin : {N : Type 0} → (N → N → Bool) → ℕ → N → N → Type 0
-IsWithin reads steps above n = (above ≡ n) ⊎ IsNear reads steps above n
+abbrev pub IsAtMostAbove : {N : Type 0} → (N → N → Bool) → ℕ → N → N → Type 0
+IsAtMostAbove reads steps above n = (above ≡ n) ⊎ IsStepsAbove reads steps above n
 
 -- m is within u steps above a net that is within d steps below n
 pub record IsAround (nets : List (Option FlatNet)) (n d u m : ℕ) : Type 0 where
   pub net : ℕ
-  pub below : IsWithin (reads_in nets) d n net
-  pub above : IsWithin (reads_in nets) u m net
+  pub below : IsAtMostAbove (reads_in nets) d n net
+  pub above : IsAtMostAbove (reads_in nets) u m net
 
 -- a table of the window: so many steps down from n, and from there so many steps up
 pub record IsWindowTable (nets : List (Option FlatNet)) (n d u m : ℕ) : Type 0 where

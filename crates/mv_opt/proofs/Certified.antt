@@ -8,7 +8,7 @@ use Rattle.mv_base.specs.declared.number.NetId.{NetId}
 use Rattle.mv_cert.specs.Certificates.{Certifies}
 use Rattle.mv_collapse.specs.Collapses.{IsCollapseStep}
 use Rattle.mv_collapse.specs.Eliminates.{IsEliminateStep, Eliminates, HasNoted, NotesWide, wide_note}
-use Rattle.mv_saving.specs.Savings.{NoneSaves}
+use Rattle.mv_gain.specs.Savings.{NoneSaves}
 use Rattle.mv_entry.specs.declared.note.Command.{Command}
 use Rattle.mv_entry.specs.declared.note.Command.TheVariants.{Drop, Sweep, Eliminate, Collapse, Kernel, Cube, Simplify, Merge, Default, Determinize, Encode}
 use Rattle.mv_entry.specs.declared.note.Note.{Note}
@@ -24,22 +24,22 @@ use Rattle.mv_net.specs.Formed.{WellFormed}
 use Rattle.mv_net.specs.Nets.{slot, name_in, table_in, literals_in}
 use Rattle.mv_pass.specs.Going.{Goes}
 use Rattle.mv_pass.proofs.Going.{rules_of-append}
-use Rattle.mv_printed.specs.Names.{HasWordNames}
-use Rattle.mv_printed.specs.Notes.{notes_of}
+use Rattle.mv_rules_back.specs.Names.{HasWordNames}
+use Rattle.mv_rules_back.specs.Notes.{notes_of}
 use Rattle.mv_rules.specs.Replaying.{Replays}
 use Rattle.mv_rules.proofs.Replayed.{replayed_formed}
 use Rattle.mv_rules.proofs.Spoken.{held_visible}
-use Rattle.mv_course.specs.Commands.{CourseOf, DoesCommand, RunsCommand}
-use Rattle.mv_course.specs.Runs.{Course, Runs}
-use Rattle.mv_course.proofs.Inductions.{of_items}
-use Rattle.mv_course.proofs.Rules.{course_replays, does_replays, runs_replays}
+use Rattle.mv_script_run.specs.Commands.{CourseOf, DoesCommand, RunsCommand}
+use Rattle.mv_script_run.specs.Runs.{Course, Runs}
+use Rattle.mv_script_run.proofs.Inductions.{of_items}
+use Rattle.mv_script_run.proofs.Rules.{course_replays, does_replays, runs_replays}
 use Rattle.mv_script.specs.declared.command.Command.{Command as ScriptCommand}
 use Rattle.mv_script.specs.Commands.{IsCommand, is_named, are_named}
 use Rattle.mv_script.specs.Scripts.{Items}
 use Rattle.mv_script.proofs.Commands.{built_lawful}
 use Rattle.mv_sweep.specs.Drops.{IsDropStep}
 use Rattle.mv_sweep.specs.Sweeps.{IsSweepStep}
-use Rattle.mv_opt.specs.Noted.{IsCertified, all_notes}
+use Rattle.mv_opt.specs.Noted.{IsCertificateOf, all_notes}
 use Rattle.mv_opt.proofs.Seen.{IsSeenNote, seen_certifies}
 
 notes_of-append : (xs ys : List Entry) → notes_of (xs ++ ys) ≡ notes_of xs ++ notes_of ys
@@ -146,7 +146,7 @@ runs_seen items a b es named formed r =
 
 -- ---- the certificate
 
-pub certified : (items : Items) (first net : NetParts) (es : List Entry) → are_named items ≡ true → WellFormed first → HasWordNames first.nets → Runs items first es net → IsCertified es first net
+pub certified : (items : Items) (first net : NetParts) (es : List Entry) → are_named items ≡ true → WellFormed first → HasWordNames first.nets → Runs items first es net → IsCertificateOf es first net
 certified items first net es named formed names runs short =
     let done = Done (literals_in first.nets) (literals_in net.nets) in
     let all = es ++ Noted done ∷ [] in

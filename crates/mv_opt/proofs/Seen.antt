@@ -24,21 +24,21 @@ use Rattle.mv_lex.specs.Text.{line_text}
 use Rattle.mv_lex.proofs.Facts.{no_fault_is_clean}
 use Rattle.mv_net.specs.declared.parts.NetParts.{NetParts}
 use Rattle.mv_net.specs.Formed.{WellFormed}
-use Rattle.mv_printed.specs.Names.{HasWordNames}
-use Rattle.mv_printed.specs.Notes.{notes_of, IsPrintableNote}
-use Rattle.mv_printed.proofs.Printing.{replayed_printable}
-use Rattle.mv_printed.proofs.Replaying.{replayed_from_print}
+use Rattle.mv_rules_back.specs.Names.{HasWordNames}
+use Rattle.mv_rules_back.specs.Notes.{notes_of, IsPrintableNote}
+use Rattle.mv_rules_back.proofs.Printing.{replayed_printable}
+use Rattle.mv_rules_back.proofs.Replaying.{replayed_from_print}
 use Rattle.mv_cert.specs.Certificates.{Certifies}
 use Rattle.mv_cert.specs.Replay.{rules_in}
 use Rattle.mv_base.specs.declared.limits.TheConstants.{MAX_CERTIFICATE_BYTES}
 use Rattle.mv_rules.specs.Replaying.{Replays}
 use Rattle.mv_step.specs.Certificates.{fault_of, steps_of}
 use Rattle.mv_step.specs.Printed.{IsSayable}
-use Rattle.mv_told.specs.Printable.{Printable}
-use Rattle.mv_told.proofs.LineWords.{rule-written, entries_text}
-use Rattle.mv_told.proofs.Printed.{print-faultless, steps-faultless}
-use Rattle.mv_written.specs.TextWords.{is_written_line, is_text_line, is_comment, lines_told}
-use Rattle.mv_written.proofs.Written.{lines_of-text, is_clean-text}
+use Rattle.mv_entries_back.specs.Printable.{Printable}
+use Rattle.mv_entries_back.proofs.LineWords.{rule-written, entries_text}
+use Rattle.mv_entries_back.proofs.Printed.{print-faultless, steps-faultless}
+use Rattle.mv_lines_back.specs.TextWords.{is_written_line, is_text_line, is_comment, lines_told}
+use Rattle.mv_lines_back.proofs.Written.{lines_of-text, is_clean-text}
 
 -- all names of the note can be seen
 abbrev pub IsSeenNote : Note → Type 0

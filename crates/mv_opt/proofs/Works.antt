@@ -7,18 +7,18 @@ use Rattle.mv_base.proofs.OutsideLemmas.{Rose-earlier}
 use Rattle.mv_net.specs.declared.parts.NetParts.{NetParts}
 use Rattle.mv_net.specs.Allowed.{of_net}
 use Rattle.mv_net.specs.Formed.{WellFormed}
-use Rattle.mv_printed.specs.Names.{HasWordNames}
+use Rattle.mv_rules_back.specs.Names.{HasWordNames}
 use Rattle.mv_opt.proofs.Certified.{certified}
-use Rattle.mv_course.proofs.NoMore.{runs_no_more}
+use Rattle.mv_script_run.proofs.NoMore.{runs_no_more}
 use Rattle.mv_net.specs.Nets.{literals_in}
-use Rattle.mv_back.specs.Back.{ReadsBack}
+use Rattle.mv_text_back.specs.Back.{ReadsBack}
 use Rattle.mv_entry.specs.declared.journal.Tally.{Tally}
 use Rattle.mv_entry.specs.Tallies.{Journaled, with_entries}
 use Rattle.mv_pass.specs.Taking.{Took, TookPart}
 use Rattle.mv_opt.specs.declared.output.Output.{Output}
 use Rattle.mv_opt.specs.Outcomes.{HasRun, HasStopped, IsNoteCut, HasWorked, IsDoneCut, IsOutputCut, IsCut}
 use Rattle.mv_opt.specs.Outputs.{no_tally, output_text, output_of}
-use Rattle.mv_course.specs.Runs.{Runs, RunsTo}
+use Rattle.mv_script_run.specs.Runs.{Runs, RunsTo}
 use Rattle.mv_script.specs.Commands.{are_named}
 use Rattle.mv_script.specs.Scripts.{Items}
 use Rattle.mv_task.specs.Ending.{IsEndCut, done_line}

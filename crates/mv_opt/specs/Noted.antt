@@ -12,6 +12,6 @@ abbrev pub all_notes : List Entry → NetParts → NetParts → List ℕ
 all_notes entries first net = print entries ++ done_line (literals_in first.nets) (literals_in net.nets)
 
 -- they are a certificate of what the script did, where they aren't longer than one may be
-abbrev pub IsCertified : List Entry → NetParts → NetParts → Type 0
-IsCertified entries first net =
+abbrev pub IsCertificateOf : List Entry → NetParts → NetParts → Type 0
+IsCertificateOf entries first net =
     length (all_notes entries first net) ≤ MAX_CERTIFICATE_BYTES → Certifies (all_notes entries first net) first net

@@ -5,7 +5,7 @@ use Rattle.mv_base.specs.Outside.{Stored, Written, Gained, Rose}
 use Rattle.mv_entry.specs.Entries.{Entry}
 use Rattle.mv_net.specs.declared.parts.NetParts.{NetParts}
 use Rattle.mv_net.specs.Nets.{literals_in}
-use Rattle.mv_course.specs.Runs.{Runs}
+use Rattle.mv_script_run.specs.Runs.{Runs}
 use Rattle.mv_script.specs.Scripts.{Items}
 use Rattle.mv_task.specs.Exact.{LacksFile, IsExact, IsComplete}
 use Rattle.mv_task.specs.Faults.{TellsFault}
@@ -17,7 +17,7 @@ use Rattle.mv_task.specs.Taken.{IsTaken, IsRefused}
 use Rattle.mv_net.specs.Allowed.{of_net}
 use Rattle.mv_opt.specs.Outcomes.{EndsCut, EndsShort}
 use Rattle.mv_opt.specs.Outputs.{output_of, output_for}
-use Rattle.mv_opt.specs.Noted.{all_notes, IsCertified}
+use Rattle.mv_opt.specs.Noted.{all_notes, IsCertificateOf}
 use Rattle.mv_opt.specs.Scripts.{IsScript, TakesItems, TellsScript}
 
 -- what the script did: the named one ran on the first network, and the notes gained its entries and the done line, which are a
@@ -28,7 +28,7 @@ pub record Told (script : List ℕ) (files : Stored) (first net : NetParts) (not
   pub entries : List Entry
   pub runs : Runs items first entries net
   pub noted : Gained notes notes' (all_notes entries first net)
-  pub certified : IsCertified entries first net
+  pub certified : IsCertificateOf entries first net
   -- it ends with no more literals than it began with
   pub no_more : literals_in net.nets ≤ literals_in first.nets
 

@@ -6,17 +6,17 @@ use Rattle.mv_net.specs.declared.parts.NetParts.{NetParts}
 use Rattle.mv_net.specs.Allowed.{of_net}
 use Rattle.mv_net.specs.Nets.{literals_in}
 use Rattle.mv_entry.specs.Entries.{Entry, print}
-use Rattle.mv_back.specs.Back.{ReadsBack}
+use Rattle.mv_text_back.specs.Back.{ReadsBack}
 use Rattle.mv_entry.specs.declared.journal.Tally.{Tally}
 use Rattle.mv_entry.specs.Tallies.{with_entries}
-use Rattle.mv_course.specs.Runs.{Runs, RunsTo}
+use Rattle.mv_script_run.specs.Runs.{Runs, RunsTo}
 use Rattle.mv_script.specs.Scripts.{Items}
 use Rattle.mv_task.specs.Inputs.{Inputs}
 use Rattle.mv_task.specs.Made.{Prepared}
 use Rattle.mv_task.specs.Lines.{TellsLine, memory_line}
 use Rattle.mv_opt.specs.declared.output.Output.{Output}
 use Rattle.mv_opt.specs.Outputs.{no_tally, output_of, output_for}
-use Rattle.mv_opt.specs.Noted.{all_notes, IsCertified}
+use Rattle.mv_opt.specs.Noted.{all_notes, IsCertificateOf}
 use Rattle.mv_opt.specs.Scripts.{TakesItems}
 
 -- the script ran, and the notes gained its entries, which were counted
@@ -50,7 +50,7 @@ pub record HasWorked (output : Output) (items : Items) (first : NetParts) (out o
   pub net : NetParts
   pub runs : Runs items first entries net
   pub noted : Gained notes notes' (all_notes entries first net)
-  pub certified : IsCertified entries first net
+  pub certified : IsCertificateOf entries first net
   pub no_more : literals_in net.nets ≤ literals_in first.nets
   pub gained : Gained out out' (output_of output first entries net)
   pub back : ReadsBack net

@@ -1,5 +1,5 @@
 ghost use Rattle.std.specs.Prelude.{◌≡◌, ◌≤◌, true};
-ghost use Rattle.mv_printed.specs.Names.{HasWordNames};
+ghost use Rattle.mv_rules_back.specs.Names.{HasWordNames};
 ghost use Rattle.mv_script.specs.Commands.{are_built, are_named};
 ghost use Rattle.mv_script.specs.Scripts.{items_of};
 ghost use Rattle.mv_opt.specs.Optimised.{Optimises};

@@ -1,6 +1,6 @@
 ghost use Rattle.std.specs.Prelude.{◌≡◌, ◌≤◌, true, Err, IfOk, IfErr, IfSome, OnOk};
 ghost use Rattle.mv_files.specs.FileReading.{Stay};
-ghost use Rattle.mv_printed.specs.Names.{HasWordNames};
+ghost use Rattle.mv_rules_back.specs.Names.{HasWordNames};
 ghost use Rattle.mv_script.specs.Commands.{are_built, are_named};
 ghost use Rattle.mv_script.specs.Scripts.{items_of};
 ghost use Rattle.mv_task.specs.declared.fault.FileFault.{FileFault};

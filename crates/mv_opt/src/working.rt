@@ -1,5 +1,5 @@
 ghost use Rattle.std.specs.Prelude.{◌≡◌, ◌≤◌, true, Err, IfOk, OnOk};
-ghost use Rattle.mv_printed.specs.Names.{HasWordNames};
+ghost use Rattle.mv_rules_back.specs.Names.{HasWordNames};
 ghost use Rattle.mv_base.specs.Meaning.{Refines};
 ghost use Rattle.mv_base.specs.Outside.{Rose};
 ghost use Rattle.mv_net.specs.Allowed.{of_net};
@@ -9,14 +9,14 @@ ghost use Rattle.mv_opt.specs.Outcomes.{HasRun, HasStopped, HasStoppedAt, HasWor
 
 use crate::output::{Output, end_run};
 use crate::take::Work;
-use mv_back::reads_back;
 use mv_base::Sink;
 use mv_cert::NoteJournal;
-use mv_course::run_script;
 use mv_entry::{Journal, Tally};
 use mv_net::Network;
 use mv_pass::Stop;
 use mv_script::Script;
+use mv_script_run::run_script;
+use mv_text_back::reads_back;
 use std::alloc::Global;
 
 /// Why the work on a network ends early.

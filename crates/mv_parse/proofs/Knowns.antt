@@ -15,7 +15,7 @@ use Rattle.mv_parse.specs.declared.command.Command.TheVariants.{Model, Inputs, O
 use Rattle.mv_parse.specs.declared.known.Root.{Root}
 use Rattle.mv_parse.specs.declared.known.Known.{Known}
 use Rattle.mv_parse.specs.Commands.{first_word, command_at, is_model, is_end, is_root}
-use Rattle.mv_parse.specs.Known.{root_said, first_root, ended_parts, open_part, open_model, open_of, file_model, model_of, models_of, model_names, known, inputs_of, outputs_of, instances_of}
+use Rattle.mv_parse.specs.Known.{root_said, first_root, ended_parts, open_part, open_model, open_of, file_model, model_said, models_of, model_names, known, inputs_of, outputs_of, instances_of}
 use Rattle.mv_parse.specs.Grammar.{model_faults, root_faults, outside_faults, inside_faults, body_faults, unended_faults, line_faults, behind_model}
 use Rattle.mv_parse.specs.Steps.{with_no_table, inside_step, body_step, line_step}
 use Rattle.mv_parse.proofs.Opens.{inputs-push, outputs-push, decls-push, instances-push, open_table-row, open_table-default, open_table-table, open_table-reset, open_table-other}
@@ -114,14 +114,14 @@ abbrev pub said : List FileModel → Option Root → List LexLine → Known
 said models root part = record { models = models; names = model_names models; root = root; inside = open_of part }
 
 -- the models that have ended, behind the end of one more
-pub models-end : (ls : List LexLine) (l : LexLine) → is_end (command_at l) ≡ true → models_of (ls ++ l ∷ []) ≡ models_of ls ++ model_of (open_part ls)
+pub models-end : (ls : List LexLine) (l : LexLine) → is_end (command_at l) ≡ true → models_of (ls ++ l ∷ []) ≡ models_of ls ++ model_said (open_part ls)
 models-end ls l y =
-    ap (flat_map model_of) (ended_parts-end ls l y)
-    ∙ (flat_map-append model_of (ended_parts ls) (open_part ls ∷ [])
-    ∙ ap (λ ms. models_of ls ++ ms) (append-nil (model_of (open_part ls))))
+    ap (flat_map model_said) (ended_parts-end ls l y)
+    ∙ (flat_map-append model_said (ended_parts ls) (open_part ls ∷ [])
+    ∙ ap (λ ms. models_of ls ++ ms) (append-nil (model_said (open_part ls))))
 
 pub models-more : (ls : List LexLine) (l : LexLine) → is_end (command_at l) ≡ false → models_of (ls ++ l ∷ []) ≡ models_of ls
-models-more ls l n = ap (flat_map model_of) (ended_parts-more ls l n)
+models-more ls l n = ap (flat_map model_said) (ended_parts-more ls l n)
 
 -- a line that begins a model
 said-model : (part : List LexLine) (l : LexLine) → is_model (command_at l) ≡ true → unended_faults (open_of part) ≡ []
@@ -145,7 +145,7 @@ said-body k (m ∷ ls) l is no_model no_root no_end none =
 -- one that ends it
 said-end : (models : List FileModel) (root : Option Root) (part : List LexLine) (l : LexLine) → is_end (command_at l) ≡ true
     → body_faults (command_at l) (open_of part) (behind_model part) l ≡ []
-    → said (models ++ model_of part) root [] ≡ body_step (command_at l) (said models root part) (open_of part) (behind_model part) l
+    → said (models ++ model_said part) root [] ≡ body_step (command_at l) (said models root part) (open_of part) (behind_model part) l
 said-end models root [] l y none = absurd (outside-none (command_at l) l none)
 said-end models root (m ∷ ls) l y none =
     let new : FileModel = file_model (open_model m ls) ls in

@@ -15,7 +15,7 @@ use Rattle.mv_parse.specs.declared.command.Command.TheVariants.{Inputs, Outputs,
 use Rattle.mv_parse.specs.declared.known.OpenModel.{OpenModel}
 use Rattle.mv_parse.specs.declared.known.Known.{Known}
 use Rattle.mv_parse.specs.Commands.{first_of, first_word, is_model, is_end, is_root}
-use Rattle.mv_parse.specs.Grammar.{name_faults, model_faults, unended_faults, line_faults}
+use Rattle.mv_parse.specs.Grammar.{model_name_faults, model_faults, unended_faults, line_faults}
 use Rattle.mv_parse.specs.Steps.{new_model, with_no_table, inside_step, body_step, line_step, CanEnd, HasRoom}
 use Rattle.mv_parse.proofs.Narrows.{few}
 
@@ -24,7 +24,7 @@ below : (m n : ℕ) → nat_le m n ≡ false → n < m
 below m n e = let h : n + 1 ≤ m = few m n e in omega arith
 
 -- a name without a fault is new
-name-new : (n : ℕ) (word : List ℕ) (names words : List (List ℕ)) → name_faults n word names words ≡ [] → among (first_of words) names ≡ false
+name-new : (n : ℕ) (word : List ℕ) (names words : List (List ℕ)) → model_name_faults n word names words ≡ [] → among (first_of words) names ≡ false
 name-new n word names [] none = cc
 name-new n word names (w ∷ words) none =
     let bad = when (not (is_model_name w)) (BadName n w) in
@@ -37,7 +37,7 @@ model-can : (l : LexLine) (names : List (List ℕ)) → model_faults l.number (f
 unfolding model_faults
 model-can l names none =
     let many = when (nat_le MAX_MODELS (length names)) (Limit l.number Models (MAX_MODELS + 1)) in
-    let named = name_faults l.number (first_word l) names (behind_first l) in
+    let named = model_name_faults l.number (first_word l) names (behind_first l) in
     record {
       new = name-new l.number (first_word l) names (behind_first l) (right-nothing many named none);
       room = below MAX_MODELS (length names) (when-nothing _ _ (left-nothing many named none));

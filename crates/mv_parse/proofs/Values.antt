@@ -10,7 +10,7 @@ use Rattle.mv_fault.specs.declared.fault.ParseFault.TheVariants.{Extra}
 use Rattle.mv_fault.specs.Tells.{when, first}
 use Rattle.mv_fault.proofs.Firsts.{first-append}
 use Rattle.mv_table.specs.Tables.{behind_first, table_of}
-use Rattle.mv_part.specs.Line.{part_of}
+use Rattle.mv_instances.specs.Line.{part_said}
 use Rattle.mv_parse.specs.declared.command.Command.{Command}
 use Rattle.mv_parse.specs.declared.command.Command.TheVariants.{Table, Latch, Reset, Part}
 use Rattle.mv_parse.specs.declared.known.Contents.{Contents}
@@ -68,7 +68,7 @@ resets-more Reset ds l ls k = append_assoc k.resets (table_of ds l (front_rows l
 resets-more _ ds l ls k = refl
 
 parts-more : (c : Command) (ds : List Decl) (l : LexLine) (ls : List LexLine) (k : Contents) → (with_line c ds l ls k).parts ++ parts_of ls ≡ k.parts ++ (part_at c l ++ parts_of ls)
-parts-more Part ds l ls k = append_assoc k.parts (part_of l.number (behind_first l) ∷ []) (parts_of ls)
+parts-more Part ds l ls k = append_assoc k.parts (part_said l.number (behind_first l) ∷ []) (parts_of ls)
 parts-more _ ds l ls k = refl
 
 -- a line whose values have no fault has been read

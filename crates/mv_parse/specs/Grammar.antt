@@ -18,7 +18,7 @@ use Rattle.mv_fault.specs.Tells.{when, first}
 use Rattle.mv_decl.specs.Line.{net_name_faults, decl_faults}
 use Rattle.mv_table.specs.Columns.{columns_faults, reset_faults}
 use Rattle.mv_table.specs.Tables.{behind_first, table_faults}
-use Rattle.mv_part.specs.Line.{part_faults}
+use Rattle.mv_instances.specs.Line.{part_faults}
 use Rattle.mv_parse.specs.declared.command.Command.{Command}
 use Rattle.mv_parse.specs.declared.command.Command.TheVariants.{Inputs, Outputs, Mv, Table, Latch, Reset, Default, Row, Part, Unknown}
 use Rattle.mv_parse.specs.declared.known.OpenTable.{OpenTable}
@@ -29,14 +29,14 @@ use Rattle.mv_parse.specs.Commands.{first_word, command_at, is_model, is_end, is
 use Rattle.mv_parse.specs.Known.{front_rows, latch_of, open_part, known}
 
 -- the name behind `.model`, exactly one word: no model of this name has ended
-abbrev pub name_faults : ℕ → List ℕ → List (List ℕ) → List (List ℕ) → List ParseFault
-name_faults n word names [] = Missing n word ∷ []
-name_faults n word names (w ∷ words) =
+abbrev pub model_name_faults : ℕ → List ℕ → List (List ℕ) → List (List ℕ) → List ParseFault
+model_name_faults n word names [] = Missing n word ∷ []
+model_name_faults n word names (w ∷ words) =
     when (not (is_model_name w)) (BadName n w) ++ when (among w names) (ModelTwice n w) ++ when (nat_lt 0 (length words)) (Extra n word)
 
 -- `.model NAME`, behind models with these names: first of all there may be one more
 unfoldable pub model_faults : ℕ → List ℕ → List (List ℕ) → List (List ℕ) → List ParseFault
-model_faults n word names words = when (nat_le MAX_MODELS (length names)) (Limit n Models (MAX_MODELS + 1)) ++ name_faults n word names words
+model_faults n word names words = when (nat_le MAX_MODELS (length names)) (Limit n Models (MAX_MODELS + 1)) ++ model_name_faults n word names words
 
 -- `.root NAME`: exactly one word, and no line before names the root
 unfoldable pub root_faults : ℕ → List ℕ → Option Root → List (List ℕ) → List ParseFault
@@ -196,7 +196,7 @@ pub record IsDesign (lines : List LexLine) (d : Design) : Type 0 where
   pub is : d ≡ design_of lines
 
 -- no limit of the program is passed
-pub record IsWithin (lines : List LexLine) : Type 0 where
+pub record AreWithinLimits (lines : List LexLine) : Type 0 where
   pub within : filter is_limit (faults_of lines) ≡ []
 
 -- the first fault in the order in which faults are told, limits among them

@@ -13,7 +13,7 @@ use Rattle.mv_decl.specs.Nets.{with_decls}
 use Rattle.mv_decl.specs.Line.{decls_said}
 use Rattle.mv_table.specs.Columns.{ins_of, outs_of}
 use Rattle.mv_table.specs.Tables.{behind_first, table_of}
-use Rattle.mv_part.specs.Line.{instance_of, part_of}
+use Rattle.mv_instances.specs.Line.{instance_of, part_said}
 use Rattle.mv_parse.specs.declared.command.Command.{Command}
 use Rattle.mv_parse.specs.declared.command.Command.TheVariants.{Inputs, Outputs, Mv, Table, Latch, Reset, Part as SaysPart}
 use Rattle.mv_parse.specs.declared.known.OpenTable.{OpenTable}
@@ -100,7 +100,7 @@ resets_of ds (l ∷ ls) = reset_at (command_at l) ds l ls ++ resets_of ds ls
 
 -- the instance of a line, if it says one
 abbrev pub part_at : Command → LexLine → List Part
-part_at SaysPart l = part_of l.number (behind_first l) ∷ []
+part_at SaysPart l = part_said l.number (behind_first l) ∷ []
 part_at _ l = []
 
 -- the instances of a model with these lines
@@ -192,12 +192,12 @@ ended_model None ls = []
 ended_model (Some m) ls = file_model m ls ∷ []
 
 -- the model that a part says, if it has a line
-abbrev pub model_of : List LexLine → List FileModel
-model_of part = ended_model (open_of part) (drop 1 part)
+abbrev pub model_said : List LexLine → List FileModel
+model_said part = ended_model (open_of part) (drop 1 part)
 
 -- the models that have ended
 abbrev pub models_of : List LexLine → List FileModel
-models_of ls = flat_map model_of (ended_parts ls)
+models_of ls = flat_map model_said (ended_parts ls)
 
 -- the names of models
 abbrev pub model_names : List FileModel → List (List ℕ)

@@ -8,7 +8,7 @@ use Rattle.mv_decl.specs.Nets.{with_decls}
 use Rattle.mv_decl.specs.Line.{decls_said}
 use Rattle.mv_table.specs.Columns.{ins_of, outs_of}
 use Rattle.mv_table.specs.Tables.{behind_first, table_of}
-use Rattle.mv_part.specs.Line.{instance_of, part_of}
+use Rattle.mv_instances.specs.Line.{instance_of, part_said}
 use Rattle.mv_parse.specs.declared.command.Command.{Command}
 use Rattle.mv_parse.specs.declared.command.Command.TheVariants.{Inputs, Outputs, Mv, Table, Latch, Reset, Default, Row, Part}
 use Rattle.mv_parse.specs.declared.known.OpenTable.{OpenTable}
@@ -116,7 +116,7 @@ abbrev pub with_line : Command → List Decl → LexLine → List LexLine → Co
 with_line Table ds l ls k = record k { tables = k.tables ++ table_of ds l (front_rows ls) ∷ [] }
 with_line Latch ds l ls k = record k { latches = k.latches ++ latch_of l ∷ [] }
 with_line Reset ds l ls k = record k { resets = k.resets ++ table_of ds l (front_rows ls) ∷ [] }
-with_line Part ds l ls k = record k { parts = k.parts ++ part_of l.number (behind_first l) ∷ [] }
+with_line Part ds l ls k = record k { parts = k.parts ++ part_said l.number (behind_first l) ∷ [] }
 with_line _ ds l ls k = k
 
 -- a first line of a table or a reset table has no more columns than a table may have

@@ -3,9 +3,9 @@ ghost use Rattle.mv_base.specs.declared.limits.TheConstants.{MAX_COLUMNS as most
 ghost use Rattle.mv_fault.specs.Tells.{Tells};
 ghost use Rattle.mv_decl.specs.Line.{decl_faults};
 ghost use Rattle.mv_table.specs.Columns.{columns_faults, reset_faults};
-ghost use Rattle.mv_part.specs.Line.{part_faults};
+ghost use Rattle.mv_instances.specs.Line.{part_faults};
 ghost use Rattle.mv_parse.specs.Commands.{first_of};
-ghost use Rattle.mv_parse.specs.Grammar.{name_faults, model_faults, port_faults, latch_faults, row_faults, default_faults};
+ghost use Rattle.mv_parse.specs.Grammar.{model_name_faults, model_faults, port_faults, latch_faults, row_faults, default_faults};
 ghost use Rattle.mv_parse.specs.Steps.{with_inputs, with_outputs, with_declared, with_instance, with_no_table, with_open_table, default_seen, row_seen};
 
 use crate::known::{OpenModel, OpenTable};
@@ -13,7 +13,7 @@ use crate::latches::check_latch;
 use mv_base::{MAX_MODELS, MAX_TABLE_LINES, Name, NameSet};
 use mv_decl::declare;
 use mv_fault::{ParseFault, Which};
-use mv_part::add_part;
+use mv_instances::add_part;
 use mv_table::{check_columns, check_reset, ins, outs};
 use mv_word::{is_model_name, is_net_name};
 use std::alloc::Global;
@@ -21,7 +21,7 @@ use std::alloc::Global;
 /// The name behind `.model`, if it names none of these models.
 #[tactic(auto, using(mv_fault::proofs::Firsts::firsts))]
 fn new_name(number: u32, word: &Name, names: &NameSet, words: &[Name]) -> Result<Name, ParseFault>
-    ensures fault { Tells result (name_faults number word.now names.now words.now) }
+    ensures fault { Tells result (model_name_faults number word.now names.now words.now) }
     ensures ok { IfOk result (λ name. name ≡ first_of words.now) }
 {
     match words {

@@ -4,7 +4,7 @@ ghost use Rattle.mv_lex.specs.declared.lines.LexLine.{LexLine};
 ghost use Rattle.mv_design.specs.declared.design.Design.{Design};
 ghost use Rattle.mv_fault.specs.declared.fault.ParseFault.{ParseFault};
 ghost use Rattle.mv_fault.specs.Tells.{Tells};
-ghost use Rattle.mv_parse.specs.Grammar.{file_faults, faults_of, design_known, design_of, IsDesign, IsWithin, FirstFault};
+ghost use Rattle.mv_parse.specs.Grammar.{file_faults, faults_of, design_known, design_of, IsDesign, AreWithinLimits, FirstFault};
 ghost use Rattle.mv_parse.specs.Steps.{is_inner};
 
 use crate::command::{Command, command_at, is_model};
@@ -90,7 +90,7 @@ fn read_lines(alloc: Global, lines: Vec<LexLine>) -> Result<Design, ParseFault>
 /// the program are among them.
 pub fn parse(alloc: Global, lines: &Lines) -> Result<Design, ParseFault>
     ensures ok { IfOk result (λ design. IsDesign lines.now design) }
-    ensures within { OnOk result (IsWithin lines.now) }
+    ensures within { OnOk result (AreWithinLimits lines.now) }
     ensures fault { IfErr result (λ f. (f ≡ ParseFault.Memory) ⊎ FirstFault lines.now f) }
 {
     parse_owned(alloc, lines.copy()?)
@@ -100,7 +100,7 @@ pub fn parse(alloc: Global, lines: &Lines) -> Result<Design, ParseFault>
 /// and the design never stand whole in memory together.
 pub fn parse_owned(alloc: Global, lines: Lines) -> Result<Design, ParseFault>
     ensures ok { IfOk result (λ design. IsDesign lines design) }
-    ensures within { OnOk result (IsWithin lines) }
+    ensures within { OnOk result (AreWithinLimits lines) }
     ensures fault { IfErr result (λ f. (f ≡ ParseFault.Memory) ⊎ FirstFault lines f) }
 {
     read_lines(alloc, lines.list)
@@ -109,5 +109,5 @@ pub fn parse_owned(alloc: Global, lines: Lines) -> Result<Design, ParseFault>
 /// Lines with a first fault say no design within the limits. So `parse` is Ok exactly where lines say a design within the
 /// limits, memory aside.
 pub fn one_answer()
-    ensures { (lines : List LexLine) (f : ParseFault) (d : Design) → FirstFault lines f → IsDesign lines d → IsWithin lines → ⊥ }
+    ensures { (lines : List LexLine) (f : ParseFault) (d : Design) → FirstFault lines f → IsDesign lines d → AreWithinLimits lines → ⊥ }
 {}

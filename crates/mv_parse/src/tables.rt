@@ -13,8 +13,8 @@ use mv_base::Items;
 use mv_decl::Decls;
 use mv_design::FileModel;
 use mv_fault::ParseFault;
+use mv_instances::read_part;
 use mv_lex::LexLine;
-use mv_part::read_part;
 use mv_table::{behind_first, read_table};
 use std::alloc::Global;
 

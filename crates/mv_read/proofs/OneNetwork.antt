@@ -3,8 +3,8 @@ use Rattle.std.proofs.Common.{◌≡◌, true, List, sym, ◌∙◌, subst}
 use Rattle.mv_lex.specs.declared.lines.LexLine.{LexLine}
 use Rattle.mv_design.specs.declared.design.Design.{Design}
 use Rattle.mv_design.specs.Proper.{numbers_ascend}
-use Rattle.mv_proper.specs.Lines.{numbers_of}
-use Rattle.mv_proper.proofs.Proper.{proper}
+use Rattle.mv_parse_laws.specs.Lines.{numbers_of}
+use Rattle.mv_parse_laws.proofs.Proper.{proper}
 use Rattle.mv_net.specs.declared.parts.NetParts.{NetParts}
 use Rattle.mv_flat.specs.Flat.{IsFlat}
 use Rattle.mv_flat.proofs.OneNetwork as flat

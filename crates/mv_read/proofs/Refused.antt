@@ -6,18 +6,18 @@ use Rattle.mv_design.specs.declared.design.Design.{Design}
 use Rattle.mv_fault.specs.declared.fault.ParseFault.{ParseFault}
 use Rattle.mv_fault.specs.declared.fault.ParseFault.TheVariants.{Memory as NoParseMemory}
 use Rattle.mv_fault.specs.Tells.{first}
-use Rattle.mv_parse.specs.Grammar.{faults_of, IsDesign, IsWithin, FirstFault}
+use Rattle.mv_parse.specs.Grammar.{faults_of, IsDesign, AreWithinLimits, FirstFault}
 use Rattle.mv_net.specs.declared.parts.NetParts.{NetParts}
 use Rattle.mv_fault.specs.declared.flat.FlatFault.{FlatFault}
 use Rattle.mv_fault.specs.declared.flat.FlatFault.TheVariants.{Memory as NoFlatMemory}
-use Rattle.mv_flat.specs.Flat.{IsFlat, IsRefused}
+use Rattle.mv_flat.specs.Flat.{IsFlat, IsRefusedDesign}
 use Rattle.mv_flat.proofs.Refusals.{refused_excludes}
 use Rattle.mv_read.specs.declared.network.NetFault.{NetFault}
 use Rattle.mv_read.specs.declared.network.NetFault.TheVariants.{Parse, Flat, Memory}
 use Rattle.mv_read.specs.Reads.{IsNetOf, SaySoundDesign, IsUnsound, IsFaultOf, parse_refused, flat_refused}
 use Rattle.mv_design.specs.Proper.{numbers_ascend}
-use Rattle.mv_proper.specs.Lines.{numbers_of}
-use Rattle.mv_proper.proofs.Proper.{no-faults, proper}
+use Rattle.mv_parse_laws.specs.Lines.{numbers_of}
+use Rattle.mv_parse_laws.proofs.Proper.{no-faults, proper}
 
 -- ---- what is told
 
@@ -26,11 +26,11 @@ parse-told lines NoParseMemory told = tt
 parse-told lines _ (inl e) = cc
 parse-told lines _ (inr told) = told
 
-pub flat-told : (lines : List LexLine) (d : Design) (f : FlatFault) → IsDesign lines d → IsWithin lines → IsRefused d f → IsFaultOf lines (flat_refused f)
+pub flat-told : (lines : List LexLine) (d : Design) (f : FlatFault) → IsDesign lines d → AreWithinLimits lines → IsRefusedDesign d f → IsFaultOf lines (flat_refused f)
 flat-told lines d NoFlatMemory is within fault = tt
 flat-told lines d _ is within fault = record { design = d; is = is; within = within; fault = fault; cause = λ e. cc }
 
-pub net-told : (lines : List LexLine) (d : Design) (net : NetParts) → IsDesign lines d → IsWithin lines → IsFlat net d → IsNetOf lines net
+pub net-told : (lines : List LexLine) (d : Design) (net : NetParts) → IsDesign lines d → AreWithinLimits lines → IsFlat net d → IsNetOf lines net
 net-told lines d net is within flat = record { design = d; is = is; within = within; flat = flat }
 
 pub ruleset networks = (parse-told, flat-told, net-told)
@@ -46,7 +46,7 @@ parse-excludes lines f told h =
 flat-excludes : (lines : List LexLine) (f : FlatFault) → numbers_ascend (numbers_of lines) ≡ true → IsUnsound lines f → SaySoundDesign lines → ⊥
 flat-excludes lines f up u h =
     let same : u.design ≡ h.design = u.is.is ∙ sym h.is.is in
-    let P : Design → Type 0 = λ d. IsRefused d f in
+    let P : Design → Type 0 = λ d. IsRefusedDesign d f in
     refused_excludes h.design f (proper lines h.design up h.is h.within) (subst P same u.fault) u.cause h.sound h.limits h.fits
 
 pub refused-excludes : (lines : List LexLine) (f : NetFault) → numbers_ascend (numbers_of lines) ≡ true → IsFaultOf lines f → (f ≡ Memory → ⊥) → SaySoundDesign lines → ⊥

@@ -4,12 +4,12 @@ use Rattle.mv_lex.specs.declared.lines.LexLine.{LexLine}
 use Rattle.mv_design.specs.declared.design.Design.{Design}
 use Rattle.mv_fault.specs.declared.fault.ParseFault.{ParseFault}
 use Rattle.mv_fault.specs.declared.fault.ParseFault.TheVariants.{Memory as NoParseMemory}
-use Rattle.mv_parse.specs.Grammar.{IsDesign, IsWithin, FirstFault}
+use Rattle.mv_parse.specs.Grammar.{IsDesign, AreWithinLimits, FirstFault}
 use Rattle.mv_net.specs.declared.parts.NetParts.{NetParts}
 use Rattle.mv_fault.specs.declared.flat.FlatFault.{FlatFault}
 use Rattle.mv_fault.specs.declared.flat.FlatFault.TheVariants.{Memory as NoFlatMemory}
-use Rattle.mv_whole.specs.Sound.{IsSound, IsWithinDesignLimits, model_of}
-use Rattle.mv_flat.specs.Flat.{HasSmallNetwork, IsFlat, IsRefused}
+use Rattle.mv_unfold.specs.Sound.{IsSound, IsWithinDesignLimits, model_of}
+use Rattle.mv_flat.specs.Flat.{HasSmallNetwork, IsFlat, IsRefusedDesign}
 use Rattle.mv_read.specs.declared.network.NetFault.{NetFault}
 use Rattle.mv_read.specs.declared.network.NetFault.TheVariants.{Parse, Flat, Memory}
 
@@ -17,14 +17,14 @@ use Rattle.mv_read.specs.declared.network.NetFault.TheVariants.{Parse, Flat, Mem
 pub record IsNetOf (lines : List LexLine) (net : NetParts) : Type 0 where
   pub design : Design
   pub is : IsDesign lines design
-  pub within : IsWithin lines
+  pub within : AreWithinLimits lines
   pub flat : IsFlat net design
 
 -- lines within the limits that say a sound design, whose instances, nets and network are within theirs
 pub record SaySoundDesign (lines : List LexLine) : Type 0 where
   pub design : Design
   pub is : IsDesign lines design
-  pub within : IsWithin lines
+  pub within : AreWithinLimits lines
   pub sound : IsSound design
   pub limits : IsWithinDesignLimits design sound.tree
   pub fits : HasSmallNetwork (model_of design sound)
@@ -33,8 +33,8 @@ pub record SaySoundDesign (lines : List LexLine) : Type 0 where
 pub record IsUnsound (lines : List LexLine) (f : FlatFault) : Type 0 where
   pub design : Design
   pub is : IsDesign lines design
-  pub within : IsWithin lines
-  pub fault : IsRefused design f
+  pub within : AreWithinLimits lines
+  pub fault : IsRefusedDesign design f
   pub cause : f ≡ NoFlatMemory → ⊥
 
 -- why lines are refused: their first fault, or the fault of their design; for want of memory any may be

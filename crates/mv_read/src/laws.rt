@@ -1,7 +1,7 @@
 ghost use Rattle.std.specs.Prelude.{◌≡◌, true, List};
 ghost use Rattle.mv_lex.specs.declared.lines.LexLine.{LexLine};
 ghost use Rattle.mv_design.specs.Proper.{numbers_ascend};
-ghost use Rattle.mv_proper.specs.Lines.{numbers_of};
+ghost use Rattle.mv_parse_laws.specs.Lines.{numbers_of};
 ghost use Rattle.mv_net.specs.declared.parts.NetParts.{NetParts};
 ghost use Rattle.mv_read.specs.declared.network.NetFault.{NetFault};
 ghost use Rattle.mv_read.specs.Reads.{IsNetOf, SaySoundDesign, IsFaultOf};

@@ -1,6 +1,6 @@
 ghost use Rattle.std.specs.Prelude.{◌≡◌, true, IfOk, IfErr};
 ghost use Rattle.mv_design.specs.Proper.{numbers_ascend};
-ghost use Rattle.mv_proper.specs.Lines.{numbers_of};
+ghost use Rattle.mv_parse_laws.specs.Lines.{numbers_of};
 ghost use Rattle.mv_read.specs.Reads.{IsNetOf, IsFaultOf, parse_refused, flat_refused};
 
 use mv_fault::FlatFault;

@@ -14,11 +14,11 @@ use Rattle.mv_design.specs.declared.table.FileTable.{FileTable}
 use Rattle.mv_design.specs.Nets.{columns_of, drivers, nets_driven, output_of}
 use Rattle.mv_design.specs.Proper.{IsFileRow, IsFileLatch, IsFileTable, IsFileReset, IsLawful}
 use Rattle.mv_design.specs.Values.{count_of}
-use Rattle.mv_unfold.specs.Sound.{resets_named, HasResetsOfLatches, IsDrivenOnce, IsSoundModel}
-use Rattle.mv_unfold.proofs.Commands.{column_named, named_is_net, reset_named}
-use Rattle.mv_unfold.proofs.Distinct.{net_is_driven}
-use Rattle.mv_unfold.proofs.Names.{all_among, all_from_among}
-use Rattle.mv_unfold.proofs.Soundness.{in_left}
+use Rattle.mv_acyclic.specs.Sound.{resets_named, HasResetsOfLatches, IsDrivenOnce, IsSoundModel}
+use Rattle.mv_acyclic.proofs.Commands.{column_named, named_is_net, reset_named}
+use Rattle.mv_acyclic.proofs.Distinct.{net_is_driven}
+use Rattle.mv_acyclic.proofs.Names.{all_among, all_from_among}
+use Rattle.mv_acyclic.proofs.Soundness.{in_left}
 use Rattle.mv_resets.specs.NetModels.{is_flat_name, IsNetTable, IsResetOf, IsNetModel}
 use Rattle.mv_resets.specs.Resets.{reset_name, reset_table, with_reset_nets}
 use Rattle.mv_resets.proofs.ByLine.{All-by_line}

@@ -20,13 +20,13 @@ use Rattle.mv_design.specs.declared.table.FileTable.{FileTable}
 use Rattle.mv_design.specs.ByLine.{by_line}
 use Rattle.mv_design.specs.Nets.{columns_of, output_of, nets_of, nets_driven, latch_inputs, latch_outputs, drivers}
 use Rattle.mv_design.specs.Proper.{IsFileTable, IsFileReset, IsLawful}
-use Rattle.mv_unfold.specs.Sound.{resets_named, HasResetsOfLatches, IsDrivenOnce}
+use Rattle.mv_acyclic.specs.Sound.{resets_named, HasResetsOfLatches, IsDrivenOnce}
 use Rattle.mv_design.proofs.ByLine.{any-by_line}
-use Rattle.mv_unfold.proofs.Commands.{among-nets_named, driver_is_net}
-use Rattle.mv_unfold.proofs.Distinct.{net_is_driven}
-use Rattle.mv_unfold.proofs.Named.{among-nets_of}
-use Rattle.mv_unfold.proofs.Names.{all_among, count_of_append}
-use Rattle.mv_unfold.proofs.Soundness.{in_either, in_left, in_right}
+use Rattle.mv_acyclic.proofs.Commands.{among-nets_named, driver_is_net}
+use Rattle.mv_acyclic.proofs.Distinct.{net_is_driven}
+use Rattle.mv_acyclic.proofs.Named.{among-nets_of}
+use Rattle.mv_acyclic.proofs.Names.{all_among, count_of_append}
+use Rattle.mv_acyclic.proofs.Soundness.{in_either, in_left, in_right}
 use Rattle.mv_resets.specs.Resets.{reset_name, reset_table, with_reset_nets}
 use Rattle.mv_resets.proofs.ByLine.{moved_behind, flat-by_line, all-by_line}
 use Rattle.mv_resets.proofs.Words.{has, any-map, among_flat, not_lawful, times}

@@ -11,10 +11,10 @@ use Rattle.mv_design.specs.declared.design.FileModel.{FileModel}
 use Rattle.mv_design.specs.declared.table.FileTable.{FileTable}
 use Rattle.mv_design.specs.Nets.{drivers, latch_outputs, nets_driven, nets_of}
 use Rattle.mv_design.specs.Proper.{IsFileReset, IsLawful}
-use Rattle.mv_unfold.specs.Sound.{reads, reads_through, resets_named, HasResetsOfLatches, IsDrivenOnce, IsSoundModel, IsWithinLimits, StandsAlone}
-use Rattle.mv_unfold.proofs.Commands.{driver_is_net, read_is_net, reader_is_net}
-use Rattle.mv_unfold.proofs.Distinct.{apart_length, differ_counted, drivers_counted, few_drivers}
-use Rattle.mv_unfold.proofs.Names.{all_among, count_of_append}
+use Rattle.mv_acyclic.specs.Sound.{reads, reads_through, resets_named, HasResetsOfLatches, IsDrivenOnce, IsSoundModel, IsWithinLimits, StandsAlone}
+use Rattle.mv_acyclic.proofs.Commands.{driver_is_net, read_is_net, reader_is_net}
+use Rattle.mv_acyclic.proofs.Distinct.{apart_length, differ_counted, drivers_counted, few_drivers}
+use Rattle.mv_acyclic.proofs.Names.{all_among, count_of_append}
 use Rattle.mv_resets.specs.NetModels.{HasFewNets, HasSoundNets}
 use Rattle.mv_resets.specs.Resets.{reset_name, reset_table, with_reset_nets}
 use Rattle.mv_resets.proofs.Words.{Has, has, counted_once, lawful_among, named, not_counted, not_lawful, reset_times, times}

@@ -20,10 +20,10 @@ use Rattle.mv_design.specs.Nets.{latch_inputs, latch_outputs, nets_named, output
 use Rattle.mv_design.specs.Proper.{IsFileTable, IsFileReset, IsLawful}
 use Rattle.mv_design.specs.Tables.{table_allows}
 use Rattle.mv_design.specs.Values.{count_of, values_of}
-use Rattle.mv_unfold.specs.Sound.{resets_named, HasResetsOfLatches, IsSoundModel}
-use Rattle.mv_unfold.proofs.Commands.{driver_is_net, named_is_net}
-use Rattle.mv_unfold.proofs.Named.{among-nets_of}
-use Rattle.mv_unfold.proofs.Names.{all_among, all_from_among}
+use Rattle.mv_acyclic.specs.Sound.{resets_named, HasResetsOfLatches, IsSoundModel}
+use Rattle.mv_acyclic.proofs.Commands.{driver_is_net, named_is_net}
+use Rattle.mv_acyclic.proofs.Named.{among-nets_of}
+use Rattle.mv_acyclic.proofs.Names.{all_among, all_from_among}
 use Rattle.mv_resets.specs.Resets.{reset_name, reset_table, with_reset_nets}
 use Rattle.mv_resets.specs.Valued.{has_reset_net, reset_is, resets_are, AllowsNets, latch_seen, of_nets}
 use Rattle.mv_resets.proofs.Words.{map_alike, named, not_lawful, reset_among}

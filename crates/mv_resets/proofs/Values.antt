@@ -16,7 +16,7 @@ use Rattle.mv_design.specs.declared.table.FileTable.{FileTable}
 use Rattle.mv_design.specs.Nets.{output_of}
 use Rattle.mv_design.specs.Proper.{FitSets, FitOutput, FitOutputs, IsSame, IsFileDecl}
 use Rattle.mv_design.specs.Values.{two_values, values_of, count_of}
-use Rattle.mv_unfold.specs.Sound.{resets_named}
+use Rattle.mv_acyclic.specs.Sound.{resets_named}
 use Rattle.mv_resets.specs.NetModels.{HasLawfulValues}
 use Rattle.mv_resets.specs.Resets.{reset_decl, reset_name, with_reset_nets}
 use Rattle.mv_resets.proofs.Words.{other_name}

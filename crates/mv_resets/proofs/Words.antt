@@ -9,7 +9,7 @@ use Rattle.std.proofs.lemmas.List.Folds.{list_any_none}
 use Rattle.mv_base.specs.Names.{same_word, among, begins_with, is_net_name, names_differ}
 use Rattle.mv_base.proofs.Lists.{found}
 use Rattle.mv_base.proofs.NameLemmas.{same_word_is, among-append, among-at}
-use Rattle.mv_unfold.proofs.Names.{among_counted, count_of_cons}
+use Rattle.mv_acyclic.proofs.Names.{among_counted, count_of_cons}
 use Rattle.mv_resets.specs.Resets.{reset_name}
 
 -- ---- elements that pass a test

@@ -11,7 +11,7 @@ use Rattle.mv_design.specs.declared.table.FileTable.{FileTable}
 use Rattle.mv_design.specs.Nets.{drivers, latch_outputs, nets_driven}
 use Rattle.mv_design.specs.Values.{values_of}
 use Rattle.mv_design.specs.Proper.{FitOutputs, IsFileLatch, IsFileRow}
-use Rattle.mv_unfold.specs.Sound.{reads, IsDrivenOnce}
+use Rattle.mv_acyclic.specs.Sound.{reads, IsDrivenOnce}
 use Rattle.mv_resets.specs.Resets.{reset_name}
 
 -- a declaration has some values, and no more than a net may have, with lawful names, all different

@@ -6,14 +6,14 @@ use Rattle.mv_opt.specs.Drawn.{drawn}
 use Rattle.mv_opt.specs.Optimised.{Optimises}
 use Rattle.mv_task.specs.Inputs.{Inputs, named}
 use Rattle.mv_task.specs.Lines.{TellsLine, memory_line}
-use Rattle.mv_words.specs.CommandLine.{Asked, opt, check, work}
-use Rattle.mv_run.specs.Doing.{Does}
+use Rattle.mv_command_line.specs.CommandLine.{Asked, opt, check, work}
+use Rattle.mv_run.specs.Doing.{EndsAsked}
 
 pub short_at_once : (asked : Option Asked) (files : Stored) (out notes notes' : Written)
     → ((given : Inputs) → Optimises given files files out out notes notes' 6)
     → ((net certificate : List ℕ) → Checks net certificate files files out out notes notes' 6)
     → TellsLine notes notes' memory_line
-    → Does asked files files out out notes notes' 6
+    → EndsAsked asked files files out out notes notes' 6
 short_at_once (Some (opt f)) files out notes notes' optimises checks told = optimises (named f.net f.other)
 short_at_once (Some (check f)) files out notes notes' optimises checks told = checks f.net f.other
 short_at_once (Some (work d)) files out notes notes' optimises checks told = optimises (drawn d.size d.seed d.script)

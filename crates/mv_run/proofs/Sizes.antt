@@ -5,7 +5,7 @@ use Rattle.std.specs.Char.{is_ascii_digit}
 use Rattle.std.specs.List.{list_all}
 use Rattle.std.specs.Str.Parse.{digits_value}
 use Rattle.std.proofs.lemmas.Bool.{false≢true, leb-true}
-use Rattle.mv_words.specs.CommandLine.{Files, Draw, Parts, opt, check, work, number_of, size_of, seed_of, budget_given, draw_in, draw_asked, files_asked, parts_of, task_of}
+use Rattle.mv_command_line.specs.CommandLine.{Files, Draw, Parts, opt, check, work, number_of, size_of, seed_of, budget_given, draw_in, draw_asked, files_asked, parts_of, task_of}
 
 -- of five tests that hold the last two hold
 last_two : (a b c d e : Bool) → (a && b && c && d && e) ≡ true → (d ≡ true) × (e ≡ true)

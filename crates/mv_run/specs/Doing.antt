@@ -6,7 +6,7 @@ use Rattle.mv_opt.specs.Drawn.{drawn}
 use Rattle.mv_opt.specs.Optimised.{Optimises}
 use Rattle.mv_task.specs.Inputs.{named}
 use Rattle.mv_task.specs.Lines.{TellsLine, words_line, memory_line}
-use Rattle.mv_words.specs.CommandLine.{Asked, opt, check, work}
+use Rattle.mv_command_line.specs.CommandLine.{Asked, opt, check, work}
 
 -- the words are refused, with status 1 and its line, or memory ran out, with 6 and its line
 abbrev pub RefusesWords : Written → Written → ℕ → Type 0
@@ -14,8 +14,8 @@ RefusesWords notes notes' status = ((status ≡ 1) × TellsLine notes notes' wor
 
 -- how a run ends of which this is asked: that a script optimises the network of a file or one that is drawn, or that a certificate is
 -- checked; where the words ask for none of these, they are refused
-abbrev pub Does : Option Asked → Stored → Stored → Written → Written → Written → Written → ℕ → Type 0
-Does (Some (opt f)) files files' out out' notes notes' status = Optimises (named f.net f.other) files files' out out' notes notes' status
-Does (Some (check f)) files files' out out' notes notes' status = Checks f.net f.other files files' out out' notes notes' status
-Does (Some (work d)) files files' out out' notes notes' status = Optimises (drawn d.size d.seed d.script) files files' out out' notes notes' status
-Does None files files' out out' notes notes' status = RefusesWords notes notes' status
+abbrev pub EndsAsked : Option Asked → Stored → Stored → Written → Written → Written → Written → ℕ → Type 0
+EndsAsked (Some (opt f)) files files' out out' notes notes' status = Optimises (named f.net f.other) files files' out out' notes notes' status
+EndsAsked (Some (check f)) files files' out out' notes notes' status = Checks f.net f.other files files' out out' notes notes' status
+EndsAsked (Some (work d)) files files' out out' notes notes' status = Optimises (drawn d.size d.seed d.script) files files' out out' notes notes' status
+EndsAsked None files files' out out' notes notes' status = RefusesWords notes notes' status

@@ -3,7 +3,7 @@ use Rattle.std.specs.Prelude.{ℕ, List, Option, Some, None}
 use Rattle.mv_base.specs.Outside.{Stored, Written}
 use Rattle.mv_net.specs.declared.parts.NetParts.{NetParts}
 use Rattle.mv_task.specs.Replaced.{Replaced}
-use Rattle.mv_words.specs.CommandLine.{Asked, opt, check, work}
+use Rattle.mv_command_line.specs.CommandLine.{Asked, opt, check, work}
 
 -- the name of the network file that a task reads, if it reads one
 abbrev pub network_asked : Option Asked → Option (List ℕ)

@@ -1,14 +1,14 @@
 ghost use Rattle.std.specs.Prelude.{◌≡◌, ◌≤◌, map, string_bytes, None, IfSome};
 ghost use Rattle.mv_base.specs.Outside.{Rose};
 ghost use Rattle.mv_task.specs.Lines.{TellsLine};
-ghost use Rattle.mv_words.specs.CommandLine.{task_of};
-ghost use Rattle.mv_run.specs.Doing.{Does};
+ghost use Rattle.mv_command_line.specs.CommandLine.{task_of};
+ghost use Rattle.mv_run.specs.Doing.{EndsAsked};
 ghost use Rattle.mv_run.specs.Replacing.{IsReplaced, network_asked};
 
 use mv_base::{Files, Sink};
 use mv_check::check;
+use mv_command_line::{Task, WordsStop, read_words};
 use mv_opt::{optimise, work};
-use mv_words::{Task, WordsStop, read_words};
 use std::alloc::Global;
 
 /// Puts a line to the notes, as far as they take it.
@@ -40,7 +40,7 @@ pub fn run<F: Files, O: Sink, E: Sink>(
     ensures replaced { result ≡ 0 → IfSome (network_asked (task_of (map string_bytes words.now)))
         (IsReplaced (F.state files.old) (F.state files.new) (O.state out.old) (O.state out.new)) }
     ensures words { result ≡ 1 → task_of (map string_bytes words.now) ≡ None }
-    ensures does { Does (task_of (map string_bytes words.now)) (F.state files.old) (F.state files.new)
+    ensures does { EndsAsked (task_of (map string_bytes words.now)) (F.state files.old) (F.state files.new)
         (O.state out.old) (O.state out.new) (E.state notes.old) (E.state notes.new) result }
     ensures read { result ≡ 4 → Rose (F.state files.old).faults (F.state files.new).faults }
     ensures untouched { (result ≡ 0 → ⊥) → (result ≡ 5 → ⊥) → O.state out.new ≡ O.state out.old }

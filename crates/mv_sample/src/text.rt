@@ -1,6 +1,6 @@
 //! Texts on one line, in which `;` stands for a line's end, and the networks that they say.
 ghost use Rattle.std.specs.Prelude.{IfOk};
-ghost use Rattle.mv_proper.specs.Lines.{AreOfFile};
+ghost use Rattle.mv_parse_laws.specs.Lines.{AreOfFile};
 
 use mv_base::MAX_NETWORK_BYTES;
 use mv_cover::Cover;
@@ -26,7 +26,7 @@ pub fn lines(alloc: Global, text: &str) -> Result<Lines, Fail>
 }
 
 /// The network of a text, in which `;` stands for a line's end. It fails with the fault of the text, or for want of memory.
-#[tactic(auto, using(mv_proper::proofs::FileLines::file_ascends))]
+#[tactic(auto, using(mv_parse_laws::proofs::FileLines::file_ascends))]
 pub fn network(alloc: Global, text: &str) -> Result<Network, Fail> {
     Ok(network_of(alloc, lines(alloc, text)?)?)
 }

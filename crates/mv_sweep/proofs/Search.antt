@@ -5,7 +5,7 @@ use Rattle.mv_agenda.specs.Agenda.{waits, AllWait, AllWaitBut, NoneWaits, PutsAl
 use Rattle.mv_agenda.proofs.Looking.{all_at_first, all_but_taken, all_without_taken, least_of_all, none_at_end}
 use Rattle.mv_base.specs.declared.number.NetId.{NetId}
 use Rattle.mv_graph.specs.Nets.{IsAscending, has_id}
-use Rattle.mv_local.proofs.Steps.{steps_left, removes_fewer}
+use Rattle.mv_locality.proofs.Steps.{steps_left, removes_fewer}
 use Rattle.mv_net.specs.declared.parts.NetParts.{NetParts}
 use Rattle.mv_net.specs.Changes.{without, with_nets}
 use Rattle.mv_net.specs.Index.{is_seen}

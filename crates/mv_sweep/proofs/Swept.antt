@@ -6,12 +6,12 @@ use Rattle.mv_agenda.specs.Near.{IsNear}
 use Rattle.mv_agenda.proofs.Looking.{all_at_first, all_but_taken, all_with_near, all_without_taken, least_of_all, none_at_end}
 use Rattle.mv_cover.specs.declared.cover.Cover.{Cover}
 use Rattle.mv_entry.specs.Entries.{Applied}
-use Rattle.mv_local.specs.Local.{StaysAround}
-use Rattle.mv_local.specs.Same.{KeepsPlace}
-use Rattle.mv_local.proofs.Fewer.{is_plain, collapses_no_more}
-use Rattle.mv_local.proofs.Places.{place_kept, place_back, far_stays, IsRead-same, HasComposites-same, IsUnseen-same, IsRemovable-same}
-use Rattle.mv_local.proofs.Steps.{names_itself, removes_around, wires_around, collapses_around, removes_fewer, wires_fewer, collapses_fewer}
-use Rattle.mv_local.proofs.Tables.{IsBuffer-same, IsPlainConstant-same}
+use Rattle.mv_locality.specs.Local.{StaysAround}
+use Rattle.mv_locality.specs.Same.{KeepsPlace}
+use Rattle.mv_locality.proofs.Fewer.{is_plain, collapses_no_more}
+use Rattle.mv_locality.proofs.Places.{place_kept, place_back, far_stays, IsRead-same, HasComposites-same, IsUnseen-same, IsRemovable-same}
+use Rattle.mv_locality.proofs.Steps.{names_itself, removes_around, wires_around, collapses_around, removes_fewer, wires_fewer, collapses_fewer}
+use Rattle.mv_locality.proofs.Tables.{IsBuffer-same, IsPlainConstant-same}
 use Rattle.mv_net.specs.declared.parts.FlatNet.{FlatNet}
 use Rattle.mv_net.specs.declared.parts.NetParts.{NetParts}
 use Rattle.mv_net.specs.Changes.{with_nets}
@@ -24,9 +24,9 @@ use Rattle.mv_rules.specs.Applies.{Applies}
 use Rattle.mv_net.specs.Plain.{IsPlainBuffer, IsPlainConstant}
 use Rattle.mv_rules.specs.Checks.{IsTabled, IsUnseen, IsRead}
 use Rattle.mv_rules.specs.Collapsing.{CanCollapse, Collapses, collapsed}
-use Rattle.mv_saving.specs.Savings.{IsSaving, IsWideNet}
-use Rattle.mv_saving.proofs.Behind.{right_removed, right_wired, right_collapsed}
-use Rattle.mv_saving.proofs.Going.{wide_net}
+use Rattle.mv_gain.specs.Savings.{IsSaving, IsWideNet}
+use Rattle.mv_gain.proofs.Behind.{right_removed, right_wired, right_collapsed}
+use Rattle.mv_gain.proofs.Going.{wide_net}
 use Rattle.mv_sweep.specs.declared.way.Way.{Way}
 use Rattle.mv_sweep.specs.declared.way.Way.TheVariants.{Remove, Wire, Collapse}
 use Rattle.mv_sweep.specs.Sweeps.{IsFoldable, IsSweptNet, IsSwept, IsSweepStep}

@@ -3,14 +3,14 @@ use Rattle.std.specs.Prelude.{◌≡◌, ℕ, ◌<◌, List}
 use Rattle.mv_agenda.specs.Agenda.{AllWaitBut}
 use Rattle.mv_entry.specs.declared.rule.Rule.{Rule}
 use Rattle.mv_entry.specs.declared.rule.Rule.TheVariants.{Remove, Wire, Collapse}
-use Rattle.mv_local.specs.Local.{StaysAround}
-use Rattle.mv_local.proofs.Steps.{steps_left}
+use Rattle.mv_locality.specs.Local.{StaysAround}
+use Rattle.mv_locality.proofs.Steps.{steps_left}
 use Rattle.mv_net.specs.declared.parts.NetParts.{NetParts}
 use Rattle.mv_net.specs.Changes.{with_nets}
 use Rattle.mv_net.specs.Formed.{WellFormed}
 use Rattle.mv_net.specs.Total.{IsRemovable}
-use Rattle.mv_saving.specs.declared.kept.KeptComposites.{KeptComposites}
-use Rattle.mv_saving.specs.Kept.{AreRight, RightBehind}
+use Rattle.mv_gain.specs.declared.kept.KeptComposites.{KeptComposites}
+use Rattle.mv_gain.specs.Kept.{AreRight, RightBehind}
 use Rattle.mv_sweep.specs.declared.way.Way.{Way}
 use Rattle.mv_sweep.specs.declared.way.Way.TheVariants.{Remove as by_removal, Wire as by_wiring, Collapse as by_collapse}
 use Rattle.mv_sweep.specs.Sweeps.{IsWirable, IsFoldable, IsSweptNet}

@@ -7,7 +7,7 @@ ghost use Rattle.mv_net.specs.Allowed.{of_net};
 ghost use Rattle.mv_pass.specs.Going.{Goes};
 ghost use Rattle.mv_pass.specs.Passing.{Passes};
 ghost use Rattle.mv_pass.specs.Taking.{GoesOn, Went, WentPart};
-ghost use Rattle.mv_saving.specs.Kept.{AreRight};
+ghost use Rattle.mv_gain.specs.Kept.{AreRight};
 ghost use Rattle.mv_sweep.specs.Sweeps.{IsSwept, IsSweepStep, EndsSweep};
 ghost use Rattle.mv_sweep.specs.Ways as spec;
 ghost use Rattle.mv_sweep.specs.Ways.{CanSweep, IsNext, IsLeastWay, StepsAround};
@@ -17,9 +17,9 @@ use crate::{NO_BUDGET, Stop};
 use mv_agenda::{Agenda, put_near};
 use mv_base::{Memory, Name, NetId};
 use mv_entry::{Command, Journal, Note, Rule};
+use mv_gain::KeptComposites;
 use mv_net::Network;
 use mv_pass::{few_literals, take};
-use mv_saving::KeptComposites;
 use std::alloc::Global;
 
 /// A net, and the rule that `sweep` applies to it.

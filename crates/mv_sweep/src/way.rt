@@ -1,13 +1,13 @@
 ghost use Rattle.std.specs.Prelude.{IsTrue, IfOk, OnOk, MatchOption};
 ghost use Rattle.mv_net.specs.Index.{is_held};
 ghost use Rattle.mv_rules.specs.Checks.{IsUnseen, IsUnread, IsRead};
-ghost use Rattle.mv_saving.specs.Kept.{AreRight};
+ghost use Rattle.mv_gain.specs.Kept.{AreRight};
 ghost use Rattle.mv_sweep.specs.Sweeps.{IsSweptNet};
 ghost use Rattle.mv_sweep.specs.Ways.{IsWay};
 
 use mv_base::{Memory, NetId};
+use mv_gain::{KeptComposites, Verdict};
 use mv_net::Network;
-use mv_saving::{KeptComposites, Verdict};
 use std::alloc::Global;
 
 /// Which of its rules `sweep` applies to a net.

@@ -3,7 +3,7 @@ use Rattle.std.proofs.Common.{◌≡◌, ◌∙◌, ℕ, List, Option, Some, Non
 use Rattle.std.specs.Prelude.{IfSome, IsSomeAnd}
 use Rattle.mv_base.specs.Outside.{Held, Stored, Written, file_named}
 use Rattle.mv_lex.specs.Lines.{lines_of}
-use Rattle.mv_proper.proofs.FileLines.{lines-ascend}
+use Rattle.mv_parse_laws.proofs.FileLines.{lines-ascend}
 use Rattle.mv_read.specs.declared.network.NetFault.TheVariants.{Parse as ParseFault, Flat as FlatFault}
 use Rattle.mv_read.proofs.Refused.{refused-excludes}
 use Rattle.mv_task.specs.Inputs.{Source, File, Text, Inputs, Misses}

@@ -11,11 +11,11 @@ use Rattle.mv_fault.specs.declared.fault.ParseFault.{ParseFault}
 use Rattle.mv_fault.specs.declared.flat.FlatFault.{FlatFault}
 use Rattle.mv_net.specs.declared.parts.NetParts.{NetParts}
 use Rattle.mv_parse.specs.Grammar.{FirstFault}
-use Rattle.mv_proper.specs.Lines.{numbers_of}
-use Rattle.mv_proper.proofs.FileLines.{file_ascends}
+use Rattle.mv_parse_laws.specs.Lines.{numbers_of}
+use Rattle.mv_parse_laws.proofs.FileLines.{file_ascends}
 use Rattle.mv_read.specs.Reads.{IsNetOf, IsUnsound}
-use Rattle.mv_printed.specs.Names.{HasWordNames}
-use Rattle.mv_printed.proofs.Short.{design_short}
+use Rattle.mv_rules_back.specs.Names.{HasWordNames}
+use Rattle.mv_rules_back.proofs.Short.{design_short}
 use Rattle.mv_files.specs.FileReading.{StaySame, Stay}
 use Rattle.mv_files.specs.LexedFiles.{HasReadAll, WasLexed, HasFault}
 use Rattle.mv_task.specs.declared.fault.FileFault.{FileFault}

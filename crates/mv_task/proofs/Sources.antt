@@ -5,9 +5,9 @@ use Rattle.mv_base.specs.Outside.{Held, Stored, Written, Still, Gained}
 use Rattle.mv_base.proofs.Meanings.{Refines-from_same, Refines-then}
 use Rattle.mv_net.specs.declared.parts.NetParts.{NetParts}
 use Rattle.mv_net.specs.Allowed.{of_net}
-use Rattle.mv_whole.specs.Sound.{of_sound}
+use Rattle.mv_unfold.specs.Sound.{of_sound}
 use Rattle.mv_text.specs.Text.{text_of}
-use Rattle.mv_back.specs.Back.{ReadsBack}
+use Rattle.mv_text_back.specs.Back.{ReadsBack}
 use Rattle.mv_task.specs.Inputs.{File}
 use Rattle.mv_task.specs.Made.{WasPrepared, Prepared}
 use Rattle.mv_task.specs.Replaced.{IsSource, Replaced}

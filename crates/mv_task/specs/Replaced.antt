@@ -4,10 +4,10 @@ use Rattle.mv_base.specs.Meaning.{Meaning, Refines}
 use Rattle.mv_base.specs.Outside.{Held, Stored, Written, StillTell, file_named, Gained}
 use Rattle.mv_net.specs.declared.parts.NetParts.{NetParts}
 use Rattle.mv_design.specs.declared.design.Design.{Design}
-use Rattle.mv_whole.specs.Sound.{of_sound}
+use Rattle.mv_unfold.specs.Sound.{of_sound}
 use Rattle.mv_flat.specs.Flat.{IsFlat}
 use Rattle.mv_text.specs.Text.{text_of}
-use Rattle.mv_back.specs.Back.{ReadsAs}
+use Rattle.mv_text_back.specs.Back.{ReadsAs}
 
 -- the named network file was read to its end, and its design became the first network; and what was written may take the place of
 -- the design that was read

@@ -1,5 +1,5 @@
 ghost use Rattle.std.specs.Prelude.{IfOk, IfErr};
-ghost use Rattle.mv_printed.specs.Names.{HasWordNames};
+ghost use Rattle.mv_rules_back.specs.Names.{HasWordNames};
 ghost use Rattle.mv_task.specs.Faults.{IsNetworkCause};
 ghost use Rattle.mv_task.specs.Inputs.{File, Text};
 ghost use Rattle.mv_task.specs.Made.{IsNetOfText, Prepared};

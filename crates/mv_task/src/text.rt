@@ -1,7 +1,7 @@
 ghost use Rattle.std.specs.Prelude.{◌≡◌, Err, IfOk, IfErr, OnOk, None};
 ghost use Rattle.mv_base.specs.declared.limits.TheConstants.{MAX_NETWORK_BYTES};
 ghost use Rattle.mv_lex.specs.Lines.{IsTold, lex_fault, lines_of};
-ghost use Rattle.mv_printed.specs.Names.{HasWordNames};
+ghost use Rattle.mv_rules_back.specs.Names.{HasWordNames};
 ghost use Rattle.mv_task.specs.declared.fault.FileFault.{FileFault};
 ghost use Rattle.mv_task.specs.Faults.{Refuses};
 ghost use Rattle.mv_task.specs.Made.{IsNetOfText};

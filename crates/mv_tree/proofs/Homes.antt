@@ -10,7 +10,7 @@ use Rattle.mv_base.specs.Names.{same_word, among, names_differ}
 use Rattle.mv_base.proofs.NameLemmas.{same_word_is, same_word_refl, among-append}
 use Rattle.mv_tree.specs.Places.{Place, own_nets, homes_at, homes}
 use Rattle.mv_tree.proofs.Each.{each-weaker, each-flat, each-mapped, each-named}
-use Rattle.mv_tree.proofs.Told.{told, names_in, all_told}
+use Rattle.mv_tree.proofs.Told.{value_told, names_in, all_told}
 
 -- ---- what is told of own nets
 
@@ -42,9 +42,9 @@ pub record TellsOwn {X : Type 0} (f : List ℕ → X) (s : Seat X) : Type 0 wher
   pub own : (net : List ℕ) → among net (own_nets s.place) ≡ true → f (s.place.home net) ≡ s.tells net
 
 -- of each own net of each place is told what the seat tells of it
-pub own_told : {X : Type 0} (d : X) (ss : List (Seat X)) → names_differ (homes (places_of ss)) ≡ true → AllByRecursion (TellsOwn (told d (entries ss))) ss
+pub own_told : {X : Type 0} (d : X) (ss : List (Seat X)) → names_differ (homes (places_of ss)) ≡ true → AllByRecursion (TellsOwn (value_told d (entries ss))) ss
 own_told {X} d ss h =
-    let f = told d (entries ss) in
+    let f = value_told d (entries ss) in
     let all = all_told d (entries ss) (ap names_differ (entry_names ss) ∙ h) in
     let Entry : List ℕ × X → Type 0 = λ e. f e.0 ≡ e.1 in
     each-weaker (λ s. AllByRecursion Entry (entries_at s)) (TellsOwn f)
@@ -100,7 +100,7 @@ behind_none m n e = omega arith
 pub one_home : (ps : List Place) (name : List ℕ) → names_differ (homes ps) ≡ true → (a b : AtHome ps name) → IsOneHome a b
 one_home ps name h a b =
     let ss = seats_from 0 ps in
-    let f = told (0, []) (entries ss) in
+    let f = value_told (0, []) (entries ss) in
     let all = own_told (0, []) ss (ap (λ qs. names_differ (homes qs)) (seats_places 0 ps) ∙ h) in
     let told_of : (c : AtHome ps name) → f name ≡ (0 + c.number, c.net) = λ c. ap f (sym c.is) ∙ told_at f 0 c.number ps c.place c.net all c.at c.own in
     let same : (0 + a.number, a.net) ≡ (0 + b.number, b.net) = sym (told_of a) ∙ told_of b in

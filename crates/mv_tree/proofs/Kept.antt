@@ -9,7 +9,7 @@ use Rattle.std.proofs.lemmas.Slice.Eq.{bytes_eq-Decides}
 use Rattle.mv_base.specs.Names.{same_word, among, names_differ}
 use Rattle.mv_base.proofs.NameLemmas.{same_word_is, among-append}
 use Rattle.mv_tree.proofs.Each.{each-mapped, each-named}
-use Rattle.mv_tree.proofs.Told.{told, all_told}
+use Rattle.mv_tree.proofs.Told.{value_told, all_told}
 
 -- ---- elements that pass a test
 
@@ -94,7 +94,7 @@ pub one_name : (home : List ℕ → List ℕ) (ws : List (List ℕ)) (a b : List
     → home a ≡ home b → a ≡ b
 one_name home ws a b differ in_a in_b e =
     let entry : List ℕ → List ℕ × List ℕ = λ w. (home w, w) in
-    let f = told [] (map entry ws) in
+    let f = value_told [] (map entry ws) in
     let all = all_told [] (map entry ws) (ap names_differ (map-map (λ x. x.0) entry ws) ∙ differ) in
     let each : (w : List ℕ) → among w ws ≡ true → f (home w) ≡ w = λ w h. each-named (λ x. f (home x) ≡ x) ws w (each-mapped (λ x. f x.0 ≡ x.1) entry ws all) h in
     sym (each a in_a) ∙ (ap f e ∙ each b in_b)

@@ -19,7 +19,7 @@ use Rattle.mv_tree.specs.Unfolded.{tables_in, latches_in, joined, unfolded}
 use Rattle.mv_tree.specs.Meaning.{NoValues, Valued, valued_in, states_of, nexts_of, BeginWith, AllowsTree, of_tree}
 use Rattle.mv_tree.specs.Bound.{FollowsGrammar, IsWhole}
 use Rattle.mv_tree.proofs.Each.{all_pass, named_passes, each-always, each-both, each-from_names, each-from_test, each-map, each-mapped, each-weaker, test-from_each}
-use Rattle.mv_tree.proofs.Told.{told}
+use Rattle.mv_tree.proofs.Told.{value_told}
 use Rattle.mv_tree.proofs.Homes.{Seat, places_of, TellsOwn, entries, own_told}
 use Rattle.mv_tree.proofs.Named.{AreAmong, nets_among, named_among}
 use Rattle.mv_tree.proofs.Inside.{AreNamed, are_named, TellsAll}
@@ -101,7 +101,7 @@ model_allows root tree j i s o n r t =
     let whole = joined root ps in
     let ss = seats root tree t.value t.inside in
     let are : places_of ss ≡ ps = ap (λ qs. root_place root ∷ qs) (seats_places t.value (root_place root) tree t.inside t.consistent) in
-    let value = told 0 (entries ss) in
+    let value = value_told 0 (entries ss) in
     let own : AllByRecursion (TellsOwn value) ss = own_told 0 ss (ap (λ qs. names_differ (homes qs)) are ∙ j.differ) in
     let tell : AllByRecursion (TellsAll value) ss = seats_tell value root tree t.value t.inside t.consistent j.named own in
     let stand : AllByRecursion (StandsAt ps) ss = each-mapped (Stands ps) (λ s. s.place) ss (subst (AllByRecursion (Stands ps)) (sym are) j.stand) in

@@ -16,7 +16,7 @@ use Rattle.mv_tree.specs.Places.{actual_of, all_nets, Place, root_place, place_i
 use Rattle.mv_tree.specs.Unfolded.{placed_decl, decls_in}
 use Rattle.mv_tree.specs.Bound.{IsBound, AreBound}
 use Rattle.mv_tree.proofs.Each.{each-append, each-both, each-weaker, each-mapped, each-from_test}
-use Rattle.mv_tree.proofs.Told.{told}
+use Rattle.mv_tree.proofs.Told.{value_told}
 use Rattle.mv_tree.proofs.Homes.{places_of, TellsOwn, entries_at, entries, own_told, own_listed}
 use Rattle.mv_tree.proofs.Inside.{AreNamed, Inherits, TellsAll, all_tell, each_bound, own_is_unbound, seated, through-bound, through-own}
 
@@ -26,7 +26,7 @@ use Rattle.mv_tree.proofs.Inside.{AreNamed, Inherits, TellsAll, all_tell, each_b
 abbrev declared : Place → List ℕ → List (List ℕ)
 declared p = values_of p.model.decls
 
-values_told : (ds : List Decl) (w : List ℕ) → values_of ds w ≡ told two_values (map (λ d. (d.net, d.values)) ds) w
+values_told : (ds : List Decl) (w : List ℕ) → values_of ds w ≡ value_told two_values (map (λ d. (d.net, d.values)) ds) w
 values_told [] w = refl
 values_told (d ∷ ds) w = ap (λ (vs : List (List ℕ)). if same_word w d.net then d.values else vs) (values_told ds w)
 
@@ -45,8 +45,8 @@ seated_places tells (p ∷ ps) = ap (λ qs. p ∷ qs) (seated_places tells ps)
 own_declared : (ps : List Place) → names_differ (homes ps) ≡ true → AllByRecursion (λ p. TellsOwn (values_of (decls_in ps)) (seated declared p)) ps
 own_declared ps differ =
     let ss = map (seated declared) ps in
-    let f = told two_values (entries ss) in
-    let same : (w : List ℕ) → values_of (decls_in ps) w ≡ f w = λ w. values_told (decls_in ps) w ∙ ap (λ es. told two_values es w) (decls_entries ps) in
+    let f = value_told two_values (entries ss) in
+    let same : (w : List ℕ) → values_of (decls_in ps) w ≡ f w = λ w. values_told (decls_in ps) w ∙ ap (λ es. value_told two_values es w) (decls_entries ps) in
     each-weaker (λ p. TellsOwn f (seated declared p)) (λ p. TellsOwn (values_of (decls_in ps)) (seated declared p))
     (λ p h. record { own = λ net listed. same (p.home net) ∙ h.own net listed }) ps
     (each-mapped (TellsOwn f) (seated declared) ps (own_told two_values ss (ap (λ qs. names_differ (homes qs)) (seated_places declared ps) ∙ differ)))

@@ -1,18 +1,21 @@
--- How the nets of a model are gathered, command by command.
-use Rattle.std.specs.Prelude.{ℕ, List, [], ◌∷◌, ◌++◌, if◌then◌else◌}
-use Rattle.mv_base.specs.Names.{among}
-use Rattle.mv_design.specs.Nets.{Naming}
+-- Which nets of each place are driven, by it and from inside it.
+use Rattle.std.specs.Prelude.{ℕ, List, [], ◌∷◌, ◌++◌}
+use Rattle.mv_design.specs.declared.design.FileModel.{FileModel}
+use Rattle.mv_tree.specs.Tree.{Instances, NoMore, Instance}
+use Rattle.mv_tree.specs.Places.{Place, root_place, place_in}
+use Rattle.mv_unfold.specs.Driven.{driven_in}
 
--- names with one more behind them, if it isn't one of them
-abbrev pub with_name : List (List ℕ) → List ℕ → List (List ℕ)
-with_name names w = if among w names then names else names ++ w ∷ []
+-- a place, and those nets of its model that are driven by it or from inside it, as often as they are
+pub record Driving : Type 0 where
+  pub place : Place
+  pub driven : List (List ℕ)
 
--- names with those of others behind them that they lack, each once, where it first stands
-abbrev pub with_names : List (List ℕ) → List (List ℕ) → List (List ℕ)
-with_names names [] = names
-with_names names (w ∷ ws) = with_names (with_name names w) ws
+-- the same of the instances inside a place
+abbrev pub drivings_in : Place → Instances → List Driving
+drivings_in round NoMore = []
+drivings_in round (Instance part model inside rest) =
+    record { place = place_in round part model; driven = driven_in model inside } ∷ (drivings_in (place_in round part model) inside ++ drivings_in round rest)
 
--- names with those of commands
-abbrev pub with_named : List (List ℕ) → List Naming → List (List ℕ)
-with_named names [] = names
-with_named names (n ∷ ns) = with_named (with_names names n.nets) ns
+-- the same of the root, whose inputs are driven, and of all instances
+abbrev pub drivings : FileModel → Instances → List Driving
+drivings root tree = record { place = root_place root; driven = root.inputs ++ driven_in root tree } ∷ drivings_in (root_place root) tree

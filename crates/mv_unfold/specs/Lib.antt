@@ -1,6 +1,12 @@
-pub mod Sound
-pub mod Numbers
--- what private functions alone cite
+pub mod Whole
+pub mod Placed
+pub mod Locals
+pub mod Named
+pub mod ByName
+pub mod Commands
+pub mod Laid
+pub mod Joined
+pub mod Driven
 pub mod Driving
-pub mod Columns
-pub mod Alone
+pub mod Resets
+pub mod Sound

@@ -1,19 +1,27 @@
-//! Whether a net of a model without instances is above itself, and whether reset values stand apart from the latches; how the
-//! nets of a model are gathered and numbered; and the faults of its reset tables. It knows of files alone, and nothing of
-//! covers and networks.
+//! A design with instances as one model over all its nets, and what is wrong with these.
 #![tactic(auto)]
 
-mod alone;
+mod by_name;
 mod checking;
-mod columns;
-mod drivers;
+mod commands;
+mod counts;
+mod decls;
+mod driving;
+mod gather;
+mod home_counts;
+mod home_names;
+mod joined;
+mod laws;
+mod layout;
+mod made;
+mod model;
 mod naming;
-mod nets;
-mod numbers;
+mod reset_tables;
 mod resets;
+mod spans;
+mod tables;
+mod tallies;
 
-pub use checking::check;
-pub use naming::{Naming, front_before, namings};
-pub use nets::{add_named, add_net, add_nets};
-pub use numbers::Numbers;
-pub use resets::check_resets;
+pub use laws::{model_laws, sound_laws, whole_laws};
+pub use made::Whole;
+pub use model::whole;

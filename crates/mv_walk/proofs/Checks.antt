@@ -20,11 +20,11 @@ use Rattle.mv_walk.specs.declared.command.Command.{Command}
 use Rattle.mv_walk.specs.declared.command.Found.{Found}
 use Rattle.mv_walk.specs.declared.command.PortFault.{PortFault}
 use Rattle.mv_walk.specs.declared.walker.Walker.{Walker}
-use Rattle.mv_walk.specs.Walk.{Level, visit, port_faults, visit_faults, visits_faults}
-use Rattle.mv_walk.specs.Misfits.{Misfit, told, misfits, misfit_in, misfit_of}
+use Rattle.mv_walk.specs.Walk.{Level, visit, bound_port_faults, visit_faults, visits_faults}
+use Rattle.mv_walk.specs.Misfits.{Misfit, misfit_fault, misfits, misfit_in, misfit_of}
 use Rattle.mv_walk.specs.Commands.{FindsModel, IsCommand, IsFound, model_at}
 use Rattle.mv_walk.specs.Steps.{IsMarked, level_of, path_from, round_of, trail_of}
-use Rattle.mv_walk.proofs.Misfits.{port_faults-misfits, first-map, first-none}
+use Rattle.mv_walk.proofs.Misfits.{bound_port_faults-misfits, first-map, first-none}
 use Rattle.mv_walk.proofs.Placed.{named_at, unnamed_at, place_within}
 use Rattle.mv_walk.proofs.Trails.{level_deep}
 use Rattle.mv_walk.proofs.Visits.{passes}
@@ -66,17 +66,17 @@ first-many d c l p m h shallow many = rw (h.named, h.new, shallow_test (length l
 
 -- within the limits the faults are those of the bindings
 pub ports_alone : (d : Design) (c : ℕ) (l : Level) (p : Part) (m : FileModel) → IsNew d l p m → length l.round ≤ MAX_DEPTH → c < MAX_INSTANCES
-    → visit_faults d c (visit l p) ≡ port_faults l p m
+    → visit_faults d c (visit l p) ≡ bound_port_faults l p m
 ports_alone d c l p m h shallow few = rw (h.named, h.new, shallow_test (length l.round) shallow, few_test c few) refl
 
 -- the first of these is the first misfit, told with where the instance stands
 pub first-port : (l : Level) (p : Part) (m : FileModel) (o : Option Misfit) → o ≡ first (misfits l.model p m)
-    → first (port_faults l p m) ≡ option_map (told l.path (path_in l.path p.instance)) o
+    → first (bound_port_faults l p m) ≡ option_map (misfit_fault l.path (path_in l.path p.instance)) o
 first-port l p m o e =
-    ap first (port_faults-misfits l p m) ∙ (first-map (told l.path (path_in l.path p.instance)) (misfits l.model p m) ∙ ap (option_map (told l.path (path_in l.path p.instance))) (sym e))
+    ap first (bound_port_faults-misfits l p m) ∙ (first-map (misfit_fault l.path (path_in l.path p.instance)) (misfits l.model p m) ∙ ap (option_map (misfit_fault l.path (path_in l.path p.instance))) (sym e))
 
-pub no-port : (l : Level) (p : Part) (m : FileModel) → None ≡ first (misfits l.model p m) → port_faults l p m ≡ []
-no-port l p m e = first-none (port_faults l p m) (first-port l p m None e)
+pub no-port : (l : Level) (p : Part) (m : FileModel) → None ≡ first (misfits l.model p m) → bound_port_faults l p m ≡ []
+no-port l p m e = first-none (bound_port_faults l p m) (first-port l p m None e)
 
 -- ---- a command that the walk looks at
 
@@ -131,14 +131,14 @@ told_many d m w c f count h many =
     first-many d count (level_of d m (trail_of w)) c.part.now (model_at d.models f.place) h.new (let e : length (level_of d m (trail_of w)).round ≡ suc (length (trail_of w)) = level_deep d m (trail_of w) in omega arith) many
 
 alone : (d : Design) (m : FileModel) (w : Walker) (c : Command) (f : Found) (count : ℕ) → Fits d m w c f → count < MAX_INSTANCES
-    → visit_faults d count (visit (level_of d m (trail_of w)) c.part.now) ≡ port_faults (level_of d m (trail_of w)) c.part.now (model_at d.models f.place)
+    → visit_faults d count (visit (level_of d m (trail_of w)) c.part.now) ≡ bound_port_faults (level_of d m (trail_of w)) c.part.now (model_at d.models f.place)
 alone d m w c f count h few =
     let shallow : length (trail_of w) < MAX_DEPTH = h.shallow in
     ports_alone d count (level_of d m (trail_of w)) c.part.now (model_at d.models f.place) h.new (let e : length (level_of d m (trail_of w)).round ≡ suc (length (trail_of w)) = level_deep d m (trail_of w) in omega arith) few
 
 pub told_misfit : (d : Design) (m : FileModel) (w : Walker) (c : Command) (f : Found) (count : ℕ) (fault : PortFault) → Fits d m w c f → count < MAX_INSTANCES → f.fault ≡ Some fault
     → first (visit_faults d count (visit (level_of d m (trail_of w)) c.part.now))
-    ≡ Some (told (path_from [] (trail_of w)) (path_in (path_from [] (trail_of w)) c.part.now.instance) (misfit_of fault))
+    ≡ Some (misfit_fault (path_from [] (trail_of w)) (path_in (path_from [] (trail_of w)) c.part.now.instance) (misfit_of fault))
 told_misfit d m w c f count fault h few e =
     ap first (alone d m w c f count h few) ∙ first-port (level_of d m (trail_of w)) c.part.now (model_at d.models f.place) (Some (misfit_of fault)) (sym (ap misfit_in e) ∙ h.found.fault)
 

@@ -18,9 +18,9 @@ use Rattle.mv_walk.specs.declared.opened.Opened.{Opened}
 use Rattle.mv_walk.specs.declared.walker.Walker.{Walker}
 use Rattle.mv_walk.specs.Walk.{Level, level_in, visit, visits_at, visits, visit_faults, visits_faults}
 use Rattle.mv_walk.specs.Trees.{trees, tree_of}
-use Rattle.mv_walk.specs.Commands.{AreCommands, FindsModel, model_at, place_named, part_of}
+use Rattle.mv_walk.specs.Commands.{AreCommands, FindsModel, model_at, place_named, command_part}
 use Rattle.mv_walk.specs.Openings.{openings}
-use Rattle.mv_walk.specs.Steps.{AreMarks, CanOpen, Entered, FindsPlace, IsAt, Left, Walked, level_of, model_of, opening, round_of, trail_of}
+use Rattle.mv_walk.specs.Steps.{AreMarks, CanOpen, Entered, FindsPlace, IsAt, Left, Walked, level_of, instance_model, opening, round_of, trail_of}
 use Rattle.mv_walk.proofs.Visits.{insides, insides-cons, visits_faults-append, passes, Passes}
 use Rattle.mv_walk.proofs.Grown.{grown, none_deep, few_visits}
 use Rattle.mv_walk.proofs.Nothing.{inner, named_is}
@@ -84,13 +84,13 @@ finds_place ms round p m None e h = let n : model_named ms p.model ≡ None = un
 finds_place ms round p m (Some f) e h = h.place
 
 -- the model of a command is the one with its name
-pub model_of-named : (d : Design) (p : Part) (m : FileModel) → model_named d.models p.model ≡ Some m → model_of d p ≡ m
-model_of-named d p m e = by (place_named d.models p.model) refl
+pub instance_model-named : (d : Design) (p : Part) (m : FileModel) → model_named d.models p.model ≡ Some m → instance_model d p ≡ m
+instance_model-named d p m e = by (place_named d.models p.model) refl
   where
     same : (a b : FileModel) → Some a ≡ Some b → a ≡ b
     same a b f = cc
 
-    by : (o : Option ℕ) → place_named d.models p.model ≡ o → model_of d p ≡ m
+    by : (o : Option ℕ) → place_named d.models p.model ≡ o → instance_model d p ≡ m
     by None f = let n : model_named d.models p.model ≡ None = unnamed_at d.models p.model f in absurd cc
     by (Some k) f = rw f (same (model_at d.models k) m (sym (named_at d.models p.model k f) ∙ e))
 
@@ -170,7 +170,7 @@ told_inside n d l number i p m start now f b s e =
 
 -- behind an instance in which there is no fault it is before the next command
 pub before_next : (n : ℕ) (d : Design) (l : Level) (number i : ℕ) (p : Part) (m : FileModel) (start now new : Walker) → IsBefore d n l number i start now → IsSplit d l i p m
-    → n + length (level_in l p m).round ≡ suc MAX_DEPTH → model_of d p ≡ m → visits_faults d now.count (visits n d (level_in l p m)) ≡ []
+    → n + length (level_in l p m).round ≡ suc MAX_DEPTH → instance_model d p ≡ m → visits_faults d now.count (visits n d (level_in l p m)) ≡ []
     → Walked (opening d number (length now.list + 1) i p (tree_of n d m)) (size_of (tree_of n d m)) now new → IsBefore d n l number (i + 1) start new
 before_next n d l number i p m start now new b s deep is e w =
     let below = level_in l p m in
@@ -266,10 +266,10 @@ opened_same o k r a e f g =
 pub walked_one : (d : Design) (levels : ℕ) (old mid there new : Walker) (p : Part) (o : Opened) (number part : ℕ) → Enters d levels old mid p o → o.round ≡ number → o.part ≡ part
     → Walked (openings d (length mid.list) (length mid.list + 1) 0 (tree_of (levels - 1) d (model_at d.models o.model))) (size_of (tree_of (levels - 1) d (model_at d.models o.model))) mid there
     → Left there new o.model
-    → Walked (opening d number (length old.list + 1) part p (tree_of (levels - 1) d (model_of d p))) (size_of (tree_of (levels - 1) d (model_of d p))) old new
+    → Walked (opening d number (length old.list + 1) part p (tree_of (levels - 1) d (instance_model d p))) (size_of (tree_of (levels - 1) d (instance_model d p))) old new
 walked_one d levels old mid there new p o number part h round at w left =
     let place : unwrap_or (place_named d.models p.model) 0 ≡ o.model = ap (λ k. unwrap_or k 0) h.place in
-    let model : model_of d p ≡ model_at d.models o.model = ap (model_at d.models) place in
+    let model : instance_model d p ≡ model_at d.models o.model = ap (model_at d.models) place in
     let tree = tree_of (levels - 1) d (model_at d.models o.model) in
     let next : length mid.list ≡ length old.list + 1 = ap length h.entered.list ∙ length-append old.list (o ∷ []) in
     let inner_list = openings d (length old.list + 1) (length old.list + 1 + 1) 0 tree in
@@ -304,10 +304,10 @@ pub record IsReady (d : Design) (levels : ℕ) (m : FileModel) (i : ℕ) (start 
   pub at : IsAt d levels now
   pub looked : length now.list < now.count
   pub can : CanOpen d now c
-  pub split : IsSplit d (level_of d m (trail_of start)) i (part_of c) n
-  pub model : model_of d (part_of c) ≡ n
-  pub below : level_of d (model_of d (part_of c)) (trail_of now ++ part_of c ∷ []) ≡ level_in (level_of d m (trail_of start)) (part_of c) n
-  pub deeper : levels - 1 + length (level_in (level_of d m (trail_of start)) (part_of c) n).round ≡ suc MAX_DEPTH
+  pub split : IsSplit d (level_of d m (trail_of start)) i (command_part c) n
+  pub model : instance_model d (command_part c) ≡ n
+  pub below : level_of d (instance_model d (command_part c)) (trail_of now ++ command_part c ∷ []) ≡ level_in (level_of d m (trail_of start)) (command_part c) n
+  pub deeper : levels - 1 + length (level_in (level_of d m (trail_of start)) (command_part c) n).round ≡ suc MAX_DEPTH
 
 at_now : (d : Design) (levels number i : ℕ) (l : Level) (start now : Walker) → IsAt d levels start → IsBefore d (levels - 1) l number i start now → IsAt d levels now
 at_now d levels number i l start now at b = record {
@@ -323,7 +323,7 @@ at_now d levels number i l start now at b = record {
 pub ready : (d : Design) (levels : ℕ) (m : FileModel) (number i : ℕ) (start now : Walker) (c : Command) → Opening d levels m number i start now c → (n : FileModel) × IsReady d levels m i start now c n
 ready d levels m number i start now c h =
     let l = level_of d m (trail_of start) in
-    let p = part_of c in
+    let p = command_part c in
     let found = passes_at d start.count l m.parts i p h.nth.within h.here in
     let n = found.0 in
     let q = found.1 in
@@ -332,7 +332,7 @@ ready d levels m number i start now c h =
     let shallow : length l.round ≤ MAX_DEPTH = q.shallow in
     let round : length l.round ≡ suc (length (trail_of start)) = level_deep d m (trail_of start) in
     let depth = h.at.depth in
-    let model : model_of d p ≡ n = model_of-named d p n named in
+    let model : instance_model d p ≡ n = instance_model-named d p n named in
     let listed = h.before.listed in
     let rest : length (drop i m.parts) ≡ suc (length (drop (i + 1) m.parts)) = ap length h.nth.rest in (
       n,
@@ -350,7 +350,7 @@ ready d levels m number i start now c h =
 
 -- a fault inside the instance of the command is the first of all
 pub opening_told : (d : Design) (levels : ℕ) (m : FileModel) (number i : ℕ) (start now : Walker) (c : Command) (f : FlatFault) → Opening d levels m number i start now c
-    → first (visits_faults d now.count (visits (levels - 1) d (level_of d (model_of d (part_of c)) (trail_of now ++ part_of c ∷ [])))) ≡ Some f
+    → first (visits_faults d now.count (visits (levels - 1) d (level_of d (instance_model d (command_part c)) (trail_of now ++ command_part c ∷ [])))) ≡ Some f
     → first (visits_faults d start.count (visits levels d (level_of d m (trail_of start)))) ≡ Some f
 opening_told d levels m number i start now c f h e =
     let l = level_of d m (trail_of start) in
@@ -359,16 +359,16 @@ opening_told d levels m number i start now c f h e =
     let depth = h.at.depth in
     let round : length l.round ≡ suc (length (trail_of start)) = level_deep d m (trail_of start) in
     told_behind levels d start.count l f (has_below d start.count levels l (omega arith) h.here) h.here
-    (told_inside (levels - 1) d l number i (part_of c) r.0 start now f h.before k.split (ap (λ x. first (visits_faults d now.count (visits (levels - 1) d x))) (sym k.below) ∙ e))
+    (told_inside (levels - 1) d l number i (command_part c) r.0 start now f h.before k.split (ap (λ x. first (visits_faults d now.count (visits (levels - 1) d x))) (sym k.below) ∙ e))
 
 -- where there is none, the walk is before the next command
 pub opening_next : (d : Design) (levels : ℕ) (m : FileModel) (number i : ℕ) (start now new : Walker) (c : Command) → Opening d levels m number i start now c
-    → visits_faults d now.count (visits (levels - 1) d (level_of d (model_of d (part_of c)) (trail_of now ++ part_of c ∷ []))) ≡ []
-    → Walked (opening d number (length now.list + 1) i (part_of c) (tree_of (levels - 1) d (model_of d (part_of c)))) (size_of (tree_of (levels - 1) d (model_of d (part_of c)))) now new
+    → visits_faults d now.count (visits (levels - 1) d (level_of d (instance_model d (command_part c)) (trail_of now ++ command_part c ∷ []))) ≡ []
+    → Walked (opening d number (length now.list + 1) i (command_part c) (tree_of (levels - 1) d (instance_model d (command_part c)))) (size_of (tree_of (levels - 1) d (instance_model d (command_part c)))) now new
     → IsBefore d (levels - 1) (level_of d m (trail_of start)) number (i + 1) start new
 opening_next d levels m number i start now new c h none w =
     let l = level_of d m (trail_of start) in
-    let p = part_of c in
+    let p = command_part c in
     let r = ready d levels m number i start now c h in
     let k = r.1 in
     before_next (levels - 1) d l number i p r.0 start now new h.before k.split k.deeper k.model (ap (λ x. visits_faults d now.count (visits (levels - 1) d x)) (sym k.below) ∙ none)

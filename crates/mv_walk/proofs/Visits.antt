@@ -22,7 +22,7 @@ use Rattle.mv_design.specs.Values.{count_of}
 use Rattle.mv_tree.specs.Tree.{model_named}
 use Rattle.mv_tree.specs.Places.{path_in, is_bound}
 use Rattle.mv_tree.specs.Bound.{formals_of, IsBound}
-use Rattle.mv_walk.specs.Walk.{Level, Visit, level_in, levels_in, visit, visits, bind_faults, open_faults, port_faults, visit_faults, visits_faults}
+use Rattle.mv_walk.specs.Walk.{Level, Visit, level_in, levels_in, visit, visits, bind_faults, open_faults, bound_port_faults, visit_faults, visits_faults}
 
 -- ---- commands one after another
 
@@ -53,7 +53,7 @@ pub record Passes (d : Design) (c : ℕ) (l : Level) (p : Part) (m : FileModel) 
   pub new : among p.model l.round ≡ false
   pub shallow : length l.round ≤ MAX_DEPTH
   pub few : c < MAX_INSTANCES
-  pub fits : port_faults l p m ≡ []
+  pub fits : bound_port_faults l p m ≡ []
 
 not_above : (n : ℕ) → nat_lt MAX_DEPTH n ≡ false → n ≤ MAX_DEPTH
 not_above n e = grind (arith, nat_tests)
@@ -108,7 +108,7 @@ pub all-nothing : {X Y : Type 0} (f : X → List Y) (p : X → Bool) → ((x : X
 all-nothing f p h [] e = refl
 all-nothing f p h (x ∷ xs) e = and_from (p x) _ (h x (left-nothing (f x) _ e)) (all-nothing f p h xs (right-nothing (f x) _ e))
 
-pub fits-bound : (l : Level) (p : Part) (m : FileModel) → port_faults l p m ≡ [] → IsBound l.model p m
+pub fits-bound : (l : Level) (p : Part) (m : FileModel) → bound_port_faults l p m ≡ [] → IsBound l.model p m
 fits-bound l p m e =
     let path = path_in l.path p.instance in
     let binds = left-nothing (flat_map (bind_faults l path m) p.binds) _ e in
@@ -135,7 +135,7 @@ none_made f p q h (x ∷ xs) e g =
     let b = and_parts (q x) (list_all q xs) g in
     append-nothing (f x) _ (h x a.0 b.0) (none_made f p q h xs a.1 b.1)
 
-pub bound-fits : (l : Level) (p : Part) (m : FileModel) → IsBound l.model p m → port_faults l p m ≡ []
+pub bound-fits : (l : Level) (p : Part) (m : FileModel) → IsBound l.model p m → bound_port_faults l p m ≡ []
 bound-fits l p m h =
     append-nothing (flat_map (bind_faults l (path_in l.path p.instance) m) p.binds) _
     (none_made (bind_faults l (path_in l.path p.instance) m) _ _ (λ b. no_bind_fault l (path_in l.path p.instance) m b) p.binds h.formals h.counts)

@@ -81,16 +81,16 @@ FindsModel ms round p None = place_named ms p.model ≡ None
 FindsModel ms round p (Some f) = IsFound ms round p f
 
 -- what a command says
-abbrev pub part_of : Command → Part
-part_of c = c.part.now
+abbrev pub command_part : Command → Part
+command_part c = c.part.now
 
 -- a command of a model
 pub record IsCommand (ms : List FileModel) (round : FileModel) (c : Command) : Type 0 where
-  pub found : FindsModel ms round (part_of c) c.found
+  pub found : FindsModel ms round (command_part c) c.found
 
 -- the commands of a model
 pub record AreCommands (ms : List FileModel) (round : FileModel) (cs : List Command) : Type 0 where
-  pub parts : map part_of cs ≡ round.parts
+  pub parts : map command_part cs ≡ round.parts
   pub each : All (IsCommand ms round) cs
 
 -- the commands of models, one list for each

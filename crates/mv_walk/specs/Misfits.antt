@@ -35,10 +35,10 @@ abbrev pub misfits : FileModel → Part → FileModel → List Misfit
 misfits round p m = flat_map (bind_misfits round m) p.binds ++ flat_map (open_misfits (is_bound p.binds)) m.inputs
 
 -- the fault of it, where the nets round the instance and its own have these paths
-abbrev pub told : List ℕ → List ℕ → Misfit → FlatFault
-told outer inner (Unknown b) = fault.NoFormal (inner ++ b.formal)
-told outer inner (Uneven b) = fault.PortValues (inner ++ b.formal) (outer ++ b.actual)
-told outer inner (Unbound net) = fault.PortOpen (inner ++ net)
+abbrev pub misfit_fault : List ℕ → List ℕ → Misfit → FlatFault
+misfit_fault outer inner (Unknown b) = fault.NoFormal (inner ++ b.formal)
+misfit_fault outer inner (Uneven b) = fault.PortValues (inner ++ b.formal) (outer ++ b.actual)
+misfit_fault outer inner (Unbound net) = fault.PortOpen (inner ++ net)
 
 -- what the code keeps of it
 abbrev pub misfit_of : PortFault → Misfit

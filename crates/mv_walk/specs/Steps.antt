@@ -13,7 +13,7 @@ use Rattle.mv_walk.specs.declared.command.Found.{Found}
 use Rattle.mv_walk.specs.declared.opened.Opened.{Opened}
 use Rattle.mv_walk.specs.declared.walker.Walker.{Walker}
 use Rattle.mv_walk.specs.Walk.{Level}
-use Rattle.mv_walk.specs.Commands.{model_at, part_of, place_named}
+use Rattle.mv_walk.specs.Commands.{model_at, command_part, place_named}
 use Rattle.mv_walk.specs.Openings.{openings}
 
 -- ---- where a walk is
@@ -45,12 +45,12 @@ abbrev pub level_at : Design → ℕ → Walker → Level
 level_at d model w = level_of d (model_at d.models model) (trail_of w)
 
 -- the model of a command, if it has one
-abbrev pub model_of : Design → Part → FileModel
-model_of d p = model_at d.models (unwrap_or (place_named d.models p.model) 0)
+abbrev pub instance_model : Design → Part → FileModel
+instance_model d p = model_at d.models (unwrap_or (place_named d.models p.model) 0)
 
 -- the level inside the instance of a command, seen from where a walk is
 abbrev pub level_inside : Design → Walker → Part → Level
-level_inside d w p = level_of d (model_of d p) (trail_of w ++ p ∷ [])
+level_inside d w p = level_of d (instance_model d p) (trail_of w ++ p ∷ [])
 
 -- of each model that is the first of its name, whether that name is one of these
 pub record AreMarks (ms : List FileModel) (names : List (List ℕ)) (marks : List Bool) : Type 0 where
@@ -105,9 +105,9 @@ FindsPlace ms p (Some f) = place_named ms p.model ≡ Some f.place
 
 -- a command's model is found, and isn't that of an instance in which the walk is
 pub record CanOpen (d : Design) (w : Walker) (c : Command) : Type 0 where
-  pub found : FindsPlace d.models (part_of c) c.found
-  pub new : among (part_of c).model (round_of d (trail_of w)) ≡ false
+  pub found : FindsPlace d.models (command_part c) c.found
+  pub new : among (command_part c).model (round_of d (trail_of w)) ≡ false
 
 -- the instance of a command, and those inside it, as they are listed
 abbrev pub opening : Design → ℕ → ℕ → ℕ → Part → Instances → List Opened
-opening d round next part p inside = openings d round next part (Instance p (model_of d p) inside NoMore)
+opening d round next part p inside = openings d round next part (Instance p (instance_model d p) inside NoMore)

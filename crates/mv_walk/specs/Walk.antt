@@ -72,8 +72,8 @@ abbrev pub open_faults : List Bind → List ℕ → List ℕ → List FlatFault
 open_faults binds path net = when (not (is_bound binds net)) (PortOpen (path ++ net))
 
 -- what is wrong with the bindings of an instance
-abbrev pub port_faults : Level → Part → FileModel → List FlatFault
-port_faults l p m =
+abbrev pub bound_port_faults : Level → Part → FileModel → List FlatFault
+bound_port_faults l p m =
     flat_map (bind_faults l (path_in l.path p.instance) m) p.binds ++ flat_map (open_faults p.binds (path_in l.path p.instance)) m.inputs
 
 -- what is wrong with a command behind so many others: there is no model of that name; it is that of an instance round it; it
@@ -86,7 +86,7 @@ visit_faults d count v = of_model d count v.level v.part (model_named d.models v
     of_model d count l p (Some m) =
         when (among p.model l.round) (Recursive p.model)
         ++ (when (nat_lt MAX_DEPTH (length l.round)) (Limit Depth (MAX_DEPTH + 1))
-        ++ (when (nat_le MAX_INSTANCES count) (Limit Instances (MAX_INSTANCES + 1)) ++ port_faults l p m))
+        ++ (when (nat_le MAX_INSTANCES count) (Limit Instances (MAX_INSTANCES + 1)) ++ bound_port_faults l p m))
 
 -- what is wrong with commands, behind so many others
 abbrev pub visits_faults : Design → ℕ → List Visit → List FlatFault

@@ -1,6 +1,6 @@
 //! What the commands of a design say of themselves, found once a model.
 ghost use Rattle.std.specs.Prelude.{◌≡◌, ◌<◌, length, IfOk};
-ghost use Rattle.mv_walk.specs.Commands.{AreCommands, AreKnown, Finds, FindsModel, IsCommand, model_at, part_of, place_named};
+ghost use Rattle.mv_walk.specs.Commands.{AreCommands, AreKnown, Finds, FindsModel, IsCommand, model_at, command_part, place_named};
 
 use crate::bindings::port_fault;
 use crate::command::{Command, Found};
@@ -134,7 +134,7 @@ fn command_of<'a>(
     part: &'a Part,
 ) -> Result<Command<'a>, Memory>
     requires { Finds places.now (place_named models.now) }
-    ensures part { IfOk result (λ command. part_of command ≡ part.now) }
+    ensures part { IfOk result (λ command. command_part command ≡ part.now) }
     ensures is { IfOk result (λ command. IsCommand models.now round.now command) }
 {
     let found = found_of(alloc, places, models, round, part)?;

@@ -1,7 +1,7 @@
 //! Faults with where the instances stand.
 ghost use Rattle.std.specs.Prelude.{◌≡◌, ◌++◌, [], map, IfOk, OnOk};
 ghost use Rattle.mv_tree.specs.Places.{path_in};
-ghost use Rattle.mv_walk.specs.Misfits.{misfit_of, told};
+ghost use Rattle.mv_walk.specs.Misfits.{misfit_of, misfit_fault};
 ghost use Rattle.mv_walk.specs.Steps.{path_from};
 
 use crate::command::PortFault;
@@ -18,7 +18,7 @@ pub fn told_fault(
     fault: &PortFault,
 ) -> Result<FlatFault, Memory>
     ensures { let outer = path_from [] (map (λ p. p.now) round.now) in
-        IfOk result (λ f. f ≡ told outer (path_in outer part.now.instance) (misfit_of fault.now)) }
+        IfOk result (λ f. f ≡ misfit_fault outer (path_in outer part.now.instance) (misfit_of fault.now)) }
 {
     let outer = path(alloc, round)?;
     let mut inner = Vec::from_slice(alloc, outer.as_slice())?;

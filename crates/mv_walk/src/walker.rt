@@ -6,9 +6,9 @@ ghost use Rattle.mv_design.specs.declared.design.Design.{Design};
 ghost use Rattle.mv_tree.specs.Tree.{size_of};
 ghost use Rattle.mv_walk.specs.Walk.{visit, visits, visits_at, visit_faults, visits_faults};
 ghost use Rattle.mv_walk.specs.Trees.{tree_of};
-ghost use Rattle.mv_walk.specs.Commands.{IsCommand, model_at, part_of};
+ghost use Rattle.mv_walk.specs.Commands.{IsCommand, model_at, command_part};
 ghost use Rattle.mv_walk.specs.Openings.{openings};
-ghost use Rattle.mv_walk.specs.Steps.{AreMarks, CanOpen, Entered, IsAt, IsMarked, IsStart, Left, Walked, level_at, level_inside, model_of, opening};
+ghost use Rattle.mv_walk.specs.Steps.{AreMarks, CanOpen, Entered, IsAt, IsMarked, IsStart, Left, Walked, level_at, level_inside, instance_model, opening};
 
 use crate::Opened;
 use crate::command::Command;
@@ -83,10 +83,10 @@ impl<'a> Walker<'a> {
         requires deep { 0 < levels }
         requires looked { length self.old.list < self.old.count }
         requires command { CanOpen known.now self.old command.now }
-        ensures faults { let level = level_inside known.now self.old (part_of command.now) in
+        ensures faults { let level = level_inside known.now self.old (command_part command.now) in
             TellsFirst FlatFault.Memory result (visits_faults known.now self.old.count (visits (levels - 1) known.now level)) }
-        ensures done { let tree = tree_of (levels - 1) known.now (model_of known.now (part_of command.now)) in
-            let listed = opening known.now number (length self.old.list + 1) part (part_of command.now) tree in
+        ensures done { let tree = tree_of (levels - 1) known.now (instance_model known.now (command_part command.now)) in
+            let listed = opening known.now number (length self.old.list + 1) part (command_part command.now) tree in
             OnOk result (Walked listed (size_of tree) self.old self.new) }
     {
         let found = command.found.unwrap();
@@ -124,7 +124,7 @@ impl<'a> Walker<'a> {
     fn check(&self, alloc: Global, count: usize, command: &Command<'a>) -> Result<(), FlatFault>
         requires { IfSome command.now.found (λ found. found.place < length self.now.marks.items) }
         ensures { (d : Design) (model : ℕ) → IsMarked d self.now → IsCommand d.models (model_at d.models model) command.now
-            → TellsFirst FlatFault.Memory result (visit_faults d count (visit (level_at d model self.now) (part_of command.now))) }
+            → TellsFirst FlatFault.Memory result (visit_faults d count (visit (level_at d model self.now) (command_part command.now))) }
     {
         let Some(found) = command.found else {
             return Err(FlatFault::NoSuchModel {

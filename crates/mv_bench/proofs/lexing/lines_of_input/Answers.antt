@@ -1,5 +1,5 @@
 -- A piece more was fed, and nothing behind the last one.
-use Rattle.mv_proper.proofs.Fed.{fed_nothing, fed_more}
+use Rattle.mv_parse_laws.proofs.Fed.{fed_nothing, fed_more}
 use Rattle.mv_bench.proofs.lexing.lines_of_input.Goals as goal
 
 pub loop-piece-init : goal.loop-piece-init

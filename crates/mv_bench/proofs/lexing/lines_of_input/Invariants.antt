@@ -1,4 +1,4 @@
-use Rattle.mv_proper.proofs.Fed.{WasFed}
+use Rattle.mv_parse_laws.proofs.Fed.{WasFed}
 use Rattle.mv_bench.proofs.lexing.lines_of_input.Given as goal
 
 abbrev pub invariant-loop-piece : goal.invariant-loop-piece

@@ -3,7 +3,7 @@ use Rattle.std.proofs.Common.{sym, ap, subst}
 use Rattle.mv_base.proofs.Meanings.{SameMeaning-then}
 use Rattle.mv_net.specs.declared.parts.NetParts.{NetParts}
 use Rattle.mv_step.specs.declared.step.Step.{Step}
-use Rattle.mv_cert.specs.Replay.{StopsAt}
+use Rattle.mv_cert.specs.Replay.{EndsEarly}
 use Rattle.mv_cert.proofs.Replayed.{more, stops_here}
 use Rattle.mv_cert.proofs.replaying.replay.Goals as goal
 
@@ -17,7 +17,7 @@ loop-step-preserved c =
 
 pub returns-in-Err-clause-stops : goal.returns-in-Err-clause-stops
 returns-in-Err-clause-stops c =
-    let P : NetParts → Type 0 = λ n. StopsAt c.args.steps.now c.args.net.now n c.refusal.result in
+    let P : NetParts → Type 0 = λ n. EndsEarly c.args.steps.now c.args.net.now n c.refusal.result in
     let fails = rw c.step-item.is at c.in-Err.ensures.fails in
     subst P (sym c.in-Err.ensures.err)
     (stops_here c.args.steps.now c.loop-step.step-index c.args.net.now c.loop-step.net c.loop-step.invariant.ran c.step-item.result _ _ _ c.loop-step-test.true (ap (λ (s : Step). s.line) c.step-item.is) fails c.refusal.ensures.memory c.refusal.ensures.rule)

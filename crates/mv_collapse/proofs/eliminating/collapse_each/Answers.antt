@@ -1,6 +1,6 @@
 -- Each collapse leaves fewer steps, and the nets near its net wait.
 use Rattle.mv_base.proofs.Meanings.{SameMeaning-refl, SameMeaning-then}
-use Rattle.mv_saving.proofs.Behind.{right_collapsed}
+use Rattle.mv_gain.proofs.Behind.{right_collapsed}
 use Rattle.mv_pass.proofs.Taken.{went_none, went_then, went_part, GoesOn-none, GoesOn-then}
 use Rattle.mv_collapse.specs.Eliminates.{IsEliminateStep}
 use Rattle.mv_collapse.proofs.Eliminated.{all_wait, all_wait_behind, fewer_left}

@@ -1,11 +1,11 @@
 -- Each net that saves waits, what is kept is right, and each collapse leaves fewer steps.
 use Rattle.mv_agenda.specs.Agenda.{AllWait}
 use Rattle.mv_base.specs.Meaning.{SameMeaning}
-use Rattle.mv_local.proofs.Steps.{steps_left}
+use Rattle.mv_locality.proofs.Steps.{steps_left}
 use Rattle.mv_net.specs.Allowed.{of_net}
 use Rattle.mv_pass.specs.Taking.{GoesOn, Went}
-use Rattle.mv_saving.specs.Kept.{AreRight}
-use Rattle.mv_saving.specs.Savings.{IsSaving}
+use Rattle.mv_gain.specs.Kept.{AreRight}
+use Rattle.mv_gain.specs.Savings.{IsSaving}
 use Rattle.mv_collapse.specs.Eliminates.{IsEliminateStep}
 use Rattle.mv_collapse.proofs.eliminating.collapse_each.Given as goal
 

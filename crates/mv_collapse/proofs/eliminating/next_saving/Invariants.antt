@@ -1,8 +1,8 @@
 -- Each net that saves waits, and what is kept is right.
 use Rattle.std.proofs.Common.{length}
 use Rattle.mv_agenda.specs.Agenda.{AllWait}
-use Rattle.mv_saving.specs.Kept.{AreRight}
-use Rattle.mv_saving.specs.Savings.{IsSaving}
+use Rattle.mv_gain.specs.Kept.{AreRight}
+use Rattle.mv_gain.specs.Savings.{IsSaving}
 use Rattle.mv_collapse.proofs.eliminating.next_saving.Given as goal
 
 abbrev pub invariant-looking : goal.invariant-looking

@@ -1,6 +1,6 @@
 -- The nets so far that are too wide are noted, and what is kept is right.
 use Rattle.mv_pass.specs.Taking.{GoesOn, Took}
-use Rattle.mv_saving.specs.Kept.{AreRight}
+use Rattle.mv_gain.specs.Kept.{AreRight}
 use Rattle.mv_collapse.specs.Eliminates.{NotesWide}
 use Rattle.mv_collapse.proofs.noting.note_wide.Given as goal
 

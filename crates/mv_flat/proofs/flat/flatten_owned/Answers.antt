@@ -2,7 +2,7 @@
 use Rattle.std.proofs.Common.{List, ℕ, ◌≤◌, length, sym, subst}
 use Rattle.std.proofs.lemmas.Result.{err_from_is_err_and}
 use Rattle.mv_base.specs.declared.limits.TheConstants.{MAX_FLAT_NETS}
-use Rattle.mv_unfold.specs.Sound.{AreNetsOf, TellsAbove}
+use Rattle.mv_acyclic.specs.Sound.{AreNetsOf, TellsAbove}
 use Rattle.mv_walk.specs.declared.opened.Opened.{Opened}
 use Rattle.mv_walk.specs.Openings.{AreOpened}
 use Rattle.mv_flat.proofs.Designs.{IsModelOf, answered_flat, made_few, made_nets, made_one, made_sound}

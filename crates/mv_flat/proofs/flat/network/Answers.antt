@@ -4,7 +4,7 @@ use Rattle.mv_design.specs.declared.design.FileModel.{FileModel}
 use Rattle.mv_net.specs.declared.parts.NetParts.{NetParts}
 use Rattle.mv_resets.specs.Resets.{with_reset_nets}
 use Rattle.mv_resets.proofs.Nets.{resets_single}
-use Rattle.mv_unfold.proofs.Distinct.{few_drivers}
+use Rattle.mv_acyclic.proofs.Distinct.{few_drivers}
 use Rattle.mv_flat.specs.Built.{IsBuilt}
 use Rattle.mv_flat.specs.Placed.{IsPlacedTable}
 use Rattle.mv_flat.proofs.Distinct.{places_differ}

@@ -1,5 +1,5 @@
 use Rattle.std.proofs.Common.{◌≡◌, drop, map}
-use Rattle.mv_unfold.specs.Driving.{with_names}
+use Rattle.mv_acyclic.specs.Driving.{with_names}
 use Rattle.mv_flat.proofs.numbers.add_states.Given as goal
 
 abbrev pub invariant-loop-latch : goal.invariant-loop-latch

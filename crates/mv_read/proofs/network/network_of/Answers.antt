@@ -1,5 +1,5 @@
 -- A design that lines say is proper.
-use Rattle.mv_proper.proofs.Proper.{proper}
+use Rattle.mv_parse_laws.proofs.Proper.{proper}
 use Rattle.mv_read.proofs.network.network_of.Goals as goal
 
 pub flatten_owned-requires : goal.flatten_owned-requires

@@ -1,5 +1,5 @@
 -- A piece of the text and a line feed more were fed.
-use Rattle.mv_proper.proofs.Fed.{fed_nothing, fed_more}
+use Rattle.mv_parse_laws.proofs.Fed.{fed_nothing, fed_more}
 use Rattle.mv_sample.proofs.text.lines.Goals as goal
 
 pub loop-line-init : goal.loop-line-init

@@ -1,4 +1,4 @@
-use Rattle.mv_proper.proofs.Fed.{WasFed}
+use Rattle.mv_parse_laws.proofs.Fed.{WasFed}
 use Rattle.mv_sample.proofs.text.lines.Given as goal
 
 abbrev pub invariant-loop-line : goal.invariant-loop-line

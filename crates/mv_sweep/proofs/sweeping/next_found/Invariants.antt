@@ -1,7 +1,7 @@
 -- Each net to which a rule applies waits, and what is kept is right.
 use Rattle.std.proofs.Common.{length}
 use Rattle.mv_agenda.specs.Agenda.{AllWait}
-use Rattle.mv_saving.specs.Kept.{AreRight}
+use Rattle.mv_gain.specs.Kept.{AreRight}
 use Rattle.mv_sweep.specs.Ways.{CanSweep}
 use Rattle.mv_sweep.proofs.sweeping.next_found.Given as goal
 

@@ -1,10 +1,10 @@
 -- Each net to which a rule applies waits, what is kept is right, and each step leaves fewer.
 use Rattle.mv_agenda.specs.Agenda.{AllWait}
 use Rattle.mv_base.specs.Meaning.{SameMeaning}
-use Rattle.mv_local.proofs.Steps.{steps_left}
+use Rattle.mv_locality.proofs.Steps.{steps_left}
 use Rattle.mv_net.specs.Allowed.{of_net}
 use Rattle.mv_pass.specs.Taking.{GoesOn, Went}
-use Rattle.mv_saving.specs.Kept.{AreRight}
+use Rattle.mv_gain.specs.Kept.{AreRight}
 use Rattle.mv_sweep.specs.Sweeps.{IsSweepStep}
 use Rattle.mv_sweep.specs.Ways.{CanSweep}
 use Rattle.mv_sweep.proofs.sweeping.sweep_each.Given as goal

@@ -1,7 +1,7 @@
 -- Each net that can go waits, and each that goes leaves fewer steps.
 use Rattle.mv_agenda.specs.Agenda.{AllWait}
 use Rattle.mv_base.specs.Meaning.{SameMeaning}
-use Rattle.mv_local.proofs.Steps.{steps_left}
+use Rattle.mv_locality.proofs.Steps.{steps_left}
 use Rattle.mv_net.specs.Allowed.{of_net}
 use Rattle.mv_net.specs.Total.{IsRemovable}
 use Rattle.mv_pass.specs.Taking.{GoesOn, Went}

@@ -1,0 +1,14 @@
+pub mod Names
+pub mod Driven
+pub mod ResetFaults
+pub mod Entries
+pub mod Listed
+pub mod Ranking
+pub mod Soundness
+pub mod Named
+pub mod Commands
+pub mod Distinct
+pub mod Latches
+pub mod Turns
+pub mod Least
+pub mod ResetValues

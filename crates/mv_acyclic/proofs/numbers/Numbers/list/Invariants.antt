@@ -1,0 +1,6 @@
+use Rattle.std.proofs.Common.{◌≡◌, take}
+use Rattle.mv_acyclic.specs.Numbers.{numbers_in}
+use Rattle.mv_acyclic.proofs.numbers.Numbers.list.Given as goal
+
+abbrev pub invariant-loop-net : goal.invariant-loop-net
+invariant-loop-net l = l.numbers ≡ numbers_in l.self (take l.net-index l.nets)

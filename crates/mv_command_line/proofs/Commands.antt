@@ -1,0 +1,74 @@
+-- The command behind a task's name, as it is built.
+use Rattle.std.proofs.Common.{◌≡◌, Bool, true, false, cond, List, [], ◌∷◌, Some, None, codes, refl, ℕ}
+use Rattle.std.specs.Str.{bytes_eq}
+use Rattle.mv_command_line.specs.Commands.{budget_given, command_given, two_given, word_given}
+use Rattle.clap.specs.Walk.{Rule, Text, arg_by_long, arg_by_short}
+use Rattle.clap.specs.Simple.{App, Shape, built, new_shape, with_rule}
+use Rattle.clap.specs.Faults.{is_simple_and_free}
+use Rattle.clap.specs.Simple.{is_simple}
+use Rattle.clap.specs.declared.builder.value_parser.ValueParser.TheVariants.{String as text}
+
+-- the option and a positional word, as the build leaves them
+abbrev pub budget_rule : Rule
+budget_rule = record budget_given { range = Some (record { start_inclusive = 1; end_inclusive = 1 }); parser = Some text }
+
+abbrev pub word_rule : Text → ℕ → Rule
+word_rule id place = record (word_given id) {
+  index = Some place;
+  range = Some (record { start_inclusive = 1; end_inclusive = 1 });
+  parser = Some text;
+}
+
+abbrev pub first_rule : Rule
+first_rule = word_rule (codes "first") 1
+
+abbrev pub second_rule : Rule
+second_rule = word_rule (codes "second") 2
+
+abbrev pub third_rule : Rule
+third_rule = word_rule (codes "third") 3
+
+abbrev pub rules_of : Bool → List Rule
+rules_of third = budget_rule ∷ first_rule ∷ second_rule ∷ cond third (third_rule ∷ []) []
+
+abbrev pub shape_of : Bool → Shape
+shape_of third = record (new_shape (codes "mvopt")) {
+  disable_help_flag = true;
+  disable_help_subcommand = true;
+  is_built = true;
+  rules = rules_of third;
+}
+
+-- the command is given part by part
+abbrev pub start_given : App
+start_given = record { top = record (new_shape (codes "mvopt")) { disable_help_flag = true }; subs = [] }
+
+pub two_words_given : (third : Bool) → third ≡ false → two_given ≡ command_given third
+two_words_given third e = rw e refl
+
+pub three_words_given : (third : Bool) → third ≡ true → with_rule two_given (word_given (codes "third")) ≡ command_given third
+three_words_given third e = rw e refl
+
+pub is_built : (third : Bool) → ◌≡◌ {A = App} (built (command_given third)) (record { top = shape_of third; subs = [] })
+is_built true = refl
+is_built false = refl
+
+pub is_exact : (third : Bool) → is_simple_and_free (command_given third) ≡ true
+is_exact true = refl
+is_exact false = refl
+
+pub is_plain : (third : Bool) → is_simple (command_given third) ≡ true
+is_plain true = refl
+is_plain false = refl
+
+-- a long name is the option's or none's, and there are no short ones
+pub long_found : (third : Bool) (name : Text) → bytes_eq (codes "budget") name ≡ true → arg_by_long (rules_of third) name ≡ Some budget_rule
+long_found third name e = rw e refl
+
+pub long_missing : (third : Bool) (name : Text) → bytes_eq (codes "budget") name ≡ false → arg_by_long (rules_of third) name ≡ None
+long_missing true name e = rw e refl
+long_missing false name e = rw e refl
+
+pub short_missing : (third : Bool) (letter : ℕ) → arg_by_short (rules_of third) letter ≡ None
+short_missing true letter = refl
+short_missing false letter = refl

@@ -1,0 +1,233 @@
+-- How a word looks to the definition and to clap.
+use Rattle.std.proofs.Common.{◌≡◌, ◌∙◌, ◌⊎◌, inl, inr, ℕ, ◌+◌, Bool, true, false, not, cond, ◌==◌, ◌&&◌, List, [], ◌∷◌, ◌++◌, length, Option, Some, None, codes, refl, sym, ap, subst, arith, eqb-true, eq-eqb, ⊎_elim}
+use Rattle.std.specs.Prelude.{slice_get, unwrap_or, is_some, suc, take, drop}
+use Rattle.std.specs.List.{list_all, position_or_len}
+use Rattle.std.specs.Str.{bytes_eq, chars, IsUtf8, encode_utf8_all}
+use Rattle.std.proofs.lemmas.Bool.{cases_Bool, false≢true, and_parts, ne_eqb}
+use Rattle.std.proofs.lemmas.Str.{IsUtf8-past_char, encodes-chars, encode_ascii}
+use Rattle.clap.specs.Lexer.{has_byte, long_of, name_and_value, short_of}
+use Rattle.mv_command_line.specs.CommandLine.{positional, ends, apart, attached, refused, behind, is_dashed, option_sort, sort_of}
+
+-- ---- what stands behind a beginning without `=`
+
+abbrev pub has_no_equals : List ℕ → Bool
+has_no_equals = list_all (λ b. not (b == 61))
+
+-- the rest of a word behind a name ends it, or begins with `=`
+abbrev pub ends_name : Option (List ℕ) → Bool
+ends_name None = false
+ends_name (Some []) = true
+ends_name (Some (b ∷ bs)) = b == 61
+
+abbrev pub name_in : List ℕ → List ℕ
+name_in w = (name_and_value w).0
+
+abbrev pub value_in : List ℕ → Option (List ℕ)
+value_in w = (name_and_value w).1
+
+not_true : (t : Bool) → not t ≡ true → t ≡ false
+not_true true e = sym e
+not_true false e = refl
+
+none_is : {A : Type 0} (a : A) → None ≡ Some a → ⊥
+none_is a e = false≢true (ap is_some e)
+
+same_byte : (a b : ℕ) → (b == a) ≡ true → (a == b) ≡ true
+same_byte a b e = eq-eqb a b (sym (eqb-true b a e))
+
+other_byte : (a b : ℕ) → (b == a) ≡ false → (a == b) ≡ false
+other_byte a b e = ne_eqb a b (λ h. false≢true (sym e ∙ eq-eqb b a (sym h)))
+
+stays_other : (a b c : ℕ) → (b == a) ≡ true → (a == c) ≡ false → (b == c) ≡ false
+stays_other a b c e n = ap (λ x. x == c) (eqb-true b a e) ∙ n
+
+-- one byte more in front of the name, where it isn't `=`
+name_more : (b : ℕ) (w : List ℕ) → (b == 61) ≡ false → name_in (b ∷ w) ≡ b ∷ name_in w
+name_more b w n =
+    let k = position_or_len (λ x. x == 61) w in
+    let more : 1 + k ≡ suc k = omega arith in
+    rw n (ap (λ m. take m (b ∷ w)) more)
+
+value_more : (b : ℕ) (w : List ℕ) → (b == 61) ≡ false → value_in (b ∷ w) ≡ value_in w
+value_more b w n =
+    let k = position_or_len (λ x. x == 61) w in
+    let more : 1 + k + 1 ≡ suc (k + 1) = omega arith in
+    rw n (ap (λ m. cond (has_byte 61 w) (Some (drop m (b ∷ w))) None) more)
+
+name_ends : (b : ℕ) (w : List ℕ) → (b == 61) ≡ true → name_in (b ∷ w) ≡ []
+name_ends b w y = rw y refl
+
+name_here : (w : List ℕ) → bytes_eq [] (name_in w) ≡ ends_name (Some w)
+name_here [] = refl
+name_here (b ∷ w) = ⊎_elim
+    (λ (y : (b == 61) ≡ true). ap (bytes_eq []) (name_ends b w y) ∙ sym y)
+    (λ (n : (b == 61) ≡ false). ap (bytes_eq []) (name_more b w n) ∙ sym n)
+    (cases_Bool (b == 61))
+
+-- the name of a word is this one where the word goes on as a name ends
+pub name_is : (start w : List ℕ) → has_no_equals start ≡ true → bytes_eq start (name_in w) ≡ ends_name (behind start w)
+name_is [] w clear = name_here w
+name_is (a ∷ start) [] clear = refl
+name_is (a ∷ start) (b ∷ w) clear =
+    let parts = and_parts (not (a == 61)) (has_no_equals start) clear in
+    let other = not_true (a == 61) parts.0 in
+    ⊎_elim
+    (λ (y : (b == a) ≡ true). ap (bytes_eq (a ∷ start)) (name_more b w (stays_other a b 61 y other))
+    ∙ (ap (λ t. t && bytes_eq start (name_in w)) (same_byte a b y) ∙ (name_is start w parts.1 ∙ ap (λ t. ends_name (cond t (behind start w) None)) (sym y))))
+    (λ (n : (b == a) ≡ false). ⊎_elim
+    (λ (y : (b == 61) ≡ true). ap (bytes_eq (a ∷ start)) (name_ends b w y) ∙ ap (λ t. ends_name (cond t (behind start w) None)) (sym n))
+    (λ (m : (b == 61) ≡ false). ap (bytes_eq (a ∷ start)) (name_more b w m)
+    ∙ (ap (λ t. t && bytes_eq start (name_in w)) (other_byte a b n) ∙ ap (λ t. ends_name (cond t (behind start w) None)) (sym n)))
+    (cases_Bool (b == 61)))
+    (cases_Bool (b == a))
+
+-- the value of a word is that of what stands behind the name
+pub value_is : (start w rest : List ℕ) → has_no_equals start ≡ true → behind start w ≡ Some rest → value_in w ≡ value_in rest
+value_is [] w rest clear e = ap (λ o. value_in (unwrap_or o [])) e
+value_is (a ∷ start) [] rest clear e = absurd (none_is rest e)
+value_is (a ∷ start) (b ∷ w) rest clear e =
+    let parts = and_parts (not (a == 61)) (has_no_equals start) clear in
+    let other = not_true (a == 61) parts.0 in
+    ⊎_elim (λ (y : (b == a) ≡ true). value_more b w (stays_other a b 61 y other) ∙ value_is start w rest parts.1 (rw y at e))
+    (λ (n : (b == a) ≡ false). absurd (none_is rest (rw n at e))) (cases_Bool (b == a))
+
+-- ---- the first letter of a short option
+
+letter_of : (cs : List ℕ) (b : ℕ) (bs : List ℕ) → encode_utf8_all cs ≡ b ∷ bs → (c : ℕ) × (slice_get cs 0 ≡ Some c)
+letter_of [] b bs e = absurd (omega (arith, ap length e))
+letter_of (c ∷ cs) b bs e = (c, refl)
+
+pub first_letter : (b : ℕ) (bs : List ℕ) → IsUtf8 (45 ∷ b ∷ bs) → (c : ℕ) × (slice_get (chars (b ∷ bs)) 0 ≡ Some c)
+first_letter b bs u =
+    let rest = IsUtf8-past_char (45 ∷ b ∷ bs) (b ∷ bs) 45 u (ap (λ l. l ++ (b ∷ bs)) (sym (encode_ascii 45 (omega arith)))) in
+    letter_of (chars (b ∷ bs)) b bs (encodes-chars (b ∷ bs) rest)
+
+-- ---- the ways in which a word looks
+
+abbrev pub dashes : List ℕ
+dashes = 45 ∷ 45 ∷ []
+
+pub record IsPlain (w : List ℕ) : Type 0 where
+  pub sort : sort_of w ≡ positional
+  pub whole : is_dashed w ≡ false
+  pub long : long_of w ≡ None
+  pub short : short_of w ≡ None
+  pub goes_on : bytes_eq w dashes ≡ false
+
+pub record IsEnd (w : List ℕ) : Type 0 where
+  pub sort : sort_of w ≡ ends
+  pub dashed : is_dashed w ≡ true
+  pub is : bytes_eq w dashes ≡ true
+
+pub record IsLong (w : List ℕ) : Type 0 where
+  pub text : List ℕ
+  pub sort : sort_of w ≡ option_sort (behind (codes "budget") text)
+  pub dashed : is_dashed w ≡ true
+  pub long : long_of w ≡ Some (name_and_value text)
+  pub goes_on : bytes_eq w dashes ≡ false
+
+pub record IsShort (w : List ℕ) : Type 0 where
+  pub first : ℕ
+  pub others : List ℕ
+  pub letter : ℕ
+  pub sort : sort_of w ≡ refused
+  pub dashed : is_dashed w ≡ true
+  pub long : long_of w ≡ None
+  pub short : short_of w ≡ Some (first ∷ others)
+  pub starts : slice_get (chars (first ∷ others)) 0 ≡ Some letter
+  pub goes_on : bytes_eq w dashes ≡ false
+
+abbrev pub Looks : List ℕ → Type 0
+Looks w = IsPlain w ⊎ (IsEnd w ⊎ (IsLong w ⊎ IsShort w))
+
+single : (b : ℕ) → IsPlain (b ∷ [])
+unfolding sort_of
+single b = ⊎_elim
+    (λ (y : (b == 45) ≡ true). record { sort = refl; whole = refl; long = rw y refl; short = rw y refl; goes_on = rw y refl })
+    (λ (n : (b == 45) ≡ false). record { sort = refl; whole = refl; long = rw n refl; short = rw n refl; goes_on = rw n refl })
+    (cases_Bool (b == 45))
+
+undashed : (b c : ℕ) (w : List ℕ) → (b == 45) ≡ false → IsPlain (b ∷ c ∷ w)
+unfolding sort_of
+undashed b c w n = record { sort = rw n refl; whole = n; long = rw n refl; short = rw n refl; goes_on = rw n refl }
+
+two_dashes : (b c : ℕ) (w : List ℕ) → (b == 45) ≡ true → (c == 45) ≡ true → Looks (b ∷ c ∷ w)
+unfolding sort_of
+two_dashes b c [] y z = inr (inl (record { sort = rw (y, z) refl; dashed = y; is = rw (y, z) refl }))
+two_dashes b c (d ∷ w) y z = inr (inr (inl (record {
+  text = d ∷ w;
+  sort = rw (y, z) refl;
+  dashed = y;
+  long = rw (y, z) refl;
+  goes_on = rw (y, z) refl;
+})))
+
+one_dash : (b c : ℕ) (w : List ℕ) → IsUtf8 (b ∷ c ∷ w) → (b == 45) ≡ true → (c == 45) ≡ false → IsShort (b ∷ c ∷ w)
+unfolding sort_of
+one_dash b c w u y n =
+    let letter = first_letter c w (subst (λ x. IsUtf8 (x ∷ c ∷ w)) (eqb-true b 45 y) u) in
+    record {
+      first = c;
+      others = w;
+      letter = letter.0;
+      sort = rw (y, n) refl;
+      dashed = y;
+      long = rw (y, n) refl;
+      short = rw (y, n) refl;
+      starts = letter.1;
+      goes_on = rw (y, n) refl;
+    }
+
+-- a text is a plain word, `--`, a long option, or short ones
+pub looks : (w : List ℕ) → IsUtf8 w → Looks w
+unfolding sort_of
+looks [] u = inl (record { sort = refl; whole = refl; long = refl; short = refl; goes_on = refl })
+looks (b ∷ []) u = inl (single b)
+looks (b ∷ c ∷ w) u = ⊎_elim
+    (λ (y : (b == 45) ≡ true). ⊎_elim (two_dashes b c w y) (λ n. inr (inr (inr (one_dash b c w u y n)))) (cases_Bool (c == 45)))
+    (λ (n : (b == 45) ≡ false). inl (undashed b c w n)) (cases_Bool (b == 45))
+
+-- ---- a long option is the command's, with its value or apart from it, or none
+
+pub record IsUnknown (w : List ℕ) (l : IsLong w) : Type 0 where
+  pub sort : sort_of w ≡ refused
+  pub other : bytes_eq (codes "budget") (name_in l.text) ≡ false
+
+pub record IsApart (w : List ℕ) (l : IsLong w) : Type 0 where
+  pub sort : sort_of w ≡ apart
+  pub same : bytes_eq (codes "budget") (name_in l.text) ≡ true
+  pub none : value_in l.text ≡ None
+
+pub record IsAttached (w : List ℕ) (l : IsLong w) : Type 0 where
+  pub value : List ℕ
+  pub sort : sort_of w ≡ attached value
+  pub same : bytes_eq (codes "budget") (name_in l.text) ≡ true
+  pub given : value_in l.text ≡ Some value
+
+abbrev pub Means : (w : List ℕ) → IsLong w → Type 0
+Means w l = IsUnknown w l ⊎ (IsApart w l ⊎ IsAttached w l)
+
+means_behind : (w : List ℕ) (l : IsLong w) (rest : Option (List ℕ)) → behind (codes "budget") l.text ≡ rest → Means w l
+means_behind w l None e = inl (record { sort = l.sort ∙ ap option_sort e; other = name_is (codes "budget") l.text refl ∙ ap ends_name e })
+means_behind w l (Some []) e = inr (inl (record {
+  sort = l.sort ∙ ap option_sort e;
+  same = name_is (codes "budget") l.text refl ∙ ap ends_name e;
+  none = value_is (codes "budget") l.text [] refl e;
+}))
+means_behind w l (Some (b ∷ bs)) e =
+    let name = name_is (codes "budget") l.text refl ∙ ap ends_name e in
+    ⊎_elim
+    (λ (y : (b == 61) ≡ true). inr (inr (record {
+      value = bs;
+      sort = l.sort ∙ (ap option_sort e ∙ ap (λ t. cond t (attached bs) refused) y);
+      same = name ∙ y;
+      given = value_is (codes "budget") l.text (b ∷ bs) refl e ∙ rw y refl;
+    })))
+    (λ (n : (b == 61) ≡ false). inl (record {
+      sort = l.sort ∙ (ap option_sort e ∙ ap (λ t. cond t (attached bs) refused) n);
+      other = name ∙ n;
+    }))
+    (cases_Bool (b == 61))
+
+pub means : (w : List ℕ) (l : IsLong w) → Means w l
+means w l = means_behind w l (behind (codes "budget") l.text) refl

@@ -1,0 +1,89 @@
+ghost use Rattle.std.specs.Prelude.{◌≡◌, option_map};
+ghost use Rattle.mv_base.specs.Names.{same_word};
+ghost use Rattle.mv_command_line.specs.CommandLine.{is_stdin};
+ghost use Rattle.mv_command_line.specs.Given.{text_of, files_of, draw_of, budget_by, files_by, draw_by};
+
+use crate::number::{budget_of, seed_of, size_of};
+
+/// Two names of files and a budget.
+#[derive(Clone, Copy)]
+pub struct Files<'a> {
+    pub net: &'a str,
+    pub other: &'a str,
+    pub budget: Option<u32>,
+}
+
+/// What is drawn, the name of a script and a budget.
+#[derive(Clone, Copy)]
+pub struct Draw<'a> {
+    pub size: u32,
+    pub seed: u64,
+    pub script: &'a str,
+    pub budget: Option<u32>,
+}
+
+/// Whether the word is this text.
+pub fn is_text(word: &[u8], text: &[u8]) -> bool
+    ensures { result ≡ same_word word.now text.now }
+{
+    word == text
+}
+
+/// Whether the word names standard input.
+fn is_stdin(word: &[u8]) -> bool
+    ensures { result ≡ is_stdin word.now }
+{
+    is_text(word, b"-")
+}
+
+/// The budget that the option's value says, if it has one; None where it says none.
+fn budget_by(value: Option<&str>) -> Option<Option<u32>>
+    ensures { result ≡ budget_by (text_of value.entry) }
+{
+    match value {
+        None => Some(None),
+        Some(text) => {
+            let budget = budget_of(text.as_bytes())?;
+            Some(Some(budget))
+        }
+    }
+}
+
+/// Two names of files, of which one at most is standard input, with a budget.
+pub fn files_by<'a>(
+    net: Option<&'a str>,
+    other: Option<&'a str>,
+    budget: Option<&'a str>,
+) -> Option<Files<'a>>
+    ensures { option_map files_of result ≡ files_by (text_of net.entry) (text_of other.entry) (text_of budget.entry) }
+{
+    let net = net?;
+    let other = other?;
+    if is_stdin(net.as_bytes()) && is_stdin(other.as_bytes()) {
+        return None;
+    }
+    let budget = budget_by(budget)?;
+    Some(Files { net, other, budget })
+}
+
+/// A size, a seed and the name of a script, with a budget.
+pub fn draw_by<'a>(
+    size: Option<&'a str>,
+    seed: Option<&'a str>,
+    script: Option<&'a str>,
+    budget: Option<&'a str>,
+) -> Option<Draw<'a>>
+    ensures { option_map draw_of result
+        ≡ draw_by (text_of size.entry) (text_of seed.entry) (text_of script.entry) (text_of budget.entry) }
+{
+    let size = size_of(size?.as_bytes())?;
+    let seed = seed_of(seed?.as_bytes())?;
+    let script = script?;
+    let budget = budget_by(budget)?;
+    Some(Draw {
+        size,
+        seed,
+        script,
+        budget,
+    })
+}

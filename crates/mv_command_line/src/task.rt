@@ -1,0 +1,46 @@
+use std::alloc::AllocError;
+
+/// What a command line asks for. A name of a file is as it was given: `-` is standard input, and an empty one names a file of that
+/// name. A budget of diagram nodes is from 1,000 to 4,000,000, or isn't given.
+#[derive(Clone, Copy, Debug, PartialEq, Eq)]
+pub enum Task<'a> {
+    /// A network is to be optimised by a script.
+    Opt {
+        net: &'a str,
+        script: &'a str,
+        budget: Option<u32>,
+    },
+    /// A certificate of such a run is to be checked.
+    Check {
+        net: &'a str,
+        certificate: &'a str,
+        budget: Option<u32>,
+    },
+    /// A network of this size, from 1 to 20,000, is to be drawn from the seed and optimised by a script.
+    Work {
+        size: u32,
+        seed: u64,
+        script: &'a str,
+        budget: Option<u32>,
+    },
+}
+
+/// Why no task comes of the words.
+#[derive(Clone, Copy, Debug, PartialEq, Eq)]
+pub enum WordsStop {
+    /// They are no command line.
+    Refused,
+    /// Want of memory.
+    Memory,
+}
+
+impl From<AllocError> for WordsStop {
+    ghost use Rattle.std.specs.Prelude.{◌≡◌};
+    ghost use Rattle.mv_command_line.specs.declared.task.WordsStop.TheVariants.{Memory};
+
+    ghost from_gives = { λ _ stop. stop ≡ Memory };
+
+    fn from(_error: AllocError) -> WordsStop {
+        WordsStop::Memory
+    }
+}

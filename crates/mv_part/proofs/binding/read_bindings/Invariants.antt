@@ -1,7 +1,0 @@
-use Rattle.std.proofs.Common.{◌≡◌, take}
-use Rattle.std.specs.Prelude.{map}
-use Rattle.mv_part.specs.Binding.{binding_of}
-use Rattle.mv_part.proofs.binding.read_bindings.Given as goal
-
-abbrev pub invariant-loop-word : goal.invariant-loop-word
-invariant-loop-word l = l.binds ≡ map binding_of (take l.word-index l.words)

@@ -1,6 +1,0 @@
--- Each law is a lemma.
-use Rattle.mv_printed.proofs.Replaying.{print_lists, replayed_from_print}
-use Rattle.mv_printed.proofs.laws.replay_laws.Goals as goal
-
-pub returns : goal.returns
-returns c = record { lists = print_lists; replays = replayed_from_print }

@@ -1,0 +1,61 @@
+-- The sets of a rule that applies can be said: each is some of the values of a net.
+use Rattle.std.proofs.Common.{◌≡◌, ◌∙◌, ℕ, ◌≤◌, List, [], ◌∷◌, map, All, Option, Some, None, refl, sym, arith}
+use Rattle.std.specs.List.{flat_map}
+use Rattle.std.specs.Option.{option_to_list}
+use Rattle.std.proofs.lemmas.Bool.{ltb-true}
+use Rattle.std.proofs.lemmas.List.Elements.{All-nil, All-cons, All-head, All-tail, All-append, All-push}
+use Rattle.mv_base.specs.declared.limits.TheConstants.{MAX_VALUES}
+use Rattle.mv_base.proofs.Sets.{has-full}
+use Rattle.mv_cover.specs.Lines.{IsOutput}
+use Rattle.mv_body.specs.Bodies.{literals_said, IsTidy, IsTidyLine}
+use Rattle.mv_body.proofs.Tidying.{tidy_lines}
+use Rattle.mv_entry.specs.declared.rule.BodyLit.{BodyLit}
+use Rattle.mv_entry.specs.declared.rule.BodyLine.{BodyLine}
+use Rattle.mv_entry.specs.declared.rule.Body.{Body}
+use Rattle.mv_entry.specs.declared.rule.Rule.{Rule}
+use Rattle.mv_entry.specs.declared.rule.Rule.TheVariants.{Remove, Add, Divide, Wire, Collapse}
+use Rattle.mv_net.specs.declared.parts.NetParts.{NetParts}
+use Rattle.mv_net.specs.Formed.{IsLiteral, WellFormed}
+use Rattle.mv_net.specs.Nets.{slot, values_in}
+use Rattle.mv_net.proofs.Known.{values_few}
+use Rattle.mv_rules.specs.Applies.{Applies}
+use Rattle.mv_step.specs.Printed.{IsSayable}
+use Rattle.mv_entries_back.specs.Printable.{line_sets, body_sets, rule_sets}
+
+-- some of the values of a net
+output : (values set : ℕ) → values ≤ MAX_VALUES → IsOutput values set → IsSayable set
+output values set few is = record {
+  some = is.some;
+  small = record { below = λ v h. let low = ltb-true v values (sym (has-full values v) ∙ is.within v h) in omega (arith, low, few) };
+}
+
+module _ (net : NetParts) (formed : WellFormed net) where
+  lits : (ls : List BodyLit) → All (IsLiteral net.nets) (literals_said net.nets ls) → All IsSayable (map (λ (m : BodyLit). m.set) ls)
+  lits [] all = All-nil IsSayable
+  lits (l ∷ ls) all =
+      let here = All-head (IsLiteral net.nets) _ (literals_said net.nets ls) all in
+      All-cons IsSayable l.set (map (λ (m : BodyLit). m.set) ls) (output _ l.set (values_few net _ formed) here.set) (lits ls (All-tail (IsLiteral net.nets) _ (literals_said net.nets ls) all))
+
+  module _ (values : ℕ) (few : values ≤ MAX_VALUES) where
+    lines : (ls : List BodyLine) → All (IsTidyLine net.nets values) ls → All IsSayable (flat_map line_sets ls)
+    lines [] all = All-nil IsSayable
+    lines (l ∷ ls) all =
+        let here = All-head (IsTidyLine net.nets values) l ls all in
+        All-append IsSayable (line_sets l) (flat_map line_sets ls)
+        (All-push IsSayable (map (λ (m : BodyLit). m.set) l.lits) l.out (lits l.lits here.cube.each) (output values l.out few here.out))
+        (lines ls (All-tail (IsTidyLine net.nets values) l ls all))
+
+    body : (b : Body) → IsTidy net.nets values b → All IsSayable (body_sets b)
+    body b tidy =
+        All-append IsSayable (flat_map line_sets b.lines) (option_to_list b.default) (lines b.lines (tidy_lines net.nets values b tidy).each) (default b.default refl)
+      where
+        default : (d : Option ℕ) → b.default ≡ d → All IsSayable (option_to_list d)
+        default None e = All-nil IsSayable
+        default (Some set) e = All-cons IsSayable set [] (output values set few (tidy.cover.default set e)) (All-nil IsSayable)
+
+  pub rule_sayable : (rule : Rule) (new : NetParts) → Applies rule net new → All IsSayable (rule_sets rule)
+  rule_sayable (Remove w) new p = All-nil IsSayable
+  rule_sayable (Add w b) new p = body 2 (omega arith) b p.form.tidy
+  rule_sayable (Divide w by b) new p = body (values_in (slot net.nets p.number)) (values_few net p.number formed) b p.form
+  rule_sayable (Wire w) new p = All-nil IsSayable
+  rule_sayable (Collapse w) new p = All-nil IsSayable

@@ -1,5 +1,0 @@
-use Rattle.mv_saving.specs.Pairs.{IsPart}
-use Rattle.mv_saving.proofs.kept.KeptComposites.mark.Given as goal
-
-abbrev pub invariant-loop-n : goal.invariant-loop-n
-invariant-loop-n l = IsPart l.fn.self l.self

@@ -1,0 +1,85 @@
+-- The rules among the entries of scripts apply in turn.
+use Rattle.std.proofs.Common.{◌≡◌, ◌∙◌, ℕ, true, List, [], ◌∷◌, ◌++◌, map, refl, sym, ap, subst, ⊎_elim}
+use Rattle.std.proofs.lemmas.List.{append-nil}
+use Rattle.mv_base.specs.declared.number.NetId.{NetId}
+use Rattle.mv_collapse.specs.Collapses.{IsCollapseStep}
+use Rattle.mv_collapse.specs.Eliminates.{IsEliminateStep, Eliminates, HasNoted, NotesWide, wide_note}
+use Rattle.mv_gain.specs.Savings.{NoneSaves}
+use Rattle.mv_entry.specs.declared.note.Command.{Command}
+use Rattle.mv_entry.specs.declared.note.Command.TheVariants.{Drop, Sweep, Eliminate, Collapse, Kernel, Cube, Simplify, Merge, Default, Determinize, Encode}
+use Rattle.mv_entry.specs.Entries.{Entry, rules_of}
+use Rattle.mv_net.specs.declared.parts.NetParts.{NetParts}
+use Rattle.mv_pass.specs.Going.{Before, Within, Behind}
+use Rattle.mv_pass.proofs.Going.{goes_replays, rules_of-append}
+use Rattle.mv_rules.specs.Replaying.{Replays}
+use Rattle.mv_rules.proofs.Replayed.{replayed_then}
+use Rattle.mv_script.specs.Scripts.{Items}
+use Rattle.mv_sweep.specs.Drops.{IsDropStep}
+use Rattle.mv_sweep.specs.Sweeps.{IsSweepStep}
+use Rattle.mv_script_run.specs.Commands.{CourseOf, DoesCommand, BegunCommand}
+use Rattle.mv_script_run.specs.Runs.{Course, Runs, RunsTo}
+use Rattle.mv_script_run.proofs.Inductions.{of_items, of_stopped, any_commands}
+
+-- ---- the steps of a command
+
+-- notes of nets are no rules
+wide_notes_ruleless : (net : NetParts) (numbers : List NetId) → rules_of (map (wide_note net) numbers) ≡ []
+wide_notes_ruleless net [] = refl
+wide_notes_ruleless net (n ∷ ns) = wide_notes_ruleless net ns
+
+noted_ruleless : (net : NetParts) (notes : List Entry) → HasNoted net notes → rules_of notes ≡ []
+noted_ruleless net notes h =
+    ⊎_elim
+    (λ (none : notes ≡ []). ap rules_of none)
+    (λ (some : NoneSaves net × ((end : ℕ) × NotesWide net end notes)). ap rules_of some.1.1.notes_are ∙ wide_notes_ruleless net some.1.1.numbers)
+    h.how
+
+eliminates_replays : (a b : NetParts) (steps : List Entry) → Eliminates a steps b → Replays (rules_of steps) a b
+eliminates_replays a b steps e =
+    let rules : rules_of steps ≡ rules_of e.collapses =
+    ap rules_of e.steps_are ∙ (rules_of-append e.collapses e.notes ∙ (ap (λ rs. rules_of e.collapses ++ rs) (noted_ruleless b e.notes e.noted) ∙ append-nil (rules_of e.collapses))) in
+    subst (λ rs. Replays rs a b) (sym rules) (goes_replays IsEliminateStep a b e.collapses e.goes)
+
+-- the rules among the steps of a command apply in turn
+pub course_replays : (c : Command) (a b : NetParts) (steps : List Entry) → CourseOf c a steps b → Replays (rules_of steps) a b
+course_replays Drop a b steps g = goes_replays IsDropStep a b steps g
+course_replays Sweep a b steps g = goes_replays IsSweepStep a b steps g
+course_replays Eliminate a b steps e = eliminates_replays a b steps e
+course_replays (Collapse name) a b steps g = goes_replays (IsCollapseStep name) a b steps g
+course_replays Kernel a b steps g = absurd g
+course_replays Cube a b steps g = absurd g
+course_replays (Simplify down up) a b steps g = absurd g
+course_replays Merge a b steps g = absurd g
+course_replays Default a b steps g = absurd g
+course_replays Determinize a b steps g = absurd g
+course_replays Encode a b steps g = absurd g
+
+-- ---- whole commands, and those that stop
+
+module _ (c : Command) (a b : NetParts) (es : List Entry) where
+  -- the notes of a command's beginning and end are no rules
+  pub does_replays : DoesCommand c a es b → Replays (rules_of es) a b
+  does_replays d =
+      subst (λ rs. Replays rs a b) (sym (ap rules_of d.entries_are ∙ (rules_of-append d.steps _ ∙ append-nil (rules_of d.steps)))) (course_replays c a b d.steps d.course)
+
+  begun_replays : BegunCommand c a es b → Replays (rules_of es) a b
+  begun_replays (Before none same) = subst (λ xs. Replays (rules_of xs) a b) (sym none) same
+  begun_replays (Within p) = subst (λ rs. Replays rs a b) (sym (ap rules_of p.entries_are)) (course_replays c a b p.steps p.course)
+  begun_replays (Behind d) = does_replays d
+
+-- ---- scripts
+
+-- the rules apply in turn
+abbrev ReplaysRules : Course
+ReplaysRules a es b = Replays (rules_of es) a b
+
+then_replays : (a b c : NetParts) (xs ys : List Entry) → ReplaysRules a xs b → ReplaysRules b ys c → ReplaysRules a (xs ++ ys) c
+then_replays a b c xs ys p q = subst (λ rs. Replays rs a c) (sym (rules_of-append xs ys)) (replayed_then (rules_of xs) (rules_of ys) a b c p q)
+
+pub runs_replays : (items : Items) (a b : NetParts) (es : List Entry) → Runs items a es b → Replays (rules_of es) a b
+runs_replays items a b es r =
+    of_items ReplaysRules (λ n. refl) then_replays (λ c. true) (λ c h m fs n d. does_replays d.command m n fs d.does) items (any_commands items) a es b r
+
+pub stops_replays : (items : Items) (a b : NetParts) (es : List Entry) → RunsTo items a es b → Replays (rules_of es) a b
+stops_replays items a b es r =
+    of_stopped ReplaysRules (λ n. refl) then_replays (λ c. true) (λ c h m fs n d. does_replays d.command m n fs d.does) (λ c h m fs n d. begun_replays d.command m n fs d.begun) items (any_commands items) a es b r

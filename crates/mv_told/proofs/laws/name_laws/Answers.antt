@@ -1,6 +1,0 @@
--- The law is a lemma.
-use Rattle.mv_told.proofs.Lawful.{net_name-text}
-use Rattle.mv_told.proofs.laws.name_laws.Goals as goal
-
-pub returns : goal.returns
-returns c = net_name-text

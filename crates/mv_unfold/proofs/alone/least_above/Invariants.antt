@@ -1,5 +1,0 @@
-use Rattle.mv_unfold.proofs.Least.{AreDone}
-use Rattle.mv_unfold.proofs.alone.least_above.Given as goal
-
-abbrev pub invariant-loop-net : goal.invariant-loop-net
-invariant-loop-net l = AreDone l.columns l.low l.high l.order l.net-index l.above.items

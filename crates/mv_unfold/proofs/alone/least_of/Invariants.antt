@@ -1,6 +1,0 @@
-use Rattle.std.proofs.Common.{◌≡◌, drop}
-use Rattle.mv_unfold.specs.Alone.{least_from}
-use Rattle.mv_unfold.proofs.alone.least_of.Given as goal
-
-abbrev pub invariant-loop-net : goal.invariant-loop-net
-invariant-loop-net l = least_from l.above l.least (drop l.net-index l.nets) ≡ least_from l.above l.fn.first l.nets

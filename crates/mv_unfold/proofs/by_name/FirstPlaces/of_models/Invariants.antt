@@ -1,0 +1,6 @@
+use Rattle.std.proofs.Common.{map, take}
+use Rattle.mv_unfold.specs.ByName.{FindsFirst}
+use Rattle.mv_unfold.proofs.by_name.FirstPlaces.of_models.Given as goal
+
+abbrev pub invariant-loop-place : goal.invariant-loop-place
+invariant-loop-place l = FindsFirst l.all (map (λ x. x.name) (take l.place l.models))

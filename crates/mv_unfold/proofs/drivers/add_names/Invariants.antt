@@ -1,6 +1,0 @@
-use Rattle.std.proofs.Common.{◌≡◌, drop}
-use Rattle.mv_unfold.specs.Driving.{with_names}
-use Rattle.mv_unfold.proofs.drivers.add_names.Given as goal
-
-abbrev pub invariant-loop-net : goal.invariant-loop-net
-invariant-loop-net l = with_names l.names (drop l.net-index l.nets) ≡ with_names l.fn.names l.nets

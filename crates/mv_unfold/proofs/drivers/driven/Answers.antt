@@ -1,8 +1,0 @@
--- Inputs, outputs of latches and outputs of tables are the driven nets.
-use Rattle.mv_unfold.proofs.Driven.{driven_gathered}
-use Rattle.mv_unfold.proofs.drivers.driven.Goals as goal
-
-pub returns : goal.returns
-returns c =
-    rw (c.in_ok-add_tables.ensures, c.in_ok-add_latches.ensures, c.in_ok-add_names.ensures, c.in_ok-driven.ensures, c.as_slice.ensures, c.as_slice-2.ensures, c.as_slice-3.ensures)
-    (driven_gathered c.args.model.now c.requires)

@@ -1,6 +1,0 @@
-use Rattle.std.proofs.Common.{◌≡◌, take}
-use Rattle.mv_unfold.specs.Numbers.{numbers_in}
-use Rattle.mv_unfold.proofs.numbers.Numbers.list.Given as goal
-
-abbrev pub invariant-loop-net : goal.invariant-loop-net
-invariant-loop-net l = l.numbers ≡ numbers_in l.self (take l.net-index l.nets)

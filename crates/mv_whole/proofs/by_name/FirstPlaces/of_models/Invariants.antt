@@ -1,6 +1,0 @@
-use Rattle.std.proofs.Common.{map, take}
-use Rattle.mv_whole.specs.ByName.{FindsFirst}
-use Rattle.mv_whole.proofs.by_name.FirstPlaces.of_models.Given as goal
-
-abbrev pub invariant-loop-place : goal.invariant-loop-place
-invariant-loop-place l = FindsFirst l.all (map (λ x. x.name) (take l.place l.models))

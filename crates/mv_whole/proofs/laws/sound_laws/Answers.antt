@@ -1,5 +1,0 @@
-use Rattle.mv_whole.proofs.Sound.{fault_excludes, one_sound}
-use Rattle.mv_whole.proofs.laws.sound_laws.Goals as goal
-
-pub returns : goal.returns
-returns c = record { none = fault_excludes; one = one_sound }

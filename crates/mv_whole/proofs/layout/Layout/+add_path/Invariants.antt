@@ -1,4 +1,0 @@
-use Rattle.mv_whole.proofs.layout.Layout.+add_path.Given as goal
-
-abbrev pub decreases-add_path : goal.decreases-add_path
-decreases-add_path l = l.number
