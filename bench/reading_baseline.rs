@@ -12,8 +12,9 @@ use std::rc::Rc;
 
 const MAX_FILE: usize = 16_777_216;
 const MAX_WORD: usize = 1_024;
-const MAX_BRACKETED: usize = 200_000;
-const MAX_VALUES: usize = 128;
+const MAX_BRACKETED: usize = 1_100_000;
+const MAX_VALUES: usize = 1_024;
+const MAX_JOINT_ROWS: usize = 1_024;
 const MAX_COLUMNS: usize = 256;
 const MAX_TABLE_LINES: usize = 65_536;
 const MAX_MODELS: usize = 4_096;
@@ -301,52 +302,101 @@ fn is_value_name(text: &[u8]) -> bool {
         && !text.iter().any(|b| matches!(b, b'(' | b')' | b'{' | b'}'))
 }
 
-/// A set of values, which are numbered from 0.
+/// A set of values, which are numbered from 0. One with values from 64 on stands in memory to the end of the run.
 #[derive(Debug, Clone, Copy, PartialEq, Eq, Hash)]
-struct ValueSet(u128);
+enum ValueSet {
+    Few(u64),
+    Many(&'static [u64; 16]),
+}
 
 impl ValueSet {
-    const EMPTY: ValueSet = ValueSet(0);
+    const EMPTY: ValueSet = ValueSet::Few(0);
+
+    fn of(words: [u64; 16]) -> ValueSet {
+        if words[1..].iter().all(|&word| word == 0) {
+            return ValueSet::Few(words[0]);
+        }
+        ValueSet::Many(Box::leak(Box::new(words)))
+    }
+
+    fn words(self) -> [u64; 16] {
+        match self {
+            ValueSet::Few(bits) => {
+                let mut words = [0; 16];
+                words[0] = bits;
+                words
+            }
+            ValueSet::Many(words) => *words,
+        }
+    }
 
     fn one(value: usize) -> ValueSet {
-        ValueSet(1 << value)
+        if value < 64 {
+            return ValueSet::Few(1 << value);
+        }
+        let mut words = [0; 16];
+        words[value / 64] = 1 << (value % 64);
+        ValueSet::of(words)
     }
 
     fn full(count: usize) -> ValueSet {
-        ValueSet(u128::MAX >> (128 - count))
+        if count < 64 {
+            return ValueSet::Few((1 << count) - 1);
+        }
+        let mut words = [0; 16];
+        for (place, word) in words.iter_mut().enumerate() {
+            let left = count.saturating_sub(64 * place);
+            *word = if left >= 64 { u64::MAX } else { (1 << left) - 1 };
+        }
+        ValueSet::of(words)
     }
 
     /// The values from the first to the last, both of them in it.
     fn range(first: usize, last: usize) -> ValueSet {
-        ValueSet::full(last + 1).minus(ValueSet((1 << first) - 1))
+        ValueSet::full(last + 1).minus(ValueSet::full(first))
+    }
+
+    fn by_words(self, other: ValueSet, both: impl Fn(u64, u64) -> u64) -> ValueSet {
+        if let (ValueSet::Few(a), ValueSet::Few(b)) = (self, other) {
+            return ValueSet::Few(both(a, b));
+        }
+        let (a, b) = (self.words(), other.words());
+        ValueSet::of(std::array::from_fn(|place| both(a[place], b[place])))
     }
 
     fn meet(self, other: ValueSet) -> ValueSet {
-        ValueSet(self.0 & other.0)
+        self.by_words(other, |a, b| a & b)
     }
 
     fn join(self, other: ValueSet) -> ValueSet {
-        ValueSet(self.0 | other.0)
+        self.by_words(other, |a, b| a | b)
     }
 
     fn minus(self, other: ValueSet) -> ValueSet {
-        ValueSet(self.0 & !other.0)
+        self.by_words(other, |a, b| a & !b)
     }
 
     /// The value of a set of just one.
     fn single(self) -> Option<usize> {
-        self.0.is_power_of_two().then(|| self.0.trailing_zeros() as usize)
+        if let ValueSet::Few(bits) = self {
+            return bits.is_power_of_two().then(|| bits.trailing_zeros() as usize);
+        }
+        let mut values = self.values();
+        let first = values.next()?;
+        values.next().is_none().then_some(first)
     }
 
     /// The values in ascending order.
     fn values(self) -> impl Iterator<Item = usize> {
-        let mut rest = self.0;
+        let mut rest = self.words();
+        let mut place = 0;
         std::iter::from_fn(move || {
-            if rest == 0 {
-                return None;
+            while place < 16 && rest[place] == 0 {
+                place += 1;
             }
-            let value = rest.trailing_zeros() as usize;
-            rest &= rest - 1;
+            let word = rest.get_mut(place)?;
+            let value = 64 * place + word.trailing_zeros() as usize;
+            *word &= *word - 1;
             Some(value)
         })
     }
@@ -396,7 +446,7 @@ impl<'a> Values<'a> {
 /// The number that is written so, with no leading zero.
 fn number_below(text: &[u8], limit: usize) -> Option<usize> {
     let zero_led = text.len() > 1 && text[0] == b'0';
-    if text.is_empty() || text.len() > 3 || zero_led || !text.iter().all(u8::is_ascii_digit) {
+    if text.is_empty() || text.len() > 4 || zero_led || !text.iter().all(u8::is_ascii_digit) {
         return None;
     }
     let number = text.iter().fold(0, |n, b| n * 10 + usize::from(b - b'0'));
@@ -1474,8 +1524,8 @@ impl Choices {
             return Ok(ValueSet::one(place));
         }
         let place = self.list.len();
-        if place == MAX_VALUES {
-            return Err(Fault::of(Kind::JointWide).number(MAX_VALUES + 1));
+        if place == MAX_JOINT_ROWS {
+            return Err(Fault::of(Kind::JointWide).number(MAX_JOINT_ROWS + 1));
         }
         self.list.push(outs.to_vec());
         self.places.insert(outs.to_vec(), place);

@@ -1,4 +1,5 @@
 pub mod Sets
+pub mod WordLemmas
 pub mod NameLemmas
 pub mod FileLemmas
 pub mod OutsideLemmas

@@ -1,8 +1,10 @@
 -- Sets of values, value by value.
-use Rattle.std.proofs.Common.{◌≡◌, ℕ, suc, ◌+◌, ◌-◌, ◌*◌, ◌/◌, ◌%◌, ◌^◌, lit<, mod-lt, zero-mul, ◌<◌, ◌≤◌, ◌≢◌, Bool, true, false, not, ◌&&◌, ◌||◌, ltb, eqb, IsTrue, refl, sym, ◌∙◌, ap, arith, ⊎_elim}
+use Rattle.std.proofs.Common.{◌≡◌, ℕ, zero, suc, ◌+◌, ◌-◌, ◌*◌, ◌/◌, ◌%◌, ◌^◌, lit<, mod-lt, zero-mul, ◌<◌, ◌≤◌, ◌≢◌, Bool, true, false, not, ◌&&◌, ◌||◌, ltb, eqb, IsTrue, refl, sym, ◌∙◌, ap, arith, ⊎_elim}
 use Rattle.std.specs.Prelude.{◌==◌, nat_lt, bit_and, bit_or, bit_xor, count_ones, ◌↔◌}
-use Rattle.std.specs.Int.{bit_at, trailing_zeros, w128}
-use Rattle.std.proofs.lemmas.Nat.Bits.{bit_at-zero, bit_at_and, bit_at_or, bit_at_xor, bit_at-pow_same, bit_at-pow_other, bit_at_ones, bit_at_ones_above, bit_at-lt, bit_at_above, same_from_bits, bit_at-trailing_zeros, and_pow}
+use Rattle.std.specs.Int.{bit_at}
+use Rattle.std.proofs.lemmas.Nat.Bits.{bit_at-zero, bit_at_and, bit_at_or, bit_at_xor, bit_at-pow_same, bit_at-pow_other, bit_at_ones, bit_at_ones_above, bit_at-lt, bit_at_above, same_from_bits, bit_at_lowest, bit_at-suc, and_pow}
+use Rattle.std.proofs.lemmas.Bool.{cases_eq}
+use Rattle.std.proofs.Math.Nat.{pow-suc}
 use Rattle.std.proofs.lemmas.Bool.Decides.{nat_tests, eqb_tells, leb_tells, Decides-eqb, Decides-ltb}
 use Rattle.std.proofs.lemmas.Bool.{false≢true}
 use Rattle.std.proofs.lemmas.Nat.{xor_lt, and_le_l, and_le_r, or_disjoint, ones_cat, div-add-mod', pow_pos, zero_from_ones}
@@ -151,12 +153,32 @@ bound-from_IsSet s h =
     let same : bit_and s all ≡ s = meet_of_Within s (full MAX_VALUES) inside in
     omega (arith, and_le_r s all, same)
 
+shifted : (s v : ℕ) → bit_at s 0 ≡ 0 → ((i : ℕ) → i < v → bit_at (s / 2) i ≡ 0) → (i : ℕ) → i < suc v → bit_at s i ≡ 0
+shifted s v here below zero h = here
+shifted s v here below (suc i) h = bit_at-suc s i ∙ below i (omega (arith, h))
+
+-- a number that isn't 0 has a lowest bit
+lowest_bit : (k s : ℕ) → 0 < s → s < 2 ^ k → (v : ℕ) × (bit_at s v ≡ 1) × ((i : ℕ) → i < v → bit_at s i ≡ 0)
+lowest_bit zero s some small = absurd (omega (arith, some, small))
+lowest_bit (suc k) s some small =
+    let half = s / 2 in
+    let split : s ≡ half * 2 + s % 2 = sym (div-add-mod' s 2) in
+    let bit : s % 2 < 2 = mod-lt s (lit< tt) in
+    let double : 2 ^ suc k ≡ 2 * 2 ^ k = grind (arith, pow-suc) in
+    ⊎_elim
+    (λ (odd : s % 2 ≡ 1). (0, bit_at_lowest s ∙ odd, λ i h. absurd (omega (arith, h))))
+    (λ (even : s % 2 ≡ 1 → ⊥).
+    let low = lowest_bit k half (omega (arith, split, bit, even, some)) (omega (arith, split, small, double)) in
+    (suc low.0, bit_at-suc s low.0 ∙ low.1, shifted s low.0 (bit_at_lowest s ∙ omega (arith, bit, even)) low.2))
+    (cases_eq (s % 2) 1)
+
+lowest_of : (k s : ℕ) → 0 < s → s < 2 ^ k → (v : ℕ) × IsLeast s v
+lowest_of k s some small = let low = lowest_bit k s some small in (low.0, IsLeast-from_bits s low.0 low.1 low.2)
+
 -- a set of values that isn't empty has a least member
 pub least_of : (s : ℕ) → IsSet s → s ≢ empty → (v : ℕ) × IsLeast s v
 unfolding empty
-least_of s h some =
-    let lowest = bit_at-trailing_zeros w128 s (omega (arith, some)) (bound-from_IsSet s h) in
-    (trailing_zeros w128 s, IsLeast-from_bits s _ lowest.1 lowest.2)
+least_of s h some = lowest_of MAX_VALUES s (omega (arith, some)) (bound-from_IsSet s h)
 
 -- ---- how many members a set has
 

@@ -1,4 +1,7 @@
 pub mod Set
+pub mod Words
+pub mod SetInside
+pub mod Packed
 pub mod Names
 pub mod NameBytes
 pub mod Meaning

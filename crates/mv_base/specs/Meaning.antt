@@ -1,5 +1,5 @@
 -- What a design or a network means to who uses it, and when one may take the place of another.
-use Rattle.std.specs.Prelude.{◌≡◌, ℕ, Bool, List}
+use Rattle.std.specs.Prelude.{◌≡◌, ℕ, Bool, IsTrue, List}
 
 -- an input or output of the root: its name, and its values as a file spells them, in order
 pub record Port : Type 0 where
@@ -31,14 +31,15 @@ pub record AllowsSome (m : Meaning) (i s : List ℕ) : Type 0 where
   pub r : List ℕ
   pub allowed : m.allows i s o n r
 
--- b looks like a, and allows nothing that a does not
-pub record Narrows (b a : Meaning) : Type 0 where
+-- b looks like a, and allows nothing that a does not; where free, this is asked only under values where a allows some choice
+pub record Narrows (free : Bool) (b a : Meaning) : Type 0 where
   pub same : b.interface ≡ a.interface
-  pub only : (i s o n r : List ℕ) → b.allows i s o n r → a.allows i s o n r
+  pub only : (i s o n r : List ℕ) → (IsTrue free → AllowsSome a i s) → b.allows i s o n r → a.allows i s o n r
 
--- b may take the place of a: it looks like a, allows nothing that a does not, and something wherever a does
-pub record Refines (b a : Meaning) : Type 0 where
-  pub narrows : Narrows b a
+-- b may take the place of a: it looks like a, allows nothing that a does not (where free, under values where a allows some
+-- choice), and something wherever a does
+pub record Refines (free : Bool) (b a : Meaning) : Type 0 where
+  pub narrows : Narrows free b a
   pub some : (i s : List ℕ) → AllowsSome a i s → AllowsSome b i s
 
 -- b and a look alike and allow the same

@@ -1,12 +1,8 @@
 -- A sink and files that lie in memory and fail where they are told to.
-use Rattle.std.specs.Prelude.{ℕ, ◌+◌, ◌-◌, ◌^◌, min, Bool, not, ◌&&◌, ◌==◌, nat_le, nat_lt, List, [], ◌∷◌, ◌++◌}
+use Rattle.std.specs.Prelude.{ℕ, ◌-◌, min, Bool, not, ◌&&◌, ◌==◌, nat_le, nat_lt, List, [], ◌∷◌, ◌++◌}
 use Rattle.std.specs.Prelude.{length, take, drop, Option, Some, None, is_some, is_none, unwrap_or, if◌then◌else◌}
 use Rattle.std.specs.List.{list_any, list_all}
-use Rattle.mv_base.specs.Outside.{Held, Stored, Written, file_named}
-
--- one more, for a counter that ends at its last value
-abbrev pub counted : ℕ → ℕ
-counted n = min (n + 1) (2 ^ 64 - 1)
+use Rattle.mv_base.specs.Outside.{Held, Stored, Written, counted, file_named}
 
 -- ---- a sink
 
@@ -46,14 +42,15 @@ after_put s piece = record s {
 
 -- ---- files
 
--- files in memory: their contents by name, the current one and what is left of it, the calls that fail, and how many calls
--- and faults there were
+-- files in memory: their contents by name, the current one and what is left of it, the calls that fail, and how many calls,
+-- starts and faults there were
 pub record Kept : Type 0 where
   pub files : List (List ℕ × List ℕ)
   pub current : Option (List ℕ)
   pub rest : List ℕ
   pub fails : List ℕ
   pub calls : ℕ
+  pub starts : ℕ
   pub faults : ℕ
 
 -- what the files tell: they are sound where every listed call is behind them
@@ -62,7 +59,7 @@ held_of k = record { files = k.files; current = k.current; rest = k.rest; sound 
 
 -- their state: they always tell of themselves
 abbrev pub stored_of : Kept → Stored
-stored_of k = record { held = Some (held_of k); faults = k.faults }
+stored_of k = record { held = Some (held_of k); starts = k.starts; faults = k.faults }
 
 -- the next call fails
 abbrev pub is_listed : Kept → Bool
@@ -76,12 +73,17 @@ after_fault k = record k { calls = counted k.calls; faults = counted k.faults }
 abbrev pub starts : Kept → List ℕ → Bool
 starts k name = not (is_listed k) && is_some (file_named name k.files)
 
+-- the files behind a start that fails
+abbrev pub after_failed_start : Kept → Kept
+after_failed_start k = record k { calls = counted k.calls; starts = counted k.starts; faults = counted k.faults }
+
 -- the files behind a start that works
 abbrev pub after_start : Kept → List ℕ → Kept
 after_start k name = record k {
   current = Some name;
   rest = unwrap_or (file_named name k.files) [];
   calls = counted k.calls;
+  starts = counted k.starts;
 }
 
 -- the files behind a `next` that gives n bytes

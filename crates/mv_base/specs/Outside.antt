@@ -12,9 +12,11 @@ pub record Held : Type 0 where
   pub rest : List ℕ
   pub sound : Bool
 
--- the state of a set of files: what it tells of itself, if it does, and its count of faults, which never falls
+-- the state of a set of files: what it tells of itself, if it does, how often a file was begun, and its count of faults;
+-- both counts end at their last value and never fall
 pub record Stored : Type 0 where
   pub held : Option Held
+  pub starts : ℕ
   pub faults : ℕ
 
 -- the state of a sink: the bytes that it took so far, if it tells them, and its count of faults, which never falls
@@ -22,11 +24,15 @@ pub record Written : Type 0 where
   pub told : Option (List ℕ)
   pub faults : ℕ
 
--- ---- faults
+-- ---- counts
+
+-- one more, for a count that ends at its last value
+abbrev pub counted : ℕ → ℕ
+counted n = min (n + 1) (2 ^ 64 - 1)
 
 -- a count of faults rose: it is greater than before, or stands at its last value
 abbrev pub Rose : ℕ → ℕ → Type 0
-Rose before now = min (before + 1) (2 ^ 64 - 1) ≤ now
+Rose before now = counted before ≤ now
 
 -- a count of faults never falls, and a call fails only where it rose
 pub record HasCause {T : Type 0} (before now : ℕ) (result : Result T Failed) : Type 0 where

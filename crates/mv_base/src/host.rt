@@ -1,5 +1,5 @@
 //! The real outside: files by path, standard input, standard output and standard error. None of them tells its bytes.
-ghost use Rattle.std.specs.Prelude.{◌≤◌, ◌≡◌, length, IfOk};
+ghost use Rattle.std.specs.Prelude.{◌≤◌, ◌≡◌, length, IfOk, None};
 ghost use Rattle.mv_base.specs.Outside.{Rose};
 
 use crate::{Failed, Files, Sink};
@@ -53,41 +53,43 @@ impl<F: Read + Drop, I: Read + Drop> Source<F, I> {
     }
 }
 
-/// Files by path, and standard input for the name `-`, seen by contracts as the count of their faults.
+/// Files by path, and standard input for the name `-`, seen by contracts as the counts of their starts and faults.
 #[derive(Drop)]
 pub struct HostFiles<R: Disk + Input> {
     rt: R,
     source: Source<R::File, R::Reader>,
+    starts: u64,
     faults: u64,
 }
 
 impl<R: Disk + Input> Model for HostFiles<R> {
-    ghost use Rattle.std.specs.Prelude.{ℕ};
+    ghost use Rattle.std.specs.Prelude.{None};
+    ghost use Rattle.mv_base.specs.Outside.{Stored};
 
-    ghost Value = { ℕ };
+    ghost Value = { Stored };
 
-    ghost view = { λ f. f.faults };
+    ghost view = { λ f. record { held = None; starts = f.starts; faults = f.faults } };
 }
 
 impl<R: Disk + Input> HostFiles<R> {
     /// The files that the runtime reaches.
     pub fn new(rt: R) -> Self
-        ensures { result ≡ 0 }
+        ensures { result ≡ record { held = None; starts = 0; faults = 0 } }
     {
         HostFiles {
             rt,
             source: Source::Nothing,
+            starts: 0,
             faults: 0,
         }
     }
 }
 
 impl<R: Disk + Input> Files for HostFiles<R> {
-    ghost use Rattle.std.specs.Prelude.{None};
-
-    ghost state = { λ f. record { held = None; faults = f } };
+    ghost state = { λ f. f };
 
     fn start(&mut self, name: &str) -> Result<(), Failed> {
+        self.starts = self.starts.saturating_add(1);
         if name == "-" {
             self.source = Source::Input(self.rt.reader());
             return Ok(());

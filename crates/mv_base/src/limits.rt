@@ -9,9 +9,9 @@ pub const MAX_SCRIPT_COMMANDS: u64 = 10_000;
 /// Bytes of a word that isn't bracketed.
 pub const MAX_WORD_BYTES: u64 = 1_024;
 /// Bytes of a bracketed word, its blanks left out.
-pub const MAX_BRACKETED_BYTES: u64 = 200_000;
+pub const MAX_BRACKETED_BYTES: u64 = 1_100_000;
 /// Values of a net.
-pub const MAX_VALUES: u16 = 128;
+pub const MAX_VALUES: u16 = 1_024;
 /// Columns of a table.
 pub const MAX_COLUMNS: u64 = 256;
 /// Rows of a table.
@@ -44,11 +44,15 @@ pub const MAX_FLAT_LITERALS: u64 = 8_000_000;
 pub const MAX_COMPOSED_LINES: u64 = 4_096;
 /// Fanins of a table that a rule composes or encodes.
 pub const MAX_FANINS: u64 = 255;
+/// Distinct rows of outputs of a table with several.
+pub const MAX_JOINT_ROWS: u64 = 1_024;
 
 // The limits of parts that aren't built yet: no command asks them in this version.
 
-/// Distinct rows of outputs of a table with several.
-pub const MAX_JOINT_ROWS: u64 = 128;
+/// Bits of the nets that take the place of one whose values are encoded.
+pub const MAX_CODE_BITS: u64 = 10;
+/// Steps from a net to the tables of its window, below and above.
+pub const MAX_WINDOW_STEPS: u64 = 8;
 /// Points of a window that is decided point by point.
 pub const MAX_WINDOW_POINTS: u64 = 4_096;
 /// Levels of a window that is decided by diagrams: the sum over its nets of the values less one.

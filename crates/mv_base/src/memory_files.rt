@@ -1,8 +1,8 @@
 ghost use Rattle.std.specs.Prelude.{◌≡◌, ◌==◌, ◌-◌, ◌≤◌, [], ◌++◌, None, Some, length, take, drop, min, map, not, is_ok, IfOk, IfSome, IfNone, OnOk, OnErr};
 ghost use Rattle.std.specs.List.{list_any};
-ghost use Rattle.mv_base.specs.Memory.{stored_of, is_listed, starts, after_fault, after_start, after_next};
+ghost use Rattle.mv_base.specs.Memory.{stored_of, is_listed, starts, after_fault, after_failed_start, after_start, after_next};
 ghost use Rattle.mv_base.specs.Entries.{entry_of, IsFirstNamed};
-ghost use Rattle.mv_base.specs.Outside.{HasCause, StillTell, Begins, Continues, file_named};
+ghost use Rattle.mv_base.specs.Outside.{HasCause, StillTell, Begins, Continues, counted, file_named};
 
 use crate::{Failed, Files};
 use std::marker::Model;
@@ -15,6 +15,7 @@ pub struct MemoryFiles {
     current: Option<usize>,
     at: usize,
     calls: u64,
+    starts: u64,
     faults: u64,
 }
 
@@ -32,6 +33,7 @@ impl Model for MemoryFiles {
       rest = rest_at (map entry_of k.files.items) k.current k.at;
       fails = k.fails.items;
       calls = k.calls;
+      starts = k.starts;
       faults = k.faults;
     } };
 
@@ -73,7 +75,7 @@ impl MemoryFiles {
     /// These files by name, of which the first with a name counts. The calls of `start` and `next` are counted together
     /// from 0, those listed in `fails` fail, and the counter ends at its greatest number.
     pub fn new(files: Vec<(String, Vec<u8>)>, fails: Vec<u64>) -> MemoryFiles
-        ensures { result ≡ record { files = map entry_of files.items; current = None; rest = []; fails = fails.items; calls = 0; faults = 0 } }
+        ensures { result ≡ record { files = map entry_of files.items; current = None; rest = []; fails = fails.items; calls = 0; starts = 0; faults = 0 } }
     {
         MemoryFiles {
             files,
@@ -81,6 +83,7 @@ impl MemoryFiles {
             current: None,
             at: 0,
             calls: 0,
+            starts: 0,
             faults: 0,
         }
     }
@@ -93,13 +96,15 @@ impl Files for MemoryFiles {
 
     fn start(&mut self, name: &str) -> Result<(), Failed>
         ensures begun { StillTell (stored_of self.old) (stored_of self.new) (λ old new. Begins old new name.now result) }
+        ensures starts { self.new.starts ≡ counted self.old.starts }
         ensures cause { HasCause self.old.faults self.new.faults result }
         ensures answer { is_ok result ≡ starts self.old name.now }
         ensures ok { OnOk result (self.new ≡ after_start self.old name.now) }
-        ensures err { OnErr result (self.new ≡ after_fault self.old) }
+        ensures err { OnErr result (self.new ≡ after_failed_start self.old) }
     {
         let listed = is_listed(self.fails.as_slice(), self.calls);
         self.calls = self.calls.saturating_add(1);
+        self.starts = self.starts.saturating_add(1);
         if listed {
             self.faults = self.faults.saturating_add(1);
             return Err(Failed);
@@ -116,6 +121,7 @@ impl Files for MemoryFiles {
     fn next(&mut self, room: &mut [u8]) -> Result<usize, Failed>
         ensures bound { IfOk result (λ n. n ≤ length room.new) }
         ensures given { StillTell (stored_of self.old) (stored_of self.new) (λ old new. Continues old new room.new result) }
+        ensures starts { self.new.starts ≡ self.old.starts }
         ensures cause { HasCause self.old.faults self.new.faults result }
         ensures answer { is_ok result ≡ not (is_listed self.old) }
         ensures count { IfOk result (λ n. n ≡ min (length room.old) (length self.old.rest)) }

@@ -1,5 +1,5 @@
 -- The work on a certificate: its rules in turn, then the done line, then the text.
-use Rattle.std.proofs.Common.{◌≡◌, ℕ, List, subst}
+use Rattle.std.proofs.Common.{false, ◌≡◌, ℕ, List, subst}
 use Rattle.mv_base.specs.Meaning.{SameMeaning}
 use Rattle.mv_base.specs.Outside.{Written, Gained}
 use Rattle.mv_base.proofs.Meanings.{Refines-from_same}
@@ -22,7 +22,7 @@ module _ (steps : List Step) (first net : NetParts) (before : ℕ) (count : befo
     noted = subst (λ k. Gained notes notes' (done_line k (literals_in net.nets))) count line;
     gained = text;
     back = back;
-    refines = Refines-from_same (of_net net) (of_net first) means;
+    refines = Refines-from_same false (of_net net) (of_net first) means;
   }
 
   pub trial_cut : IsEndCut out out' notes notes' (done_line before (literals_in net.nets)) (text_of net) → IsTrialCut steps first out out' notes notes'

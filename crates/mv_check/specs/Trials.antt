@@ -1,5 +1,5 @@
 -- How the work on a certificate ends. Private functions alone cite these.
-use Rattle.std.specs.Prelude.{ℕ, List}
+use Rattle.std.specs.Prelude.{false, ℕ, List}
 use Rattle.mv_base.specs.Meaning.{Refines}
 use Rattle.mv_base.specs.Outside.{Written, Gained}
 use Rattle.mv_entry.specs.declared.fault.RuleFault.{RuleFault}
@@ -21,7 +21,7 @@ pub record HasTried (steps : List Step) (first : NetParts) (out out' notes notes
   pub noted : Gained notes notes' (done_line (literals_in first.nets) (literals_in net.nets))
   pub gained : Gained out out' (text_of net)
   pub back : ReadsBack net
-  pub refines : Refines (of_net net) (of_net first)
+  pub refines : Refines false (of_net net) (of_net first)
 
 -- the rule at this line doesn't apply
 pub record FailsTrial (steps : List Step) (first : NetParts) (line : ℕ) (fault : RuleFault) : Type 0 where

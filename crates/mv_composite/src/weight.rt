@@ -20,7 +20,7 @@ fn cube_weight(cube: &Cube) -> u64
     ensures value { result ≡ spec.cube_weight cube.now }
     ensures counted { AreCounted cube.now }
     ensures formed { IsCube cube.now }
-    ensures low { result ≤ 129 * 2 ^ 32 }
+    ensures low { result ≤ (MAX_VALUES + 1) * 2 ^ 32 }
 {
     let _short = cube.len();
     let mut weight = 0;
@@ -34,7 +34,7 @@ fn cube_weight(cube: &Cube) -> u64
 fn set_weight(set: ValueSet) -> u16
     ensures value { result ≡ spec.set_weight set }
     ensures counted { count_ones set ≤ MAX_VALUES }
-    ensures low { result ≤ 129 }
+    ensures low { result ≤ MAX_VALUES + 1 }
 {
     MAX_VALUES + 1 - set.count()
 }

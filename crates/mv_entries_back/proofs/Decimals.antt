@@ -91,5 +91,5 @@ decimal_short n small = length-decimal-le_wide 39 n (omega arith) (omega arith) 
 
 -- ---- as a value of a set
 
-pub value_short : (v : ℕ) → v < MAX_VALUES → length (decimal v) ≤ 3
-value_short v small = length-decimal-le_wide 3 v (omega arith) (omega arith) (omega arith)
+pub value_short : (v : ℕ) → v < MAX_VALUES → length (decimal v) ≤ 4
+value_short v small = length-decimal-le_wide 4 v (omega arith) (omega arith) (omega arith)

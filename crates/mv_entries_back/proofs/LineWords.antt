@@ -28,7 +28,7 @@ use Rattle.mv_lines_back.proofs.Comments.{written_bytes, seen_bytes}
 use Rattle.mv_entries_back.specs.Printable.{body_sets, rule_sets, command_numbers, reason_numbers, note_numbers, is_text_name, is_text_number, Printable}
 use Rattle.mv_entries_back.proofs.Sayable.{AreSayable, line_parts}
 use Rattle.mv_entries_back.proofs.Decimals.{decimal_plain, decimal_short}
-use Rattle.mv_entries_back.proofs.SetWords.{set-word}
+use Rattle.mv_entries_back.proofs.SetWords.{set-word, short_word}
 
 -- ---- words
 
@@ -36,14 +36,9 @@ use Rattle.mv_entries_back.proofs.SetWords.{set-word}
 is_good : List ℕ → Bool
 is_good w = is_written_word w && not (is_long w)
 
-not_long : (w : List ℕ) → length w ≤ MAX_WORD_BYTES → is_long w ≡ false
-not_long w short =
-    let P : ℕ → Type 0 = λ most. nat_lt most (length w) ≡ false in
-    cond_both (is_bracketed w) MAX_BRACKETED_BYTES MAX_WORD_BYTES P (λ b. le-ltb MAX_BRACKETED_BYTES (length w) (omega arith)) (λ p. le-ltb MAX_WORD_BYTES (length w) short)
-
 good : (w : List ℕ) → is_written_word w ≡ true → length w ≤ MAX_WORD_BYTES → is_good w ≡ true
 unfolding is_good
-good w written short = and_from (is_written_word w) _ written (not_from_false (is_long w) (not_long w short))
+good w written short = and_from (is_written_word w) _ written (not_from_false (is_long w) (short_word w short))
 
 name-good : (w : List ℕ) → is_text_name w ≡ true → is_good w ≡ true
 name-good w h =
@@ -51,7 +46,8 @@ name-good w h =
     good w (plain-written w both.0) (leb-true (length w) MAX_WORD_BYTES both.1)
 
 set-good : (set : ℕ) → IsSayable set → is_good (set_word set) ≡ true
-set-good set h = let is = set-word set h in good (set_word set) is.written is.short
+unfolding is_good
+set-good set h = let is = set-word set h in and_from (is_written_word (set_word set)) _ is.written (not_from_false (is_long (set_word set)) is.short)
 
 number-good : (n : ℕ) → is_text_number n ≡ true → is_good (decimal n) ≡ true
 number-good n h =

@@ -1,10 +1,12 @@
 -- The word of a set is a word of a text, and isn't long.
-use Rattle.std.proofs.Common.{◌≡◌, ℕ, ◌+◌, ◌*◌, ◌^◌, ◌<◌, ◌≤◌, true, List, [], ◌∷◌, ◌++◌, length, Some, codes, decimal, refl, ap, sym, ◌∙◌, arith, length-append}
+use Rattle.std.proofs.Common.{◌≡◌, ℕ, ◌+◌, ◌*◌, ◌^◌, ◌<◌, ◌≤◌, true, false, List, [], ◌∷◌, ◌++◌, length, Some, codes, decimal, refl, ap, sym, ◌∙◌, arith, length-append}
 use Rattle.std.specs.Prelude.{nat_lt}
 use Rattle.std.specs.List.{flat_map, list_all}
-use Rattle.std.proofs.lemmas.Bool.{and_parts, and_from, ltb-true}
+use Rattle.std.proofs.lemmas.Bool.{and_parts, and_from, ltb-true, le-ltb, cond_both}
 use Rattle.std.proofs.lemmas.List.Folds.{list_all-append}
-use Rattle.mv_base.specs.declared.limits.TheConstants.{MAX_VALUES, MAX_WORD_BYTES}
+use Rattle.mv_base.specs.Names.{is_bracketed}
+use Rattle.mv_base.specs.declared.limits.TheConstants.{MAX_VALUES, MAX_WORD_BYTES, MAX_BRACKETED_BYTES}
+use Rattle.mv_lex.specs.Words.{is_long}
 use Rattle.mv_entry.specs.Entries.{members, with_comma, values_word, set_word}
 use Rattle.mv_step.specs.Sets.{value_said, set_said}
 use Rattle.mv_step.specs.Printed.{IsSayable}
@@ -38,8 +40,8 @@ listed-bytes [] h = refl
 listed-bytes (v ∷ vs) h =
     list_all-append is_list_byte (decimal v) (flat_map with_comma vs) ∙ and_from (list_all is_list_byte (decimal v)) _ (decimal_listed v (wide v (value_low v vs h))) (listed-bytes vs (values_low v vs h))
 
--- at most four bytes a value
-listed-short : (vs : List ℕ) → AreValues vs → length (flat_map with_comma vs) ≤ 4 * length vs
+-- at most five bytes a value
+listed-short : (vs : List ℕ) → AreValues vs → length (flat_map with_comma vs) ≤ 5 * length vs
 listed-short [] h = omega arith
 listed-short (v ∷ vs) h =
     let short = value_short v (value_low v vs h) in
@@ -49,19 +51,28 @@ listed-short (v ∷ vs) h =
 
 -- ---- the word
 
--- the word of these values
-record IsValuesWord (vs : List ℕ) (w : List ℕ) : Type 0 where
-  written : is_written_word w ≡ true
-  short : length w ≤ 4 * length vs + 1
+-- a word of a text that isn't too long
+pub record IsSetWord (w : List ℕ) : Type 0 where
+  pub written : is_written_word w ≡ true
+  pub short : is_long w ≡ false
 
-single : (v : ℕ) → v < MAX_VALUES → IsValuesWord (v ∷ []) (decimal v)
+-- a plain word is as short as it has to be, and so is one in brackets
+pub short_word : (w : List ℕ) → length w ≤ MAX_WORD_BYTES → is_long w ≡ false
+short_word w few =
+    let P : ℕ → Type 0 = λ most. nat_lt most (length w) ≡ false in
+    cond_both (is_bracketed w) MAX_BRACKETED_BYTES MAX_WORD_BYTES P (λ b. le-ltb MAX_BRACKETED_BYTES (length w) (omega arith)) (λ p. le-ltb MAX_WORD_BYTES (length w) few)
+
+short_list : (bs : List ℕ) → length (40 ∷ bs) ≤ MAX_BRACKETED_BYTES → is_long (40 ∷ bs) ≡ false
+short_list bs few = le-ltb MAX_BRACKETED_BYTES (length (40 ∷ bs)) few
+
+single : (v : ℕ) → v < MAX_VALUES → IsSetWord (decimal v)
 single v low = record {
   written = plain-written (decimal v) (decimal_plain v (wide v low));
-  short = let s = value_short v low in omega (arith, s);
+  short = let s = value_short v low in short_word (decimal v) (omega (arith, s));
 }
 
-several : (v w : ℕ) (ws : List ℕ) → AreValues (v ∷ w ∷ ws) → IsValuesWord (v ∷ w ∷ ws) (values_word (v ∷ w ∷ ws))
-several v w ws h =
+several : (v w : ℕ) (ws : List ℕ) → AreValues (v ∷ w ∷ ws) → length (v ∷ w ∷ ws) ≤ MAX_VALUES → IsSetWord (values_word (v ∷ w ∷ ws))
+several v w ws h few =
     let bs = listed v (w ∷ ws) in
     let bytes = list_all-append is_list_byte (decimal v) (flat_map with_comma (w ∷ ws)) ∙ and_from _ _ (decimal_listed v (wide v (value_low v (w ∷ ws) h))) (listed-bytes (w ∷ ws) (values_low v (w ∷ ws) h)) in
     let size = length-append bs (41 ∷ []) in
@@ -70,18 +81,13 @@ several v w ws h =
     let rest = listed-short (w ∷ ws) (values_low v (w ∷ ws) h) in
     record {
       written = list-written bs bytes;
-      short = omega (arith, size, size_of, first, rest);
+      short = short_list (bs ++ 41 ∷ []) (omega (arith, size, size_of, first, rest, few));
     }
 
-values-word : (vs : List ℕ) → AreValues vs → (vs ≡ [] → ⊥) → IsValuesWord vs (values_word vs)
-values-word [] h some = absurd (some refl)
-values-word (v ∷ []) h some = single v (value_low v [] h)
-values-word (v ∷ w ∷ ws) h some = several v w ws h
-
--- a word of a text that isn't too long
-pub record IsSetWord (w : List ℕ) : Type 0 where
-  pub written : is_written_word w ≡ true
-  pub short : length w ≤ MAX_WORD_BYTES
+values-word : (vs : List ℕ) → AreValues vs → length vs ≤ MAX_VALUES → (vs ≡ [] → ⊥) → IsSetWord (values_word vs)
+values-word [] h few some = absurd (some refl)
+values-word (v ∷ []) h few some = single v (value_low v [] h)
+values-word (v ∷ w ∷ ws) h few some = several v w ws h few
 
 -- `()` says no set
 none_said : (set : ℕ) → set_said (codes "()") ≡ Some set → ⊥
@@ -92,6 +98,4 @@ pub set-word : (set : ℕ) → IsSayable set → IsSetWord (set_word set)
 unfolding set_word
 set-word set h =
     let some : members set ≡ [] → ⊥ = λ e. none_said set (ap (λ vs. set_said (values_word vs)) (sym e) ∙ set_said-set_word set h) in
-    let word = values-word (members set) (members_small set) some in
-    let few = members_few set in
-    record { written = word.written; short = let s = word.short in omega (arith, s, few) }
+    values-word (members set) (members_small set) (members_few set) some

@@ -1,8 +1,7 @@
 -- What a journal takes: the text of its entries, and their numbers.
 use Rattle.std.specs.Prelude.{◌≡◌, ℕ, Result, List, [], ◌∷◌, OnOk, OnErr}
 use Rattle.mv_base.specs.declared.outside.Failed.{Failed}
-use Rattle.mv_base.specs.Memory.{counted}
-use Rattle.mv_base.specs.Outside.{Written, Appends}
+use Rattle.mv_base.specs.Outside.{Written, Appends, counted}
 use Rattle.mv_entry.specs.declared.journal.Tally.{Tally}
 use Rattle.mv_entry.specs.declared.note.Note.{Note}
 use Rattle.mv_entry.specs.declared.note.Note.TheVariants.{Begin, Dropped, End, Done}

@@ -1,6 +1,6 @@
 -- A file that was read up to a limit.
 use Rattle.std.specs.Prelude.{◌≡◌, ℕ, ◌+◌, ◌≤◌, IsTrue, IfSome, Some, None, List, [], ◌++◌, length}
-use Rattle.mv_base.specs.Outside.{Held, Stored, StillTell, file_named}
+use Rattle.mv_base.specs.Outside.{Held, Stored, StillTell, counted, file_named}
 
 -- the files stay, and stay sound; the named one is the current one, and these bytes, its first ones, were read
 pub record HasRead (before after : Held) (name bytes : List ℕ) : Type 0 where
@@ -28,6 +28,18 @@ pub record StaySame (before after : Held) : Type 0 where
 pub record Stay (old new : Stored) : Type 0 where
   pub same : StillTell old new StaySame
   pub later : old.faults ≤ new.faults
+
+-- no file was begun
+abbrev pub BeganNone : Stored → Stored → Type 0
+BeganNone old new = new.starts ≡ old.starts
+
+-- exactly one file was begun
+abbrev pub BeganOne : Stored → Stored → Type 0
+BeganOne old new = new.starts ≡ counted old.starts
+
+-- exactly two files were begun
+abbrev pub BeganTwo : Stored → Stored → Type 0
+BeganTwo old new = new.starts ≡ counted (counted old.starts)
 
 -- files that tell that they are sound do not hold this name
 abbrev pub Lacks : Stored → List ℕ → Type 0

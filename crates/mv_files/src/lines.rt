@@ -1,7 +1,7 @@
 ghost use Rattle.std.specs.Prelude.{◌≡◌, ◌<◌, ◌-◌, ◌^◌, [], length, Err, IfOk, OnOk, IfErr};
 ghost use Rattle.mv_lex.specs.declared.fault.LexFault.{LexFault};
 ghost use Rattle.mv_lex.specs.Reading.{IsAfter};
-ghost use Rattle.mv_files.specs.FileReading.{Stay};
+ghost use Rattle.mv_files.specs.FileReading.{BeganNone, BeganOne, Stay};
 ghost use Rattle.mv_files.specs.LexedFiles.{WasLexed, ReadFront, LinesCause};
 ghost use Rattle.mv_files.specs.LexedPieces.{FedPiece, PieceCause, FedAll, FeedCause};
 
@@ -30,6 +30,7 @@ fn feed_piece<F: Files>(
     ensures fed { IfOk result (λ more. FedPiece (F.state files.old).held (F.state files.new).held lexer.old lexer.new lines.old lines.new more) }
     ensures stay { Stay (F.state files.old) (F.state files.new) }
     ensures stopped { IfErr result (PieceCause (F.state files.old) (F.state files.new) lexer.old (length room.old)) }
+    ensures starts { BeganNone (F.state files.old) (F.state files.new) }
 {
     let count = match files.next(room) {
         Ok(count) => count,
@@ -55,6 +56,7 @@ fn feed_all<F: Files>(
     ensures fed { OnOk result (FedAll (F.state files.old).held (F.state files.new).held limit lexer.new lines.new) }
     ensures stay { Stay (F.state files.old) (F.state files.new) }
     ensures stopped { IfErr result (FeedCause (F.state files.old) (F.state files.new) limit) }
+    ensures starts { BeganNone (F.state files.old) (F.state files.new) }
 {
     let mut room = [0u8; PIECE];
     for _turn in 0..limit + 1 {
@@ -67,7 +69,7 @@ fn feed_all<F: Files>(
     unreachable!()
 }
 
-/// The lines of the named file, of so many bytes at most. It is lexed while it is read, and the reading stops at its first
+/// The lines of the named file, of so many bytes at most. It is begun once, and no other is. It is lexed while it is read, and the reading stops at its first
 /// fault: no piece is read behind the one in which that is told, and no more than the limit and one piece.
 pub fn read_lines<F: Files>(
     alloc: Global,
@@ -79,6 +81,7 @@ pub fn read_lines<F: Files>(
     ensures lexed { IfOk result (WasLexed (F.state files.old) (F.state files.new) name.now limit) }
     ensures stay { Stay (F.state files.old) (F.state files.new) }
     ensures stopped { IfErr result (LinesCause (F.state files.old) (F.state files.new) name.now limit) }
+    ensures starts { BeganOne (F.state files.old) (F.state files.new) }
     ensures in_time { (fault : LexFault) → result ≡ Err (LinesStop.Lex fault) → ReadFront (F.state files.old) (F.state files.new) name.now limit }
 {
     match files.start(name) {

@@ -1,6 +1,6 @@
 ghost use Rattle.std.specs.Prelude.{◌≡◌, ◌+◌, ◌<◌, ◌≤◌, ◌^◌, [], Err, length, IfOk, OnOk};
 ghost use Rattle.mv_base.specs.Outside.{Rose};
-ghost use Rattle.mv_files.specs.FileReading.{Read, Stay, Lacks};
+ghost use Rattle.mv_files.specs.FileReading.{BeganNone, BeganOne, Read, Stay, Lacks};
 ghost use Rattle.mv_files.specs.Pieces.{GotPiece, ReadOn, Unsound};
 
 use mv_base::Files;
@@ -29,6 +29,7 @@ fn read_piece<F: Files>(
     ensures stay { Stay (F.state files.old) (F.state files.new) }
     ensures failed { result ≡ Err ReadStop.Failed → Rose (F.state files.old).faults (F.state files.new).faults }
     ensures unsound { result ≡ Err ReadStop.Failed → Unsound (F.state files.old).held }
+    ensures starts { BeganNone (F.state files.old) (F.state files.new) }
 {
     let count = match files.next(room) {
         Ok(count) => count,
@@ -48,6 +49,7 @@ fn read_on<F: Files>(files: &mut F, bytes: &mut Vec<u8>, limit: u64) -> Result<(
     ensures stay { Stay (F.state files.old) (F.state files.new) }
     ensures failed { result ≡ Err ReadStop.Failed → Rose (F.state files.old).faults (F.state files.new).faults }
     ensures unsound { result ≡ Err ReadStop.Failed → Unsound (F.state files.old).held }
+    ensures starts { BeganNone (F.state files.old) (F.state files.new) }
 {
     let mut room = [0u8; PIECE];
     for _turn in 0..limit + 1 {
@@ -64,7 +66,7 @@ fn read_on<F: Files>(files: &mut F, bytes: &mut Vec<u8>, limit: u64) -> Result<(
     Ok(())
 }
 
-/// The bytes of the named file: all of them, or those up to the first one past the limit.
+/// The bytes of the named file: all of them, or those up to the first one past the limit. It is begun once, and no other is.
 pub fn read_file<F: Files>(
     alloc: Global,
     files: &mut F,
@@ -76,6 +78,7 @@ pub fn read_file<F: Files>(
     ensures stay { Stay (F.state files.old) (F.state files.new) }
     ensures failed { result ≡ Err ReadStop.Failed → Rose (F.state files.old).faults (F.state files.new).faults }
     ensures lacks { result ≡ Err ReadStop.Failed → Lacks (F.state files.old) name.now }
+    ensures starts { BeganOne (F.state files.old) (F.state files.new) }
 {
     match files.start(name) {
         Ok(()) => {}

@@ -5,7 +5,7 @@ use Rattle.std.proofs.lemmas.Bool.{cases_Bool, cond_both}
 use Rattle.std.proofs.lemmas.List.{map-append}
 use Rattle.std.proofs.lemmas.List.Elements.{filter-append}
 use Rattle.indexmap.specs.IndexSet.{insert_key, insert_all}
-use Rattle.mv_base.specs.declared.limits.TheConstants.{MAX_VALUES}
+use Rattle.mv_base.specs.declared.limits.TheConstants.{MAX_JOINT_ROWS}
 use Rattle.mv_joint.specs.declared.split.PlainRow.{PlainRow}
 use Rattle.mv_joint.specs.declared.gather.Gathered.{Gathered}
 use Rattle.mv_joint.specs.declared.joint.JointStop.{JointStop}
@@ -66,10 +66,10 @@ gathers_more a b x y z p q = record {
   outs = q.outs ∙ (ap (λ (ks : List (List ℕ)). joined ks b) p.outs ∙ sym (joined-append x.outs.keys a b));
 }
 
-pub wide_by : (a b : List (List ℕ)) → a ≡ b → MAX_VALUES < length a → MAX_VALUES < length b
-wide_by a b e h = subst (λ (ks : List (List ℕ)). MAX_VALUES < length ks) e h
+pub wide_by : (a b : List (List ℕ)) → a ≡ b → MAX_JOINT_ROWS < length a → MAX_JOINT_ROWS < length b
+wide_by a b e h = subst (λ (ks : List (List ℕ)). MAX_JOINT_ROWS < length ks) e h
 
-pub wide_grows : (keys xs : List (List ℕ)) → MAX_VALUES < length keys → MAX_VALUES < length (insert_all same_outs keys xs)
+pub wide_grows : (keys xs : List (List ℕ)) → MAX_JOINT_ROWS < length keys → MAX_JOINT_ROWS < length (insert_all same_outs keys xs)
 wide_grows keys xs h = omega (arith, h, keys_grow keys xs)
 
 pub stops_more : (a b : List PlainRow) (x y : Gathered) (stop : JointStop) → Gathers a x y → StopsOver b y stop → StopsOver (a ++ b) x stop

@@ -1,7 +1,7 @@
 -- Rows that are gathered one after the other, with their distinct rows of outputs. For private functions.
 use Rattle.std.specs.Prelude.{◌≡◌, ℕ, ◌<◌, Option, Some, None, List, [], ◌∷◌, ◌++◌, length, map, filter}
 use Rattle.indexmap.specs.IndexSet.{insert_all}
-use Rattle.mv_base.specs.declared.limits.TheConstants.{MAX_VALUES}
+use Rattle.mv_base.specs.declared.limits.TheConstants.{MAX_JOINT_ROWS}
 use Rattle.mv_design.specs.declared.table.Entry.{Entry}
 use Rattle.mv_rows.specs.declared.column.Column.{Column}
 use Rattle.mv_joint.specs.OutRows.{same_outs}
@@ -38,14 +38,14 @@ pub record Gathers (more : List PlainRow) (old new : Gathered) : Type 0 where
   pub rows : new.rows ≡ old.rows ++ more
   pub outs : new.outs.keys ≡ joined old.outs.keys more
 
--- why some rows more can't be gathered: with them there are more distinct rows of outputs than a net may have values
+-- why some rows more can't be gathered: with them there are more distinct rows of outputs than a table may have
 abbrev pub StopsOver : List PlainRow → Gathered → JointStop → Type 0
-StopsOver more g Wide = MAX_VALUES < length (joined g.outs.keys more)
+StopsOver more g Wide = MAX_JOINT_ROWS < length (joined g.outs.keys more)
 StopsOver more g Memory = Unit {0}
 
 -- why rows can't be gathered
 abbrev pub StopsRows : List PlainRow → JointStop → Type 0
-StopsRows rows Wide = MAX_VALUES < length (joined [] rows)
+StopsRows rows Wide = MAX_JOINT_ROWS < length (joined [] rows)
 StopsRows rows Memory = Unit {0}
 
 -- the table and its distinct rows of outputs

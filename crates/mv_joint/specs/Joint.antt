@@ -5,7 +5,7 @@ use Rattle.std.specs.Option.{unwrap_or}
 use Rattle.mv_base.specs.Set.{empty, one}
 use Rattle.mv_base.specs.Firsts.{firsts_by}
 use Rattle.mv_base.specs.declared.number.NetId.{NetId}
-use Rattle.mv_base.specs.declared.limits.TheConstants.{MAX_VALUES}
+use Rattle.mv_base.specs.declared.limits.TheConstants.{MAX_VALUES, MAX_JOINT_ROWS}
 use Rattle.mv_cover.specs.declared.cover.Cover.{Cover}
 use Rattle.mv_design.specs.declared.table.Entry.{Entry}
 use Rattle.mv_design.specs.declared.table.Entry.TheVariants.{Set}
@@ -101,13 +101,13 @@ pub record IsMadeOf (columns : List Column) (p : PlainTable) (several : ℕ) (ma
 abbrev pub IsMadeJoint : List Column → FileTable → NetId → NetId → JointTable → Type 0
 IsMadeJoint columns t mark choice joint = IsMadeOf columns (plain_of columns t mark) (length t.outputs) mark choice joint
 
--- there are more distinct rows of outputs than a net may have values
+-- there are more distinct rows of outputs than a table may have
 abbrev pub IsWide : List Column → FileTable → NetId → Type 0
-IsWide columns t mark = MAX_VALUES < length (distinct (plain_of columns t mark))
+IsWide columns t mark = MAX_JOINT_ROWS < length (distinct (plain_of columns t mark))
 
 -- why a table without `=` has no covers
 abbrev pub StopsWith : PlainTable → JointStop → Type 0
-StopsWith p Wide = MAX_VALUES < length (distinct p)
+StopsWith p Wide = MAX_JOINT_ROWS < length (distinct p)
 StopsWith p Memory = Unit {0}
 
 -- why a table of a file has no covers

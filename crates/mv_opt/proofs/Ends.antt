@@ -1,5 +1,5 @@
 -- How a run ends: what was put to the notes and to the output, and what its status says.
-use Rattle.std.proofs.Common.{◌≡◌, ◌⊎◌, ℕ, ◌≤◌, List, [], inl, inr, refl, sym, subst, arith, ⊎_elim}
+use Rattle.std.proofs.Common.{false, ◌≡◌, ◌⊎◌, ℕ, ◌≤◌, List, [], inl, inr, refl, sym, subst, arith, ⊎_elim}
 use Rattle.std.specs.Prelude.{IfSome}
 use Rattle.mv_base.specs.Meaning.{Refines}
 use Rattle.mv_base.specs.Outside.{Stored, Written, Gained, Rose}
@@ -130,7 +130,7 @@ short_at_once given files out notes notes' tells = early_of given files files ou
 -- ---- the work was begun
 
 -- the network of a file is replaced by the text that was written, which is the output; of another no more is said
-replaces : (source : Origin) (old new : Stored) (first net : NetParts) (entries : List Entry) (out out' : Written) → Prepared source old new first → Gained out out' (output_of (output_for source) first entries net) → ReadsBack net → Refines (of_net net) (of_net first) → Replaces source old new first net out out'
+replaces : (source : Origin) (old new : Stored) (first net : NetParts) (entries : List Entry) (out out' : Written) → Prepared source old new first → Gained out out' (output_of (output_for source) first entries net) → ReadsBack net → Refines false (of_net net) (of_net first) → Replaces source old new first net out out'
 replaces (File name) old new first net entries out out' made gained back refines = replaced name old new first net out out' made gained back refines
 replaces (Text text) old new first net entries out out' made gained back refines = refines
 

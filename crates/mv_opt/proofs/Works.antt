@@ -1,5 +1,5 @@
 -- The work on a network: the script, then the done line, then the output, each as far as it came.
-use Rattle.std.proofs.Common.{◌≡◌, ◌∙◌, ℕ, ◌≤◌, true, List, inl, inr, ap, subst, ⊎_elim}
+use Rattle.std.proofs.Common.{false, ◌≡◌, ◌∙◌, ℕ, ◌≤◌, true, List, inl, inr, ap, subst, ⊎_elim}
 use Rattle.mv_base.specs.Meaning.{Refines}
 use Rattle.mv_base.specs.Outside.{Written, Gained, GainedPart, Rose}
 use Rattle.mv_base.proofs.Gains.{Gained-then, GainedPart-then}
@@ -54,7 +54,7 @@ module _ (output : Output) (items : Items) (first net : NetParts) (before : ℕ)
   same_output : output_text output before tally net ≡ output_of output first ran.entries net
   same_output = ap (λ n. output_text output n tally net) same ∙ ap (λ t. output_text output (literals_in first.nets) t net) ran.counted
 
-  pub work_done : (out out' notes' : Written) → Refines (of_net net) (of_net first) → ReadsBack net → are_named items ≡ true → WellFormed first → HasWordNames first.nets → Gained out out' (output_text output before tally net) → Gained mid notes' (done_line before (literals_in net.nets)) → HasWorked output items first out out' notes notes'
+  pub work_done : (out out' notes' : Written) → Refines false (of_net net) (of_net first) → ReadsBack net → are_named items ≡ true → WellFormed first → HasWordNames first.nets → Gained out out' (output_text output before tally net) → Gained mid notes' (done_line before (literals_in net.nets)) → HasWorked output items first out out' notes notes'
   work_done out out' notes' refines back named formed names text line =
       let P : List ℕ → Type 0 = λ z. Gained mid notes' z in
       let Q : List ℕ → Type 0 = λ z. Gained out out' z in

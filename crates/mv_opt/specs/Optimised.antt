@@ -1,5 +1,5 @@
 -- How a run ends that is asked to optimise a network by a script: one that it reads from a file, or one that it draws itself.
-use Rattle.std.specs.Prelude.{◌≡◌, ◌⊎◌, ℕ, ◌≤◌, IfSome, List}
+use Rattle.std.specs.Prelude.{false, ◌≡◌, ◌⊎◌, ℕ, ◌≤◌, IfSome, List}
 use Rattle.mv_base.specs.Meaning.{Refines}
 use Rattle.mv_base.specs.Outside.{Stored, Written, Gained, Rose}
 use Rattle.mv_entry.specs.Entries.{Entry}
@@ -35,7 +35,7 @@ pub record Told (script : List ℕ) (files : Stored) (first net : NetParts) (not
 -- the network that was left takes the place of the first one. That of a file was written, and reads back so
 abbrev pub Replaces : Source → Stored → Stored → NetParts → NetParts → Written → Written → Type 0
 Replaces (File name) old new first net out out' = Replaced name old new first net out out'
-Replaces (Text text) old new first net out out' = Refines (of_net net) (of_net first)
+Replaces (Text text) old new first net out out' = Refines false (of_net net) (of_net first)
 
 -- the work is done: the network came from where it was to; the script led from it to another one, and told what it did; that
 -- one takes its place; and the output was written

@@ -1,5 +1,5 @@
 -- How the work on a network ends: the script, then the done line, then the output.
-use Rattle.std.specs.Prelude.{◌≡◌, ◌⊎◌, ℕ, ◌≤◌, IfSome, List, [], ◌++◌}
+use Rattle.std.specs.Prelude.{false, ◌≡◌, ◌⊎◌, ℕ, ◌≤◌, IfSome, List, [], ◌++◌}
 use Rattle.mv_base.specs.Meaning.{Refines}
 use Rattle.mv_base.specs.Outside.{Stored, Written, Gained, GainedPart, Rose}
 use Rattle.mv_net.specs.declared.parts.NetParts.{NetParts}
@@ -54,7 +54,7 @@ pub record HasWorked (output : Output) (items : Items) (first : NetParts) (out o
   pub no_more : literals_in net.nets ≤ literals_in first.nets
   pub gained : Gained out out' (output_of output first entries net)
   pub back : ReadsBack net
-  pub refines : Refines (of_net net) (of_net first)
+  pub refines : Refines false (of_net net) (of_net first)
 
 -- the notes failed at the done line
 pub record IsDoneCut (items : Items) (first : NetParts) (notes notes' : Written) : Type 0 where

@@ -1,4 +1,4 @@
-ghost use Rattle.std.specs.Prelude.{◌≡◌, ◌≤◌, true, Err, IfOk, OnOk};
+ghost use Rattle.std.specs.Prelude.{false, ◌≡◌, ◌≤◌, true, Err, IfOk, OnOk};
 ghost use Rattle.mv_rules_back.specs.Names.{HasWordNames};
 ghost use Rattle.mv_base.specs.Meaning.{Refines};
 ghost use Rattle.mv_base.specs.Outside.{Rose};
@@ -42,7 +42,7 @@ fn run_noted<E: Sink>(
     ensures note { result ≡ Err Stop.Note
         → IsNoteCut (items_of script.now) net.old net.new (E.state notes.old) (E.state notes.new) }
     ensures cause { result ≡ Err Stop.Note → Rose (E.state notes.old).faults (E.state notes.new).faults }
-    ensures refines { Refines (of_net net.new) (of_net net.old) }
+    ensures refines { Refines false (of_net net.new) (of_net net.old) }
     ensures later { (E.state notes.old).faults ≤ (E.state notes.new).faults }
 {
     let mut journal = NoteJournal::new(notes);

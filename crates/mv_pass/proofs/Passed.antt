@@ -1,5 +1,5 @@
 -- How a command answers, from what its beginning, its steps and its end answered.
-use Rattle.std.proofs.Common.{◌≡◌, ℕ, ◌<◌, ◌^◌, List, [], Result, Ok, Err, OnOk, refl}
+use Rattle.std.proofs.Common.{false, ◌≡◌, ℕ, ◌<◌, ◌^◌, List, [], Result, Ok, Err, OnOk, refl}
 use Rattle.mv_base.specs.declared.outside.Failed.{Failed}
 use Rattle.mv_base.specs.Meaning.{Refines}
 use Rattle.mv_base.specs.Outside.{Rose}
@@ -32,7 +32,7 @@ module _ (Course : NetParts → List Entry → NetParts → Type 0) (Ends : List
     memory = λ e. absurd (not_memory (Err Note) (λ _. Err Note) e);
     note = λ e. begin_cut Course Ends command a j k f start begins;
     cause = λ e. begins.text.cause.failed;
-    refines = Refines-refl (of_net a);
+    refines = Refines-refl false (of_net a);
     goes_on = GoesOn-took j k (Noted (Begin command)) (Err f) begins;
   }
 
@@ -43,11 +43,11 @@ module _ (Course : NetParts → List Entry → NetParts → Type 0) (Ends : List
     memory = λ e. Took-none j (Before refl refl);
     note = λ e. absurd (not_memory (Err Memory) e refl);
     cause = λ e. absurd (not_memory (Err Memory) e refl);
-    refines = Refines-refl (of_net a);
+    refines = Refines-refl false (of_net a);
     goes_on = GoesOn-none j;
   }
 
-  module _ (begins : Takes j k (Noted (Begin command)) (Ok tt)) (b : NetParts) (l : Journaled) (refines : Refines (of_net b) (of_net a)) (on : GoesOn k l) where
+  module _ (begins : Takes j k (Noted (Begin command)) (Ok tt)) (b : NetParts) (l : Journaled) (refines : Refines false (of_net b) (of_net a)) (on : GoesOn k l) where
     on_from_start : GoesOn j l
     on_from_start = GoesOn-then j k l (GoesOn-took j k (Noted (Begin command)) (Ok tt) begins) on
 

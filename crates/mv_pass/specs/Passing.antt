@@ -1,5 +1,5 @@
 -- How a command answers.
-use Rattle.std.specs.Prelude.{◌≡◌, Result, Err, OnOk, List}
+use Rattle.std.specs.Prelude.{false, ◌≡◌, Result, Err, OnOk, List}
 use Rattle.mv_base.specs.Meaning.{Refines}
 use Rattle.mv_base.specs.Outside.{Rose}
 use Rattle.mv_entry.specs.declared.note.Command.{Command}
@@ -21,5 +21,5 @@ pub record Passes (Course : NetParts → List Entry → NetParts → Type 0) (En
   pub memory : result ≡ Err Memory → Took (λ entries. Begun Course Ends command old entries new) journal journal'
   pub note : result ≡ Err Note → TookPart (λ entries. Begun Course Ends command old entries new) journal journal'
   pub cause : result ≡ Err Note → Rose journal.written.faults journal'.written.faults
-  pub refines : Refines (of_net new) (of_net old)
+  pub refines : Refines false (of_net new) (of_net old)
   pub goes_on : GoesOn journal journal'

@@ -1,5 +1,5 @@
 -- What came of a run so far, and what comes of one part more.
-use Rattle.std.proofs.Common.{List, [], ◌++◌, Ok, Err}
+use Rattle.std.proofs.Common.{false, List, [], ◌++◌, Ok, Err}
 use Rattle.mv_base.specs.Meaning.{Refines}
 use Rattle.mv_base.proofs.Meanings.{Refines-refl, Refines-then}
 use Rattle.mv_base.proofs.OutsideLemmas.{Rose-earlier}
@@ -16,7 +16,7 @@ use Rattle.mv_script_run.specs.Runs.{Course}
 -- such a course came from the one network to the other, and the journal took its entries
 pub record Came (Reached : Course) (start here : NetParts) (journal journal' : Journaled) : Type 0 where
   pub took : Took (λ entries. Reached start entries here) journal journal'
-  pub refines : Refines (of_net here) (of_net start)
+  pub refines : Refines false (of_net here) (of_net start)
   pub goes_on : GoesOn journal journal'
 
 -- two courses, one behind the other, are a third
@@ -25,13 +25,13 @@ Joins First Second Both a b c = (xs ys : List Entry) → First a xs b → Second
 
 pub came_none : (Reached : Course) (start : NetParts) (j : Journaled) → Reached start [] start → Came Reached start start j j
 came_none Reached start j reached =
-    record { took = Took-none j reached; refines = Refines-refl (of_net start); goes_on = GoesOn-none j }
+    record { took = Took-none j reached; refines = Refines-refl false (of_net start); goes_on = GoesOn-none j }
 
 module _ (Reached Whole Stops : Course) (start here new : NetParts) (j k l : Journaled) (came : Came Reached start here j k) where
   pub came_more : (Reached' : Course) → Joins Reached Whole Reached' start here new → Passes Whole Stops here new k l (Ok tt) → Came Reached' start new j l
   came_more Reached' join p = record {
     took = Took-then join j k l came.took p.ok;
-    refines = Refines-then (of_net new) (of_net here) (of_net start) p.refines came.refines;
+    refines = Refines-then false (of_net new) (of_net here) (of_net start) p.refines came.refines;
     goes_on = GoesOn-then j k l came.goes_on p.goes_on;
   }
 
@@ -41,7 +41,7 @@ module _ (Reached Whole Stops : Course) (start here new : NetParts) (j k l : Jou
     memory = λ e. Took-then join j k l came.took (p.memory e);
     note = λ e. TookPart-then join j k l came.took (p.note e);
     cause = λ e. Rose-earlier j.written.faults k.written.faults l.written.faults came.goes_on.later (p.cause e);
-    refines = Refines-then (of_net new) (of_net here) (of_net start) p.refines came.refines;
+    refines = Refines-then false (of_net new) (of_net here) (of_net start) p.refines came.refines;
     goes_on = GoesOn-then j k l came.goes_on p.goes_on;
   }
 

@@ -1,5 +1,5 @@
 -- A command of a script that hasn't begun.
-use Rattle.std.proofs.Common.{◌≡◌, true, is_some, Option, Some, None, Err, refl}
+use Rattle.std.proofs.Common.{◌≡◌, true, false, is_some, Option, Some, None, Err, refl}
 use Rattle.std.proofs.lemmas.Bool.{false≢true}
 use Rattle.mv_base.proofs.Meanings.{Refines-refl}
 use Rattle.mv_entry.specs.declared.note.Command.{Command}
@@ -27,6 +27,6 @@ command_short c a j built =
       memory = λ e. Took-none j (record { command = some.0; built = some.1; begun = Before refl refl });
       note = λ e. absurd cc;
       cause = λ e. absurd cc;
-      refines = Refines-refl (of_net a);
+      refines = Refines-refl false (of_net a);
       goes_on = GoesOn-none j;
     }

@@ -1,5 +1,5 @@
 -- How a part of a script answers.
-use Rattle.std.specs.Prelude.{◌≡◌, Result, Err, OnOk}
+use Rattle.std.specs.Prelude.{false, ◌≡◌, Result, Err, OnOk}
 use Rattle.mv_base.specs.Meaning.{Refines}
 use Rattle.mv_base.specs.Outside.{Rose}
 use Rattle.mv_entry.specs.Tallies.{Journaled}
@@ -18,5 +18,5 @@ pub record Passes (Whole Stops : Course) (old new : NetParts) (journal journal' 
   pub memory : result ≡ Err Memory → Took (λ entries. Stops old entries new) journal journal'
   pub note : result ≡ Err Note → TookPart (λ entries. Stops old entries new) journal journal'
   pub cause : result ≡ Err Note → Rose journal.written.faults journal'.written.faults
-  pub refines : Refines (of_net new) (of_net old)
+  pub refines : Refines false (of_net new) (of_net old)
   pub goes_on : GoesOn journal journal'

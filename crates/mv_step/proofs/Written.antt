@@ -32,7 +32,7 @@ small_number : (v : ℕ) → v < MAX_VALUES → is_number (decimal v) ≡ true
 small_number v small =
     let wide : v < 2 ^ 64 = omega arith in
     let some = decimal_nonempty v wide in
-    let few = length-decimal-le 3 v (omega arith) (omega arith) wide in
+    let few = length-decimal-le 4 v (omega arith) (omega arith) wide in
     and_from _ _ (and_from _ _ ((Decides-ltb 0 (length (decimal v))).1 some) (le-leb (length (decimal v)) 5 (omega arith))) (digits_decimal numerals v wide)
 
 value_said-decimal : (v : ℕ) → v < MAX_VALUES → value_said (decimal v) ≡ Some v

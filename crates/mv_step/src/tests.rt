@@ -62,6 +62,7 @@ add x;line a 1 b (0,2) -> 1;line -> 0;default (0,1);end;remove y|1 add x;line a 
 divide z x;end;add w;default 1;end|1 divide z x;end;3 add w;default 1;end;
 add x;line -> 0 -> 0;end|1 add x;line -> 0 -> 0;end;
 add x;line a (127,00003,3,00) -> 00127;default (1);end|1 add x;line a (0,3,127) -> 127;default 1;end;
+add x;line a (1023,64) -> 1023;default 01000;end|1 add x;line a (64,1023) -> 1023;default 1000;end;
 remove a;frob a|Syntax 2
 line -> 0|Syntax 1
 default 0|Syntax 1
@@ -95,8 +96,8 @@ add x;default (0,);end|Syntax 2
 add x;default (,0);end|Syntax 2
 add x;default {0};end|Syntax 2
 add x;default !(0);end|Syntax 2
-add x;default 128;end|Syntax 2
-add x;default (0,128);end|Syntax 2
+add x;default 1024;end|Syntax 2
+add x;default (0,1024);end|Syntax 2
 add x;default 000000;end|Syntax 2
 add x;default 4294967296;end|Syntax 2
 add x;default -;end|Syntax 2

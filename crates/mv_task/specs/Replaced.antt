@@ -1,5 +1,5 @@
 -- What a run promises where its work is done, whatever it was asked for.
-use Rattle.std.specs.Prelude.{◌≡◌, ℕ, Some, List, []}
+use Rattle.std.specs.Prelude.{false, ◌≡◌, ℕ, Some, List, []}
 use Rattle.mv_base.specs.Meaning.{Meaning, Refines}
 use Rattle.mv_base.specs.Outside.{Held, Stored, Written, StillTell, file_named, Gained}
 use Rattle.mv_net.specs.declared.parts.NetParts.{NetParts}
@@ -20,7 +20,7 @@ pub record IsSource (name : List ℕ) (before after : Held) (first : NetParts) (
   pub design : Design
   pub read : ReadsAs content design
   pub flat : IsFlat first design
-  pub refines : Refines written (of_sound design read.sound)
+  pub refines : Refines false written (of_sound design read.sound)
 
 -- the output gained the text of a network, which reads back as a design; and, where the files tell of themselves, that is a design
 -- that may take the place of the one read, of which the first network is

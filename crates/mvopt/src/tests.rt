@@ -1,10 +1,12 @@
 //! Whole runs over files and sinks in memory.
+mod cases;
 mod checks;
 mod commands;
 mod examples;
 mod faults;
 mod instances;
 mod joints;
+mod limits;
 mod refusals;
 mod states;
 mod texts;
@@ -170,15 +172,23 @@ fn words_of(alloc: Global, text: &str) -> Result<Vec<String>, Fail> {
     Ok(words)
 }
 
+/// Adds a file with this name and content.
+fn add_file(
+    alloc: Global,
+    files: &mut Vec<(String, Vec<u8>)>,
+    name: &str,
+    content: &[u8],
+) -> Result<(), Fail> {
+    let name = String::from_str(alloc, name)?;
+    files.push((name, Vec::from_slice(alloc, content)?))?;
+    Ok(())
+}
+
 /// The files `n`, the network, and `s`, the script or the certificate.
 fn files_of(alloc: Global, given: Given) -> Result<MemoryFiles, Fail> {
     let mut files = Vec::new(alloc);
-    for (name, content) in [("n", given.net), ("s", given.script)] {
-        files.push((
-            String::from_str(alloc, name)?,
-            Vec::from_slice(alloc, content)?,
-        ))?;
-    }
+    add_file(alloc, &mut files, "n", given.net)?;
+    add_file(alloc, &mut files, "s", given.script)?;
     Ok(MemoryFiles::new(files, given.fault.of_files(alloc)?))
 }
 
@@ -210,22 +220,6 @@ fn check(rt: &impl Abort, given: Given, ended: &Ended, end: End) {
         wanted(end.notes, notes),
         "{words}: {script:?} on {net:?}"
     );
-}
-
-/// A line of a table as a text: `;` stands for a line feed.
-fn text_of(alloc: Global, line: &str) -> Result<Vec<u8>, Fail> {
-    let mut text = Vec::from_slice(alloc, line.as_bytes())?;
-    for byte in text.iter_mut() {
-        if *byte == b';' {
-            *byte = b'\n';
-        }
-    }
-    Ok(text)
-}
-
-/// Whether a line of a table is a case, and doesn't say what the next ones show.
-fn is_case(line: &str) -> bool {
-    !line.starts_with("--")
 }
 
 /// So many times the same piece.

@@ -1,8 +1,6 @@
 //! What the commands make of networks, and what they note.
-use super::checks::checks_back;
-use super::{ends, is_case, opt, text_of, written};
-use std::alloc::Global;
-use std::process::Abort;
+use super::cases::{Form, all_end};
+use super::{KEPT, UNREAD, ends, opt, written};
 use std::test::Fail;
 
 /// A script, a network file, what is written, and what the notes say.
@@ -72,29 +70,12 @@ eliminate sweep;;eliminate; | \
 # begin eliminate;collapse p;collapse q;# end 6;# begin sweep;remove r;# end 4;# begin eliminate;# end 4;# done 9 4;
 ";
 
-/// The script makes of the network what the case says, and its notes are a certificate by which a check does the same.
-fn case_is_run(rt: &impl Abort, alloc: Global, case: &str) -> Result<(), Fail> {
-    let (script, rest) = case.split_once(" | ").ok_or("a case without a network")?;
-    let (net, rest) = rest.split_once(" | ").ok_or("a case without an output")?;
-    let (out, notes) = rest.split_once(" | ").ok_or("a case without notes")?;
-    let (script, net) = (text_of(alloc, script)?, text_of(alloc, net)?);
-    let (out, notes) = (text_of(alloc, out)?, text_of(alloc, notes)?);
-    let end = written(out.as_slice(), notes.as_slice());
-    ends(rt, alloc, opt(net.as_slice(), script.as_slice()), end)?;
-    checks_back(rt, alloc, net.as_slice(), script.as_slice())
-}
-
 #[test]
 fn commands_change_networks_and_note_how(rt: HostRuntime) -> Result<(), Fail> {
-    for case in COMMANDS.lines() {
-        if is_case(case) {
-            case_is_run(&rt, rt.alloc(), case)?;
-        }
-    }
-    Ok(())
+    all_end(&rt, rt.alloc(), Form::Run, COMMANDS)
 }
 
-/// A net whose lines have a complement of 8,192 cubes, of which its reader makes use.
+/// A net whose lines have a complement of 8,192 cubes, of which its reader makes use, and what is noted of it.
 const WIDE: &str = "\
 .model w;.inputs a b c d e f g h i j k l m n o p q r s t u v w x y z;.outputs out;.table a b c d e f g h i j k l m n o p q r s t u v w x y z -> wide;\
 .default 0;1 - - - - - - - - - - - - 1 - - - - - - - - - - - - 1;- 1 - - - - - - - - - - - - 1 - - - - - - - - - - - 1;\
@@ -103,21 +84,66 @@ const WIDE: &str = "\
 - - - - - - 1 - - - - - - - - - - - - 1 - - - - - - 1;- - - - - - - 1 - - - - - - - - - - - - 1 - - - - - 1;\
 - - - - - - - - 1 - - - - - - - - - - - - 1 - - - - 1;- - - - - - - - - 1 - - - - - - - - - - - - 1 - - - 1;\
 - - - - - - - - - - 1 - - - - - - - - - - - - 1 - - 1;- - - - - - - - - - - 1 - - - - - - - - - - - - 1 - 1;\
-- - - - - - - - - - - - 1 - - - - - - - - - - - - 1 1;.table wide -> out;0 1;1 0;.end;";
+- - - - - - - - - - - - 1 - - - - - - - - - - - - 1 1;.table wide -> out;0 1;1 0;.end; | \
+# begin eliminate;# note lines wide;# end 28;# begin collapse wide;# note lines wide;# end 28;# done 28 28;
+";
 
 #[test]
 fn a_complement_may_be_too_wide(rt: HostRuntime) -> Result<(), Fail> {
-    let net = text_of(rt.alloc(), WIDE)?;
-    let notes = text_of(
-        rt.alloc(),
-        "# begin eliminate;# note lines wide;# end 28;\
-         # begin collapse wide;# note lines wide;# end 28;# done 28 28;",
-    )?;
-    let end = written(net.as_slice(), notes.as_slice());
-    ends(
+    all_end(
         &rt,
         rt.alloc(),
-        opt(net.as_slice(), b"eliminate; collapse wide"),
-        end,
+        Form::Kept(b"eliminate; collapse wide"),
+        WIDE,
     )
+}
+
+/// Networks, and what `drop` leaves and notes of each.
+const DROPPED: &str = "\
+-- A net that nobody reads goes.
+.model d;.inputs a;.outputs z;.table a -> z;0 1;1 0;.table a -> d;0 0;1 -;.end; | \
+.model d;.inputs a;.outputs z;.table a -> z;0 1;1 0;.end; | \
+# begin drop;remove d;# end 2;# done 4 2;
+-- A partial table stays: where it allows nothing the network allows nothing.
+.model d;.inputs a;.outputs z;.table a -> z;0 1;1 0;.table a -> d;0 0;.end; | \
+.model d;.inputs a;.outputs z;.table a -> z;0 1;1 0;.table a -> d;0 0;.end; | \
+# begin drop;# end 3;# done 3 3;
+-- A net that a partial table reads stays with it.
+.model d;.inputs a;.outputs;.table a -> c;0 1;1 0;.table c -> d;0 0;.end; | \
+.model d;.inputs a;.outputs;.table a -> c;0 1;1 0;.table c -> d;0 0;.end; | \
+# begin drop;# end 3;# done 3 3;
+-- The least goes first, and behind it what it alone read, also where that stands before it.
+.model d;.inputs a;.outputs z;.table a -> z;0 1;1 0;.table a -> c;0 1;1 0;.table c -> d;0 1;1 0;.table -> e;-;.end; | \
+.model d;.inputs a;.outputs z;.table a -> z;0 1;1 0;.end; | \
+# begin drop;remove d;remove c;remove e;# end 2;# done 6 2;
+-- What it read may stand behind it too.
+.model d;.inputs a;.outputs z;.table a -> z;0 1;1 0;.table c -> d;0 1;1 0;.table -> e;-;.table a -> c;0 1;1 0;.end; | \
+.model d;.inputs a;.outputs z;.table a -> z;0 1;1 0;.end; | \
+# begin drop;remove d;remove e;remove c;# end 2;# done 6 2;
+-- A column that holds only `-` isn't read.
+.model d;.inputs a;.outputs z;.table c a -> z;- 0 1;- 1 0;.table -> c;1;.end; | \
+.model d;.inputs a;.outputs z;.table a -> z;0 1;1 0;.end; | \
+# begin drop;remove c;# end 2;# done 2 2;
+-- Outputs are seen, and inputs have no table.
+.model d;.inputs a b;.outputs z b;.table a -> z;0 1;1 0;.end; | .model d;.inputs a b;.outputs z b;.table a -> z;0 1;1 0;.end; | # begin drop;# end 2;# done 2 2;
+-- A table without rows allows nothing.
+.model d;.inputs;.outputs;.table -> c;.end; | .model d;.inputs;.outputs;.table -> c;.end; | # begin drop;# end 0;# done 0 0;
+";
+
+#[test]
+fn drop_removes_what_nobody_sees_or_reads(rt: HostRuntime) -> Result<(), Fail> {
+    all_end(&rt, rt.alloc(), Form::Written(b"drop"), DROPPED)
+}
+
+/// Scripts of two commands, the second of which finds nothing to do.
+const TWICE: &[&str] = &["drop;drop", "drop drop", ";drop # d\n;;drop;"];
+
+#[test]
+fn each_command_notes_its_part(rt: HostRuntime) -> Result<(), Fail> {
+    let noted = b"# begin drop\nremove d\n# end 2\n# begin drop\n# end 2\n# done 4 2\n";
+    for script in TWICE {
+        let given = opt(UNREAD, script.as_bytes());
+        ends(&rt, rt.alloc(), given, written(KEPT, noted))?;
+    }
+    Ok(())
 }

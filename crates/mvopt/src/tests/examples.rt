@@ -1,5 +1,5 @@
 //! The examples of this repository, whose files stand in `examples/`, and what was worked out by hand of each.
-use super::texts::are_written;
+use super::cases::{Form, all_end};
 use std::test::Fail;
 
 /// The network of each example, what is written of it and what is noted.
@@ -100,15 +100,11 @@ RUN - DONE;DONE - IDLE;.end; | \
 #[test]
 fn a_swept_example_is_written_as_worked_out(rt: HostRuntime) -> Result<(), Fail> {
     let script = b"sweep; eliminate # what modules leave between them\n";
-    are_written(&rt, rt.alloc(), script, SWEPT)
+    all_end(&rt, rt.alloc(), Form::Written(script), SWEPT)
 }
 
 #[test]
 fn the_examples_are_written_as_worked_out(rt: HostRuntime) -> Result<(), Fail> {
-    are_written(
-        &rt,
-        rt.alloc(),
-        b"drop # what nobody sees or reads\n",
-        EXAMPLES,
-    )
+    let script = b"drop # what nobody sees or reads\n";
+    all_end(&rt, rt.alloc(), Form::Written(script), EXAMPLES)
 }

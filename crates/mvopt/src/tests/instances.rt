@@ -1,8 +1,5 @@
 //! Designs of several models in one another, as one network, and what is wrong with them.
-use super::refusals::{are_refused, is_past};
-use super::texts::are_written;
-use super::{ends, opt, written};
-use std::alloc::Global;
+use super::cases::{Form, all_end};
 use std::test::Fail;
 
 /// Designs with instances, and what is written of each.
@@ -40,7 +37,7 @@ IDLE 0 IDLE;IDLE 1 LOAD;LOAD - RUN;RUN - DONE;DONE - IDLE;.end; | \
 
 #[test]
 fn a_design_is_written_as_one_network(rt: HostRuntime) -> Result<(), Fail> {
-    are_written(&rt, rt.alloc(), b"", WRITTEN)
+    all_end(&rt, rt.alloc(), Form::Written(b""), WRITTEN)
 }
 
 /// The same controller, and what `sweep` and `eliminate` leave of it.
@@ -57,7 +54,12 @@ IDLE 0 IDLE;IDLE 1 LOAD;LOAD - RUN;RUN - DONE;DONE - IDLE;.end; | \
 
 #[test]
 fn a_script_runs_on_the_network_of_a_design(rt: HostRuntime) -> Result<(), Fail> {
-    are_written(&rt, rt.alloc(), b"sweep; eliminate", CONTROLLER)
+    all_end(
+        &rt,
+        rt.alloc(),
+        Form::Written(b"sweep; eliminate"),
+        CONTROLLER,
+    )
 }
 
 /// Designs that are refused for their instances, or for the nets of these.
@@ -88,50 +90,5 @@ IDLE 0 IDLE;IDLE 1 LOAD;LOAD - RUN;RUN - DONE;DONE - IDLE; | 7 NoEnd line 16
 
 #[test]
 fn designs_are_refused_for_their_instances(rt: HostRuntime) -> Result<(), Fail> {
-    are_refused(&rt, rt.alloc(), REFUSED)
-}
-
-/// The name of a model: two digits behind a letter.
-fn model_name(model: u8) -> [u8; 3] {
-    [b'm', b'0' + model / 10 % 10, b'0' + model % 10]
-}
-
-/// Adds an instance of a model for each of these names.
-fn add_instances(text: &mut Vec<u8>, model: u8, names: &[u8]) -> Result<(), Fail> {
-    for name in names {
-        text.extend_from_slice(b".subckt ")?;
-        text.extend_from_slice(&model_name(model))?;
-        text.extend_from_slice(&[b' ', *name, b'\n'])?;
-    }
-    Ok(())
-}
-
-/// So many models, each but the last with instances of these names of the next.
-fn chain(alloc: Global, models: u8, names: &[u8]) -> Result<Vec<u8>, Fail> {
-    let mut text = Vec::new(alloc);
-    for model in 0..models {
-        text.extend_from_slice(b".model ")?;
-        text.extend_from_slice(&model_name(model))?;
-        text.push(b'\n')?;
-        if model + 1 < models {
-            add_instances(&mut text, model + 1, names)?;
-        }
-        text.extend_from_slice(b".end\n")?;
-    }
-    Ok(text)
-}
-
-#[test]
-fn instances_have_limits(rt: HostRuntime) -> Result<(), Fail> {
-    let alloc = rt.alloc();
-    let net = chain(alloc, 65, b"u")?;
-    let kept = written(b".model m00\n.inputs\n.outputs\n.end\n", b"# done 0 0\n");
-    ends(&rt, alloc, opt(net.as_slice(), b""), kept)?;
-    is_past(&rt, alloc, chain(alloc, 66, b"u")?, "35 Limit Depth 65")?;
-    is_past(
-        &rt,
-        alloc,
-        chain(alloc, 17, b"uv")?,
-        "35 Limit Instances 100001",
-    )
+    all_end(&rt, rt.alloc(), Form::Network, REFUSED)
 }

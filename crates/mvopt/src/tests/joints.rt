@@ -1,8 +1,5 @@
 //! Tables of several outputs, as a choice net and a table on it for each output, and what is wrong with them.
-use super::refusals::{are_refused, is_past, many_inputs};
-use super::texts::are_written;
-use super::{ends, opt, written};
-use std::alloc::Global;
+use super::cases::{Form, all_end};
 use std::test::Fail;
 
 /// Networks with tables of several outputs, and what is written of each.
@@ -57,7 +54,7 @@ const WRITTEN: &str = "\
 
 #[test]
 fn outputs_that_belong_together_are_chosen_together(rt: HostRuntime) -> Result<(), Fail> {
-    are_written(&rt, rt.alloc(), b"", WRITTEN)
+    all_end(&rt, rt.alloc(), Form::Written(b""), WRITTEN)
 }
 
 /// Networks with such tables that are refused, with their faults.
@@ -77,100 +74,15 @@ const REFUSED: &str = "\
 -- An output of such a table that something else drives too, and one that an instance binds to the net of another.
 .model m;.table -> p q;0 1;.table -> q;1;.end; | 28 DrivenTwice q
 .model m;.subckt A u p=x q=x;.end;.model A;.outputs p q;.table -> p q;0 1;.end; | 28 DrivenTwice x
--- More rows of outputs than a net may have values.
-.model m;.inputs a b;.mv a, b, p, q 128;.table a b -> p q;- - =a =b;.end; | 34 JointWide 129
-.model m;.inputs a b;.mv a, b, p, q 128;.table a b -> p q;.default =a =b;.end; | 34 JointWide 129
-.model m;.inputs a b c d;.mv a, b, c, d, p, q, r, s 128;.table a b c d -> p q r s;- - - - =a =b =c =d;.end; | 34 JointWide 129
+-- More rows of outputs than there may be.
+.model m;.inputs a b;.mv a, b, p, q 128;.table a b -> p q;- - =a =b;.end; | 34 JointWide 1025
+.model m;.inputs a b;.mv a, b, p, q 128;.table a b -> p q;.default =a =b;.end; | 34 JointWide 1025
+.model m;.inputs a b c d;.mv a, b, c, d, p, q, r, s 128;.table a b c d -> p q r s;- - - - =a =b =c =d;.end; | 34 JointWide 1025
 ";
 
 #[test]
 fn tables_of_several_outputs_are_refused_with_their_first_fault(
     rt: HostRuntime,
 ) -> Result<(), Fail> {
-    are_refused(&rt, rt.alloc(), REFUSED)
-}
-
-/// A table of two outputs, the first with 128 values, with a row for each of these, and then these rows.
-fn joint_rows(alloc: Global, more: &[u8]) -> Result<Vec<u8>, Fail> {
-    let mut text = Vec::from_slice(
-        alloc,
-        b".model m\n.inputs\n.outputs p q\n.mv p 128\n.table -> p q\n",
-    )?;
-    for value in 0..128_u32 {
-        text.extend_from_slice(format!(in alloc; "{value} 0\n")?.as_bytes())?;
-    }
-    text.extend_from_slice(more)?;
-    text.extend_from_slice(b".end\n")?;
-    Ok(text)
-}
-
-/// What is written of such a table without more rows.
-fn joint_written(alloc: Global) -> Result<Vec<u8>, Fail> {
-    let head = b".model m\n.inputs\n.outputs p q\n.mv _m1 128\n.mv p 128\n.table -> _m1\n";
-    let mut text = Vec::from_slice(alloc, head)?;
-    for value in 0..128_u32 {
-        text.extend_from_slice(format!(in alloc; "{value}\n")?.as_bytes())?;
-    }
-    text.extend_from_slice(b".table _m1 -> p\n")?;
-    for value in 0..128_u32 {
-        text.extend_from_slice(format!(in alloc; "{value} {value}\n")?.as_bytes())?;
-    }
-    text.extend_from_slice(b".table _m1 -> q\n")?;
-    for value in 0..128_u32 {
-        text.extend_from_slice(format!(in alloc; "{value} 0\n")?.as_bytes())?;
-    }
-    text.extend_from_slice(b".end\n")?;
-    Ok(text)
-}
-
-#[test]
-fn a_choice_net_has_as_many_values_as_a_net_may_have(rt: HostRuntime) -> Result<(), Fail> {
-    let alloc = rt.alloc();
-    let net = joint_rows(alloc, b"")?;
-    let kept = joint_written(alloc)?;
-    let end = written(kept.as_slice(), b"# done 256 256\n");
-    ends(&rt, alloc, opt(net.as_slice(), b""), end)?;
-    let again = joint_rows(alloc, b"0 0\n")?;
-    ends(&rt, alloc, opt(again.as_slice(), b""), end)?;
-    is_past(&rt, alloc, joint_rows(alloc, b"0 1\n")?, WIDE)
-}
-
-/// What is told of more rows of outputs than a net may have values.
-const WIDE: &str = "34 JointWide 129";
-
-/// A table with these lines before its rows, all different and each ended so, and with these lines behind them. A row that
-/// names the input x becomes 128 lines, and all of them more than a network may have.
-fn long_rows(alloc: Global, head: &[u8], end: &[u8], behind: &[u8]) -> Result<Vec<u8>, Fail> {
-    let names = b".model m\n.inputs x a b\n.mv x, z, p 128\n.mv a, b, y, q 100\n";
-    let mut text = Vec::from_slice(alloc, names)?;
-    text.extend_from_slice(head)?;
-    for row in 0..7_813_u32 {
-        text.extend_from_slice(format!(in alloc; "- {} {}", row % 100, row / 100)?.as_bytes())?;
-        text.extend_from_slice(end)?;
-    }
-    text.extend_from_slice(behind)?;
-    text.extend_from_slice(b".end\n")?;
-    Ok(text)
-}
-
-#[test]
-fn rows_of_outputs_are_counted_before_lines_table_by_table(rt: HostRuntime) -> Result<(), Fail> {
-    let alloc = rt.alloc();
-    let wide = b".table x a -> p q\n- - =x =a\n";
-    let behind = long_rows(alloc, b".table x a b -> z\n", b" =x\n", wide)?;
-    is_past(&rt, alloc, behind, "35 Limit FlatLines 1000001")?;
-    let before = b".table x a -> p q\n- - =x =a\n.table x a b -> z\n";
-    is_past(&rt, alloc, long_rows(alloc, before, b" =x\n", b"")?, WIDE)?;
-    let same = long_rows(alloc, b".table x a b -> z y\n", b" =x =a\n", b"")?;
-    is_past(&rt, alloc, same, WIDE)
-}
-
-#[test]
-fn choice_nets_count_among_the_nets(rt: HostRuntime) -> Result<(), Fail> {
-    let alloc = rt.alloc();
-    let nets = "35 Limit Nets 200001";
-    let choice = b".table 0 -> p q\n0 0 1\n";
-    is_past(&rt, alloc, many_inputs(alloc, 199_998, choice)?, nets)?;
-    let mark = b".table 0 -> p q\n.default =0 1\n";
-    is_past(&rt, alloc, many_inputs(alloc, 199_997, mark)?, nets)
+    all_end(&rt, rt.alloc(), Form::Network, REFUSED)
 }

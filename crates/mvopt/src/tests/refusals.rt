@@ -1,78 +1,63 @@
 //! What is refused, and with which line.
-use super::{Given, INVERTER, ends, is_case, opt, refused, repeated, text_of, written};
+use super::cases::{Form, all_end};
+use super::{End, Given, INVERTER, ends, opt, refused};
 use std::alloc::Global;
 use std::process::Abort;
 use std::test::Fail;
 
-/// Words that are refused, or that name a file that is missing, with the status and the line.
-const WORDS: &[(&str, u8, &[u8])] = &[
-    ("", 1, b"# fault words\n"),
-    ("opt", 1, b"# fault words\n"),
-    ("opt n", 1, b"# fault words\n"),
-    ("opt n s x", 1, b"# fault words\n"),
-    ("opt - -", 1, b"# fault words\n"),
-    ("fold n s", 1, b"# fault words\n"),
-    ("opts n s", 1, b"# fault words\n"),
-    ("opt -x s", 1, b"# fault words\n"),
-    ("opt n --", 1, b"# fault words\n"),
-    ("opt --help", 1, b"# fault words\n"),
-    ("opt n s --budget", 1, b"# fault words\n"),
-    ("opt n s --budget 999", 1, b"# fault words\n"),
-    ("opt n s --budget 12345678", 1, b"# fault words\n"),
-    ("opt n s --budget=4000001", 1, b"# fault words\n"),
-    ("opt --budget 1000 n s --budget=1000", 1, b"# fault words\n"),
-    ("opt n -- s --budget=1000", 1, b"# fault words\n"),
-    ("opt x s", 4, b"# fault read\n"),
-    ("opt n x", 4, b"# fault read\n"),
-    ("opt - s", 4, b"# fault read\n"),
-    ("opt n -", 4, b"# fault read\n"),
-    ("check", 1, b"# fault words\n"),
-    ("check n s x", 1, b"# fault words\n"),
-    ("check - -", 1, b"# fault words\n"),
-    ("check n -c", 1, b"# fault words\n"),
-    ("checks n s", 1, b"# fault words\n"),
-    ("check n x", 4, b"# fault read\n"),
-    ("check x s", 4, b"# fault read\n"),
-    ("work 1 1", 1, b"# fault words\n"),
-    ("work 0 1 s", 1, b"# fault words\n"),
-    ("work 20001 1 s", 1, b"# fault words\n"),
-    ("work 1 18446744073709551616 s", 1, b"# fault words\n"),
-    ("work 1 18446744073709551615 x", 4, b"# fault read\n"),
-];
+/// Words that are refused, the first of which are none.
+const WORDS: &str = "
+opt
+opt n
+opt n s x
+opt - -
+fold n s
+opts n s
+opt -x s
+opt n --
+opt --help
+opt n s --budget
+opt n s --budget 999
+opt n s --budget 12345678
+opt n s --budget=4000001
+opt --budget 1000 n s --budget=1000
+opt n -- s --budget=1000
+check
+check n s x
+check - -
+check n -c
+checks n s
+work 1 1
+work 0 1 s
+work 20001 1 s
+work 1 18446744073709551616 s";
+
+/// Words that name a file that is missing.
+const MISSING: &str = "\
+opt x s
+opt n x
+opt - s
+opt n -
+check n x
+check x s
+work 1 18446744073709551615 x";
+
+/// A run with each of these words ends so.
+fn each_ends(rt: &impl Abort, alloc: Global, lines: &str, end: End) -> Result<(), Fail> {
+    for words in lines.split('\n') {
+        let given = Given {
+            words,
+            ..opt(INVERTER, b"")
+        };
+        ends(rt, alloc, given, end)?;
+    }
+    Ok(())
+}
 
 #[test]
 fn words_are_refused_and_files_are_missing(rt: HostRuntime) -> Result<(), Fail> {
-    for (words, status, line) in WORDS {
-        let given = Given {
-            words,
-            ..opt(INVERTER, b"")
-        };
-        ends(&rt, rt.alloc(), given, refused(*status, line))?;
-    }
-    Ok(())
-}
-
-#[test]
-fn the_option_stands_anywhere_before_two_dashes(rt: HostRuntime) -> Result<(), Fail> {
-    for words in ["opt --budget=1000 n -- s", "opt n --budget 4000000 s"] {
-        let given = Given {
-            words,
-            ..opt(INVERTER, b"")
-        };
-        ends(&rt, rt.alloc(), given, written(INVERTER, b"# done 2 2\n"))?;
-    }
-    Ok(())
-}
-
-/// The script is refused with the line that ends so, whatever the network is.
-fn script_is_refused(
-    rt: &impl Abort,
-    alloc: Global,
-    script: &[u8],
-    fault: &str,
-) -> Result<(), Fail> {
-    let line = format!(in alloc; "# fault script {fault}\n")?;
-    ends(rt, alloc, opt(b"", script), refused(3, line.as_bytes()))
+    each_ends(&rt, rt.alloc(), WORDS, refused(1, b"# fault words\n"))?;
+    each_ends(&rt, rt.alloc(), MISSING, refused(4, b"# fault read\n"))
 }
 
 /// Scripts and the end of the line that tells their first fault, behind the bar.
@@ -113,55 +98,7 @@ sweep; eliminate; better { simplify 1 1; kernel; cube } | 8 NotBuilt
 
 #[test]
 fn a_script_is_refused_with_its_first_fault(rt: HostRuntime) -> Result<(), Fail> {
-    for case in SCRIPTS.lines() {
-        let (script, fault) = case.split_once(" | ").ok_or("a case without a bar")?;
-        script_is_refused(&rt, rt.alloc(), script.as_bytes(), fault)?;
-    }
-    Ok(())
-}
-
-#[test]
-fn a_script_has_limits(rt: HostRuntime) -> Result<(), Fail> {
-    let script = repeated(rt.alloc(), b" ", 65_536)?;
-    let given = opt(INVERTER, script.as_slice());
-    ends(&rt, rt.alloc(), given, written(INVERTER, b"# done 2 2\n"))?;
-    let longer = repeated(rt.alloc(), b"x", 65_537)?;
-    script_is_refused(&rt, rt.alloc(), longer.as_slice(), "5 TooLong 65536")?;
-    let commands = repeated(rt.alloc(), b"drop;", 10_001)?;
-    script_is_refused(&rt, rt.alloc(), commands.as_slice(), "6 TooMany 50000")?;
-    let braces = repeated(rt.alloc(), b"better{", 33)?;
-    script_is_refused(&rt, rt.alloc(), braces.as_slice(), "7 TooDeep 230")?;
-    let mut powers = repeated(rt.alloc(), b"repeat 1000{", 32)?;
-    let mut idle = powers.clone()?;
-    idle.extend_from_slice(repeated(rt.alloc(), b"}", 32)?.as_slice())?;
-    let given = opt(INVERTER, idle.as_slice());
-    ends(&rt, rt.alloc(), given, written(INVERTER, b"# done 2 2\n"))?;
-    powers.extend_from_slice(b"drop")?;
-    powers.extend_from_slice(repeated(rt.alloc(), b"}", 32)?.as_slice())?;
-    script_is_refused(&rt, rt.alloc(), powers.as_slice(), "6 TooMany 0")
-}
-
-/// The network file is refused with the line that ends so.
-fn is_refused(rt: &impl Abort, alloc: Global, net: &[u8], fault: &str) -> Result<(), Fail> {
-    let line = format!(in alloc; "# fault network {fault}\n")?;
-    ends(rt, alloc, opt(net, b""), refused(2, line.as_bytes()))
-}
-
-/// The network file of a case is refused with the line of its fault, which stands behind the bar.
-fn case_is_refused(rt: &impl Abort, alloc: Global, case: &str) -> Result<(), Fail> {
-    let (net, fault) = case.split_once(" | ").ok_or("a case without a bar")?;
-    let net = text_of(alloc, net)?;
-    is_refused(rt, alloc, net.as_slice(), fault)
-}
-
-/// So are those of all cases.
-pub fn are_refused(rt: &impl Abort, alloc: Global, cases: &str) -> Result<(), Fail> {
-    for case in cases.lines() {
-        if is_case(case) {
-            case_is_refused(rt, alloc, case)?;
-        }
-    }
-    Ok(())
+    all_end(&rt, rt.alloc(), Form::Script, SCRIPTS)
 }
 
 /// Network files whose lines have a fault, and the end of the line that tells it.
@@ -180,7 +117,7 @@ const REFUSED: &str = "\
 .model m;.table -> z;.default 0;.def 1; | 16 DefaultTwice line 4
 .model m;.inputs a a; | 19 Repeated line 2 a
 .model m;.inputs a; | 7 NoEnd line 1
-.model m;.mv x 129; | 21 Limit line 2 Values 129
+.model m;.mv x 1025; | 21 Limit line 2 Values 1025
 .model a=b; | 36 BadName line 1 a=b
 .model m;0 1; | 37 NoTable line 2
  | 20 NoModel line 1
@@ -238,7 +175,7 @@ const REFUSED: &str = "\
 .model m;.mv,a 3; | 5 UnknownCommand line 2 .mv,a
 .model m;.mv {a,b} 2; | 36 BadName line 2 {a
 .model m;.mv a 000; | 10 BadCount line 2 000
-.model m;.mv a 0129 p -; | 21 Limit line 2 Values 129
+.model m;.mv a 01025 p -; | 21 Limit line 2 Values 1025
 .model m;.mv a 99999999999999999999; | 21 Limit line 2 Values 18446744073709551615
 .model m;.mv a 2 p p q; | 19 Repeated line 2 p
 .model m;.mv a 3 p -; | 36 BadName line 2 -
@@ -349,7 +286,7 @@ const REFUSED: &str = "\
 
 #[test]
 fn faults_of_the_lines_are_told_with_their_line(rt: HostRuntime) -> Result<(), Fail> {
-    are_refused(&rt, rt.alloc(), REFUSED)
+    all_end(&rt, rt.alloc(), Form::Network, REFUSED)
 }
 
 /// Network files whose design isn't sound, and the end of the line that tells it.
@@ -405,7 +342,7 @@ const UNSOUND: &str = "\
 
 #[test]
 fn designs_that_are_not_sound_are_refused_with_a_net(rt: HostRuntime) -> Result<(), Fail> {
-    are_refused(&rt, rt.alloc(), UNSOUND)
+    all_end(&rt, rt.alloc(), Form::Network, UNSOUND)
 }
 
 /// Network files whose bytes have a fault, and the end of its line.
@@ -440,188 +377,5 @@ a\\\u{80} | 1 BadByte line 1 194
 
 #[test]
 fn faults_of_the_bytes_have_lines_of_their_own(rt: HostRuntime) -> Result<(), Fail> {
-    are_refused(&rt, rt.alloc(), FAULTY)
-}
-
-/// Network files of a front, a piece so many times and an end, and the end of their line.
-const LONG: &[(&str, &str, usize, &str, &str)] = &[
-    (".model m\n", "a", 1_024, "", "37 NoTable line 2"),
-    (".model m\n", "a", 1_024, "\\\n", "37 NoTable line 2"),
-    (".model m\n", "a", 1_025, "", "2 LongWord line 2"),
-    ("\n\n(", " a", 199_999, "", "3 OpenBracket line 3"),
-    ("\n\n(", " a", 200_000, "", "2 LongWord line 3"),
-    ("", "!", 1_024, "", "6 OutsideModel line 1"),
-    ("", "!", 1_025, " ", "2 LongWord line 1"),
-    // A backslash is neither a bang nor a bracket, so that it settles what the run is.
-    ("", "!", 1_025, "\\\u{80}", "2 LongWord line 1"),
-    ("", "!", 1_025, "\\\n", "2 LongWord line 1"),
-    ("", "!", 1_024, "\\\n", "6 OutsideModel line 1"),
-    ("", "!", 2_000, "(", "3 OpenBracket line 1"),
-];
-
-#[test]
-fn words_have_a_limit(rt: HostRuntime) -> Result<(), Fail> {
-    for (front, piece, times, end, fault) in LONG {
-        let mut net = Vec::from_slice(rt.alloc(), front.as_bytes())?;
-        net.extend_from_slice(repeated(rt.alloc(), piece.as_bytes(), *times)?.as_slice())?;
-        net.extend_from_slice(end.as_bytes())?;
-        is_refused(&rt, rt.alloc(), net.as_slice(), fault)?;
-    }
-    Ok(())
-}
-
-/// A buffer whose only input's name has so many bytes.
-fn long_name(alloc: Global, bytes: usize) -> Result<Vec<u8>, Fail> {
-    let name = repeated(alloc, b"a", bytes)?;
-    let mut text = Vec::from_slice(alloc, b".model m\n.inputs ")?;
-    text.extend_from_slice(name.as_slice())?;
-    text.extend_from_slice(b"\n.outputs z\n.table ")?;
-    text.extend_from_slice(name.as_slice())?;
-    text.extend_from_slice(b" -> z\n1 1\n.end\n")?;
-    Ok(text)
-}
-
-/// The names of so many inputs, each behind a blank.
-fn input_names(alloc: Global, inputs: usize) -> Result<Vec<u8>, Fail> {
-    let mut names = Vec::new(alloc);
-    for input in 0..inputs {
-        names.extend_from_slice(format!(in alloc; " i{input}")?.as_bytes())?;
-    }
-    Ok(names)
-}
-
-/// A table of so many inputs, with one row.
-fn wide_table(alloc: Global, inputs: usize) -> Result<Vec<u8>, Fail> {
-    let names = input_names(alloc, inputs)?;
-    let mut text = Vec::from_slice(alloc, b".model m\n.inputs")?;
-    text.extend_from_slice(names.as_slice())?;
-    text.extend_from_slice(b"\n.outputs z\n.table")?;
-    text.extend_from_slice(names.as_slice())?;
-    text.extend_from_slice(b" -> z\n")?;
-    text.extend_from_slice(repeated(alloc, b"1 ", inputs)?.as_slice())?;
-    text.extend_from_slice(b"1\n.end\n")?;
-    Ok(text)
-}
-
-/// The head of a table of an input that its output is equal to, two of 100 values, and so many more.
-fn split_head(alloc: Global, inputs: usize) -> Result<Vec<u8>, Fail> {
-    let names = input_names(alloc, inputs)?;
-    let mut text = Vec::from_slice(alloc, b".model m\n.inputs x a b")?;
-    text.extend_from_slice(names.as_slice())?;
-    text.extend_from_slice(b"\n.mv x, z 128\n.mv a, b 100\n.table x a b")?;
-    text.extend_from_slice(names.as_slice())?;
-    text.extend_from_slice(b" -> z\n")?;
-    Ok(text)
-}
-
-/// So many rows of such a table, all different. Each becomes 128 lines, of a literal for each input.
-fn split_rows(alloc: Global, inputs: usize, rows: u32) -> Result<Vec<u8>, Fail> {
-    let ones = repeated(alloc, b" 1", inputs)?;
-    let mut text = split_head(alloc, inputs)?;
-    for row in 0..rows {
-        text.extend_from_slice(format!(in alloc; "- {} {}", row % 100, row / 100)?.as_bytes())?;
-        text.extend_from_slice(ones.as_slice())?;
-        text.extend_from_slice(b" =x\n")?;
-    }
-    text.extend_from_slice(b".end\n")?;
-    Ok(text)
-}
-
-/// A table of so many equal rows.
-fn long_table(alloc: Global, rows: usize) -> Result<Vec<u8>, Fail> {
-    let mut text = Vec::from_slice(alloc, b".model m\n.inputs a\n.outputs z\n.table a -> z\n")?;
-    text.extend_from_slice(repeated(alloc, b"1 1\n", rows)?.as_slice())?;
-    text.extend_from_slice(b".end\n")?;
-    Ok(text)
-}
-
-/// A model of so many inputs, with these lines behind them.
-pub fn many_inputs(alloc: Global, count: u64, more: &[u8]) -> Result<Vec<u8>, Fail> {
-    let mut text = Vec::from_slice(alloc, b".model m\n.inputs")?;
-    for input in 0..count {
-        text.extend_from_slice(format!(in alloc; " {input}")?.as_bytes())?;
-    }
-    text.extend_from_slice(b"\n")?;
-    text.extend_from_slice(more)?;
-    text.extend_from_slice(b".end\n")?;
-    Ok(text)
-}
-
-/// The network, which is at a limit, is written as it stands, with so many literals.
-fn is_kept(rt: &impl Abort, alloc: Global, net: Vec<u8>, literals: usize) -> Result<(), Fail> {
-    let notes = format!(in alloc; "# done {literals} {literals}\n")?;
-    let end = written(net.as_slice(), notes.as_bytes());
-    ends(rt, alloc, opt(net.as_slice(), b""), end)
-}
-
-/// The network, which is past a limit, is refused with the line that ends so.
-pub fn is_past(rt: &impl Abort, alloc: Global, net: Vec<u8>, fault: &str) -> Result<(), Fail> {
-    is_refused(rt, alloc, net.as_slice(), fault)
-}
-
-#[test]
-fn networks_have_limits(rt: HostRuntime) -> Result<(), Fail> {
-    let alloc = rt.alloc();
-    is_kept(&rt, alloc, long_name(alloc, 1_000)?, 1)?;
-    let name = "35 Limit NetName 1001";
-    is_past(&rt, alloc, long_name(alloc, 1_001)?, name)?;
-    is_past(&rt, alloc, long_name(alloc, 1_025)?, "2 LongWord line 2")?;
-    is_kept(&rt, alloc, wide_table(alloc, 255)?, 255)?;
-    let columns = "21 Limit line 4 Columns 257";
-    is_past(&rt, alloc, wide_table(alloc, 256)?, columns)?;
-    let lines = "21 Limit line 65541 TableLines 65537";
-    is_past(&rt, alloc, long_table(alloc, 65_537)?, lines)
-}
-
-/// A file of so many models.
-fn many_models(alloc: Global, models: u32) -> Result<Vec<u8>, Fail> {
-    let mut text = Vec::new(alloc);
-    for model in 0..models {
-        text.extend_from_slice(format!(in alloc; ".model m{model}\n.end\n")?.as_bytes())?;
-    }
-    Ok(text)
-}
-
-#[test]
-fn a_file_has_a_limit_of_models(rt: HostRuntime) -> Result<(), Fail> {
-    let net = many_models(rt.alloc(), 4_096)?;
-    let first = written(b".model m0\n.inputs\n.outputs\n.end\n", b"# done 0 0\n");
-    ends(&rt, rt.alloc(), opt(net.as_slice(), b""), first)?;
-    let net = many_models(rt.alloc(), 4_097)?;
-    is_past(&rt, rt.alloc(), net, "21 Limit line 8193 Models 4097")
-}
-
-#[test]
-fn a_network_has_a_limit_of_nets(rt: HostRuntime) -> Result<(), Fail> {
-    let nets = "35 Limit Nets 200001";
-    is_past(
-        &rt,
-        rt.alloc(),
-        many_inputs(rt.alloc(), 200_001, b"")?,
-        nets,
-    )?;
-    // A mark and a reset net count, behind as many nets of the file as there may be.
-    let mark: &[u8] = b".table 0 -> z\n0 1\n.default =0\n";
-    is_past(
-        &rt,
-        rt.alloc(),
-        many_inputs(rt.alloc(), 199_999, mark)?,
-        nets,
-    )?;
-    let reset: &[u8] = b".latch 0 s\n.reset 0 -> s\n1 1\n";
-    is_past(
-        &rt,
-        rt.alloc(),
-        many_inputs(rt.alloc(), 199_999, reset)?,
-        nets,
-    )
-}
-
-#[test]
-fn a_network_has_limits_of_lines_and_literals(rt: HostRuntime) -> Result<(), Fail> {
-    let alloc = rt.alloc();
-    let lines = "35 Limit FlatLines 1000001";
-    is_past(&rt, alloc, split_rows(alloc, 0, 7_813)?, lines)?;
-    let literals = "35 Limit FlatEntries 8000001";
-    is_past(&rt, alloc, split_rows(alloc, 97, 626)?, literals)
+    all_end(&rt, rt.alloc(), Form::Network, FAULTY)
 }

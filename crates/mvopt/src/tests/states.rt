@@ -1,6 +1,5 @@
 //! What is written of networks with latches and reset tables, and what the commands make of them.
-use super::texts::are_written;
-use super::{checked, ends, refused};
+use super::cases::{Form, all_end};
 use std::test::Fail;
 
 /// Networks with latches, what is written of them, and what is noted.
@@ -37,7 +36,7 @@ const WRITTEN: &str = "\
 
 #[test]
 fn latches_and_reset_tables_are_written(rt: HostRuntime) -> Result<(), Fail> {
-    are_written(&rt, rt.alloc(), b"", WRITTEN)
+    all_end(&rt, rt.alloc(), Form::Written(b""), WRITTEN)
 }
 
 /// Networks with latches, and what `sweep` leaves and notes of each.
@@ -53,17 +52,13 @@ const SWEPT: &str = "\
 
 #[test]
 fn sweep_keeps_what_latches_see(rt: HostRuntime) -> Result<(), Fail> {
-    are_written(&rt, rt.alloc(), b"sweep", SWEPT)
+    all_end(&rt, rt.alloc(), Form::Written(b"sweep"), SWEPT)
 }
+
+/// A network with a reset table, a certificate that takes its reset net away, and why that is refused.
+const SEEN: &str = ".model m;.inputs d;.outputs;.latch d s;.r s;0;.end; | remove .s; | 1 Visible";
 
 #[test]
 fn a_reset_net_is_seen(rt: HostRuntime) -> Result<(), Fail> {
-    let net = b".model m\n.inputs d\n.outputs\n.latch d s\n.r s\n0\n.end\n";
-    let line = b"# fault certificate 1 Visible\n";
-    ends(
-        &rt,
-        rt.alloc(),
-        checked(net, b"remove .s\n"),
-        refused(7, line),
-    )
+    all_end(&rt, rt.alloc(), Form::Certificate, SEEN)
 }

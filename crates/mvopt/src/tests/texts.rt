@@ -1,102 +1,32 @@
 //! What is written of networks, and what is noted.
-use super::checks::checks_back;
-use super::{INVERTER, KEPT, UNREAD, ends, is_case, opt, text_of, written};
-use std::alloc::Global;
-use std::process::Abort;
+use super::cases::{Form, all_end};
+use super::{Given, INVERTER, ends, opt, written};
 use std::test::Fail;
 
-#[test]
-fn a_script_may_say_nothing(rt: HostRuntime) -> Result<(), Fail> {
-    for script in [
-        "",
-        ";",
-        " ; ;",
-        ";;\n# x\n ; ",
-        "\r\n\t;;# drop\n",
-        "#",
-        "\n\n",
-    ] {
-        let given = opt(INVERTER, script.as_bytes());
-        ends(&rt, rt.alloc(), given, written(INVERTER, b"# done 2 2\n"))?;
-    }
-    Ok(())
-}
+/// What is noted of the inverter.
+const DONE: &[u8] = b"# done 2 2\n";
 
-/// A network file, what is written of it, and what the notes say.
-#[derive(Drop)]
-struct Case {
-    net: Vec<u8>,
-    text: Vec<u8>,
-    notes: Vec<u8>,
-}
-
-/// A line of a table as a case, whose parts stand between bars.
-fn case_of(alloc: Global, line: &str) -> Result<Case, Fail> {
-    let (net, rest) = line.split_once(" | ").ok_or("a case of one part")?;
-    let (text, notes) = rest.split_once(" | ").ok_or("a case of two parts")?;
-    Ok(Case {
-        net: text_of(alloc, net)?,
-        text: text_of(alloc, text)?,
-        notes: text_of(alloc, notes)?,
-    })
-}
-
-/// The script makes of each network file what its case says, and its notes are a certificate by which a check does the same.
-pub fn are_written(rt: &impl Abort, alloc: Global, script: &[u8], cases: &str) -> Result<(), Fail> {
-    for line in cases.lines() {
-        if is_case(line) {
-            let case = case_of(alloc, line)?;
-            let end = written(case.text.as_slice(), case.notes.as_slice());
-            ends(rt, alloc, opt(case.net.as_slice(), script), end)?;
-            checks_back(rt, alloc, case.net.as_slice(), script)?;
-        }
-    }
-    Ok(())
-}
-
-/// Networks, and what `drop` leaves and notes of each.
-const DROPPED: &str = "\
--- A net that nobody reads goes.
-.model d;.inputs a;.outputs z;.table a -> z;0 1;1 0;.table a -> d;0 0;1 -;.end; | \
-.model d;.inputs a;.outputs z;.table a -> z;0 1;1 0;.end; | \
-# begin drop;remove d;# end 2;# done 4 2;
--- A partial table stays: where it allows nothing the network allows nothing.
-.model d;.inputs a;.outputs z;.table a -> z;0 1;1 0;.table a -> d;0 0;.end; | \
-.model d;.inputs a;.outputs z;.table a -> z;0 1;1 0;.table a -> d;0 0;.end; | \
-# begin drop;# end 3;# done 3 3;
--- A net that a partial table reads stays with it.
-.model d;.inputs a;.outputs;.table a -> c;0 1;1 0;.table c -> d;0 0;.end; | \
-.model d;.inputs a;.outputs;.table a -> c;0 1;1 0;.table c -> d;0 0;.end; | \
-# begin drop;# end 3;# done 3 3;
--- The least goes first, and behind it what it alone read, also where that stands before it.
-.model d;.inputs a;.outputs z;.table a -> z;0 1;1 0;.table a -> c;0 1;1 0;.table c -> d;0 1;1 0;.table -> e;-;.end; | \
-.model d;.inputs a;.outputs z;.table a -> z;0 1;1 0;.end; | \
-# begin drop;remove d;remove c;remove e;# end 2;# done 6 2;
--- What it read may stand behind it too.
-.model d;.inputs a;.outputs z;.table a -> z;0 1;1 0;.table c -> d;0 1;1 0;.table -> e;-;.table a -> c;0 1;1 0;.end; | \
-.model d;.inputs a;.outputs z;.table a -> z;0 1;1 0;.end; | \
-# begin drop;remove d;remove e;remove c;# end 2;# done 6 2;
--- A column that holds only `-` isn't read.
-.model d;.inputs a;.outputs z;.table c a -> z;- 0 1;- 1 0;.table -> c;1;.end; | \
-.model d;.inputs a;.outputs z;.table a -> z;0 1;1 0;.end; | \
-# begin drop;remove c;# end 2;# done 2 2;
--- Outputs are seen, and inputs have no table.
-.model d;.inputs a b;.outputs z b;.table a -> z;0 1;1 0;.end; | .model d;.inputs a b;.outputs z b;.table a -> z;0 1;1 0;.end; | # begin drop;# end 2;# done 2 2;
--- A table without rows allows nothing.
-.model d;.inputs;.outputs;.table -> c;.end; | .model d;.inputs;.outputs;.table -> c;.end; | # begin drop;# end 0;# done 0 0;
-";
+/// Words and scripts that say nothing, or give the option.
+const IDLE: &[(&str, &str)] = &[
+    ("opt n s", ""),
+    ("opt n s", ";"),
+    ("opt n s", " ; ;"),
+    ("opt n s", ";;\n# x\n ; "),
+    ("opt n s", "\r\n\t;;# drop\n"),
+    ("opt n s", "#"),
+    ("opt n s", "\n\n"),
+    ("opt --budget=1000 n -- s", ""),
+    ("opt n --budget 4000000 s", ""),
+];
 
 #[test]
-fn drop_removes_what_nobody_sees_or_reads(rt: HostRuntime) -> Result<(), Fail> {
-    are_written(&rt, rt.alloc(), b"drop", DROPPED)
-}
-
-#[test]
-fn each_command_notes_its_part(rt: HostRuntime) -> Result<(), Fail> {
-    let noted = b"# begin drop\nremove d\n# end 2\n# begin drop\n# end 2\n# done 4 2\n";
-    for script in ["drop;drop", "drop drop", ";drop # d\n;;drop;"] {
-        let given = opt(UNREAD, script.as_bytes());
-        ends(&rt, rt.alloc(), given, written(KEPT, noted))?;
+fn a_script_may_say_nothing_and_the_option_stands_anywhere(rt: HostRuntime) -> Result<(), Fail> {
+    for (words, script) in IDLE {
+        let given = Given {
+            words,
+            ..opt(INVERTER, script.as_bytes())
+        };
+        ends(&rt, rt.alloc(), given, written(INVERTER, DONE))?;
     }
     Ok(())
 }
@@ -208,8 +138,8 @@ const WRITTEN: &str = "\
 .model m;.inputs a b;.outputs;.mv a , b 3 x , y,z ,;.mv a b 3 x,y,z;.mv a a 03 x y z;.end; | \
 .model m;.inputs a b;.outputs;.mv a 3 x y z;.mv b 3 x y z;.end; | \
 # done 0 0;
--- A net may have 128 values.
-.model m;.inputs a;.outputs;.mv a 128;.end; | .model m;.inputs a;.outputs;.mv a 128;.end; | # done 0 0;
+-- A net may have 1,024 values.
+.model m;.inputs a;.outputs;.mv a 1024;.end; | .model m;.inputs a;.outputs;.mv a 1024;.end; | # done 0 0;
 -- Each form of an entry.
 .model w;.inputs x y;.outputs z;.mv x 5 a b a-b c d;.mv y 18;.table x y -> z;- 0 1;a 1 1;d 2 1;a-b 3 1;!a 4 1;!!a 5 1;!!- 6 1;(a) 7 1;{a,c} 8 1;\
 ( c , a,c ) 9 1;{b-c} 10 1;{a-b-c} 11 1;{a-a-b} 12 1;{a-b} 13 1;{b-b} 14 1;!{a-b,c} 15 1;!!(b,d) 16 1;!- 17 1;.end; | \
@@ -220,19 +150,12 @@ const WRITTEN: &str = "\
 
 #[test]
 fn values_sets_and_defaults_are_written_in_one_form(rt: HostRuntime) -> Result<(), Fail> {
-    are_written(&rt, rt.alloc(), b"", WRITTEN)
+    all_end(&rt, rt.alloc(), Form::Written(b""), WRITTEN)
 }
 
 #[test]
 fn what_was_written_is_written_again_as_it_is(rt: HostRuntime) -> Result<(), Fail> {
-    for line in WRITTEN.lines() {
-        if is_case(line) {
-            let case = case_of(rt.alloc(), line)?;
-            let end = written(case.text.as_slice(), case.notes.as_slice());
-            ends(&rt, rt.alloc(), opt(case.text.as_slice(), b""), end)?;
-        }
-    }
-    Ok(())
+    all_end(&rt, rt.alloc(), Form::Again, WRITTEN)
 }
 
 /// The inverter's file with comments, joined lines, carriage returns and blanks.
@@ -248,10 +171,5 @@ const DRESSED: &str = "\
 
 #[test]
 fn comments_and_joined_lines_mean_nothing(rt: HostRuntime) -> Result<(), Fail> {
-    let end = written(INVERTER, b"# done 2 2\n");
-    for line in DRESSED.split('\n') {
-        let net = text_of(rt.alloc(), line)?;
-        ends(&rt, rt.alloc(), opt(net.as_slice(), b""), end)?;
-    }
-    Ok(())
+    all_end(&rt, rt.alloc(), Form::Alike(INVERTER, DONE), DRESSED)
 }

@@ -1,5 +1,5 @@
 -- The beginning, the step and the end, as far as they came.
-use Rattle.std.proofs.Common.{refl}
+use Rattle.std.proofs.Common.{false, refl}
 use Rattle.mv_base.proofs.Meanings.{Refines-from_same}
 use Rattle.mv_entry.specs.declared.note.Command.TheVariants.{Collapse}
 use Rattle.mv_pass.specs.Going.{Goes}
@@ -22,19 +22,19 @@ pub returns-in-Err-step : goal.returns-in-Err-step
 returns-in-Err-step g c = record {
   passes =
       let r = c.in-Err-step.ensures in
-      halted (Goes (IsCollapseStep c.args.name.now)) EndsCollapse (Collapse c.args.name.now) _ _ _ (begun_so _ _ _ _ _ c.in-Ok.ensures c.in-Ok-note.ensures) _ _ (Refines-from_same _ _ r.means) r.goes_on _ tt r.memory r.note r.cause;
+      halted (Goes (IsCollapseStep c.args.name.now)) EndsCollapse (Collapse c.args.name.now) _ _ _ (begun_so _ _ _ _ _ c.in-Ok.ensures c.in-Ok-note.ensures) _ _ (Refines-from_same false _ _ r.means) r.goes_on _ tt r.memory r.note r.cause;
 }
 
 pub returns-in-Ok-note-2 : goal.returns-in-Ok-note-2
 returns-in-Ok-note-2 g c = record {
   passes =
       let r = c.in-Ok-step.ensures in
-      ended (Goes (IsCollapseStep c.args.name.now)) EndsCollapse (Collapse c.args.name.now) _ _ _ (begun_so _ _ _ _ _ c.in-Ok.ensures c.in-Ok-note.ensures) _ _ (Refines-from_same _ _ r.means) r.goes_on _ r.ok _ c.literals.ensures c.few_literals.ensures c.in-Ok-note-2.ensures;
+      ended (Goes (IsCollapseStep c.args.name.now)) EndsCollapse (Collapse c.args.name.now) _ _ _ (begun_so _ _ _ _ _ c.in-Ok.ensures c.in-Ok-note.ensures) _ _ (Refines-from_same false _ _ r.means) r.goes_on _ r.ok _ c.literals.ensures c.few_literals.ensures c.in-Ok-note-2.ensures;
 }
 
 pub returns : goal.returns
 returns g c = record {
   passes =
       let r = c.in-Ok-step.ensures in
-      unended (Goes (IsCollapseStep c.args.name.now)) EndsCollapse (Collapse c.args.name.now) _ _ _ (begun_so _ _ _ _ _ c.in-Ok.ensures c.in-Ok-note.ensures) _ _ (Refines-from_same _ _ r.means) r.goes_on _ r.ok _ c.literals.ensures c.few_literals.ensures _ c.in-Err-note-2.ensures;
+      unended (Goes (IsCollapseStep c.args.name.now)) EndsCollapse (Collapse c.args.name.now) _ _ _ (begun_so _ _ _ _ _ c.in-Ok.ensures c.in-Ok-note.ensures) _ _ (Refines-from_same false _ _ r.means) r.goes_on _ r.ok _ c.literals.ensures c.few_literals.ensures _ c.in-Err-note-2.ensures;
 }

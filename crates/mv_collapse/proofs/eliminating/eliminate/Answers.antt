@@ -1,4 +1,5 @@
 -- The beginning, the steps and the end, as far as they came.
+use Rattle.std.specs.Prelude.{false}
 use Rattle.mv_base.proofs.Meanings.{Refines-from_same}
 use Rattle.mv_entry.specs.declared.note.Command.TheVariants.{Eliminate}
 use Rattle.mv_pass.proofs.Passed.{unbegun, halted, ended, unended}
@@ -13,19 +14,19 @@ pub returns-in-Err-collapse_and_note : goal.returns-in-Err-collapse_and_note
 returns-in-Err-collapse_and_note g c = record {
   passes =
       let r = c.in-Err-collapse_and_note.ensures in
-      halted Eliminates EndsEliminate Eliminate _ _ _ c.in-Ok.ensures _ _ (Refines-from_same _ _ r.means) r.goes_on _ tt r.memory r.note r.cause;
+      halted Eliminates EndsEliminate Eliminate _ _ _ c.in-Ok.ensures _ _ (Refines-from_same false _ _ r.means) r.goes_on _ tt r.memory r.note r.cause;
 }
 
 pub returns-in-Ok-note : goal.returns-in-Ok-note
 returns-in-Ok-note g c = record {
   passes =
       let r = c.in-Ok-collapse_and_note.ensures in
-      ended Eliminates EndsEliminate Eliminate _ _ _ c.in-Ok.ensures _ _ (Refines-from_same _ _ r.means) r.goes_on _ r.ok _ c.literals.ensures c.few_literals.ensures c.in-Ok-note.ensures;
+      ended Eliminates EndsEliminate Eliminate _ _ _ c.in-Ok.ensures _ _ (Refines-from_same false _ _ r.means) r.goes_on _ r.ok _ c.literals.ensures c.few_literals.ensures c.in-Ok-note.ensures;
 }
 
 pub returns : goal.returns
 returns g c = record {
   passes =
       let r = c.in-Ok-collapse_and_note.ensures in
-      unended Eliminates EndsEliminate Eliminate _ _ _ c.in-Ok.ensures _ _ (Refines-from_same _ _ r.means) r.goes_on _ r.ok _ c.literals.ensures c.few_literals.ensures _ c.in-Err-note.ensures;
+      unended Eliminates EndsEliminate Eliminate _ _ _ c.in-Ok.ensures _ _ (Refines-from_same false _ _ r.means) r.goes_on _ r.ok _ c.literals.ensures c.few_literals.ensures _ c.in-Err-note.ensures;
 }

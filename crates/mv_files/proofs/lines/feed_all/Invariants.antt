@@ -1,5 +1,5 @@
 -- At least so many bytes were read as turns were made, and no fault is told that didn't count.
-use Rattle.mv_files.specs.FileReading.{Stay}
+use Rattle.mv_files.specs.FileReading.{BeganNone, Stay}
 use Rattle.mv_files.proofs.LexedReads.{HasCome}
 use Rattle.mv_files.proofs.lines.feed_all.Given as goal
 
@@ -8,4 +8,5 @@ invariant-loop-turn g l =
     record {
       come : HasCome (g.F.Files.state l.fn.files).held (g.F.Files.state l.files).held l.limit l._turn l.lexer l.lines;
       stay : Stay (g.F.Files.state l.fn.files) (g.F.Files.state l.files);
+      starts : BeganNone (g.F.Files.state l.fn.files) (g.F.Files.state l.files);
     }

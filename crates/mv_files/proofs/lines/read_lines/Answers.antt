@@ -7,7 +7,7 @@ use Rattle.mv_files.proofs.lines.read_lines.Goals as goal
 
 pub returns-in-Err-feed_all-clause-stopped : goal.returns-in-Err-feed_all-clause-stopped
 returns-in-Err-feed_all-clause-stopped g c =
-    lines_cause _ _ _ _ _ _ c.in-Ok.ensures.begun c.in-Ok.ensures.cause.later c.in-Err-feed_all.ensures.stopped
+    lines_cause (g.F.Files.state c.args.files.now) (g.F.Files.state c.start.new.self) (g.F.Files.state c.feed_all.new.files) _ _ _ c.in-Ok.ensures.begun c.in-Ok.ensures.cause.later c.in-Err-feed_all.ensures.stopped
 
 pub returns-in-Ok-finish-clause-lexed : goal.returns-in-Ok-finish-clause-lexed
 returns-in-Ok-finish-clause-lexed g c =
@@ -16,4 +16,4 @@ returns-in-Ok-finish-clause-lexed g c =
 
 pub returns-in-Err-feed_all-clause-in_time : goal.returns-in-Err-feed_all-clause-in_time
 returns-in-Err-feed_all-clause-in_time g c =
-    λ fault is. front_stopped (g.F.Files.state c.args.files.now) (g.F.Files.state c.start.new.self) _ _ _ c.in-Err-feed_all.stop fault c.in-Ok.ensures.begun c.in-Err-feed_all.ensures.stopped (grind (arith, common_steps))
+    λ fault is. front_stopped (g.F.Files.state c.args.files.now) (g.F.Files.state c.start.new.self) (g.F.Files.state c.feed_all.new.files) _ _ c.in-Err-feed_all.stop fault c.in-Ok.ensures.begun c.in-Err-feed_all.ensures.stopped (grind (arith, common_steps))

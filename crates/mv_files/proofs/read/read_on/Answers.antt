@@ -1,5 +1,5 @@
 -- A piece more was read, or nothing was left.
-use Rattle.std.proofs.Common.{ℕ, arith}
+use Rattle.std.proofs.Common.{◌∙◌, ℕ, arith}
 use Rattle.std.proofs.lemmas.List.{length-take}
 use Rattle.mv_files.proofs.FileReads.{stay_passed, come_more, read_ended}
 use Rattle.mv_files.proofs.read.read_on.Goals as goal
@@ -11,6 +11,7 @@ loop-turn-preserved g c =
     record {
       come = come;
       stay = stay_passed _ _ _ come.passed (omega arith);
+      starts = c.in-Ok-true.ensures.starts ∙ c.loop-turn.invariant.starts;
     }
 
 pub returns-in-Ok-false-clause-ok : goal.returns-in-Ok-false-clause-ok

@@ -1,5 +1,5 @@
 -- The beginning, the rules and the end, as far as they came.
-use Rattle.std.proofs.Common.{refl}
+use Rattle.std.proofs.Common.{false, refl}
 use Rattle.mv_base.proofs.Meanings.{Refines-from_same}
 use Rattle.mv_entry.specs.declared.note.Command.TheVariants.{Sweep}
 use Rattle.mv_pass.specs.Going.{Goes}
@@ -15,19 +15,19 @@ pub returns-in-Err-sweep_each : goal.returns-in-Err-sweep_each
 returns-in-Err-sweep_each g c = record {
   passes =
       let r = c.in-Err-sweep_each.ensures in
-      halted (Goes IsSweepStep) EndsSweep Sweep _ _ _ c.in-Ok.ensures _ _ (Refines-from_same _ _ r.means) r.goes_on _ tt r.memory r.note r.cause;
+      halted (Goes IsSweepStep) EndsSweep Sweep _ _ _ c.in-Ok.ensures _ _ (Refines-from_same false _ _ r.means) r.goes_on _ tt r.memory r.note r.cause;
 }
 
 pub returns-in-Ok-note : goal.returns-in-Ok-note
 returns-in-Ok-note g c = record {
   passes =
       let r = c.in-Ok-sweep_each.ensures in
-      ended (Goes IsSweepStep) EndsSweep Sweep _ _ _ c.in-Ok.ensures _ _ (Refines-from_same _ _ r.means) r.goes_on _ (took_ended (λ steps. EndsSweep steps _) _ _ r.ok (λ _ _. r.swept)) _ c.literals.ensures c.few_literals.ensures c.in-Ok-note.ensures;
+      ended (Goes IsSweepStep) EndsSweep Sweep _ _ _ c.in-Ok.ensures _ _ (Refines-from_same false _ _ r.means) r.goes_on _ (took_ended (λ steps. EndsSweep steps _) _ _ r.ok (λ _ _. r.swept)) _ c.literals.ensures c.few_literals.ensures c.in-Ok-note.ensures;
 }
 
 pub returns : goal.returns
 returns g c = record {
   passes =
       let r = c.in-Ok-sweep_each.ensures in
-      unended (Goes IsSweepStep) EndsSweep Sweep _ _ _ c.in-Ok.ensures _ _ (Refines-from_same _ _ r.means) r.goes_on _ (took_ended (λ steps. EndsSweep steps _) _ _ r.ok (λ _ _. r.swept)) _ c.literals.ensures c.few_literals.ensures _ c.in-Err-note.ensures;
+      unended (Goes IsSweepStep) EndsSweep Sweep _ _ _ c.in-Ok.ensures _ _ (Refines-from_same false _ _ r.means) r.goes_on _ (took_ended (λ steps. EndsSweep steps _) _ _ r.ok (λ _ _. r.swept)) _ c.literals.ensures c.few_literals.ensures _ c.in-Err-note.ensures;
 }

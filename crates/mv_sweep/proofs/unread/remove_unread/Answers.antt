@@ -1,5 +1,5 @@
 -- The beginning, the nets that went and the end, as far as they came.
-use Rattle.std.proofs.Common.{refl}
+use Rattle.std.proofs.Common.{false, refl}
 use Rattle.mv_base.proofs.Meanings.{Refines-from_same}
 use Rattle.mv_entry.specs.declared.note.Command.TheVariants.{Drop}
 use Rattle.mv_pass.specs.Going.{Goes}
@@ -15,19 +15,19 @@ pub returns-in-Err-remove_each : goal.returns-in-Err-remove_each
 returns-in-Err-remove_each g c = record {
   passes =
       let r = c.in-Err-remove_each.ensures in
-      halted (Goes IsDropStep) EndsDrop Drop _ _ _ c.in-Ok.ensures _ _ (Refines-from_same _ _ r.means) r.goes_on _ tt r.memory r.note r.cause;
+      halted (Goes IsDropStep) EndsDrop Drop _ _ _ c.in-Ok.ensures _ _ (Refines-from_same false _ _ r.means) r.goes_on _ tt r.memory r.note r.cause;
 }
 
 pub returns-in-Ok-note : goal.returns-in-Ok-note
 returns-in-Ok-note g c = record {
   passes =
       let r = c.in-Ok-remove_each.ensures in
-      ended (Goes IsDropStep) EndsDrop Drop _ _ _ c.in-Ok.ensures _ _ (Refines-from_same _ _ r.means) r.goes_on _ (took_ended (λ steps. EndsDrop steps _) _ _ r.ok (λ _ _. r.none_left)) _ c.literals.ensures c.few_literals.ensures c.in-Ok-note.ensures;
+      ended (Goes IsDropStep) EndsDrop Drop _ _ _ c.in-Ok.ensures _ _ (Refines-from_same false _ _ r.means) r.goes_on _ (took_ended (λ steps. EndsDrop steps _) _ _ r.ok (λ _ _. r.none_left)) _ c.literals.ensures c.few_literals.ensures c.in-Ok-note.ensures;
 }
 
 pub returns : goal.returns
 returns g c = record {
   passes =
       let r = c.in-Ok-remove_each.ensures in
-      unended (Goes IsDropStep) EndsDrop Drop _ _ _ c.in-Ok.ensures _ _ (Refines-from_same _ _ r.means) r.goes_on _ (took_ended (λ steps. EndsDrop steps _) _ _ r.ok (λ _ _. r.none_left)) _ c.literals.ensures c.few_literals.ensures _ c.in-Err-note.ensures;
+      unended (Goes IsDropStep) EndsDrop Drop _ _ _ c.in-Ok.ensures _ _ (Refines-from_same false _ _ r.means) r.goes_on _ (took_ended (λ steps. EndsDrop steps _) _ _ r.ok (λ _ _. r.none_left)) _ c.literals.ensures c.few_literals.ensures _ c.in-Err-note.ensures;
 }

@@ -1,7 +1,7 @@
-use Rattle.mv_base.proofs.Sets.{has_outside}
+use Rattle.std.proofs.Common.{sym}
+use Rattle.std.proofs.lemmas.Nat.Bits.{shr_and_one}
+use Rattle.mv_base.proofs.WordLemmas.{has_in_word}
 use Rattle.mv_base.proofs.value_set.ValueSet.has.Goals as goal
 
--- past the limit nothing is a member
-pub returns-else-value-lt-MAX_VALUES : goal.returns-else-value-lt-MAX_VALUES
-returns-else-value-lt-MAX_VALUES c =
-    rw (← c.self.view_is) (has_outside _ _ c.self.invariant c.if-value-lt-MAX_VALUES.false)
+pub returns : goal.returns
+returns c = rw (shr_and_one c.word.result, c.word.ensures) (sym (has_in_word c.args.self c.args.value.0))
