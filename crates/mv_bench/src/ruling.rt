@@ -1,6 +1,6 @@
 use crate::lexing::lines_of_input;
 use crate::stop::Stop;
-use mv_base::{DEFAULT_BUDGET, Items, Name, Value, ValueSet};
+use mv_base::{DEFAULT_BUDGET, Items, Name, PackedSet, Value, ValueSet};
 use mv_net::Network;
 use mv_read::network_of;
 use mv_rules::{Body, BodyLine, BodyLit, Rule, apply};
@@ -36,26 +36,26 @@ fn name(alloc: Global, letter: &str, number: u32) -> Result<Name, Stop> {
 }
 
 /// The literal that a net is 1.
-fn is_one(net: Name) -> BodyLit {
-    BodyLit {
+fn is_one(alloc: Global, net: Name) -> Result<BodyLit, Stop> {
+    Ok(BodyLit {
         net,
-        set: ValueSet::one(Value(1)),
-    }
+        set: PackedSet::new(alloc, ValueSet::one(Value(1)))?,
+    })
 }
 
 /// A body that is 1 where both nets are, and else 0.
 fn product(alloc: Global, first: Name, second: Name) -> Result<Body, Stop> {
     let mut lits = Items::new(alloc);
-    lits.push(is_one(first))?;
-    lits.push(is_one(second))?;
+    lits.push(is_one(alloc, first)?)?;
+    lits.push(is_one(alloc, second)?)?;
     let mut lines = Items::new(alloc);
     lines.push(BodyLine {
         lits,
-        out: ValueSet::one(Value(1)),
+        out: PackedSet::new(alloc, ValueSet::one(Value(1)))?,
     })?;
     Ok(Body {
         lines,
-        default: Some(ValueSet::one(Value(0))),
+        default: Some(PackedSet::new(alloc, ValueSet::one(Value(0)))?),
     })
 }
 
@@ -96,7 +96,7 @@ fn apply_each(
     let mut applied: u64 = 0;
     for number in 0..count {
         let rule = rule(rt.alloc(), kind, number)?;
-        if apply(rt.alloc(), net, &rule, DEFAULT_BUDGET as u32).is_ok() {
+        if rule.is_built() && apply(rt.alloc(), net, &rule, DEFAULT_BUDGET as u32).is_ok() {
             applied = applied.saturating_add(1);
         }
     }

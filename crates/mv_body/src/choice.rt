@@ -11,7 +11,7 @@ use mv_entry::{Body, BodyLine};
 pub fn is_choice(body: &Body) -> bool
     ensures { MatchBool result (IsChoice body.now) (IsChoice body.now → ⊥) }
 {
-    is_zero(body.default) && all_give_one(body.lines.as_slice())
+    is_zero(body.default_set()) && all_give_one(body.lines.as_slice())
 }
 
 /// Whether the default is 0.
@@ -25,5 +25,7 @@ fn is_zero(default: Option<ValueSet>) -> bool
 fn all_give_one(lines: &[BodyLine]) -> bool
     ensures { IsTrue result ↔ All (λ (l : BodyLine). l.out ≡ one 1) lines.now }
 {
-    lines.iter().all(|line| line.out == ValueSet::one(Value(1)))
+    lines
+        .iter()
+        .all(|line| line.out.get() == ValueSet::one(Value(1)))
 }

@@ -30,12 +30,12 @@ pub fn tidy_cover(
     let Some(lines) = tidy_lines(alloc, net, values, body.lines.as_slice())? else {
         return Ok(None);
     };
-    if !is_default_beside(body.default, values, lines.as_slice()) {
+    if !is_default_beside(body.default_set(), values, lines.as_slice()) {
         return Ok(None);
     }
     Ok(Some(Cover {
         lines,
-        default: body.default,
+        default: body.default_set(),
     }))
 }
 

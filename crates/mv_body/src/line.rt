@@ -41,13 +41,13 @@ fn tidy_line(
         (IsTidyLine net.now.nets values line.now → ⊥)
         (λ tidy. IsTidyLine net.now.nets values line.now × (tidy ≡ line_said net.now.nets line.now))) }
 {
-    if !is_output(line.out, values) {
+    if !is_output(line.out.get(), values) {
         return Ok(None);
     }
     match tidy_cube(alloc, net, line.lits.as_slice())? {
         Some(cube) => Ok(Some(Line {
             cube,
-            out: line.out,
+            out: line.out.get(),
         })),
         None => Ok(None),
     }

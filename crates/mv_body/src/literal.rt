@@ -35,7 +35,7 @@ fn literal_said(net: &Network, literal: &BodyLit) -> Lit
 {
     Lit {
         net: number_said(net, literal.net.bytes()),
-        set: literal.set,
+        set: literal.set.get(),
     }
 }
 

@@ -46,6 +46,7 @@ row_spares (Divide w by body) net =
 row_spares (Wire w) net = with_spares _ _ (λ n. unless_spares _ _ _ refl (unless_spares _ _ _ refl passed_spares))
 row_spares (Collapse w) net =
     with_spares _ _ (λ n. unless_spares _ _ _ refl (unless_spares _ _ _ refl (unless_spares _ _ _ refl (unless_spares _ _ _ refl passed_spares))))
+row_spares _ net = record { none = λ x. x }
 
 pub never_memory : (rule : Rule) (net : NetParts) → Fails rule net Memory → ⊥
 never_memory rule net f = (row_spares rule net).none f

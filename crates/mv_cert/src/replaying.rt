@@ -1,8 +1,9 @@
-ghost use Rattle.std.specs.Prelude.{◌≡◌, OnOk, IfErr};
+ghost use Rattle.std.specs.Prelude.{◌≡◌, true, OnOk, IfErr};
 ghost use Rattle.mv_entry.specs.declared.fault.RuleFault.TheVariants.{Memory as out_of_memory};
 ghost use Rattle.mv_base.specs.Meaning.{SameMeaning};
 ghost use Rattle.mv_net.specs.Allowed.{of_net};
 ghost use Rattle.mv_rules.specs.Replaying.{Replays};
+ghost use Rattle.mv_step.specs.Certificates.{are_built};
 ghost use Rattle.mv_cert.specs.Replay.{EndsEarly, rules_in};
 
 use crate::ReplayFault;
@@ -25,13 +26,14 @@ fn refusal(line: u32, fault: RuleFault) -> ReplayFault
 
 /// Applies the steps in turn. At Ok all of them applied; else the fault is that of the first that doesn't, with its line, and the
 /// network is as the steps before it leave it, as it is for want of memory. The network means always what it meant. The budget
-/// is that of diagram nodes.
+/// is that of diagram nodes. The rules have to be built in this version, as those that `read_cert` lists are.
 pub fn replay(
     alloc: Global,
     net: &mut Network,
     steps: &[Step],
     budget: u32,
 ) -> Result<(), ReplayFault>
+    requires { are_built steps.now ≡ true }
     ensures replays { OnOk result (Replays (rules_in steps.now) net.old net.new) }
     ensures stops { IfErr result (EndsEarly steps.now net.old net.new) }
     ensures means { SameMeaning (of_net net.new) (of_net net.old) }

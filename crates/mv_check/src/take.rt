@@ -1,4 +1,4 @@
-ghost use Rattle.std.specs.Prelude.{◌≡◌, Err, IfOk, IfErr, IfSome};
+ghost use Rattle.std.specs.Prelude.{◌≡◌, true, Err, IfOk, IfErr, IfSome};
 ghost use Rattle.mv_files.specs.FileReading.{Stay};
 ghost use Rattle.mv_task.specs.declared.fault.FileFault.{FileFault};
 ghost use Rattle.mv_task.specs.declared.fault.SourceStop.TheVariants.{Fault as faulty};
@@ -8,6 +8,7 @@ ghost use Rattle.mv_task.specs.Made.{Prepared};
 ghost use Rattle.mv_task.specs.Inputs.{File, named};
 ghost use Rattle.mv_check.specs.declared.stop.CertificateFault.{CertificateFault};
 ghost use Rattle.mv_cert.specs.Certificates.{IsCertificate};
+ghost use Rattle.mv_step.specs.Certificates.{are_built};
 ghost use Rattle.mv_check.specs.Certificates.{HasSteps, RefusesCertificate};
 ghost use Rattle.mv_check.specs.Stops.{status_of};
 
@@ -24,6 +25,7 @@ use std::alloc::Global;
 #[tactic(auto, using(crate::proofs::Takes::takes_certificate))]
 fn take_certificate<F: Files>(alloc: Global, name: &str, files: &mut F) -> Result<Items<Step>, Stop>
     ensures steps { IfOk result (HasSteps name.now (F.state files.old)) }
+    ensures built { IfOk result (λ steps. are_built steps ≡ true) }
     ensures stay { Stay (F.state files.old) (F.state files.new) }
     ensures text { (fault : CertificateFault) → result ≡ Err (Stop.Text fault)
         → RefusesCertificate name.now (F.state files.old) fault }
@@ -60,6 +62,7 @@ pub fn prepare<F: Files>(
     files: &mut F,
 ) -> Result<Trial, Stop>
     ensures steps { IfOk result (λ trial. HasSteps certificate.now (F.state files.old) trial.steps) }
+    ensures built { IfOk result (λ trial. are_built trial.steps ≡ true) }
     ensures made { IfOk result (λ trial. Prepared (File network.now) (F.state files.old) (F.state files.new) trial.net) }
     ensures text { (fault : CertificateFault) → result ≡ Err (Stop.Text fault)
         → RefusesCertificate certificate.now (F.state files.old) fault }

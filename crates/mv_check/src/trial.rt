@@ -1,5 +1,6 @@
-ghost use Rattle.std.specs.Prelude.{◌≡◌, ℕ, Ok, Err, OnOk};
+ghost use Rattle.std.specs.Prelude.{◌≡◌, ℕ, true, Ok, Err, OnOk};
 ghost use Rattle.mv_entry.specs.declared.fault.RuleFault.{RuleFault};
+ghost use Rattle.mv_step.specs.Certificates.{are_built};
 ghost use Rattle.mv_check.specs.Trials.{HasTried, FailsTrial, IsTrialCut};
 
 use crate::take::Trial;
@@ -21,7 +22,7 @@ pub enum TrialStop {
 /// No diagram is made here.
 const NO_BUDGET: u32 = 0;
 
-/// Applies the steps to the network in turn, and then puts the done line to the notes and the text of the network that is left to
+/// Applies the steps, whose rules are built in this version, to the network in turn, and then puts the done line to the notes and the text of the network that is left to
 /// the output. From the done line on it takes no memory.
 pub fn carry_out<O: Sink, E: Sink>(
     alloc: Global,
@@ -29,6 +30,7 @@ pub fn carry_out<O: Sink, E: Sink>(
     out: &mut O,
     notes: &mut E,
 ) -> Result<(), TrialStop>
+    requires { are_built trial.steps ≡ true }
     ensures ok { OnOk result (HasTried trial.steps trial.net
         (O.state out.old) (O.state out.new) (E.state notes.old) (E.state notes.new)) }
     ensures rule { (line : ℕ) (fault : RuleFault) → result ≡ Err (TrialStop.Rule line fault)

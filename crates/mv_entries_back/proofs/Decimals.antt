@@ -14,7 +14,7 @@ use Rattle.mv_lines_back.proofs.Ends.{ends_with-skip}
 use Rattle.mv_lines_back.proofs.Lists.{is_list_byte}
 
 -- a digit: a byte from `0` to `9`
-is_digit : ℕ → Bool
+unfoldable pub is_digit : ℕ → Bool
 is_digit b = nat_le 48 b && nat_le b 57
 
 pub record IsDigit (b : ℕ) : Type 0 where
@@ -72,12 +72,17 @@ seen b d =
     let u = d.high in
     and_from (is_visible b) (not (b == 35)) (and_from (nat_le 33 b) (nat_le b 126) (le-leb 33 b (omega arith)) (le-leb b 126 (omega arith))) (other 35 b (inl (lit< tt)) d)
 
+-- what each digit passes, all bytes of a word of digits do
+digits_pass : (p : ℕ → Bool) → ((b : ℕ) → IsDigit b → p b ≡ true) → (w : List ℕ) → list_all is_digit w ≡ true → list_all p w ≡ true
+digits_pass p each w h = all-weaker is_digit p (λ b e. each b (digit b e)) w h
+
+pub digits_plain : (w : List ℕ) → 0 < length w → list_all is_digit w ≡ true → is_plain_word w ≡ true
+digits_plain w some h =
+    and_from _ _ (and_from _ _ (and_from _ _ (not_from_false (length w == 0) (ne_eqb (length w) 0 (λ e. omega (arith, some)))) (digits_pass is_word_byte seen w h)) (not_from_false (is_bracketed w) (unbracketed w h)))
+    (not_from_false (ends_with 92 w) (ends_other 92 w (digits_pass (λ b. not (b == 92)) (λ b d. other 92 b (inr (lit< tt)) d) w h)))
+
 pub decimal_plain : (n : ℕ) → n < 10 ^ 64 → is_plain_word (decimal n) ≡ true
-decimal_plain n small =
-    let some = decimal_some n small in
-    let w = decimal n in
-    and_from _ _ (and_from _ _ (and_from _ _ (not_from_false (length w == 0) (ne_eqb (length w) 0 (λ e. omega (arith, some)))) (decimal_passes is_word_byte seen n small)) (not_from_false (is_bracketed w) (unbracketed w (decimal_digits n small))))
-    (not_from_false (ends_with 92 w) (ends_other 92 w (decimal_passes (λ b. not (b == 92)) (λ b d. other 92 b (inr (lit< tt)) d) n small)))
+decimal_plain n small = digits_plain (decimal n) (decimal_some n small) (decimal_digits n small)
 
 -- no digit of a number ends a list
 pub decimal_listed : (n : ℕ) → n < 10 ^ 64 → list_all is_list_byte (decimal n) ≡ true

@@ -1,19 +1,20 @@
 -- Printed entries as lines: the steps that they list, that they have no fault, and the entries that they are.
 use Rattle.std.specs.Prelude.{if◌then◌else◌}
-use Rattle.std.proofs.Common.{◌≡◌, ℕ, ◌+◌, List, [], ◌∷◌, ◌++◌, length, Option, Some, None, refl, ap, ◌∙◌}
+use Rattle.std.proofs.Common.{◌≡◌, ℕ, ◌+◌, true, List, [], ◌∷◌, ◌++◌, length, Option, Some, None, refl, ap, ◌∙◌}
 use Rattle.std.specs.List.{flat_map, AllByRecursion}
 use Rattle.std.proofs.lemmas.List.Elements.{recursion_from_All}
 use Rattle.mv_lex.specs.declared.lines.LexLine.{LexLine}
 use Rattle.mv_entry.specs.declared.rule.BodyLine.{BodyLine}
 use Rattle.mv_entry.specs.declared.rule.Body.{Body}
 use Rattle.mv_entry.specs.declared.rule.Rule.{Rule}
-use Rattle.mv_entry.specs.declared.rule.Rule.TheVariants.{Remove, Add, Divide, Wire, Collapse}
+use Rattle.mv_entry.specs.declared.rule.Rule.TheVariants.{Remove, Add, Divide, Wire, Collapse, Narrow, Merge, Encode, Fill}
 use Rattle.mv_entry.specs.Entries.{Entry, Applied, Noted, body_lines, rule_lines, entry_lines}
 use Rattle.mv_step.specs.declared.said.Said.{Said}
 use Rattle.mv_step.specs.declared.said.Said.TheVariants.{Whole, Begins}
 use Rattle.mv_step.specs.Lines.{keyword_of, said}
 use Rattle.mv_step.specs.Certificates.{Outside, InBody, fault_from, front_body, rule_of, steps_of}
-use Rattle.mv_step.specs.Printed.{IsSayable}
+use Rattle.mv_step.specs.Printed.{IsSayable, is_sayable_form}
+use Rattle.mv_step.proofs.Listed.{said-narrow, said-merge, said-encode, said-fill}
 use Rattle.mv_lines_back.specs.TextWords.{is_comment, lines_from, lines_told}
 use Rattle.mv_lines_back.proofs.LinesFrom.{lines_from-append, lines_told-append}
 use Rattle.mv_lines_back.proofs.Written.{uncommented}
@@ -80,32 +81,46 @@ record Lists (number : ℕ) (rule : Rule) (lines rest : List LexLine) : Type 0 w
   entries : entries_of lines ≡ Applied rule ∷ entries_of rest
   faultless : fault_from Outside lines ≡ fault_from Outside rest
 
-rule-lists : (number : ℕ) (rule : Rule) (rest : List LexLine) → AreSayable (rule_sets rule) → Lists number rule (lines_from number (rule_lines rule) ++ rest) rest
+rule-lists : (number : ℕ) (rule : Rule) (rest : List LexLine) → AreSayable (rule_sets rule) → is_sayable_form rule ≡ true → Lists number rule (lines_from number (rule_lines rule) ++ rest) rest
 unfolding keyword_of
-rule-lists number (Remove net) rest sets = record { steps = refl; entries = refl; faultless = refl }
-rule-lists number (Wire net) rest sets = record { steps = refl; entries = refl; faultless = refl }
-rule-lists number (Collapse net) rest sets = record { steps = refl; entries = refl; faultless = refl }
-rule-lists number (Add net body) rest sets =
+rule-lists number (Remove net) rest sets form = record { steps = refl; entries = refl; faultless = refl }
+rule-lists number (Wire net) rest sets form = record { steps = refl; entries = refl; faultless = refl }
+rule-lists number (Collapse net) rest sets form = record { steps = refl; entries = refl; faultless = refl }
+rule-lists number (Add net body) rest sets form =
     let begins = body-begins (number + 1) body.lines body.default rest sets in
     record {
       steps = rw (begins.front, begins.steps) refl;
       entries = rw (begins.front, begins.entries) refl;
       faultless = begins.faultless number;
     }
-rule-lists number (Divide net by body) rest sets =
+rule-lists number (Divide net by body) rest sets form =
     let begins = body-begins (number + 1) body.lines body.default rest sets in
     record {
       steps = rw (begins.front, begins.steps) refl;
       entries = rw (begins.front, begins.entries) refl;
       faultless = begins.faultless number;
     }
+rule-lists number (Narrow net d u body) rest sets form =
+    let says = said-narrow net d u form in
+    let begins = body-begins (number + 1) body.lines body.default rest sets in
+    record {
+      steps = rw (says, begins.front, begins.steps) refl;
+      entries = rw (says, begins.front, begins.entries) refl;
+      faultless = rw says (begins.faultless number);
+    }
+rule-lists number (Merge net gone into) rest sets form =
+    let says = said-merge net gone into form in record { steps = rw says refl; entries = rw says refl; faultless = rw says refl }
+rule-lists number (Encode net names list) rest sets form =
+    let says = said-encode net names list form in record { steps = rw says refl; entries = rw says refl; faultless = rw says refl }
+rule-lists number (Fill net out) rest sets form =
+    let says = said-fill net out sets.0 in record { steps = rw says refl; entries = rw says refl; faultless = rw says refl }
 
 -- ---- entries
 
 -- lines that begin with those of an entry are that entry and the others
 entry-first : (number : ℕ) (e : Entry) (rest : List LexLine) → Printable e → entries_of (lines_from number (entry_lines e) ++ rest) ≡ e ∷ entries_of rest
 unfolding keyword_of
-entry-first number (Applied rule) rest is = (rule-lists number rule rest (recursion_from_All IsSayable (rule_sets rule) is.sets)).entries
+entry-first number (Applied rule) rest is = (rule-lists number rule rest (recursion_from_All IsSayable (rule_sets rule) is.sets) is.form).entries
 entry-first number (Noted note) rest is = ap (λ m. Noted m ∷ entries_of rest) (note-back note is.numbers)
 
 -- entries are the entries of their lines
@@ -131,7 +146,7 @@ listed number [] all = record { steps = refl; faultless = refl }
 listed number (Applied rule ∷ es) all =
     let after = number + length (rule_lines rule) in
     let told = rule_lines-told number rule (flat_map entry_lines es) all.0 in
-    let first = rule-lists number rule (lines_told after (flat_map entry_lines es)) (recursion_from_All IsSayable (rule_sets rule) all.0.sets) in
+    let first = rule-lists number rule (lines_told after (flat_map entry_lines es)) (recursion_from_All IsSayable (rule_sets rule) all.0.sets) all.0.form in
     let more = listed after es all.1 in
     record {
       steps = ap steps_of told ∙ (first.steps ∙ ap (λ ss. record { line = number; rule = rule } ∷ ss) more.steps);

@@ -7,14 +7,14 @@ use Rattle.std.proofs.lemmas.Bool.{and_parts, ltb-true}
 use Rattle.mv_base.specs.Names.{same_word}
 use Rattle.mv_entry.specs.declared.rule.BodyLine.{BodyLine}
 use Rattle.mv_entry.specs.declared.note.Command.{Command}
-use Rattle.mv_entry.specs.declared.note.Command.TheVariants.{Drop, Sweep, Eliminate, Kernel, Cube, Simplify, Merge, Default, Determinize, Encode, Collapse as CollapseNet}
+use Rattle.mv_entry.specs.declared.note.Command.TheVariants.{Drop, Sweep, Eliminate, Kernel, Cube, Simplify, Merge, Default, Determinize, Encode, Fill, Collapse as CollapseNet}
 use Rattle.mv_entry.specs.declared.note.Why.{Why}
-use Rattle.mv_entry.specs.declared.note.Why.TheVariants.{Literals, Lines, Nodes, Window, Kernels, Shared, Seen, Partial, Absent, Varied, Unread, Nets}
+use Rattle.mv_entry.specs.declared.note.Why.TheVariants.{Literals, Lines, Nodes, Window, Kernels, Shared, Seen, Partial, Absent, Varied, Unread, Nets, Strict}
 use Rattle.mv_entry.specs.declared.note.Note.{Note}
 use Rattle.mv_entry.specs.declared.note.Note.TheVariants.{Begin, Dropped, End, Done}
 use Rattle.mv_entry.specs.Entries.{set_word, line_words, command_word, operands, why_word, why_numbers, note_words}
-use Rattle.mv_step.specs.declared.said.Said.TheVariants.{Line, Default as default_said}
-use Rattle.mv_step.specs.Lines.{line_or_nothing, default_or_nothing, keyword_of, said}
+use Rattle.mv_step.specs.declared.said.Said.TheVariants.{Line, Default as said_default}
+use Rattle.mv_step.specs.Lines.{line_or_nothing, default_said, keyword_of, said}
 use Rattle.mv_step.specs.Printed.{IsSayable}
 use Rattle.mv_step.proofs.Written.{set_said-set_word, line_said-words}
 use Rattle.mv_entries_back.specs.Printable.{line_sets, command_numbers, reason_numbers, note_numbers, is_text_number}
@@ -29,9 +29,9 @@ unfolding keyword_of
 line-said l all = let is = line-sayable l all in ap line_or_nothing (line_said-words l.lits l.out is.lits is.out)
 
 -- and a default its set
-pub default-said : (set : ℕ) → IsSayable set → said (codes "default" ∷ set_word set ∷ []) ≡ default_said set
+pub default-said : (set : ℕ) → IsSayable set → said (codes "default" ∷ set_word set ∷ []) ≡ said_default set
 unfolding keyword_of
-default-said set h = ap default_or_nothing (set_said-set_word set h)
+default-said set h = ap default_said (set_said-set_word set h)
 
 -- ---- notes
 
@@ -64,7 +64,8 @@ command_of ws =
     else if same_word w (codes "merge") then Merge
     else if same_word w (codes "default") then Default
     else if same_word w (codes "determinize") then Determinize
-    else Encode
+    else if same_word w (codes "encode") then Encode
+    else Fill
 
 -- the reason without numbers that a word says
 reason_of : List ℕ → Why
@@ -79,7 +80,8 @@ reason_of w =
     else if same_word w (codes "absent") then Absent
     else if same_word w (codes "varied") then Varied
     else if same_word w (codes "unread") then Unread
-    else Nets
+    else if same_word w (codes "nets") then Nets
+    else Strict
 
 -- the note on a dropped step that words say
 dropped_of : List (List ℕ) → Note
@@ -122,6 +124,7 @@ command-back Merge numbers = refl
 command-back Default numbers = refl
 command-back Determinize numbers = refl
 command-back Encode numbers = refl
+command-back Fill numbers = refl
 
 why-back : (why : Why) (net : List ℕ) → list_all is_text_number (reason_numbers why) ≡ true → dropped_of (why_word why ∷ why_numbers why ++ net ∷ []) ≡ Dropped why net
 unfolding dropped_of reason_of number second first_word others
@@ -137,6 +140,7 @@ why-back Absent net numbers = refl
 why-back Varied net numbers = refl
 why-back Unread net numbers = refl
 why-back Nets net numbers = refl
+why-back Strict net numbers = refl
 
 -- a note says itself
 pub note-back : (note : Note) → list_all is_text_number (note_numbers note) ≡ true → note_of (note_words note) ≡ note

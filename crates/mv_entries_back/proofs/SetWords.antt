@@ -1,5 +1,5 @@
 -- The word of a set is a word of a text, and isn't long.
-use Rattle.std.proofs.Common.{◌≡◌, ℕ, ◌+◌, ◌*◌, ◌^◌, ◌<◌, ◌≤◌, true, false, List, [], ◌∷◌, ◌++◌, length, Some, codes, decimal, refl, ap, sym, ◌∙◌, arith, length-append}
+use Rattle.std.proofs.Common.{◌≡◌, ℕ, ◌*◌, ◌^◌, ◌<◌, ◌≤◌, true, false, List, [], ◌∷◌, ◌++◌, length, Some, codes, decimal, refl, ap, sym, ◌∙◌, arith, length-append}
 use Rattle.std.specs.Prelude.{nat_lt}
 use Rattle.std.specs.List.{flat_map, list_all}
 use Rattle.std.proofs.lemmas.Bool.{and_parts, and_from, ltb-true, le-ltb, cond_both}
@@ -8,7 +8,7 @@ use Rattle.mv_base.specs.Names.{is_bracketed}
 use Rattle.mv_base.specs.declared.limits.TheConstants.{MAX_VALUES, MAX_WORD_BYTES, MAX_BRACKETED_BYTES}
 use Rattle.mv_lex.specs.Words.{is_long}
 use Rattle.mv_entry.specs.Entries.{members, with_comma, values_word, set_word}
-use Rattle.mv_step.specs.Sets.{value_said, set_said}
+use Rattle.mv_step.specs.Sets.{number_below, value_said, set_said}
 use Rattle.mv_step.specs.Printed.{IsSayable}
 use Rattle.mv_step.proofs.Written.{set_said-set_word}
 use Rattle.mv_lines_back.specs.TextWords.{is_written_word}
@@ -91,7 +91,7 @@ values-word (v ∷ w ∷ ws) h few some = several v w ws h few
 
 -- `()` says no set
 none_said : (set : ℕ) → set_said (codes "()") ≡ Some set → ⊥
-unfolding set_said value_said
+unfolding set_said value_said number_below
 none_said set e = cc
 
 pub set-word : (set : ℕ) → IsSayable set → IsSetWord (set_word set)

@@ -7,7 +7,7 @@ use Rattle.mv_entry.specs.declared.rule.BodyLit.{BodyLit}
 use Rattle.mv_entry.specs.declared.rule.BodyLine.{BodyLine}
 use Rattle.mv_entry.specs.declared.rule.Body.{Body}
 use Rattle.mv_entry.specs.declared.rule.Rule.{Rule}
-use Rattle.mv_entry.specs.declared.rule.Rule.TheVariants.{Remove, Add, Divide, Wire, Collapse}
+use Rattle.mv_entry.specs.declared.rule.Rule.TheVariants.{Remove, Add, Divide, Wire, Collapse, Narrow, Merge, Encode, Fill}
 use Rattle.mv_entry.specs.declared.note.Command.{Command}
 use Rattle.mv_entry.specs.declared.note.Command.TheVariants.{Simplify}
 use Rattle.mv_entry.specs.declared.note.Why.{Why}
@@ -15,7 +15,7 @@ use Rattle.mv_entry.specs.declared.note.Why.TheVariants.{Literals}
 use Rattle.mv_entry.specs.declared.note.Note.{Note}
 use Rattle.mv_entry.specs.declared.note.Note.TheVariants.{Begin, Dropped, End, Done}
 use Rattle.mv_entry.specs.Entries.{Entry, Applied, Noted, entry_names}
-use Rattle.mv_step.specs.Printed.{IsSayable}
+use Rattle.mv_step.specs.Printed.{IsSayable, is_sayable_form}
 use Rattle.mv_lines_back.specs.TextWords.{is_plain_word}
 
 -- ---- the sets of an entry
@@ -35,6 +35,10 @@ rule_sets (Add net body) = body_sets body
 rule_sets (Divide net by body) = body_sets body
 rule_sets (Wire net) = []
 rule_sets (Collapse net) = []
+rule_sets (Narrow net d u body) = body_sets body
+rule_sets (Merge net gone into) = []
+rule_sets (Encode net names list) = []
+rule_sets (Fill net out) = out ∷ []
 
 -- the sets of an entry: a note has none
 abbrev pub entry_sets : Entry → List ℕ
@@ -60,7 +64,7 @@ note_numbers (Dropped why net) = reason_numbers why
 note_numbers (End literals) = literals ∷ []
 note_numbers (Done before after) = before ∷ after ∷ []
 
--- the numbers of an entry: a rule has none
+-- the numbers of an entry that is a note
 abbrev pub entry_numbers : Entry → List ℕ
 entry_numbers (Applied rule) = []
 entry_numbers (Noted note) = note_numbers note
@@ -75,11 +79,18 @@ is_text_name w = is_plain_word w && nat_le (length w) MAX_WORD_BYTES
 abbrev pub is_text_number : ℕ → Bool
 is_text_number n = nat_lt n (2 ^ 128)
 
+-- the numbers and the codes of a rule can be words of a text
+abbrev pub is_text_form : Entry → Bool
+is_text_form (Applied rule) = is_sayable_form rule
+is_text_form (Noted note) = true
+
 -- an entry that is read back as it is printed
 pub record Printable (entry : Entry) : Type 0 where
   -- its names can be words of a text
   pub names : list_all is_text_name (entry_names entry) ≡ true
   -- its sets have values, and none but those that a net may have
   pub sets : All IsSayable (entry_sets entry)
-  -- its numbers have at most 128 bits
+  -- the numbers of a note have at most 128 bits
   pub numbers : list_all is_text_number (entry_numbers entry) ≡ true
+  -- and those of a rule have no more than 16, and its codes as many bits as it has names
+  pub form : is_text_form entry ≡ true

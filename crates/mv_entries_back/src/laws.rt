@@ -1,9 +1,10 @@
 ghost use Rattle.std.specs.Prelude.{◌≡◌, ◌≤◌, ℕ, true, None, List, length, All};
+ghost use Rattle.std.specs.List.{list_all};
 ghost use Rattle.mv_base.specs.Names.{is_net_name};
 ghost use Rattle.mv_base.specs.declared.limits.TheConstants.{MAX_WORD_BYTES};
 ghost use Rattle.mv_lex.specs.Lines.{lines_of, lex_fault};
-ghost use Rattle.mv_entry.specs.Entries.{Entry, print};
-ghost use Rattle.mv_step.specs.Certificates.{fault_of, steps_of};
+ghost use Rattle.mv_entry.specs.Entries.{Entry, is_built, rules_of, print};
+ghost use Rattle.mv_step.specs.Certificates.{syntax_fault, fault_of, steps_of};
 ghost use Rattle.mv_entries_back.specs.Printable.{is_text_name, Printable};
 ghost use Rattle.mv_entries_back.specs.Told.{steps_told};
 
@@ -19,9 +20,10 @@ pub fn print_laws()
     ensures apart { (es fs : List Entry) → All Printable es → All Printable fs → print es ≡ print fs → es ≡ fs }
 {}
 
-/// The text of entries is a certificate: its lines have no fault, and they list the rules among the entries, in order, each
-/// with the number of its first line.
+/// The lines of the text of entries may all stand where they stand, and are a certificate where the rules among the entries are
+/// built in this version. They list these rules, in order, each with the number of its first line.
 pub fn certificate_laws()
-    ensures faultless { (es : List Entry) → All Printable es → fault_of (lines_of (print es)) ≡ None }
+    ensures read { (es : List Entry) → All Printable es → syntax_fault (lines_of (print es)) ≡ None }
+    ensures faultless { (es : List Entry) → All Printable es → list_all is_built (rules_of es) ≡ true → fault_of (lines_of (print es)) ≡ None }
     ensures steps { (es : List Entry) → All Printable es → steps_of (lines_of (print es)) ≡ steps_told 1 es }
 {}

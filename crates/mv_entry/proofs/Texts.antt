@@ -1,13 +1,15 @@
 -- Texts of lines and entries, piece by piece as they are put.
-use Rattle.std.proofs.Common.{◌≡◌, ◌∙◌, ℕ, ◌+◌, ◌<◌, ◌≤◌, Option, Some, None, List, [], ◌∷◌, ◌++◌, length, get_or, drop, map, codes, decimal, refl, ap, append_assoc}
+use Rattle.std.proofs.Common.{◌≡◌, ◌∙◌, ℕ, Bool, false, ◌+◌, ◌<◌, ◌≤◌, Option, Some, None, List, [], ◌∷◌, ◌++◌, length, get_or, drop, map, codes, decimal, refl, ap, append_assoc}
 use Rattle.std.specs.List.{flat_map}
-use Rattle.std.proofs.lemmas.List.{append-nil, at_drop_all}
+use Rattle.std.proofs.lemmas.List.{append-nil, at_drop_all, at_drop_more}
 use Rattle.std.proofs.lemmas.List.Concat.{flat_map-append}
+use Rattle.mv_base.specs.declared.number.Value.{Value}
 use Rattle.mv_lex.specs.Text.{spaced, line_text}
 use Rattle.mv_page.proofs.Items.{items-more}
 use Rattle.mv_entry.specs.declared.rule.BodyLit.{BodyLit}
 use Rattle.mv_entry.specs.declared.rule.BodyLine.{BodyLine}
 use Rattle.mv_entry.specs.declared.rule.Body.{Body}
+use Rattle.mv_entry.specs.declared.rule.Code.{Code}
 use Rattle.mv_entry.specs.declared.rule.Rule.{Rule}
 use Rattle.mv_entry.specs.declared.note.Command.{Command}
 use Rattle.mv_entry.specs.declared.note.Command.TheVariants.{Simplify, Collapse as CollapseNet}
@@ -15,7 +17,7 @@ use Rattle.mv_entry.specs.declared.note.Why.{Why}
 use Rattle.mv_entry.specs.declared.note.Why.TheVariants.{Literals}
 use Rattle.mv_entry.specs.declared.note.Note.{Note}
 use Rattle.mv_entry.specs.declared.note.Note.TheVariants.{Begin, Dropped, End, Done}
-use Rattle.mv_entry.specs.Entries.{Applied, Noted, set_word, lit_words, line_words, default_lines, body_lines, rule_lines, command_word, operands, why_word, why_numbers, note_words, entry_text}
+use Rattle.mv_entry.specs.Entries.{Applied, Noted, set_word, lit_words, line_words, default_lines, body_lines, into_words, bit_byte, code_word, rule_lines, command_word, operands, why_word, why_numbers, note_words, entry_text}
 
 -- ---- words
 
@@ -41,6 +43,10 @@ line_text-first w ws = refl
 pub line_text-triple : (u v w : List ℕ) → line_text (u ∷ v ∷ w ∷ []) ≡ u ++ (spaced (v ∷ []) ++ (spaced (w ∷ []) ++ 10 ∷ []))
 line_text-triple u v w =
     line_text-first u (v ∷ w ∷ []) ∙ ap (λ t. u ++ t) (spaced-then (v ∷ []) (w ∷ []) (10 ∷ []))
+
+-- a line of a word, a name and more words
+pub line_text-named : (w net : List ℕ) (ws : List (List ℕ)) → line_text (w ∷ net ∷ ws) ≡ w ++ (spaced (net ∷ []) ++ (spaced ws ++ 10 ∷ []))
+line_text-named w net ws = line_text-first w (net ∷ ws) ∙ ap (λ t. w ++ t) (spaced-then (net ∷ []) ws (10 ∷ []))
 
 -- ---- notes
 
@@ -126,6 +132,45 @@ body-text b =
     let default = default_lines b.default in
     flat_map-append line_text (lines ++ default) ((codes "end" ∷ []) ∷ [])
     ∙ (ap (λ t. t ++ codes "end\n") (flat_map-append line_text lines default) ∙ append_assoc (flat_map line_text lines) (flat_map line_text default) (codes "end\n"))
+
+pub merge-text : (net : List ℕ) (gone : ℕ) (into : Option Value) → line_text (codes "merge" ∷ net ∷ decimal gone ∷ into_words into) ≡ codes "merge" ++ (spaced (net ∷ []) ++ (spaced (decimal gone ∷ []) ++ (spaced (into_words into) ++ 10 ∷ [])))
+merge-text net gone into =
+    line_text-named (codes "merge") net (decimal gone ∷ into_words into)
+    ∙ ap (λ t. codes "merge" ++ (spaced (net ∷ []) ++ t)) (spaced-then (decimal gone ∷ []) (into_words into) (10 ∷ []))
+
+pub fill-text : (net : List ℕ) (out : ℕ) → line_text (codes "fill" ∷ net ∷ set_word out ∷ []) ≡ codes "fill" ++ (spaced (net ∷ []) ++ (codes " " ++ (set_word out ++ 10 ∷ [])))
+fill-text net out =
+    line_text-named (codes "fill") net (set_word out ∷ []) ∙ ap (λ t. codes "fill" ++ (spaced (net ∷ []) ++ (t ++ 10 ∷ []))) (spaced-one (set_word out))
+
+pub encode-text : (net number : List ℕ) (names list : List (List ℕ)) → line_text (codes "encode" ∷ net ∷ number ∷ names ++ list) ≡ codes "encode" ++ (spaced (net ∷ []) ++ (spaced (number ∷ []) ++ (spaced names ++ (spaced list ++ 10 ∷ []))))
+encode-text net number names list =
+    line_text-named (codes "encode") net (number ∷ names ++ list)
+    ∙ ap (λ t. codes "encode" ++ (spaced (net ∷ []) ++ t)) (spaced-then (number ∷ []) (names ++ list) (10 ∷ [])
+    ∙ ap (λ t. spaced (number ∷ []) ++ t) (spaced-then names list (10 ∷ [])))
+
+pub code-text : (c : Code) → spaced (code_word c ∷ []) ≡ codes " " ++ map bit_byte c.bits
+code-text c = spaced-one (code_word c)
+
+pub names-more : (ns : List (List ℕ)) (i : ℕ) (n : List ℕ) → i < length ns → n ≡ get_or ns i n → spaced (drop i ns) ≡ spaced (n ∷ []) ++ spaced (drop (i + 1) ns)
+names-more ns i n low is = items-more spaced (λ m. spaced (m ∷ [])) ns i n (λ m ms. spaced-append (m ∷ []) ms) low is
+
+pub names-none : (ns : List (List ℕ)) (i : ℕ) → length ns ≤ i → spaced (drop i ns) ≡ []
+unfolding spaced
+names-none ns i high = at_drop_all spaced ns i high
+
+pub bits-more : (bs : List Bool) (i : ℕ) → i < length bs → map bit_byte (drop i bs) ≡ (bit_byte (get_or bs i false) ∷ []) ++ map bit_byte (drop (i + 1) bs)
+bits-more bs i low = at_drop_more (map bit_byte) bs i false low
+
+pub bits-none : (bs : List Bool) (i : ℕ) → length bs ≤ i → map bit_byte (drop i bs) ≡ []
+bits-none bs i high = at_drop_all (map bit_byte) bs i high
+
+pub codes-more : (cs : List Code) (i : ℕ) (c : Code) → i < length cs → c ≡ get_or cs i c → spaced (map code_word (drop i cs)) ≡ spaced (code_word c ∷ []) ++ spaced (map code_word (drop (i + 1) cs))
+codes-more cs i c low is =
+    items-more (λ ds. spaced (map code_word ds)) (λ d. spaced (code_word d ∷ [])) cs i c (λ d ds. spaced-append (code_word d ∷ []) (map code_word ds)) low is
+
+pub codes-none : (cs : List Code) (i : ℕ) → length cs ≤ i → spaced (map code_word (drop i cs)) ≡ []
+unfolding spaced
+codes-none cs i high = at_drop_all (λ ds. spaced (map code_word ds)) cs i high
 
 pub single-text : (rule : Rule) (line : List (List ℕ)) → rule_lines rule ≡ line ∷ [] → entry_text (Applied rule) ≡ line_text line
 unfolding entry_text

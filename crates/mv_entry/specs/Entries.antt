@@ -1,19 +1,21 @@
 -- What a run notes, entry by entry, and its text: lines of words, each word parted from the next by one space.
-use Rattle.std.specs.Prelude.{◌≡◌, ℕ, Bool, true, ◌&&◌, nat_lt, Option, Some, None, List, [], ◌∷◌, ◌++◌, length, map, filter, codes, decimal}
+use Rattle.std.specs.Prelude.{◌≡◌, ℕ, Bool, true, false, if◌then◌else◌, ◌&&◌, nat_lt, Option, Some, None, List, [], ◌∷◌, ◌++◌, length, map, filter, codes, decimal}
 use Rattle.std.specs.List.{flat_map, list_all, range_with_len}
 use Rattle.mv_base.specs.Set.{has}
 use Rattle.mv_base.specs.Names.{is_visible}
+use Rattle.mv_base.specs.declared.number.Value.{Value}
 use Rattle.mv_base.specs.declared.limits.TheConstants.{MAX_VALUES}
 use Rattle.mv_lex.specs.Text.{line_text}
 use Rattle.mv_entry.specs.declared.rule.BodyLit.{BodyLit}
 use Rattle.mv_entry.specs.declared.rule.BodyLine.{BodyLine}
 use Rattle.mv_entry.specs.declared.rule.Body.{Body}
+use Rattle.mv_entry.specs.declared.rule.Code.{Code}
 use Rattle.mv_entry.specs.declared.rule.Rule.{Rule}
-use Rattle.mv_entry.specs.declared.rule.Rule.TheVariants.{Remove, Add, Divide, Wire, Collapse}
+use Rattle.mv_entry.specs.declared.rule.Rule.TheVariants.{Remove, Add, Divide, Wire, Collapse, Narrow, Fill, Merge as MergeValue, Encode as EncodeNet}
 use Rattle.mv_entry.specs.declared.note.Command.{Command}
-use Rattle.mv_entry.specs.declared.note.Command.TheVariants.{Drop, Sweep, Eliminate, Kernel, Cube, Simplify, Merge, Default, Determinize, Encode, Collapse as CollapseNet}
+use Rattle.mv_entry.specs.declared.note.Command.TheVariants.{Drop, Sweep, Eliminate, Kernel, Cube, Simplify, Merge, Default, Determinize, Encode, Collapse as CollapseNet, Fill as FillAll}
 use Rattle.mv_entry.specs.declared.note.Why.{Why}
-use Rattle.mv_entry.specs.declared.note.Why.TheVariants.{Literals, Lines, Nodes, Window, Kernels, Shared, Seen, Partial, Absent, Varied, Unread, Nets}
+use Rattle.mv_entry.specs.declared.note.Why.TheVariants.{Literals, Lines, Nodes, Window, Kernels, Shared, Seen, Partial, Absent, Varied, Unread, Nets, Strict}
 use Rattle.mv_entry.specs.declared.note.Note.{Note}
 use Rattle.mv_entry.specs.declared.note.Note.TheVariants.{Begin, Dropped, End, Done}
 
@@ -72,6 +74,19 @@ default_lines (Some set) = (codes "default" ∷ set_word set ∷ []) ∷ []
 abbrev pub body_lines : Body → List (List (List ℕ))
 body_lines b = map line_words b.lines ++ default_lines b.default ++ (codes "end" ∷ []) ∷ []
 
+-- the value into which another goes, if there is one
+abbrev pub into_words : Option Value → List (List ℕ)
+into_words None = []
+into_words (Some v) = decimal v.0 ∷ []
+
+-- a bit as a digit
+abbrev pub bit_byte : Bool → ℕ
+bit_byte b = if b then 49 else 48
+
+-- the word of a code
+abbrev pub code_word : Code → List ℕ
+code_word c = map bit_byte c.bits
+
 -- the lines of a rule, each as its words
 abbrev pub rule_lines : Rule → List (List (List ℕ))
 rule_lines (Remove net) = (codes "remove" ∷ net ∷ []) ∷ []
@@ -79,6 +94,19 @@ rule_lines (Add net body) = (codes "add" ∷ net ∷ []) ∷ body_lines body
 rule_lines (Divide net by body) = (codes "divide" ∷ net ∷ by ∷ []) ∷ body_lines body
 rule_lines (Wire net) = (codes "wire" ∷ net ∷ []) ∷ []
 rule_lines (Collapse net) = (codes "collapse" ∷ net ∷ []) ∷ []
+rule_lines (Narrow net d u body) = (codes "narrow" ∷ net ∷ decimal d ∷ decimal u ∷ []) ∷ body_lines body
+rule_lines (MergeValue net gone into) = (codes "merge" ∷ net ∷ decimal gone.0 ∷ into_words into) ∷ []
+rule_lines (EncodeNet net names list) = (codes "encode" ∷ net ∷ decimal (length names) ∷ names ++ map code_word list) ∷ []
+rule_lines (Fill net out) = (codes "fill" ∷ net ∷ set_word out ∷ []) ∷ []
+
+-- the rules that are built in this version
+abbrev pub is_built : Rule → Bool
+is_built (Remove net) = true
+is_built (Add net body) = true
+is_built (Divide net by body) = true
+is_built (Wire net) = true
+is_built (Collapse net) = true
+is_built _ = false
 
 -- ---- notes
 
@@ -95,6 +123,7 @@ command_word Merge = codes "merge"
 command_word Default = codes "default"
 command_word Determinize = codes "determinize"
 command_word Encode = codes "encode"
+command_word FillAll = codes "fill"
 
 -- the words of a command behind its first
 abbrev pub operands : Command → List (List ℕ)
@@ -116,6 +145,7 @@ why_word Absent = codes "absent"
 why_word Varied = codes "varied"
 why_word Unread = codes "unread"
 why_word Nets = codes "nets"
+why_word Strict = codes "strict"
 
 -- the literals before and after a step that is dropped for them
 abbrev pub why_numbers : Why → List (List ℕ)
@@ -157,6 +187,10 @@ rule_names (Add net body) = net ∷ body_names body
 rule_names (Divide net by body) = net ∷ by ∷ body_names body
 rule_names (Wire net) = net ∷ []
 rule_names (Collapse net) = net ∷ []
+rule_names (Narrow net d u body) = net ∷ body_names body
+rule_names (MergeValue net gone into) = net ∷ []
+rule_names (EncodeNet net names list) = net ∷ names
+rule_names (Fill net out) = net ∷ []
 
 -- the names of a command
 abbrev pub command_names : Command → List (List ℕ)

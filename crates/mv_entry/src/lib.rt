@@ -1,6 +1,7 @@
 //! What a run notes: the rules that change a network, notes on them, their text, and the journal that takes them.
 #![tactic(auto)]
 
+mod encode_text;
 mod fault;
 mod journal;
 mod note;
@@ -15,5 +16,5 @@ pub use fault::RuleFault;
 pub use journal::{Journal, Tally};
 pub use note::{Command, Note, Why};
 pub use note_text::put_note;
-pub use rule::{Body, BodyLine, BodyLit, Rule};
+pub use rule::{Body, BodyLine, BodyLit, Code, Rule};
 pub use rule_text::put_rule;

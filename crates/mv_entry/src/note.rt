@@ -16,6 +16,7 @@ pub enum Command {
     Default,
     Determinize,
     Encode,
+    Fill,
 }
 
 /// Why a command leaves a net as it is.
@@ -45,6 +46,8 @@ pub enum Why {
     Unread,
     /// The numbers of nets are used up.
     Nets,
+    /// The table isn't total, and may not be filled.
+    Strict,
 }
 
 /// What a run says of its course, beside the rules.
@@ -77,6 +80,7 @@ impl Command {
             Command::Default => Ok(Command::Default),
             Command::Determinize => Ok(Command::Determinize),
             Command::Encode => Ok(Command::Encode),
+            Command::Fill => Ok(Command::Fill),
         }
     }
 }

@@ -5,7 +5,7 @@ ghost use Rattle.mv_lex.specs.Text.{spaced};
 ghost use Rattle.mv_entry.specs.Entries.{Noted, command_word, operands, why_word, why_numbers, entry_text};
 
 use crate::page::Page;
-use crate::words::{put_number, put_word};
+use crate::words::{put_number, put_numbers, put_word};
 use crate::{Command, Note, Why};
 use mv_base::{Failed, Sink};
 
@@ -25,21 +25,8 @@ fn command_word(command: &Command) -> &'static [u8]
         Command::Default => b"default",
         Command::Determinize => b"determinize",
         Command::Encode => b"encode",
+        Command::Fill => b"fill",
     }
-}
-
-/// Puts two numbers, each behind a space.
-fn put_numbers<E: Sink>(
-    first: u128,
-    second: u128,
-    page: &mut Page,
-    sink: &mut E,
-) -> Result<(), Failed>
-    ensures { AddsPiece (paged (E.state sink.old) page.old) (paged (E.state sink.new) page.new)
-        (spaced (decimal first ∷ decimal second ∷ [])) result }
-{
-    put_number(first, page, sink)?;
-    put_number(second, page, sink)
 }
 
 /// Puts the words of a command behind its first, each behind a space.
@@ -80,6 +67,7 @@ fn why_word(why: Why) -> &'static [u8]
         Why::Varied => b"varied",
         Why::Unread => b"unread",
         Why::Nets => b"nets",
+        Why::Strict => b"strict",
     }
 }
 

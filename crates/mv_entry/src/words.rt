@@ -21,6 +21,20 @@ pub fn put_number<E: Sink>(number: u128, page: &mut Page, sink: &mut E) -> Resul
     put_word(buffer.format(number).as_bytes(), page, sink)
 }
 
+/// Puts two numbers, each behind a space.
+pub fn put_numbers<E: Sink>(
+    first: u128,
+    second: u128,
+    page: &mut Page,
+    sink: &mut E,
+) -> Result<(), Failed>
+    ensures { AddsPiece (paged (E.state sink.old) page.old) (paged (E.state sink.new) page.new)
+        (spaced (decimal first ∷ decimal second ∷ [])) result }
+{
+    put_number(first, page, sink)?;
+    put_number(second, page, sink)
+}
+
 /// Puts a line of two words.
 pub fn put_pair<E: Sink>(
     first: &[u8],

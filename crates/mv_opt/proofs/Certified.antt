@@ -10,7 +10,7 @@ use Rattle.mv_collapse.specs.Collapses.{IsCollapseStep}
 use Rattle.mv_collapse.specs.Eliminates.{IsEliminateStep, Eliminates, HasNoted, NotesWide, wide_note}
 use Rattle.mv_gain.specs.Savings.{NoneSaves}
 use Rattle.mv_entry.specs.declared.note.Command.{Command}
-use Rattle.mv_entry.specs.declared.note.Command.TheVariants.{Drop, Sweep, Eliminate, Collapse, Kernel, Cube, Simplify, Merge, Default, Determinize, Encode}
+use Rattle.mv_entry.specs.declared.note.Command.TheVariants.{Drop, Sweep, Eliminate, Collapse, Kernel, Cube, Simplify, Merge, Default, Determinize, Encode, Fill}
 use Rattle.mv_entry.specs.declared.note.Note.{Note}
 use Rattle.mv_entry.specs.declared.note.Note.TheVariants.{Begin, Dropped, End, Done}
 use Rattle.mv_entry.specs.declared.note.Why.TheVariants.{Lines}
@@ -33,7 +33,6 @@ use Rattle.mv_script_run.specs.Commands.{CourseOf, DoesCommand, RunsCommand}
 use Rattle.mv_script_run.specs.Runs.{Course, Runs}
 use Rattle.mv_script_run.proofs.Inductions.{of_items}
 use Rattle.mv_script_run.proofs.Rules.{course_replays, does_replays, runs_replays}
-use Rattle.mv_script.specs.declared.command.Command.{Command as ScriptCommand}
 use Rattle.mv_script.specs.Commands.{IsCommand, is_named, are_named}
 use Rattle.mv_script.specs.Scripts.{Items}
 use Rattle.mv_script.proofs.Commands.{built_lawful}
@@ -111,6 +110,7 @@ course_seen Merge a b steps is formed g = absurd g
 course_seen Default a b steps is formed g = absurd g
 course_seen Determinize a b steps is formed g = absurd g
 course_seen Encode a b steps is formed g = absurd g
+course_seen Fill a b steps is formed g = absurd g
 
 -- ---- the notes of commands
 
@@ -136,9 +136,9 @@ seen_then a b c xs ys p q formed =
     let second = q first.0 in
     (second.0, seen_append xs ys first.1 second.1)
 
-command_seen : (c : ScriptCommand) → is_named c ≡ true → (a : NetParts) (es : List Entry) (b : NetParts) → RunsCommand c a es b → StaysSeen a es b
+command_seen : (c : Command) → is_named c ≡ true → (a : NetParts) (es : List Entry) (b : NetParts) → RunsCommand c a es b → StaysSeen a es b
 command_seen c named a es b r formed =
-    (replayed_formed (rules_of es) a b formed (does_replays r.command a b es r.does), does_seen r.command a b es (built_lawful c r.command named r.built) formed r.does)
+    (replayed_formed (rules_of es) a b formed (does_replays c a b es r.does), does_seen c a b es (built_lawful c named r.built) formed r.does)
 
 runs_seen : (items : Items) (a b : NetParts) (es : List Entry) → are_named items ≡ true → WellFormed a → Runs items a es b → AreSeen es
 runs_seen items a b es named formed r =

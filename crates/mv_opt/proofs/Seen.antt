@@ -11,13 +11,13 @@ use Rattle.std.proofs.lemmas.List.Folds.{list_all-append}
 use Rattle.mv_base.specs.Names.{is_visible}
 use Rattle.mv_base.proofs.Lists.{all-weaker}
 use Rattle.mv_entry.specs.declared.note.Command.{Command}
-use Rattle.mv_entry.specs.declared.note.Command.TheVariants.{Drop, Sweep, Eliminate, Collapse, Kernel, Cube, Simplify, Merge, Default, Determinize, Encode}
+use Rattle.mv_entry.specs.declared.note.Command.TheVariants.{Drop, Sweep, Eliminate, Collapse, Kernel, Cube, Simplify, Merge, Default, Determinize, Encode, Fill}
 use Rattle.mv_entry.specs.declared.note.Note.{Note}
 use Rattle.mv_entry.specs.declared.note.Note.TheVariants.{Begin, Dropped, End, Done}
 use Rattle.mv_entry.specs.declared.note.Why.{Why}
-use Rattle.mv_entry.specs.declared.note.Why.TheVariants.{Literals, Lines, Nodes, Window, Kernels, Shared, Seen, Partial, Absent, Varied, Unread, Nets}
+use Rattle.mv_entry.specs.declared.note.Why.TheVariants.{Literals, Lines, Nodes, Window, Kernels, Shared, Seen, Partial, Absent, Varied, Unread, Nets, Strict}
 use Rattle.mv_entry.specs.declared.rule.Rule.{Rule}
-use Rattle.mv_entry.specs.Entries.{Entry, Applied, Noted, command_names, command_word, operands, why_word, why_numbers, note_words}
+use Rattle.mv_entry.specs.Entries.{Entry, Applied, Noted, command_names, command_word, operands, why_word, why_numbers, note_words, is_built}
 use Rattle.mv_entry.specs.Entries.{rule_lines, entry_lines, entry_text, print, rules_of, is_visible_name, HasVisibleNames}
 use Rattle.mv_lex.specs.Lines.{lines_of, lex_fault, has_long_word, is_clean, is_within}
 use Rattle.mv_lex.specs.Text.{line_text}
@@ -31,6 +31,7 @@ use Rattle.mv_rules_back.proofs.Replaying.{replayed_from_print}
 use Rattle.mv_cert.specs.Certificates.{Certifies}
 use Rattle.mv_cert.specs.Replay.{rules_in}
 use Rattle.mv_base.specs.declared.limits.TheConstants.{MAX_CERTIFICATE_BYTES}
+use Rattle.mv_rules.proofs.Built.{replayed_built}
 use Rattle.mv_rules.specs.Replaying.{Replays}
 use Rattle.mv_step.specs.Certificates.{fault_of, steps_of}
 use Rattle.mv_step.specs.Printed.{IsSayable}
@@ -89,6 +90,7 @@ command_seen Merge h = refl
 command_seen Default h = refl
 command_seen Determinize h = refl
 command_seen Encode h = refl
+command_seen Fill h = refl
 
 why_seen : (why : Why) (ws : List (List ℕ)) → are_seen ws → are_seen (why_word why ∷ why_numbers why ++ ws)
 unfolding are_seen
@@ -104,6 +106,7 @@ why_seen Absent ws h = h
 why_seen Varied ws h = h
 why_seen Unread ws h = h
 why_seen Nets ws h = h
+why_seen Strict ws h = h
 
 note_seen : (note : Note) → IsSeenNote note → are_seen (note_words note)
 unfolding are_seen
@@ -129,7 +132,7 @@ quiet_notes : (es : List Entry) → All IsPrintableNote (notes_of (quiet es))
 quiet_notes [] = All-nil IsPrintableNote
 quiet_notes (Applied rule ∷ es) = quiet_notes es
 quiet_notes (Noted note ∷ es) =
-    All-cons IsPrintableNote (End 0) (notes_of (quiet es)) (record { names = refl; sets = All-nil IsSayable; numbers = refl }) (quiet_notes es)
+    All-cons IsPrintableNote (End 0) (notes_of (quiet es)) (record { names = refl; sets = All-nil IsSayable; numbers = refl; form = refl }) (quiet_notes es)
 
 -- ---- what is told of the lines
 
@@ -199,8 +202,8 @@ module _ (es : List Entry) (printable : All Printable (quiet es)) (seen : All Is
         ap is_clean (print_lines es) ∙ is_clean-text (flat_map entry_lines es) text,
       )
 
-  form : fault_of (lines_of (print es)) ≡ None
-  form = ap fault_of same_lines ∙ steps-faultless (quiet es) printable
+  form : list_all is_built (rules_of es) ≡ true → fault_of (lines_of (print es)) ≡ None
+  form built = ap fault_of same_lines ∙ steps-faultless (quiet es) printable (ap (list_all is_built) (quiet_rules es) ∙ built)
 
   read_back : (a b : NetParts) → Replays (rules_of es) a b → Replays (rules_in (steps_of (lines_of (print es)))) a b
   read_back a b p =
@@ -213,6 +216,6 @@ pub seen_certifies : (es : List Entry) (a b : NetParts) → WellFormed a → Has
 seen_certifies es a b formed names seen p fits =
     let printable = replayed_printable (quiet es) a b formed names (quiet_notes es) (subst (λ rs. Replays rs a b) (sym (quiet_rules es)) p) in
     record {
-      accepted = record { lexed = lexed es printable seen MAX_CERTIFICATE_BYTES fits; form = form es printable seen };
+      accepted = record { lexed = lexed es printable seen MAX_CERTIFICATE_BYTES fits; form = form es printable seen (replayed_built (rules_of es) a b p) };
       replays = read_back es printable seen a b p;
     }

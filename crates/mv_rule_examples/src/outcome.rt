@@ -10,6 +10,9 @@ use std::test::Fail;
 
 /// Puts the literals that the rule is told to leave, or its fault.
 fn put_told(said: &mut String, alloc: Global, net: &Network, rule: &Rule) -> Result<(), Fail> {
+    if !rule.is_built() {
+        return Err(Fail::from("a rule that isn't built"));
+    }
     match literals_after(alloc, net, rule, 1000) {
         Ok(literals) => Ok(write!(said, "{literals}=")?),
         Err(fault) => Ok(write!(said, "{fault:?}=")?),
@@ -18,6 +21,9 @@ fn put_told(said: &mut String, alloc: Global, net: &Network, rule: &Rule) -> Res
 
 /// Applies the rule, and puts the literals that it leaves, or its fault.
 fn put_left(said: &mut String, alloc: Global, net: &mut Network, rule: &Rule) -> Result<(), Fail> {
+    if !rule.is_built() {
+        return Err(Fail::from("a rule that isn't built"));
+    }
     match apply(alloc, net, rule, 1000) {
         Ok(()) => Ok(write!(said, "{}", net.literals())?),
         Err(fault) => Ok(write!(said, "{fault:?}")?),

@@ -1,6 +1,6 @@
 //! Rules from texts: `remove k`, `wire k`, `collapse k`, `add k BODY` and `divide k by BODY`, where a body is words such as
 //! `a=1&b=02:1`, which are its lines, and `else:0`, which is its default.
-use mv_base::{Items, Name, Value, ValueSet};
+use mv_base::{Items, Name, PackedSet, Value, ValueSet};
 use mv_rules::{Body, BodyLine, BodyLit, Rule};
 use std::alloc::Global;
 use std::test::Fail;
@@ -27,10 +27,8 @@ fn literals(alloc: Global, words: &str) -> Result<Items<BodyLit>, Fail> {
     for word in words.split('&') {
         if let Some((net, values)) = word.split_once('=') {
             let net = name(alloc, net)?;
-            literals.push(BodyLit {
-                net,
-                set: set(values),
-            })?;
+            let set = PackedSet::new(alloc, set(values))?;
+            literals.push(BodyLit { net, set })?;
         }
     }
     Ok(literals)
@@ -39,7 +37,7 @@ fn literals(alloc: Global, words: &str) -> Result<Items<BodyLit>, Fail> {
 /// Puts the line or the default of a word to a body.
 fn put_line(body: &mut Body, alloc: Global, word: &str) -> Result<(), Fail> {
     let (words, out) = word.split_once(':').ok_or("a line without an output")?;
-    let out = set(out);
+    let out = PackedSet::new(alloc, set(out))?;
     if words == "else" {
         body.default = Some(out);
         return Ok(());

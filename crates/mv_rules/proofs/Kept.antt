@@ -18,6 +18,7 @@ kept_formed (Add w body) old new formed p = added_is_formed old w body new forme
 kept_formed (Divide w by body) old new formed p = divided_is_formed old w by body new formed p
 kept_formed (Wire w) old new formed p = wired_is_formed old w new formed p
 kept_formed (Collapse w) old new formed p = collapses_formed old w new formed p
+kept_formed _ old new formed p = absurd p
 
 pub kept_latches : (rule : Rule) (old new : NetParts) → Applies rule old new → new.latches ≡ old.latches
 unfolding with_nets
@@ -26,3 +27,4 @@ kept_latches (Add w body) old new p = ap (λ (n : NetParts). n.latches) p.new_is
 kept_latches (Divide w by body) old new p = ap (λ (n : NetParts). n.latches) p.new_is
 kept_latches (Wire w) old new p = ap (λ (n : NetParts). n.latches) p.new_is
 kept_latches (Collapse w) old new p = ap (λ (n : NetParts). n.latches) p.new_is
+kept_latches _ old new p = absurd p

@@ -18,3 +18,4 @@ mod Found
 pub mod Kept
 pub mod Replayed
 pub mod Spoken
+pub mod Built

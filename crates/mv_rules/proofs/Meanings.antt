@@ -18,3 +18,4 @@ applied_means (Add w body) old new formed p = added_is_same old w body new forme
 applied_means (Divide w by body) old new formed p = divided_is_same old w by body new formed p
 applied_means (Wire w) old new formed p = wired_is_same old w new formed p
 applied_means (Collapse w) old new formed p = collapsed_means_same old w new formed p
+applied_means _ old new formed p = absurd p

@@ -85,6 +85,7 @@ one_network (Add w body) old one other formed p q = p.new_is ∙ sym q.new_is
 one_network (Divide w by body) old one other formed p q = divided_one old w by body one other formed p q
 one_network (Wire w) old one other formed p q = wired_one old w one other formed p q
 one_network (Collapse w) old one other formed p q = collapsed_one old w one other formed p q
+one_network _ old one other formed p q = absurd p
 
 -- ---- faults
 
@@ -99,6 +100,7 @@ row_one (Divide w by body) old formed =
 row_one (Wire w) old formed = with_one _ _ (λ n m. one_tabled old w n m formed) (λ n. unless_one _ _ _ (unless_one _ _ _ passed_one))
 row_one (Collapse w) old formed =
     with_one _ _ (λ n m. one_tabled old w n m formed) (λ n. unless_one _ _ _ (unless_one _ _ _ (unless_one _ _ _ (unless_one _ _ _ passed_one))))
+row_one _ old formed = record { one = λ f g p q. absurd p }
 
 pub one_fault : (rule : Rule) (old : NetParts) (f g : RuleFault) → WellFormed old → Fails rule old f → Fails rule old g → f ≡ g
 one_fault rule old f g formed p q = (row_one rule old formed).one f g p q
@@ -121,6 +123,7 @@ row_never (Wire w) old new formed p =
 row_never (Collapse w) old new formed p =
     with_never _ _ p.number p.net (λ m. one_tabled old w p.number m formed p.net)
     (unless_never _ _ _ p.unseen (unless_never _ _ _ p.read (unless_never _ _ _ p.unshared (unless_never _ _ _ p.composites passed_never))))
+row_never _ old new formed p = absurd p
 
 pub not_both : (rule : Rule) (old new : NetParts) (f : RuleFault) → WellFormed old → Applies rule old new → Fails rule old f → ⊥
 not_both rule old new f formed p q = (row_never rule old new formed p).none f q

@@ -111,6 +111,7 @@ module _ (pass : List ℕ → Bool) (net : NetParts) (formed : WellFormed net) (
       (and_from (pass by) (list_all pass (body_names body)) (named_passes p.divisor by p.divides) (body_passes body p.known))
   rule_passes (Wire w) new p = and_from (pass w) true (named_passes p.number w p.net.named) refl
   rule_passes (Collapse w) new p = and_from (pass w) true (named_passes p.number w p.net.named) refl
+  rule_passes _ new p = absurd p
 
 -- ---- names that can be seen
 

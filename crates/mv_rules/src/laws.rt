@@ -1,12 +1,12 @@
 ghost use Rattle.std.specs.Prelude.{◌≡◌, ◌+◌, ℕ, true, Option, List};
-ghost use Rattle.std.specs.List.{sum_by};
+ghost use Rattle.std.specs.List.{list_all, sum_by};
 ghost use Rattle.mv_base.specs.declared.number.NetId.{NetId};
 ghost use Rattle.mv_base.specs.Meaning.{SameMeaning};
 ghost use Rattle.mv_composite.specs.declared.inner.Inner.{Inner};
 ghost use Rattle.mv_entry.specs.declared.rule.Rule.{Rule};
 ghost use Rattle.mv_entry.specs.declared.rule.Rule.TheVariants.{Collapse};
 ghost use Rattle.mv_entry.specs.declared.fault.RuleFault.{RuleFault};
-ghost use Rattle.mv_entry.specs.Entries.{Applied, HasVisibleNames};
+ghost use Rattle.mv_entry.specs.Entries.{Applied, HasVisibleNames, is_built};
 ghost use Rattle.mv_graph.specs.Nets.{IsAscending};
 ghost use Rattle.mv_net.specs.declared.parts.FlatNet.{FlatNet};
 ghost use Rattle.mv_net.specs.declared.parts.NetParts.{NetParts};
@@ -42,6 +42,13 @@ pub fn never_both()
 #[tactic(auto, using(crate::proofs::Spoken::applied_visible))]
 pub fn names_are_visible()
     ensures { (rule : Rule) (old new : NetParts) → WellFormed old → Applies rule old new → HasVisibleNames (Applied rule) }
+{}
+
+/// A rule that applies is built in this version, and so are rules that apply in turn.
+#[tactic(auto, using(crate::proofs::Built::applied_built, crate::proofs::Built::replayed_built))]
+pub fn only_built_apply()
+    ensures one { (rule : Rule) (old new : NetParts) → Applies rule old new → is_built rule ≡ true }
+    ensures all { (rules : List Rule) (old new : NetParts) → Replays rules old new → list_all is_built rules ≡ true }
 {}
 
 /// Rules that apply in turn leave at most one network, which is well formed, has the latches that were there, and means what the

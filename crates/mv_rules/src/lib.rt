@@ -19,8 +19,10 @@ pub use collapse::inner_of;
 pub use composites::composite_literals;
 pub use laws::{
     at_most_one_fault, at_most_one_network, collapse_laws, composite_laws, names_are_visible,
-    never_both, replay_laws,
+    never_both, only_built_apply, replay_laws,
 };
 pub use mv_composite::Inner;
 pub use mv_cover::CoverStop;
-pub use mv_entry::{Body, BodyLine, BodyLit, Command, Journal, Note, Rule, RuleFault, Tally, Why};
+pub use mv_entry::{
+    Body, BodyLine, BodyLit, Code, Command, Journal, Note, Rule, RuleFault, Tally, Why,
+};

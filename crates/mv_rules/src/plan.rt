@@ -1,3 +1,5 @@
+ghost use Rattle.std.specs.Prelude.{◌≡◌, true};
+ghost use Rattle.mv_entry.specs.Entries.{is_built};
 ghost use Rattle.mv_rules.specs.Applies.{Applies, Fails};
 ghost use Rattle.mv_rules.specs.Checks.{Answers};
 ghost use Rattle.mv_rules.specs.Plans.{IsPlanned};
@@ -11,8 +13,9 @@ use mv_entry::{Rule, RuleFault};
 use mv_net::{Change, Network};
 use std::alloc::Global;
 
-/// The change that carries the rule out, or the fault of the first check that fails.
+/// The change that carries the rule out, or the fault of the first check that fails. The rule has to be built in this version.
 pub fn plan(alloc: Global, net: &Network, rule: &Rule) -> Result<Change, RuleFault>
+    requires { is_built rule.now ≡ true }
     ensures { Answers result (IsPlanned net.now (Applies rule.now net.now)) (Fails rule.now net.now) }
 {
     match rule {
@@ -25,5 +28,6 @@ pub fn plan(alloc: Global, net: &Network, rule: &Rule) -> Result<Change, RuleFau
         } => plan_divide(alloc, net, name, by, body),
         Rule::Wire { net: name } => plan_wire(alloc, net, name),
         Rule::Collapse { net: name } => plan_collapse(alloc, net, name),
+        _ => unreachable!(),
     }
 }

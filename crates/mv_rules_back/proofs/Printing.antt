@@ -16,13 +16,14 @@ use Rattle.mv_rules_back.specs.Names.{HasWordNames}
 use Rattle.mv_rules_back.specs.Notes.{notes_of, IsPrintableNote}
 use Rattle.mv_rules_back.proofs.Short.{words_kept}
 use Rattle.mv_rules_back.proofs.Plain.{text_passes}
-use Rattle.mv_rules_back.proofs.Sayable.{rule_sayable}
+use Rattle.mv_rules_back.proofs.Sayable.{rule_sayable, rule_formed}
 
 pub applied_printable : (rule : Rule) (old new : NetParts) → WellFormed old → HasWordNames old.nets → Applies rule old new → Printable (Applied rule)
 applied_printable rule old new formed names p = record {
   names = rule_passes is_text_name old formed (text_passes old.nets names) rule new p;
   sets = rule_sayable old formed rule new p;
   numbers = refl;
+  form = rule_formed old formed rule new p;
 }
 
 pub replayed_printable : (es : List Entry) (old new : NetParts) → WellFormed old → HasWordNames old.nets → All IsPrintableNote (notes_of es) → Replays (rules_of es) old new → All Printable es

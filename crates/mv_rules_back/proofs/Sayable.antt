@@ -1,5 +1,5 @@
 -- The sets of a rule that applies can be said: each is some of the values of a net.
-use Rattle.std.proofs.Common.{◌≡◌, ◌∙◌, ℕ, ◌≤◌, List, [], ◌∷◌, map, All, Option, Some, None, refl, sym, arith}
+use Rattle.std.proofs.Common.{◌≡◌, ◌∙◌, ℕ, ◌≤◌, true, List, [], ◌∷◌, map, All, Option, Some, None, refl, sym, arith}
 use Rattle.std.specs.List.{flat_map}
 use Rattle.std.specs.Option.{option_to_list}
 use Rattle.std.proofs.lemmas.Bool.{ltb-true}
@@ -19,7 +19,7 @@ use Rattle.mv_net.specs.Formed.{IsLiteral, WellFormed}
 use Rattle.mv_net.specs.Nets.{slot, values_in}
 use Rattle.mv_net.proofs.Known.{values_few}
 use Rattle.mv_rules.specs.Applies.{Applies}
-use Rattle.mv_step.specs.Printed.{IsSayable}
+use Rattle.mv_step.specs.Printed.{IsSayable, is_sayable_form}
 use Rattle.mv_entries_back.specs.Printable.{line_sets, body_sets, rule_sets}
 
 -- some of the values of a net
@@ -59,3 +59,13 @@ module _ (net : NetParts) (formed : WellFormed net) where
   rule_sayable (Divide w by b) new p = body (values_in (slot net.nets p.number)) (values_few net p.number formed) b p.form
   rule_sayable (Wire w) new p = All-nil IsSayable
   rule_sayable (Collapse w) new p = All-nil IsSayable
+  rule_sayable _ new p = absurd p
+
+  -- its numbers and codes too: the rules that are built have none
+  pub rule_formed : (rule : Rule) (new : NetParts) → Applies rule net new → is_sayable_form rule ≡ true
+  rule_formed (Remove w) new p = refl
+  rule_formed (Add w b) new p = refl
+  rule_formed (Divide w by b) new p = refl
+  rule_formed (Wire w) new p = refl
+  rule_formed (Collapse w) new p = refl
+  rule_formed _ new p = absurd p

@@ -88,6 +88,7 @@ words_kept (Collapse w) old new names p =
     let table = composed (map values_in old.nets) inner in
     subst (λ (m : NetParts). HasWordNames m.nets) (sym p.new_is)
     (gone_short (rewritten table inner.net.0 old.nets) inner.net.0 (rewritten_short table inner.net.0 old.nets names))
+words_kept _ old new names p = absurd p
 
 pub replayed_words : (rules : List Rule) (old new : NetParts) → HasWordNames old.nets → Replays rules old new → HasWordNames new.nets
 replayed_words [] old new names p = subst (λ (m : NetParts). HasWordNames m.nets) (sym p) names

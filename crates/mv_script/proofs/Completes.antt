@@ -7,8 +7,8 @@ use Rattle.std.proofs.lemmas.Bool.{cond-true, cond-false, and_parts, lt-ltb}
 use Rattle.std.proofs.lemmas.Bool.Decides.{nat_tests}
 use Rattle.mv_base.specs.Names.{same_word}
 use Rattle.mv_base.specs.declared.limits.TheConstants.{MAX_SCRIPT_BRACES}
-use Rattle.mv_script.specs.declared.command.Command.{Command}
-use Rattle.mv_script.specs.declared.command.Command.TheVariants.{Drop, Sweep, Eliminate, Collapse, Kernel, Cube, Simplify, Merge, Default, Determinize, Encode, Fill}
+use Rattle.mv_entry.specs.declared.note.Command.{Command}
+use Rattle.mv_entry.specs.declared.note.Command.TheVariants.{Drop, Sweep, Eliminate, Collapse, Kernel, Cube, Simplify, Merge, Default, Determinize, Encode, Fill}
 use Rattle.mv_script.specs.declared.fault.FaultKind.TheVariants.{Brace, TooDeep}
 use Rattle.mv_script.specs.declared.fault.TextFault.{TextFault}
 use Rattle.mv_script.specs.declared.part.Braces.{Braces}

@@ -13,3 +13,4 @@ pub mod OneAnswer
 pub mod Seen
 pub mod Commands
 pub mod FaultLines
+pub mod Copies

@@ -6,8 +6,8 @@ use Rattle.std.proofs.lemmas.Bool.{cond_both, and_from, ltb-true}
 use Rattle.mv_base.specs.Names.{same_word}
 use Rattle.mv_base.proofs.NameLemmas.{same_word_is}
 use Rattle.mv_base.specs.declared.limits.TheConstants.{MAX_SCRIPT_BRACES}
-use Rattle.mv_script.specs.declared.command.Command.{Command}
-use Rattle.mv_script.specs.declared.command.Command.TheVariants.{Drop, Sweep, Eliminate, Collapse, Kernel, Cube, Simplify, Merge, Default, Determinize, Encode, Fill}
+use Rattle.mv_entry.specs.declared.note.Command.{Command}
+use Rattle.mv_entry.specs.declared.note.Command.TheVariants.{Drop, Sweep, Eliminate, Collapse, Kernel, Cube, Simplify, Merge, Default, Determinize, Encode, Fill}
 use Rattle.mv_script.specs.declared.fault.FaultKind.{FaultKind}
 use Rattle.mv_script.specs.declared.fault.FaultKind.TheVariants.{Missing, Brace}
 use Rattle.mv_script.specs.declared.fault.TextFault.{TextFault}

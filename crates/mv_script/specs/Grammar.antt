@@ -3,8 +3,8 @@ use Rattle.std.specs.Prelude.{◌≡◌, ◌≤◌, ℕ, true, Option, Some, Non
 use Rattle.std.specs.List.{list_all}
 use Rattle.mv_base.specs.Names.{same_word}
 use Rattle.mv_base.specs.declared.limits.TheConstants.{MAX_SCRIPT_BYTES, MAX_SCRIPT_COMMANDS, MAX_SCRIPT_BRACES}
-use Rattle.mv_script.specs.declared.command.Command.{Command}
-use Rattle.mv_script.specs.declared.command.Command.TheVariants.{Drop, Sweep, Eliminate, Collapse, Kernel, Cube, Simplify, Merge, Default, Determinize, Encode, Fill}
+use Rattle.mv_entry.specs.declared.note.Command.{Command}
+use Rattle.mv_entry.specs.declared.note.Command.TheVariants.{Drop, Sweep, Eliminate, Collapse, Kernel, Cube, Simplify, Merge, Default, Determinize, Encode, Fill}
 use Rattle.mv_script.specs.declared.part.Braces.TheVariants.{Repeat, Better}
 use Rattle.mv_script.specs.declared.part.Part.{Part}
 use Rattle.mv_script.specs.declared.part.PartKind.{PartKind}

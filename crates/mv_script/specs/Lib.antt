@@ -8,3 +8,4 @@ pub mod Grammar
 pub mod Faults
 -- what private functions alone cite
 pub mod Private
+pub mod Copies

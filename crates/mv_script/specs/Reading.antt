@@ -3,8 +3,8 @@ use Rattle.std.specs.Prelude.{◌≡◌, ℕ, ◌+◌, ◌-◌, Bool, ◌&&◌, 
 use Rattle.std.specs.List.{list_all}
 use Rattle.mv_base.specs.Names.{same_word}
 use Rattle.mv_base.specs.declared.limits.TheConstants.{MAX_SCRIPT_BRACES}
-use Rattle.mv_script.specs.declared.command.Command.{Command}
-use Rattle.mv_script.specs.declared.command.Command.TheVariants.{Drop, Sweep, Eliminate, Collapse, Kernel, Cube, Simplify, Merge, Default, Determinize, Encode, Fill}
+use Rattle.mv_entry.specs.declared.note.Command.{Command}
+use Rattle.mv_entry.specs.declared.note.Command.TheVariants.{Drop, Sweep, Eliminate, Collapse, Kernel, Cube, Simplify, Merge, Default, Determinize, Encode, Fill}
 use Rattle.mv_script.specs.declared.fault.FaultKind.{FaultKind}
 use Rattle.mv_script.specs.declared.fault.FaultKind.TheVariants.{UnknownWord, Missing, Brace, TooDeep}
 use Rattle.mv_script.specs.declared.fault.TextFault.{TextFault}

@@ -1,7 +1,7 @@
 -- Scripts: lists of items, of which some have a script inside.
 use Rattle.std.specs.Prelude.{ℕ, ◌+◌, ◌*◌, max, nat_lt, if◌then◌else◌, Option, Some, None, List, [], ◌∷◌}
 use Rattle.mv_base.specs.declared.limits.TheConstants.{MAX_SCRIPT_COMMANDS}
-use Rattle.mv_script.specs.declared.command.Command.{Command}
+use Rattle.mv_entry.specs.declared.note.Command.{Command}
 use Rattle.mv_script.specs.declared.script.Script.{Script, End as no_more, Do', Repeat', Better'}
 
 -- the items of a script, the first one before the others

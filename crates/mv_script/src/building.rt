@@ -8,7 +8,7 @@ use mv_base::{Items, Memory};
 use std::alloc::Global;
 
 /// The item with these braces, before the rest.
-fn braced(alloc: Global, braces: Braces, inside: Script, rest: Script) -> Result<Script, Memory>
+pub fn braced(alloc: Global, braces: Braces, inside: Script, rest: Script) -> Result<Script, Memory>
     ensures { IfOk result (λ script. items_of script ≡ braced braces (items_of inside) (items_of rest)) }
 {
     let inside = Box::new(alloc, inside)?;

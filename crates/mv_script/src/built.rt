@@ -3,6 +3,7 @@ ghost use Rattle.mv_script.specs.Commands.{are_built, has_command};
 ghost use Rattle.mv_script.specs.Scripts.{items_of};
 
 use crate::Script;
+use crate::command::is_command_built;
 
 /// Whether each command in the script, also one within braces, is built in this version.
 pub fn is_built(script: &Script) -> bool
@@ -13,7 +14,7 @@ pub fn is_built(script: &Script) -> bool
         match items {
             Script::End => return true,
             Script::Do(command, rest) => {
-                if !command.is_built() {
+                if !is_command_built(command) {
                     return false;
                 }
                 items = rest;

@@ -5,6 +5,7 @@ mod building;
 mod built;
 mod byte;
 mod command;
+mod copying;
 mod count;
 mod fault;
 mod fault_text;
@@ -20,7 +21,6 @@ mod token;
 mod turn;
 
 pub use built::{has_command, is_built};
-pub use command::Command;
 pub use fault::{FaultKind, ScriptFault, TextFault};
 pub use fault_text::put_text_fault;
 pub use laws::script_laws;

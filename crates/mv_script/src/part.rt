@@ -1,4 +1,4 @@
-use crate::Command;
+use mv_entry::Command;
 
 /// What runs its inside more than once.
 #[derive(Clone, Copy, Debug, PartialEq, Eq)]

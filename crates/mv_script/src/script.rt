@@ -1,4 +1,4 @@
-use crate::Command;
+use mv_entry::Command;
 
 /// A script: its first item, and the script behind it.
 pub enum Script {

@@ -8,8 +8,9 @@ use crate::byte::is_letter;
 use crate::number::number_from;
 use crate::part::{Braces, Part, PartKind};
 use crate::token::Token;
-use crate::{Command, FaultKind, ScriptFault, TextFault};
+use crate::{FaultKind, ScriptFault, TextFault};
 use mv_base::MAX_SCRIPT_BRACES;
+use mv_entry::Command;
 
 /// The greatest number of steps that a window goes down or up.
 const MAX_STEPS: u64 = 8;

@@ -1,32 +1,36 @@
--- A command of a script that hasn't begun.
-use Rattle.std.proofs.Common.{◌≡◌, true, false, is_some, Option, Some, None, Err, refl}
-use Rattle.std.proofs.lemmas.Bool.{false≢true}
-use Rattle.mv_base.proofs.Meanings.{Refines-refl}
+-- A command of a script, as it runs.
+use Rattle.std.proofs.Common.{◌≡◌, true, List, Result, Ok, Err}
 use Rattle.mv_entry.specs.declared.note.Command.{Command}
+use Rattle.mv_entry.specs.Entries.{Entry}
 use Rattle.mv_entry.specs.Tallies.{Journaled}
 use Rattle.mv_net.specs.declared.parts.NetParts.{NetParts}
-use Rattle.mv_net.specs.Allowed.{of_net}
-use Rattle.mv_pass.specs.declared.stop.Stop.TheVariants.{Memory}
-use Rattle.mv_pass.specs.Going.{Before}
-use Rattle.mv_pass.proofs.Taken.{Took-none, GoesOn-none}
-use Rattle.mv_script.specs.Commands.{built_of}
-use Rattle.mv_script.specs.declared.command.Command.{Command as ScriptCommand}
-use Rattle.mv_script_run.specs.Commands.{RunsCommand, StopsCommand}
+use Rattle.mv_pass.specs.declared.stop.Stop.{Stop}
+use Rattle.mv_pass.specs.Taking.{Took, TookPart}
+use Rattle.mv_script.specs.Commands.{is_built}
+use Rattle.mv_script_run.specs.Commands.{PassesCommand, RunsCommand, StopsCommand}
 use Rattle.mv_script_run.specs.Passing.{Passes}
 
-some_command : (o : Option Command) → is_some o ≡ true → (command : Command) × (o ≡ Some command)
-some_command None h = absurd (false≢true h)
-some_command (Some command) h = (command, refl)
+-- entries that were taken are of another kind too
+took_others : {Are Others : List Entry → Type 0} (j k : Journaled) → ((es : List Entry) → Are es → Others es) → Took Are j k → Took Others j k
+took_others j k each t = record { entries = t.entries; are = each t.entries t.are; gained = t.gained; counted = t.counted }
 
--- no memory is there before it begins
-pub command_short : (c : ScriptCommand) (a : NetParts) (j : Journaled) → is_some (built_of c) ≡ true → Passes (RunsCommand c) (StopsCommand c) a a j j (Err Memory)
-command_short c a j built =
-    let some = some_command (built_of c) built in
-    record {
-      ok = tt;
-      memory = λ e. Took-none j (record { command = some.0; built = some.1; begun = Before refl refl });
-      note = λ e. absurd cc;
-      cause = λ e. absurd cc;
-      refines = Refines-refl false (of_net a);
-      goes_on = GoesOn-none j;
-    }
+took_other_part : {Are Others : List Entry → Type 0} (j k : Journaled) → ((es : List Entry) → Are es → Others es) → TookPart Are j k → TookPart Others j k
+took_other_part j k each t = record { entries = t.entries; are = each t.entries t.are; gained = t.gained }
+
+pub command_passes : (c : Command) (a b : NetParts) (j k : Journaled) (result : Result (Unit {0}) Stop) → is_built c ≡ true → PassesCommand c a b j k result → Passes (RunsCommand c) (StopsCommand c) a b j k result
+command_passes c a b j k (Ok u) built p = record {
+  ok = took_others j k (λ es d. record { built = built; does = d }) p.ok;
+  memory = λ e. absurd cc;
+  note = λ e. absurd cc;
+  cause = λ e. absurd cc;
+  refines = p.refines;
+  goes_on = p.goes_on;
+}
+command_passes c a b j k (Err stop) built p = record {
+  ok = tt;
+  memory = λ e. took_others j k (λ es d. record { built = built; begun = d }) (p.memory e);
+  note = λ e. took_other_part j k (λ es d. record { built = built; begun = d }) (p.note e);
+  cause = p.cause;
+  refines = p.refines;
+  goes_on = p.goes_on;
+}

@@ -4,7 +4,7 @@ use Rattle.std.proofs.lemmas.Bool.{and_parts, and_from}
 use Rattle.mv_entry.specs.Entries.{Entry}
 use Rattle.mv_net.specs.declared.parts.NetParts.{NetParts}
 use Rattle.mv_script.specs.Commands.{all_commands}
-use Rattle.mv_script.specs.declared.command.Command.{Command}
+use Rattle.mv_entry.specs.declared.note.Command.{Command}
 use Rattle.mv_script.specs.Scripts.{Items, End, Do, Repeat, Better}
 use Rattle.mv_script_run.specs.Commands.{RunsCommand, StopsCommand}
 use Rattle.mv_script_run.specs.Runs.{Course, Nothing, InTurn, Rounds, Gains, GainsNot, RunsBetter, StopsRepeat, StopsBetter, Runs, RunsTo, StopsAt, Unbegun, Within, Later}

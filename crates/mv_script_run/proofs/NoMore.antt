@@ -4,7 +4,7 @@ use Rattle.std.proofs.lemmas.Bool.{false≢true}
 use Rattle.mv_collapse.specs.Collapses.{IsCollapseStep}
 use Rattle.mv_collapse.specs.Eliminates.{IsEliminateStep}
 use Rattle.mv_entry.specs.declared.note.Command.{Command}
-use Rattle.mv_entry.specs.declared.note.Command.TheVariants.{Drop, Sweep, Eliminate, Collapse, Kernel, Cube, Simplify, Merge, Default, Determinize, Encode}
+use Rattle.mv_entry.specs.declared.note.Command.TheVariants.{Drop, Sweep, Eliminate, Collapse, Kernel, Cube, Simplify, Merge, Default, Determinize, Encode, Fill}
 use Rattle.mv_entry.specs.declared.rule.Rule.{Rule}
 use Rattle.mv_entry.specs.declared.rule.Rule.TheVariants.{Remove, Add, Divide, Wire, Collapse as CollapseNet}
 use Rattle.mv_entry.specs.Entries.{Entry, Applied, rules_of}
@@ -24,7 +24,6 @@ use Rattle.mv_rules.proofs.OneAnswer.{one_network}
 use Rattle.mv_rules.proofs.Replayed.{replayed_formed}
 use Rattle.mv_sweep.specs.Drops.{IsDropStep}
 use Rattle.mv_sweep.specs.Sweeps.{IsSweepStep}
-use Rattle.mv_script.specs.declared.command.Command.{Command as ScriptCommand}
 use Rattle.mv_script.specs.Scripts.{Items}
 use Rattle.mv_script_run.specs.Commands.{CourseOf, RunsCommand}
 use Rattle.mv_script_run.specs.Runs.{Course, Runs}
@@ -52,6 +51,7 @@ drop_no_more a b (Add name body) formed lawful p = absurd lawful
 drop_no_more a b (Divide name by body) formed lawful p = absurd lawful
 drop_no_more a b (Wire name) formed lawful p = absurd lawful
 drop_no_more a b (CollapseNet name) formed lawful p = absurd lawful
+drop_no_more a b _ formed lawful p = absurd p
 
 -- a constant has a table
 constant_tabled : (a : NetParts) (n v : ℕ) → IsPlainConstant a.nets n v → is_some (table_in (slot a.nets n)) ≡ true
@@ -71,6 +71,7 @@ sweep_no_more a b (CollapseNet name) formed lawful p =
     let constant = lawful.sweeps.constant.constant in
     let number = named_number a b name n formed p (constant_tabled a n v constant) (first_name name (name_in (slot a.nets n)) lawful.names) in
     collapses_no_more a name b v formed p (subst (λ m. IsPlainConstant a.nets m v) (sym number) constant)
+sweep_no_more a b _ formed lawful p = absurd p
 
 eliminate_no_more : (a b : NetParts) (r : Rule) → WellFormed a → IsEliminateStep a (Applied r) → Applies r a b → NoMore a b
 eliminate_no_more a b (Remove name) formed lawful p = absurd lawful
@@ -84,6 +85,7 @@ eliminate_no_more a b (CollapseNet name) formed lawful p =
     let tabled = subst (λ m. IsTabled a.nets name m) (number ∙ sym saving.composites.of_net) p.net in
     let same = collapse_leaves a b name inner formed tabled saving.composites.known p in
     subst (λ c. NoMore a c) (sym same) saving.no_more
+eliminate_no_more a b _ formed lawful p = absurd p
 
 collapse_no_more : (name : List ℕ) (a b : NetParts) (r : Rule) → WellFormed a → IsCollapseStep name a (Applied r) → Applies r a b → NoMore a b
 collapse_no_more name a b (Remove w) formed lawful p = absurd lawful
@@ -93,6 +95,7 @@ collapse_no_more name a b (Wire w) formed lawful p = absurd lawful
 collapse_no_more name a b (CollapseNet w) formed (same, free) p =
     let applies : Applies (CollapseNet w) a free.new = subst (λ v. Applies (CollapseNet v) a free.new) (sym same) free.applies in
     subst (λ c. NoMore a c) (one_network (CollapseNet w) a free.new b formed applies p) free.no_more
+collapse_no_more name a b _ formed lawful p = absurd p
 
 -- ---- commands
 
@@ -108,6 +111,7 @@ course_no_more Merge a b steps formed g = absurd g
 course_no_more Default a b steps formed g = absurd g
 course_no_more Determinize a b steps formed g = absurd g
 course_no_more Encode a b steps formed g = absurd g
+course_no_more Fill a b steps formed g = absurd g
 
 -- ---- scripts
 
@@ -121,9 +125,9 @@ few_then a b c xs ys p q formed =
     let second = q first.0 in
     (second.0, omega (arith, first.1, second.1))
 
-command_few : (a b : NetParts) (c : ScriptCommand) (es : List Entry) → RunsCommand c a es b → StaysFew a es b
+command_few : (a b : NetParts) (c : Command) (es : List Entry) → RunsCommand c a es b → StaysFew a es b
 command_few a b c es r formed =
-    (replayed_formed (rules_of es) a b formed (does_replays r.command a b es r.does), course_no_more r.command a b r.does.steps formed r.does.course)
+    (replayed_formed (rules_of es) a b formed (does_replays c a b es r.does), course_no_more c a b r.does.steps formed r.does.course)
 
 pub runs_no_more : (items : Items) (a b : NetParts) (es : List Entry) → WellFormed a → Runs items a es b → literals_in b.nets ≤ literals_in a.nets
 runs_no_more items a b es formed r =

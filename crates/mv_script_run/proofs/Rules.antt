@@ -6,7 +6,7 @@ use Rattle.mv_collapse.specs.Collapses.{IsCollapseStep}
 use Rattle.mv_collapse.specs.Eliminates.{IsEliminateStep, Eliminates, HasNoted, NotesWide, wide_note}
 use Rattle.mv_gain.specs.Savings.{NoneSaves}
 use Rattle.mv_entry.specs.declared.note.Command.{Command}
-use Rattle.mv_entry.specs.declared.note.Command.TheVariants.{Drop, Sweep, Eliminate, Collapse, Kernel, Cube, Simplify, Merge, Default, Determinize, Encode}
+use Rattle.mv_entry.specs.declared.note.Command.TheVariants.{Drop, Sweep, Eliminate, Collapse, Kernel, Cube, Simplify, Merge, Default, Determinize, Encode, Fill}
 use Rattle.mv_entry.specs.Entries.{Entry, rules_of}
 use Rattle.mv_net.specs.declared.parts.NetParts.{NetParts}
 use Rattle.mv_pass.specs.Going.{Before, Within, Behind}
@@ -53,6 +53,7 @@ course_replays Merge a b steps g = absurd g
 course_replays Default a b steps g = absurd g
 course_replays Determinize a b steps g = absurd g
 course_replays Encode a b steps g = absurd g
+course_replays Fill a b steps g = absurd g
 
 -- ---- whole commands, and those that stop
 
@@ -78,8 +79,8 @@ then_replays a b c xs ys p q = subst (λ rs. Replays rs a c) (sym (rules_of-appe
 
 pub runs_replays : (items : Items) (a b : NetParts) (es : List Entry) → Runs items a es b → Replays (rules_of es) a b
 runs_replays items a b es r =
-    of_items ReplaysRules (λ n. refl) then_replays (λ c. true) (λ c h m fs n d. does_replays d.command m n fs d.does) items (any_commands items) a es b r
+    of_items ReplaysRules (λ n. refl) then_replays (λ c. true) (λ c h m fs n d. does_replays c m n fs d.does) items (any_commands items) a es b r
 
 pub stops_replays : (items : Items) (a b : NetParts) (es : List Entry) → RunsTo items a es b → Replays (rules_of es) a b
 stops_replays items a b es r =
-    of_stopped ReplaysRules (λ n. refl) then_replays (λ c. true) (λ c h m fs n d. does_replays d.command m n fs d.does) (λ c h m fs n d. begun_replays d.command m n fs d.begun) items (any_commands items) a es b r
+    of_stopped ReplaysRules (λ n. refl) then_replays (λ c. true) (λ c h m fs n d. does_replays c m n fs d.does) (λ c h m fs n d. begun_replays c m n fs d.begun) items (any_commands items) a es b r

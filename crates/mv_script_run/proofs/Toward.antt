@@ -3,7 +3,7 @@ use Rattle.std.proofs.Common.{◌≡◌, ℕ, List, [], ◌++◌, refl, sym, sub
 use Rattle.std.proofs.lemmas.List.{append-nil}
 use Rattle.mv_entry.specs.Entries.{Entry}
 use Rattle.mv_net.specs.declared.parts.NetParts.{NetParts}
-use Rattle.mv_script.specs.declared.command.Command.{Command}
+use Rattle.mv_entry.specs.declared.note.Command.{Command}
 use Rattle.mv_script.specs.Scripts.{Items, End, Do, Repeat, Better}
 use Rattle.mv_script_run.specs.Commands.{RunsCommand, StopsCommand}
 use Rattle.mv_script_run.specs.Runs.{Course, InTurn, Rounds, RunsBetter, StopsRepeat, StopsBetter, Runs, RunsTo, Within, Later}

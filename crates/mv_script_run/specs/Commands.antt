@@ -1,5 +1,5 @@
 -- What one command of a script does to a network.
-use Rattle.std.specs.Prelude.{◌≡◌, List, Result, Some}
+use Rattle.std.specs.Prelude.{◌≡◌, true, List, Result}
 use Rattle.mv_collapse.specs.Collapses.{IsCollapseStep, EndsCollapse}
 use Rattle.mv_collapse.specs.Eliminates.{Eliminates, EndsEliminate}
 use Rattle.mv_entry.specs.declared.note.Command.{Command}
@@ -10,8 +10,7 @@ use Rattle.mv_net.specs.declared.parts.NetParts.{NetParts}
 use Rattle.mv_pass.specs.declared.stop.Stop.{Stop}
 use Rattle.mv_pass.specs.Going.{Goes, Does, Begun}
 use Rattle.mv_pass.specs.Passing.{Passes}
-use Rattle.mv_script.specs.Commands.{built_of}
-use Rattle.mv_script.specs.declared.command.Command.{Command as ScriptCommand}
+use Rattle.mv_script.specs.Commands.{is_built}
 use Rattle.mv_sweep.specs.Drops.{IsDropStep, EndsDrop}
 use Rattle.mv_sweep.specs.Sweeps.{IsSweepStep, EndsSweep}
 
@@ -46,13 +45,11 @@ PassesCommand c old new journal journal' result = Passes (CourseOf c) (EndOf c) 
 -- ---- as it stands in a script
 
 -- the command is built, and a whole one
-pub record RunsCommand (c : ScriptCommand) (old : NetParts) (entries : List Entry) (new : NetParts) : Type 0 where
-  pub command : Command
-  pub built : built_of c ≡ Some command
-  pub does : DoesCommand command old entries new
+pub record RunsCommand (c : Command) (old : NetParts) (entries : List Entry) (new : NetParts) : Type 0 where
+  pub built : is_built c ≡ true
+  pub does : DoesCommand c old entries new
 
 -- the command is built, and stops
-pub record StopsCommand (c : ScriptCommand) (old : NetParts) (entries : List Entry) (new : NetParts) : Type 0 where
-  pub command : Command
-  pub built : built_of c ≡ Some command
-  pub begun : BegunCommand command old entries new
+pub record StopsCommand (c : Command) (old : NetParts) (entries : List Entry) (new : NetParts) : Type 0 where
+  pub built : is_built c ≡ true
+  pub begun : BegunCommand c old entries new

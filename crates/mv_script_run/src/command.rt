@@ -1,5 +1,5 @@
-ghost use Rattle.std.specs.Prelude.{◌≡◌, true, is_some};
-ghost use Rattle.mv_script.specs.Commands.{IsCommand, built_of, is_named};
+ghost use Rattle.std.specs.Prelude.{◌≡◌, true};
+ghost use Rattle.mv_script.specs.Commands.{IsCommand, is_built, is_named};
 ghost use Rattle.mv_script_run.specs.Commands.{PassesCommand, RunsCommand, StopsCommand};
 ghost use Rattle.mv_script_run.specs.Passing.{Passes};
 
@@ -33,17 +33,13 @@ fn run_built<J: Journal>(
 pub fn run_command<J: Journal>(
     alloc: Global,
     net: &mut Network,
-    command: &mv_script::Command,
+    command: &Command,
     journal: &mut J,
 ) -> Result<(), Stop>
-    requires built { is_some (built_of command.now) ≡ true }
+    requires built { is_built command.now ≡ true }
     requires named { is_named command.now ≡ true }
     ensures { Passes (RunsCommand command.now) (StopsCommand command.now) net.old net.new
         (J.state journal.old) (J.state journal.new) result }
 {
-    match command.built() {
-        Ok(Some(command)) => run_built(alloc, net, &command, journal),
-        Ok(None) => unreachable!(),
-        Err(_memory) => Err(Stop::Memory),
-    }
+    run_built(alloc, net, command, journal)
 }

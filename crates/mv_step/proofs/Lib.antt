@@ -2,5 +2,6 @@ pub mod Digits
 pub mod Unions
 pub mod Bracketed
 pub mod Refusals
+pub mod Unbuilt
 pub mod Written
 pub mod Listed

@@ -1,23 +1,31 @@
 -- The lines of rules, as they are printed, read back as those rules.
-use Rattle.std.proofs.Common.{◌≡◌, ◌∙◌, ℕ, Option, Some, None, List, [], ◌∷◌, ◌++◌, map, codes, refl, ap, append_assoc}
-use Rattle.std.specs.List.{flat_map, All}
+use Rattle.std.proofs.Common.{◌≡◌, ◌∙◌, ℕ, true, false, not, ◌&&◌, ◌||◌, Option, Some, None, List, [], ◌∷◌, ◌++◌, length, drop, map, codes, decimal, refl, sym, ap, append_assoc, arith}
+use Rattle.std.specs.Prelude.{nat_lt}
+use Rattle.std.specs.List.{flat_map, list_all, All}
 use Rattle.std.specs.Option.{option_or, IfSome}
+use Rattle.std.proofs.Math.Seq.{take-append_seam, drop-append_seam}
+use Rattle.std.proofs.lemmas.Bool.{and_parts, le-ltb, or_from, cond-false}
+use Rattle.std.proofs.lemmas.List.{length-append}
 use Rattle.std.proofs.lemmas.List.Elements.{All-head, All-tail}
+use Rattle.std.proofs.lemmas.List.Folds.{list_all-map}
+use Rattle.mv_base.specs.declared.number.Value.{Value}
 use Rattle.mv_lex.specs.declared.lines.LexLine.{LexLine}
 use Rattle.mv_entry.specs.declared.rule.BodyLine.{BodyLine}
 use Rattle.mv_entry.specs.declared.rule.Body.{Body}
+use Rattle.mv_entry.specs.declared.rule.Code.{Code}
 use Rattle.mv_entry.specs.declared.rule.Rule.{Rule}
-use Rattle.mv_entry.specs.declared.rule.Rule.TheVariants.{Remove, Add, Divide, Wire, Collapse}
-use Rattle.mv_entry.specs.Entries.{set_word, line_words, default_lines, body_lines, rule_lines}
+use Rattle.mv_entry.specs.declared.rule.Rule.TheVariants.{Remove, Add, Divide, Wire, Collapse, Narrow, Merge, Encode, Fill}
+use Rattle.mv_entry.specs.Entries.{is_built, set_word, line_words, default_lines, body_lines, into_words, code_word, rule_lines}
 use Rattle.mv_step.specs.declared.step.Step.{Step}
 use Rattle.mv_step.specs.declared.step.Head.{Head}
-use Rattle.mv_step.specs.declared.step.Head.TheVariants.{Add as add_to, Divide as divide_by}
+use Rattle.mv_step.specs.declared.step.Head.TheVariants.{Add as add_to, Divide as divide_by, Narrow as narrow_to}
 use Rattle.mv_step.specs.declared.said.Said.{Said}
-use Rattle.mv_step.specs.declared.said.Said.TheVariants.{Whole, Begins, Line, Default, End}
-use Rattle.mv_step.specs.Lines.{keyword_of, line_or_nothing, default_or_nothing, said}
-use Rattle.mv_step.specs.Certificates.{Place, Outside, InBody, BehindDefault, fault_at, place_behind, fault_from, fault_of, with_part, front_body, rule_of, step_at, steps_of}
-use Rattle.mv_step.specs.Printed.{IsSayable, IsSayableLine, IsSayableBody, IsSayableRule, Lists}
-use Rattle.mv_step.proofs.Written.{set_said-set_word, line_said-words}
+use Rattle.mv_step.specs.declared.said.Said.TheVariants.{Whole, Begins, Line, Default, End, Nothing}
+use Rattle.mv_step.specs.Lines.{keyword_of, line_or_nothing, default_said, narrow_said, merge_said, merge_into_said, are_codes, code_of, encode_said, fill_said, said}
+use Rattle.mv_step.specs.Certificates.{Place, Outside, InBody, BehindDefault, fault_at, place_behind, fault_from, syntax_fault, unbuilt_line, unbuilt_fault, are_built, fault_of, with_part, front_body, rule_of, step_at, steps_of}
+use Rattle.mv_step.specs.Printed.{IsSayable, IsSayableLine, IsSayableBody, is_sayable_number, is_sayable_code, is_sayable_form, IsSayableRule, Lists}
+use Rattle.mv_step.proofs.Unbuilt.{unbuilt-first, built-none}
+use Rattle.mv_step.proofs.Written.{number_said-decimal, set_said-set_word, line_said-words, codes-are, codes-back}
 
 -- ---- what printed lines say
 
@@ -27,7 +35,7 @@ said-line l h = ap line_or_nothing (line_said-words l.lits l.out h.lits h.out)
 
 said-default : (set : ℕ) → IsSayable set → said (codes "default" ∷ set_word set ∷ []) ≡ Default set
 unfolding keyword_of
-said-default set h = ap default_or_nothing (set_said-set_word set h)
+said-default set h = ap default_said (set_said-set_word set h)
 
 said-end : said (codes "end" ∷ []) ≡ End
 unfolding keyword_of
@@ -52,6 +60,41 @@ said-add net = refl
 said-divide : (net by : List ℕ) → said (codes "divide" ∷ net ∷ by ∷ []) ≡ Begins (divide_by net by)
 unfolding keyword_of
 said-divide net by = refl
+
+-- numbers and codes that a line can say
+pub said-narrow : (net : List ℕ) (d u : ℕ) → (is_sayable_number d && is_sayable_number u) ≡ true → said (codes "narrow" ∷ net ∷ decimal d ∷ decimal u ∷ []) ≡ Begins (narrow_to net d u)
+unfolding keyword_of
+said-narrow net d u h =
+    let both = and_parts (is_sayable_number d) (is_sayable_number u) h in
+    λ i. narrow_said net (number_said-decimal d both.0 i) (number_said-decimal u both.1 i)
+
+pub said-merge : (net : List ℕ) (gone : Value) (into : Option Value) → is_sayable_form (Merge net gone into) ≡ true → said (codes "merge" ∷ net ∷ decimal gone.0 ∷ into_words into) ≡ Whole (Merge net gone into)
+unfolding keyword_of
+said-merge net gone None h = ap (merge_said net) (number_said-decimal gone.0 h)
+said-merge net gone (Some into) h =
+    let both = and_parts (is_sayable_number gone.0) (is_sayable_number into.0) h in
+    λ i. merge_into_said net (number_said-decimal gone.0 both.0 i) (number_said-decimal into.0 both.1 i)
+
+pub said-fill : (net : List ℕ) (out : ℕ) → IsSayable out → said (codes "fill" ∷ net ∷ set_word out ∷ []) ≡ Whole (Fill net out)
+unfolding keyword_of
+said-fill net out h = ap (fill_said net) (set_said-set_word out h)
+
+-- names with codes behind them
+encoded : (net : List ℕ) (names : List (List ℕ)) (list : List Code) → list_all (is_sayable_code (length names)) list ≡ true → encode_said net (Some (length names)) (names ++ map code_word list) ≡ Whole (Encode net names list)
+encoded net names list h =
+    let words = names ++ map code_word list in
+    let few : nat_lt (length words) (length names) ≡ false = let size = length-append names (map code_word list) in le-ltb (length words) (length names) (omega (arith, size)) in
+    let behind : drop (length names) words ≡ map code_word list = drop-append_seam names (map code_word list) in
+    let are : not (are_codes (length names) (drop (length names) words)) ≡ false = ap (λ ws. not (are_codes (length names) ws)) behind ∙ ap not (codes-are (length names) list h) in
+    cond-false (nat_lt (length words) (length names) || not (are_codes (length names) (drop (length names) words))) Nothing _ (or_from _ _ few are)
+    ∙ (λ i. Whole (Encode net (take-append_seam names (map code_word list) i) (map code_of (behind i))))
+    ∙ ap (λ cs. Whole (Encode net names cs)) (codes-back list)
+
+pub said-encode : (net : List ℕ) (names : List (List ℕ)) (list : List Code) → is_sayable_form (Encode net names list) ≡ true → said (codes "encode" ∷ net ∷ decimal (length names) ∷ names ++ map code_word list) ≡ Whole (Encode net names list)
+unfolding keyword_of
+said-encode net names list h =
+    let both = and_parts (is_sayable_number (length names)) (list_all (is_sayable_code (length names)) list) h in
+    ap (λ n. encode_said net n (names ++ map code_word list)) (number_said-decimal (length names) both.0) ∙ encoded net names list both.1
 
 -- ---- lines with these words
 
@@ -175,8 +218,12 @@ rule-lines : (rule : Rule) (rest : List (List (List ℕ))) (lines : List LexLine
 rule-lines (Remove net) rest lines h e = whole-line (Remove net) _ rest lines (said-remove net) e
 rule-lines (Wire net) rest lines h e = whole-line (Wire net) _ rest lines (said-wire net) e
 rule-lines (Collapse net) rest lines h e = whole-line (Collapse net) _ rest lines (said-collapse net) e
-rule-lines (Add net body) rest lines h e = with_body-lines (add_to net) body _ rest lines (said-add net) h e
-rule-lines (Divide net by body) rest lines h e = with_body-lines (divide_by net by) body _ rest lines (said-divide net by) h e
+rule-lines (Add net body) rest lines h e = with_body-lines (add_to net) body _ rest lines (said-add net) h.sets e
+rule-lines (Divide net by body) rest lines h e = with_body-lines (divide_by net by) body _ rest lines (said-divide net by) h.sets e
+rule-lines (Narrow net d u body) rest lines h e = with_body-lines (narrow_to net d u) body _ rest lines (said-narrow net d u h.form) h.sets e
+rule-lines (Merge net gone into) rest lines h e = whole-line (Merge net gone into) _ rest lines (said-merge net gone into h.form) e
+rule-lines (Encode net names list) rest lines h e = whole-line (Encode net names list) _ rest lines (said-encode net names list h.form) e
+rule-lines (Fill net out) rest lines h e = whole-line (Fill net out) _ rest lines (said-fill net out h.sets) e
 
 -- ---- rules
 
@@ -188,6 +235,21 @@ all-rules (rule ∷ rules) lines each e =
     let r = all-rules rules b.others (All-tail IsSayableRule rule rules each) b.rest_are in
     (b.fault_is ∙ r.0, b.rules_are ∙ ap (λ rs. rule ∷ rs) r.1)
 
+-- steps have the rules that they have
+built_rules : (steps : List Step) → are_built steps ≡ list_all is_built (map (λ (s : Step). s.rule) steps)
+built_rules steps = sym (list_all-map is_built (λ (s : Step). s.rule) steps)
+
+-- lines that may all stand where they stand and list rules that are built
+accepted : (lines : List LexLine) → syntax_fault lines ≡ None → list_all is_built (rules_of lines) ≡ true → fault_of lines ≡ None
+accepted lines none built =
+    unbuilt-first lines (steps_of lines) (unbuilt_line (steps_of lines)) none refl refl ∙ ap unbuilt_fault (built-none (steps_of lines) (built_rules (steps_of lines) ∙ built))
+
 pub lists_printed : (lines : List LexLine) (rules : List Rule) → All IsSayableRule rules → map (λ (l : LexLine). l.words) lines ≡ flat_map rule_lines rules → Lists lines rules
-unfolding fault_of
-lists_printed lines rules each e = let r = all-rules rules lines each e in record { accepted = r.0; rules_are = r.1 }
+unfolding syntax_fault
+lists_printed lines rules each e =
+    let r = all-rules rules lines each e in
+    record {
+      read = r.0;
+      accepted = λ built. accepted lines r.0 (ap (list_all is_built) r.1 ∙ built);
+      rules_are = r.1;
+    }

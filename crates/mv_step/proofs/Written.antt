@@ -1,5 +1,5 @@
 -- The words of a set and of a line, as they are printed, read back as that set and that line.
-use Rattle.std.proofs.Common.{◌≡◌, ◌∙◌, ℕ, ◌-◌, ◌^◌, ◌<◌, Bool, true, false, not, ◌&&◌, ◌||◌, ◌==◌, Some, List, [], ◌∷◌, ◌++◌, length, get_or, take, map, filter, codes, decimal, refl, sym, ap, append-nil, arith, inl, inr}
+use Rattle.std.proofs.Common.{◌≡◌, ◌∙◌, ℕ, ◌-◌, ◌^◌, ◌<◌, ◌≤◌, Bool, true, false, not, ◌&&◌, ◌||◌, ◌==◌, Some, List, [], ◌∷◌, ◌++◌, length, get_or, take, map, filter, codes, decimal, refl, sym, ap, append-nil, arith, inl, inr}
 use Rattle.std.specs.Prelude.{nat_lt, slice_range}
 use Rattle.std.specs.Char.{is_ascii_digit}
 use Rattle.std.specs.List.{list_all, list_any, flat_map, slice_split, range_with_len, All}
@@ -9,7 +9,7 @@ use Rattle.std.proofs.Math.Seq.{get_or-append_seam, take-append_seam}
 use Rattle.std.proofs.lemmas.Bool.{cases_Bool, le-leb, and_from, and_parts, and_left, and_right}
 use Rattle.std.proofs.lemmas.Bool.Decides.{nat_tests, Decides-ltb, Decides-eqb}
 use Rattle.std.proofs.lemmas.Fmt.{digits_decimal, digits_value-decimal, decimal_nonempty, length-decimal-le}
-use Rattle.std.proofs.lemmas.List.{length-append}
+use Rattle.std.proofs.lemmas.List.{length-append, length-map}
 use Rattle.std.proofs.lemmas.List.Elements.{All-head, All-tail}
 use Rattle.std.proofs.lemmas.List.Folds.{list_any_at}
 use Rattle.std.proofs.lemmas.List.FromFn.{length-range_with_len, get_or-range_with_len}
@@ -19,29 +19,38 @@ use Rattle.mv_base.proofs.Lists.{all-weaker}
 use Rattle.mv_base.proofs.Sets.{has-join, has-empty, has-one, same_set}
 use Rattle.mv_lex.proofs.Cuts.{split_all, split-first, closed-none, open_piece-none}
 use Rattle.mv_entry.specs.declared.rule.BodyLit.{BodyLit}
-use Rattle.mv_entry.specs.Entries.{members_below, members, with_comma, values_word, set_word, lit_words}
-use Rattle.mv_step.specs.Sets.{is_number, value_said, with_value, values_said, is_comma, is_in_brackets, set_said}
-use Rattle.mv_step.specs.Lines.{with_lit, with_out, line_said}
-use Rattle.mv_step.specs.Printed.{IsSayable}
+use Rattle.mv_entry.specs.declared.rule.Code.{Code}
+use Rattle.mv_entry.specs.Entries.{bit_byte, code_word, members_below, members, with_comma, values_word, set_word, lit_words}
+use Rattle.mv_step.specs.Sets.{is_number, number_below, number_said, value_said, with_value, values_said, is_comma, is_in_brackets, set_said}
+use Rattle.mv_step.specs.Lines.{with_lit, with_out, line_said, is_bit, is_code, are_codes, code_of}
+use Rattle.mv_step.specs.Printed.{IsSayable, is_sayable_number, is_sayable_code}
 use Rattle.mv_step.proofs.Digits.{numerals}
 use Rattle.mv_step.proofs.Bracketed.{set-bracketed, set-word}
 
 -- ---- values
 
-small_number : (v : ℕ) → v < MAX_VALUES → is_number (decimal v) ≡ true
+small_number : (v : ℕ) → v < 65536 → is_number (decimal v) ≡ true
 small_number v small =
     let wide : v < 2 ^ 64 = omega arith in
     let some = decimal_nonempty v wide in
-    let few = length-decimal-le 4 v (omega arith) (omega arith) wide in
+    let few = length-decimal-le 5 v (omega arith) (omega arith) wide in
     and_from _ _ (and_from _ _ ((Decides-ltb 0 (length (decimal v))).1 some) (le-leb (length (decimal v)) 5 (omega arith))) (digits_decimal numerals v wide)
+
+number_below-decimal : (end v : ℕ) → end ≤ 65536 → v < end → number_below end (decimal v) ≡ Some v
+unfolding number_below
+number_below-decimal end v few small =
+    let value : digits_value 10 (decimal v) ≡ v = digits_value-decimal numerals v (omega arith) in
+    let below : nat_lt (digits_value 10 (decimal v)) end ≡ true = ap (λ n. nat_lt n end) value ∙ (Decides-ltb v end).1 small in
+    let test : (is_number (decimal v) && nat_lt (digits_value 10 (decimal v)) end) ≡ true = and_from _ _ (small_number v (omega arith)) below in
+    rw test (ap Some value)
 
 value_said-decimal : (v : ℕ) → v < MAX_VALUES → value_said (decimal v) ≡ Some v
 unfolding value_said
-value_said-decimal v small =
-    let value : digits_value 10 (decimal v) ≡ v = digits_value-decimal numerals v (omega arith) in
-    let below : nat_lt (digits_value 10 (decimal v)) MAX_VALUES ≡ true = ap (λ n. nat_lt n MAX_VALUES) value ∙ (Decides-ltb v MAX_VALUES).1 small in
-    let test : (is_number (decimal v) && nat_lt (digits_value 10 (decimal v)) MAX_VALUES) ≡ true = and_from _ _ (small_number v small) below in
-    rw test (ap Some value)
+value_said-decimal v small = number_below-decimal MAX_VALUES v (omega arith) small
+
+pub number_said-decimal : (n : ℕ) → is_sayable_number n ≡ true → number_said (decimal n) ≡ Some n
+unfolding number_said
+number_said-decimal n h = number_below-decimal 65536 n (omega arith) ((Decides-ltb n 65536).0 h)
 
 -- the set of these values
 abbrev union : List ℕ → ℕ
@@ -182,3 +191,29 @@ line_said-words (l ∷ lits) out each h =
     line_said-next l.net (set_word l.set) lits (codes "->") (set_word out ∷ [])
     ∙ ap (λ s. with_lit l.net s (line_said (flat_map lit_words lits ++ codes "->" ∷ set_word out ∷ []))) (set_said-set_word l.set (All-head (λ (m : BodyLit). IsSayable m.set) l lits each))
     ∙ ap (with_lit l.net (Some l.set)) (line_said-words lits out (All-tail (λ (m : BodyLit). IsSayable m.set) l lits each) h)
+
+-- ---- codes
+
+bits-are : (bits : List Bool) → list_all is_bit (map bit_byte bits) ≡ true
+bits-are [] = refl
+bits-are (true ∷ bits) = bits-are bits
+bits-are (false ∷ bits) = bits-are bits
+
+bits-back : (bits : List Bool) → map (λ b. b == 49) (map bit_byte bits) ≡ bits
+bits-back [] = refl
+bits-back (true ∷ bits) = ap (λ bs. true ∷ bs) (bits-back bits)
+bits-back (false ∷ bits) = ap (λ bs. false ∷ bs) (bits-back bits)
+
+-- the words of codes are codes
+pub codes-are : (count : ℕ) (list : List Code) → list_all (is_sayable_code count) list ≡ true → are_codes count (map code_word list) ≡ true
+codes-are count [] h = refl
+codes-are count (c ∷ cs) h =
+    let both = and_parts (is_sayable_code count c) (list_all (is_sayable_code count) cs) h in
+    let size = (and_parts (length c.bits == count) (nat_lt 0 count) (and_parts (length c.bits == count && nat_lt 0 count) _ both.0).0).0 in
+    let sized = ap (λ n. n == count) (length-map c.bits bit_byte) ∙ size in
+    and_from (is_code count (code_word c)) _ (and_from (length (code_word c) == count) _ sized (bits-are c.bits)) (codes-are count cs both.1)
+
+-- and say these codes
+pub codes-back : (list : List Code) → map code_of (map code_word list) ≡ list
+codes-back [] = refl
+codes-back (c ∷ cs) = λ i. record { bits = bits-back c.bits i } ∷ codes-back cs i

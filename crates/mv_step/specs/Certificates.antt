@@ -1,17 +1,19 @@
 -- Certificates: which lines are one, the first fault of lines that aren't, and the rules that they list.
-use Rattle.std.specs.Prelude.{◌≡◌, ◌⊎◌, ℕ, List, [], ◌∷◌, ◌++◌, Option, Some, None, Result, MatchResult}
+use Rattle.std.specs.Prelude.{◌≡◌, ◌⊎◌, ℕ, Bool, if◌then◌else◌, List, [], ◌∷◌, ◌++◌, Option, Some, None, Result, MatchResult}
+use Rattle.std.specs.List.{list_all}
 use Rattle.std.specs.Option.{option_or}
 use Rattle.mv_lex.specs.declared.lines.LexLine.{LexLine}
 use Rattle.mv_entry.specs.declared.rule.Body.{Body}
 use Rattle.mv_entry.specs.declared.rule.Rule.{Rule}
-use Rattle.mv_entry.specs.declared.rule.Rule.TheVariants.{Add as add_rule, Divide as divide_rule}
+use Rattle.mv_entry.specs.declared.rule.Rule.TheVariants.{Add as add_rule, Divide as divide_rule, Narrow as narrow_rule}
+use Rattle.mv_entry.specs.Entries.{is_built}
 use Rattle.mv_step.specs.declared.fault.StepFault.{StepFault}
 use Rattle.mv_step.specs.declared.fault.StepFault.TheVariants.{Syntax, NotBuilt, Memory}
 use Rattle.mv_step.specs.declared.step.Step.{Step}
 use Rattle.mv_step.specs.declared.step.Head.{Head}
-use Rattle.mv_step.specs.declared.step.Head.TheVariants.{Add, Divide}
+use Rattle.mv_step.specs.declared.step.Head.TheVariants.{Add, Divide, Narrow}
 use Rattle.mv_step.specs.declared.said.Said.{Said}
-use Rattle.mv_step.specs.declared.said.Said.TheVariants.{Whole, Begins, Line, Default, End, Unbuilt}
+use Rattle.mv_step.specs.declared.said.Said.TheVariants.{Whole, Begins, Line, Default, End}
 use Rattle.mv_step.specs.Lines.{said}
 
 -- ---- which lines are a certificate
@@ -26,7 +28,6 @@ pub data Place : Type 0 where
 abbrev pub fault_at : ℕ → Place → Said → Option StepFault
 fault_at n Outside (Whole rule) = None
 fault_at n Outside (Begins head) = None
-fault_at n Outside Unbuilt = Some (NotBuilt n)
 fault_at n Outside _ = Some (Syntax n)
 fault_at n (InBody rule) (Line line) = None
 fault_at n (InBody rule) (Default set) = None
@@ -57,9 +58,9 @@ fault_from place [] = end_fault place
 fault_from place (l ∷ ls) =
     option_or (fault_at l.number place (said l.words)) (fault_from (place_behind l.number place (said l.words)) ls)
 
--- the first fault of lines; a certificate has none
-unfoldable pub fault_of : List LexLine → Option StepFault
-fault_of lines = fault_from Outside lines
+-- the first line that can't stand where it stands, as a fault
+unfoldable pub syntax_fault : List LexLine → Option StepFault
+syntax_fault lines = fault_from Outside lines
 
 -- a reader of lines with this first fault: it answers Ok only where there is none, and a fault only if it is that one, or
 -- the one that says want of memory
@@ -83,6 +84,7 @@ front_body (l ∷ ls) = with_part (said l.words) (front_body ls)
 abbrev pub rule_of : Head → Body → Rule
 rule_of (Add net) body = add_rule net body
 rule_of (Divide net by) body = divide_rule net by body
+rule_of (Narrow net d u) body = narrow_rule net d u body
 
 -- the step of line n, if it is the first line of a rule, where this body stands behind it
 abbrev pub step_at : ℕ → Said → Body → List Step
@@ -94,3 +96,23 @@ step_at n _ body = []
 abbrev pub steps_of : List LexLine → List Step
 steps_of [] = []
 steps_of (l ∷ ls) = step_at l.number (said l.words) (front_body ls) ++ steps_of ls
+
+-- ---- the rules that are built
+
+-- the rule of each step is built in this version
+abbrev pub are_built : List Step → Bool
+are_built steps = list_all (λ (s : Step). is_built s.rule) steps
+
+-- the line of the first step whose rule isn't
+abbrev pub unbuilt_line : List Step → Option ℕ
+unbuilt_line [] = None
+unbuilt_line (s ∷ ss) = if is_built s.rule then unbuilt_line ss else Some s.line
+
+-- the fault of a line that begins such a rule
+abbrev pub unbuilt_fault : Option ℕ → Option StepFault
+unbuilt_fault None = None
+unbuilt_fault (Some line) = Some (NotBuilt line)
+
+-- the first fault of lines; a certificate has none. A line that can't stand where it stands comes before any rule that isn't built
+unfoldable pub fault_of : List LexLine → Option StepFault
+fault_of lines = option_or (syntax_fault lines) (unbuilt_fault (unbuilt_line (steps_of lines)))

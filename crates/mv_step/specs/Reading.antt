@@ -7,7 +7,7 @@ use Rattle.mv_entry.specs.declared.rule.Body.{Body}
 use Rattle.mv_step.specs.declared.step.Step.{Step}
 use Rattle.mv_step.specs.declared.step.OpenRule.{OpenRule}
 use Rattle.mv_step.specs.Lines.{said}
-use Rattle.mv_step.specs.Certificates.{Place, Outside, InBody, BehindDefault, place_behind, fault_from, fault_of, front_body, rule_of, steps_of}
+use Rattle.mv_step.specs.Certificates.{Place, Outside, InBody, BehindDefault, place_behind, fault_from, syntax_fault, front_body, rule_of, steps_of}
 
 -- ---- literals of a line
 
@@ -46,5 +46,5 @@ pub record Follows (line : LexLine) (before : List Step) (current : Option OpenR
 
 -- so many of the lines were read
 pub record IsAt (lines : List LexLine) (n : ℕ) (before : List Step) (current : Option OpenRule) : Type 0 where
-  pub fault : fault_from (place_of current) (drop n lines) ≡ fault_of lines
+  pub fault : fault_from (place_of current) (drop n lines) ≡ syntax_fault lines
   pub steps : before ++ steps_from current (drop n lines) ≡ steps_of lines

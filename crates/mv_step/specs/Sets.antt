@@ -11,9 +11,17 @@ use Rattle.mv_base.specs.declared.limits.TheConstants.{MAX_VALUES}
 abbrev pub is_number : List ℕ → Bool
 is_number w = nat_lt 0 (length w) && nat_le (length w) 5 && list_all is_ascii_digit w
 
+-- the number below an end that a word says
+unfoldable pub number_below : ℕ → List ℕ → Option ℕ
+number_below end w = if is_number w && nat_lt (digits_value 10 w) end then Some (digits_value 10 w) else None
+
 -- the value that a word says: a number below the most values that a net may have
 unfoldable pub value_said : List ℕ → Option ℕ
-value_said w = if is_number w && nat_lt (digits_value 10 w) MAX_VALUES then Some (digits_value 10 w) else None
+value_said w = number_below MAX_VALUES w
+
+-- the number that a word says where no set stands: one of 16 bits
+unfoldable pub number_said : List ℕ → Option ℕ
+number_said w = number_below 65536 w
 
 -- the set of a value and of the others, if each is one
 abbrev pub with_value : Option ℕ → Option ℕ → Option ℕ

@@ -1,5 +1,5 @@
 ghost use Rattle.std.specs.Prelude.{◌≡◌};
-ghost use Rattle.mv_step.specs.Lines.{keyword_of, is_unbuilt};
+ghost use Rattle.mv_step.specs.Lines.{keyword_of};
 
 use mv_base::same_bytes;
 
@@ -11,19 +11,14 @@ pub enum Keyword {
     Divide,
     Wire,
     Collapse,
+    Narrow,
+    Merge,
+    Encode,
+    Fill,
     Line,
     Default,
     End,
-    /// A rule that this version doesn't read.
-    Unbuilt,
     Unknown,
-}
-
-/// Whether the word is a rule that this version doesn't read.
-fn is_unbuilt(word: &[u8]) -> bool
-    ensures { result ≡ is_unbuilt word.now }
-{
-    same_bytes(word, b"narrow") || same_bytes(word, b"merge") || same_bytes(word, b"encode")
 }
 
 /// What this first word is.
@@ -41,14 +36,20 @@ pub fn keyword_of(word: &[u8]) -> Keyword
         Keyword::Wire
     } else if same_bytes(word, b"collapse") {
         Keyword::Collapse
+    } else if same_bytes(word, b"narrow") {
+        Keyword::Narrow
+    } else if same_bytes(word, b"merge") {
+        Keyword::Merge
+    } else if same_bytes(word, b"encode") {
+        Keyword::Encode
+    } else if same_bytes(word, b"fill") {
+        Keyword::Fill
     } else if same_bytes(word, b"line") {
         Keyword::Line
     } else if same_bytes(word, b"default") {
         Keyword::Default
     } else if same_bytes(word, b"end") {
         Keyword::End
-    } else if is_unbuilt(word) {
-        Keyword::Unbuilt
     } else {
         Keyword::Unknown
     }

@@ -1,10 +1,12 @@
 //! The lines of a certificate to the rules that it lists.
 #![tactic(auto)]
 
+mod encoding;
 mod fault;
 mod keyword;
 mod laws;
 mod line;
+mod number;
 mod reader;
 mod said;
 mod set;

@@ -1,5 +1,5 @@
-ghost use Rattle.std.specs.Prelude.{◌≡◌, None, Some, IsSome, IfOk};
-ghost use Rattle.mv_step.specs.Certificates.{Outside, fault_at, fault_of, rule_of, steps_of, Tells};
+ghost use Rattle.std.specs.Prelude.{◌≡◌, true, None, Some, IsSome, IfOk};
+ghost use Rattle.mv_step.specs.Certificates.{Outside, fault_at, syntax_fault, unbuilt_line, are_built, fault_of, rule_of, steps_of, Tells};
 ghost use Rattle.mv_step.specs.Lines.{said};
 ghost use Rattle.mv_step.specs.Reading.{Follows, place_of};
 
@@ -24,6 +24,7 @@ fn ended(rule: OpenRule) -> Step
     let rule = match head {
         Head::Add { net } => Rule::Add { net, body },
         Head::Divide { net, by } => Rule::Divide { net, by, body },
+        Head::Narrow { net, d, u } => Rule::Narrow { net, d, u, body },
     };
     Step { line, rule }
 }
@@ -45,7 +46,6 @@ fn outside_line(line: &LexLine, steps: &mut Items<Step>) -> Result<Option<OpenRu
             lines: Items::new(line.words.allocator()),
             default: None,
         })),
-        Said::Unbuilt => Err(StepFault::NotBuilt { line: number }),
         _ => Err(StepFault::Syntax { line: number }),
     }
 }
@@ -114,11 +114,10 @@ fn take_line(
     }
 }
 
-/// The rules that the lines of a certificate list, each with the line of its first word, or else the first fault of the
-/// lines. A name may be any word: whether there is such a net is for the rule to say.
-#[tactic(auto, unfolding(crate::specs::Certificates::fault_of))]
-pub fn read_cert(lines: &Lines) -> Result<Items<Step>, StepFault>
-    ensures fault { Tells result (fault_of lines.now) }
+/// The rules that the lines list, each with the line of its first word, or else the first line that can't stand where it stands.
+#[tactic(auto, unfolding(crate::specs::Certificates::syntax_fault))]
+fn listed(lines: &Lines) -> Result<Items<Step>, StepFault>
+    ensures fault { Tells result (syntax_fault lines.now) }
     ensures steps { IfOk result (λ steps. steps ≡ steps_of lines.now) }
 {
     let mut steps = Items::new(*lines.list.allocator());
@@ -129,5 +128,35 @@ pub fn read_cert(lines: &Lines) -> Result<Items<Step>, StepFault>
     match current {
         None => Ok(steps),
         Some(rule) => Err(StepFault::Syntax { line: rule.line }),
+    }
+}
+
+/// The line of the first step whose rule isn't built in this version.
+fn unbuilt_line(steps: &[Step]) -> Option<u32>
+    ensures { result ≡ unbuilt_line steps.now }
+{
+    for step in steps {
+        if !step.rule.is_built() {
+            return Some(step.line);
+        }
+    }
+    None
+}
+
+/// The rules that the lines of a certificate list, each with the line of its first word, or else the first fault of the
+/// lines. A name may be any word: whether there is such a net is for the rule to say.
+#[tactic(auto, using(crate::proofs::Unbuilt::unbuilt))]
+pub fn read_cert(lines: &Lines) -> Result<Items<Step>, StepFault>
+    ensures fault { Tells result (fault_of lines.now) }
+    ensures steps { IfOk result (λ steps. steps ≡ steps_of lines.now) }
+    ensures built { IfOk result (λ steps. are_built steps ≡ true) }
+{
+    let steps = match listed(lines) {
+        Ok(steps) => steps,
+        Err(fault) => return Err(fault),
+    };
+    match unbuilt_line(steps.as_slice()) {
+        None => Ok(steps),
+        Some(line) => Err(StepFault::NotBuilt { line }),
     }
 }

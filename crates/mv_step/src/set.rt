@@ -1,29 +1,10 @@
-ghost use Rattle.std.specs.Prelude.{◌≡◌, ◌≤◌, ◌<◌, length, None, Some, IfSome, if◌then◌else◌};
-ghost use Rattle.std.specs.Char.{is_ascii_digit};
-ghost use Rattle.std.specs.Str.Parse.{digits_value};
-ghost use Rattle.std.specs.List.{list_all, slice_split};
+ghost use Rattle.std.specs.Prelude.{◌≡◌, ◌<◌, IfSome};
+ghost use Rattle.std.specs.List.{slice_split};
 ghost use Rattle.mv_base.specs.declared.limits.TheConstants.{MAX_VALUES as most_values};
 ghost use Rattle.mv_step.specs.Sets.{is_comma, value_said, values_said, is_in_brackets, set_said};
 
+use crate::number::number_below;
 use mv_base::{MAX_VALUES, Value, ValueSet};
-
-/// How many digits a number may have.
-const MAX_DIGITS: usize = 5;
-
-/// The number that a few digits say, or None where another byte stands among them.
-fn number(digits: &[u8]) -> Option<u32>
-    requires { length digits.now ≤ MAX_DIGITS }
-    ensures { result ≡ (if list_all is_ascii_digit digits.now then Some (digits_value 10 digits.now) else None) }
-{
-    let mut number = 0;
-    for byte in digits {
-        if !byte.is_ascii_digit() {
-            return None;
-        }
-        number = number * 10 + u32::from(*byte - b'0');
-    }
-    Some(number)
-}
 
 /// The value that the word says.
 #[tactic(auto, unfolding(crate::specs::Sets::value_said))]
@@ -31,14 +12,7 @@ fn value_said(word: &[u8]) -> Option<u16>
     ensures value { result ≡ value_said word.now }
     ensures within { IfSome result (λ v. v < most_values) }
 {
-    if word.is_empty() || word.len() > MAX_DIGITS {
-        return None;
-    }
-    let number = number(word)?;
-    if number >= u32::from(MAX_VALUES) {
-        return None;
-    }
-    Some(number as u16)
+    number_below(word, u32::from(MAX_VALUES))
 }
 
 /// The set of the values that are said between commas.

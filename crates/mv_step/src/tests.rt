@@ -63,6 +63,7 @@ divide z x;end;add w;default 1;end|1 divide z x;end;3 add w;default 1;end;
 add x;line -> 0 -> 0;end|1 add x;line -> 0 -> 0;end;
 add x;line a (127,00003,3,00) -> 00127;default (1);end|1 add x;line a (0,3,127) -> 127;default 1;end;
 add x;line a (1023,64) -> 1023;default 01000;end|1 add x;line a (64,1023) -> 1023;default 1000;end;
+add x;line a (1023,00003,3,00) -> 00128;default (1);end|1 add x;line a (0,3,1023) -> 128;default 1;end;
 remove a;frob a|Syntax 2
 line -> 0|Syntax 1
 default 0|Syntax 1
@@ -102,9 +103,36 @@ add x;default 000000;end|Syntax 2
 add x;default 4294967296;end|Syntax 2
 add x;default -;end|Syntax 2
 add x;default +1;end|Syntax 2
-remove a;narrow b 0 0;x|NotBuilt 2
-merge|NotBuilt 1
-encode b 1 c 0 1;end|NotBuilt 1
+narrow b 0 0;end|NotBuilt 1
+narrow b 65535 00009;line a 1 -> 0;default 1;end|NotBuilt 1
+narrow b 0 0;end;x|Syntax 3
+narrow b 0 0|Syntax 1
+narrow b 65536 0;end|Syntax 1
+narrow b 0 000000;end|Syntax 1
+narrow b 0;end|Syntax 1
+narrow b 0 0 0;end|Syntax 1
+remove a;merge b 300 0;wire c|NotBuilt 2
+merge b 0|NotBuilt 1
+merge|Syntax 1
+merge b|Syntax 1
+merge b x|Syntax 1
+merge b 0 65536|Syntax 1
+merge b 0 1 2|Syntax 1
+encode b 2 c d 00 01 10|NotBuilt 1
+encode b 00002 c d|NotBuilt 1
+encode b 0|NotBuilt 1
+encode b 1 c 0 1;end|Syntax 2
+encode b 1 c 0 2|Syntax 1
+encode b 1 c 0 01|Syntax 1
+encode b 2 c|Syntax 1
+encode b x c|Syntax 1
+encode b|Syntax 1
+fill b (0,1)|NotBuilt 1
+fill b 1024|Syntax 1
+fill b|Syntax 1
+fill b 0 1|Syntax 1
+wire a;fill b 0;merge c 1|NotBuilt 2
+fill b 0;wire|Syntax 2
 x;narrow b|Syntax 1
 ";
 

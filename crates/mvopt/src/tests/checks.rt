@@ -71,7 +71,7 @@ add (a);default 0;end; | 1 NotFresh
 add k;line -> 0 -> 1;default 0;end; | 1 NoNet
 # begin simplify 1 0;narrow z 1 0;end; | 2 NotBuilt
 merge z 1; | 1 NotBuilt
-encode | 1 NotBuilt
+encode | 1 Syntax
 add k;line a 1 -> 1; | 1 Syntax
 ;add k;default 0;line a 1 -> 1; | 4 Syntax
 add k;default 128;end; | 1 Form

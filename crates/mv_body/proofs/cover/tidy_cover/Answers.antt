@@ -1,4 +1,4 @@
-use Rattle.std.proofs.Common.{◌≡◌, ◌∙◌, List, sym, ap, subst}
+use Rattle.std.proofs.Common.{◌≡◌, ◌∙◌, ℕ, Option, List, sym, ap, subst}
 use Rattle.mv_cover.specs.declared.line.Line.{Line}
 use Rattle.mv_entry.specs.declared.rule.BodyLine.{BodyLine}
 use Rattle.mv_body.specs.Bodies.{lines_said, AreTidyLines, IsDefaultBeside}
@@ -21,5 +21,6 @@ returns c =
     let found : AreTidyLines nets values c.as_slice.result.now × (lines ≡ lines_said nets c.as_slice.result.now) = rw c.in-Some.is at c.in_ok-lines.ensures in
     let are = subst (λ (ls : List BodyLine). AreTidyLines nets values ls) c.as_slice.ensures found.0 in
     let said : lines ≡ lines_said nets body.lines = found.1 ∙ ap (lines_said nets) c.as_slice.ensures in
-    let beside = subst (λ (ls : List Line). IsDefaultBeside values body.default ls) c.as_slice-2.ensures c.if-not-is_default_beside.ensures in
-    (tidy_from nets values body lines are said beside, λ i. record { lines = said i; default = body.default })
+    let behind = subst (λ (ls : List Line). IsDefaultBeside values c.default_set.result ls) c.as_slice-2.ensures c.if-not-is_default_beside.ensures in
+    let beside = subst (λ (d : Option ℕ). IsDefaultBeside values d lines) c.default_set.ensures behind in
+    (tidy_from nets values body lines are said beside, λ i. record { lines = said i; default = c.default_set-2.ensures i })

@@ -1,4 +1,4 @@
-use Rattle.std.proofs.Common.{◌∙◌, ◌++◌, map, codes, refl, sym, ap}
+use Rattle.std.proofs.Common.{◌∙◌, ◌++◌, map, codes, sym, ap}
 use Rattle.std.specs.List.{flat_map}
 use Rattle.mv_base.proofs.Gains.{start, next, stop, last}
 use Rattle.mv_page.proofs.Adding.{adds}
@@ -20,7 +20,7 @@ returns-in_err-put_default g c =
     let tail = flat_map line_text (default_lines b.default) ++ codes "end\n" in
     let text = body-text b ∙ ap (λ ls. flat_map line_text (map line_words ls) ++ tail) (sym c.as_slice.ensures) in
     let at = next adds (start adds _ _) text c.in_ok-put_lines.ensures in
-    stop adds (codes "end\n") _ _ at refl c.in_err-put_default.ensures c.from_residual-in_err-put_default.ensures.1
+    stop adds (codes "end\n") _ _ at (ap (λ d. flat_map line_text (default_lines d) ++ codes "end\n") (sym c.default_set.ensures)) c.in_err-put_default.ensures c.from_residual-in_err-put_default.ensures.1
 
 pub returns : goal.returns
 returns g c =
@@ -28,4 +28,4 @@ returns g c =
     let tail = flat_map line_text (default_lines b.default) ++ codes "end\n" in
     let text = body-text b ∙ ap (λ ls. flat_map line_text (map line_words ls) ++ tail) (sym c.as_slice.ensures) in
     let at = next adds (start adds _ _) text c.in_ok-put_lines.ensures in
-    last adds (next adds at refl c.in_ok-put_default.ensures) c.put.ensures
+    last adds (next adds at (ap (λ d. flat_map line_text (default_lines d) ++ codes "end\n") (sym c.default_set.ensures)) c.in_ok-put_default.ensures) c.put.ensures

@@ -34,7 +34,7 @@ returns-in_err-put_set g c =
     let tail = codes " -> " ++ (set_word l.out ++ 10 ∷ []) in
     let words = ap (λ ls. spaced (flat_map lit_words ls) ++ tail) (sym c.as_slice.ensures) in
     let at = next adds (next adds (start adds _ _) (line-text l) c.in_ok-put.ensures) words c.in_ok-put_literals.ensures in
-    stop adds (10 ∷ []) _ _ (next adds at refl c.in_ok-put-2.ensures) refl c.in_err-put_set.ensures c.from_residual-in_err-put_set.ensures.1
+    stop adds (10 ∷ []) _ _ (next adds at refl c.in_ok-put-2.ensures) (ap (λ s. set_word s ++ 10 ∷ []) (sym c.get.ensures)) c.in_err-put_set.ensures c.from_residual-in_err-put_set.ensures.1
 
 pub returns : goal.returns
 returns g c =
@@ -42,4 +42,4 @@ returns g c =
     let tail = codes " -> " ++ (set_word l.out ++ 10 ∷ []) in
     let words = ap (λ ls. spaced (flat_map lit_words ls) ++ tail) (sym c.as_slice.ensures) in
     let at = next adds (next adds (start adds _ _) (line-text l) c.in_ok-put.ensures) words c.in_ok-put_literals.ensures in
-    last adds (next adds (next adds at refl c.in_ok-put-2.ensures) refl c.in_ok-put_set.ensures) c.put-3.ensures
+    last adds (next adds (next adds at refl c.in_ok-put-2.ensures) (ap (λ s. set_word s ++ 10 ∷ []) (sym c.get.ensures)) c.in_ok-put_set.ensures) c.put-3.ensures

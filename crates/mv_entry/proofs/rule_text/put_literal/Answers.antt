@@ -1,5 +1,5 @@
 use Rattle.std.proofs.Common.{◌∙◌, [], ◌∷◌, ◌++◌, codes, refl, sym, ap}
-use Rattle.mv_base.proofs.Gains.{start, next, stop, last}
+use Rattle.mv_base.proofs.Gains.{start, next, stop, last, same}
 use Rattle.mv_page.proofs.Adding.{adds}
 use Rattle.mv_lex.specs.Text.{spaced}
 use Rattle.mv_entry.specs.Entries.{set_word}
@@ -27,4 +27,4 @@ returns g c =
     let rest = codes " " ++ set_word l.set in
     let text = lit-text l ∙ ap (λ w. spaced (w ∷ []) ++ rest) (sym c.bytes.ensures) in
     let at = next adds (start adds _ _) text c.in_ok-put_word.ensures in
-    last adds (next adds at refl c.in_ok-put.ensures) c.put_set.ensures
+    last adds (next adds at refl c.in_ok-put.ensures) (same adds (ap set_word c.get.ensures) c.put_set.ensures)

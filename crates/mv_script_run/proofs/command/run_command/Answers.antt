@@ -1,6 +1,10 @@
--- No memory is there before the command begins.
-use Rattle.mv_script_run.proofs.Commands.{command_short}
+-- The command is built, and its name can be seen.
+use Rattle.mv_script.proofs.Commands.{built_lawful}
+use Rattle.mv_script_run.proofs.Commands.{command_passes}
 use Rattle.mv_script_run.proofs.command.run_command.Goals as goal
 
-pub returns-in-Err : goal.returns-in-Err
-returns-in-Err g c = command_short c.args.command.now c.args.net.now _ c.requires.built
+pub run_built-requires : goal.run_built-requires
+run_built-requires g c = built_lawful c.args.command.now c.requires.named c.requires.built
+
+pub returns : goal.returns
+returns g c = command_passes c.args.command.now _ _ _ _ _ c.requires.built c.run_built.ensures

@@ -1,7 +1,7 @@
 -- One digit more.
 use Rattle.std.proofs.Common.{◌<◌, sym, arith, refl}
 use Rattle.mv_step.proofs.Digits.{few, next_digit}
-use Rattle.mv_step.proofs.set.number.Goals as goal
+use Rattle.mv_step.proofs.number.number.Goals as goal
 
 pub overflow_mul-number : goal.overflow_mul-number
 overflow_mul-number c =

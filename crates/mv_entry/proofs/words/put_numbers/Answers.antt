@@ -3,7 +3,7 @@ use Rattle.mv_base.proofs.Gains.{start, next, stop, last}
 use Rattle.mv_page.proofs.Adding.{adds}
 use Rattle.mv_lex.specs.Text.{spaced}
 use Rattle.mv_entry.proofs.Texts.{numbers-text}
-use Rattle.mv_entry.proofs.note_text.put_numbers.Goals as goal
+use Rattle.mv_entry.proofs.words.put_numbers.Goals as goal
 
 pub returns-in_err-put_number : goal.returns-in_err-put_number
 returns-in_err-put_number g c =
