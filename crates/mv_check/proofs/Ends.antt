@@ -13,6 +13,7 @@ use Rattle.mv_cert.specs.Replay.{FailsAt, rules_in}
 use Rattle.mv_cert.proofs.Replayed.{never_both}
 use Rattle.mv_task.specs.declared.fault.FileFault.{FileFault}
 use Rattle.mv_task.specs.declared.fault.SourceStop.TheVariants.{Fault, Read as unread, Memory as short_source}
+use Rattle.mv_files.specs.FileReading.{BeganOne, BeganTwo}
 use Rattle.mv_task.specs.Exact.{HoldsAll, Ended, Short}
 use Rattle.mv_task.specs.Faults.{RefusesNetwork, TellsFault}
 use Rattle.mv_task.specs.Lines.{TellsLine, read_line, memory_line}
@@ -21,7 +22,7 @@ use Rattle.mv_task.specs.Inputs.{File, named}
 use Rattle.mv_task.proofs.Exactness.{ended_exact, ended_complete, taken_exact}
 use Rattle.mv_task.proofs.Networks.{prepared_taken}
 use Rattle.mv_task.proofs.Sources.{replaced}
-use Rattle.mv_task.proofs.Statuses.{IsOwn, ended_network, ended_read, ended_not_done, ended_not_cut}
+use Rattle.mv_task.proofs.Statuses.{IsOwn, all_begin, ended_network, ended_read, ended_not_done, ended_not_cut, ended_began_one, ended_begins}
 use Rattle.mv_check.specs.declared.stop.Stop.{Stop}
 use Rattle.mv_check.specs.declared.stop.Stop.TheVariants.{Text, Read, Memory, Source}
 use Rattle.mv_check.specs.declared.stop.CertificateFault.{CertificateFault}
@@ -73,14 +74,14 @@ fault_told net_name old (Source (Fault f)) notes notes' t faulty e = record { fa
 fault_told net_name old (Source unread) notes notes' t faulty e = absurd (omega arith)
 fault_told net_name old (Source short_source) notes notes' t faulty e = absurd (omega arith)
 
-text_told : (certificate_name : List ℕ) (old : Stored) (stop : Stop) (notes notes' : Written) → TellsLine notes notes' (line_of stop)
-    → ((f : CertificateFault) → stop ≡ Text f → RefusesCertificate certificate_name old f) → status_of stop ≡ 7 → TellsText certificate_name old notes notes'
-text_told certificate_name old (Text f) notes notes' t refused e = record { fault = f; refuses = refused f refl; tells = t }
-text_told certificate_name old Read notes notes' t refused e = absurd (omega arith)
-text_told certificate_name old Memory notes notes' t refused e = absurd (omega arith)
-text_told certificate_name old (Source (Fault f)) notes notes' t refused e = absurd (omega arith)
-text_told certificate_name old (Source unread) notes notes' t refused e = absurd (omega arith)
-text_told certificate_name old (Source short_source) notes notes' t refused e = absurd (omega arith)
+text_told : (certificate_name : List ℕ) (old new : Stored) (stop : Stop) (notes notes' : Written) → TellsLine notes notes' (line_of stop)
+    → ((f : CertificateFault) → stop ≡ Text f → RefusesCertificate certificate_name old f) → BeganOne old new → status_of stop ≡ 7 → TellsText certificate_name old new notes notes'
+text_told certificate_name old new (Text f) notes notes' t refused began e = record { fault = f; refuses = refused f refl; begun = began; tells = t }
+text_told certificate_name old new Read notes notes' t refused began e = absurd (omega arith)
+text_told certificate_name old new Memory notes notes' t refused began e = absurd (omega arith)
+text_told certificate_name old new (Source (Fault f)) notes notes' t refused began e = absurd (omega arith)
+text_told certificate_name old new (Source unread) notes notes' t refused began e = absurd (omega arith)
+text_told certificate_name old new (Source short_source) notes notes' t refused began e = absurd (omega arith)
 
 small_status : (stop : Stop) → status_of stop ≤ 7
 small_status (Text f) = omega arith
@@ -128,7 +129,8 @@ early_of net_name certificate_name old new out notes notes' stop ended refused f
   read_told = λ e. read_told stop notes notes' tells e;
   cut = λ e. absurd (ended_not_cut own ended e);
   short = λ e. short_told stop notes notes' tells e;
-  certificate = λ e. inl (text_told certificate_name old stop notes notes' tells refused e);
+  certificate = λ e. inl (text_told certificate_name old new stop notes notes' tells refused (ended_began_one own ended e) e);
+  begun = ended_begins own ended;
   untouched = λ a b. refl;
   exact = ended_exact IsCertificate 7 (named net_name certificate_name) old new (status_of stop) ended;
   complete = ended_complete IsCertificate 7 (named net_name certificate_name) (λ s. (s ≡ 0) ⊎ (s ≡ 6) ⊎ (s ≡ 7)) old new out out notes notes' (status_of stop) (λ e. inr (inl e)) ended;
@@ -147,11 +149,11 @@ early net_name certificate_name old new out notes notes' stop status is ended re
 -- memory ran out before anything was read
 pub short_at_once : (net_name certificate_name : List ℕ) (files : Stored) (out notes notes' : Written) → TellsLine notes notes' memory_line → Checks net_name certificate_name files files out out notes notes' 6
 short_at_once net_name certificate_name files out notes notes' tells =
-    early_of net_name certificate_name files files out notes notes' Memory (Short refl) (λ f e. absurd cc) (λ f e. absurd cc) tells
+    early_of net_name certificate_name files files out notes notes' Memory (Short refl (inl refl)) (λ f e. absurd cc) (λ f e. absurd cc) tells
 
 -- ---- the work was begun
 
-module _ (net_name certificate_name : List ℕ) (old new : Stored) (steps : List Step) (first : NetParts) (made : Prepared (File net_name) old new first) (has : HasSteps certificate_name old steps) where
+module _ (net_name certificate_name : List ℕ) (old new : Stored) (steps : List Step) (first : NetParts) (made : Prepared (File net_name) old new first) (has : HasSteps certificate_name old steps) (began : BeganTwo old new) where
   certifies : (net : NetParts) → Replays (rules_in steps) first net → IsCertified net_name certificate_name old new first net
   certifies net replays = record {
     made = made;
@@ -177,6 +179,7 @@ module _ (net_name certificate_name : List ℕ) (old new : Stored) (steps : List
     short = λ e. absurd (omega arith);
     certificate = λ e. absurd (omega arith);
     untouched = λ a b. absurd (a refl);
+    begun = all_begin (File net_name) old new 0 began;
     exact = taken_exact IsCertificate 7 (named net_name certificate_name) old 0 (steps_taken certificate_name old steps has) (prepared_taken (File net_name) old new first made);
     complete = record { succeeds = λ h o n. inl refl };
     replayed = λ h o n. inl refl;
@@ -204,6 +207,7 @@ module _ (net_name certificate_name : List ℕ) (old new : Stored) (steps : List
     short = λ e. absurd (omega arith);
     certificate = λ e. absurd (omega arith);
     untouched = λ a b. absurd (b refl);
+    begun = all_begin (File net_name) old new 5 began;
     exact = taken_exact IsCertificate 7 (named net_name certificate_name) old 5 (steps_taken certificate_name old steps has) (prepared_taken (File net_name) old new first made);
     complete = record { succeeds = λ a o n. no_cut out out' notes notes' h o n };
     replayed = λ a o n. no_cut out out' notes notes' h o n;
@@ -223,6 +227,7 @@ module _ (net_name certificate_name : List ℕ) (old new : Stored) (steps : List
     short = λ e. tells;
     certificate = λ e. absurd (omega arith);
     untouched = λ a b. same;
+    begun = all_begin (File net_name) old new 6 began;
     exact = taken_exact IsCertificate 7 (named net_name certificate_name) old 6 (steps_taken certificate_name old steps has) (prepared_taken (File net_name) old new first made);
     complete = record { succeeds = λ a o n. inr (inl refl) };
     replayed = λ a o n. inr refl;
@@ -262,9 +267,11 @@ module _ (net_name certificate_name : List ℕ) (old new : Stored) (steps : List
         line = line;
         fault = fault;
         fails = subst (λ ss. FailsAt ss first failed.net line fault) has.steps_are failed.fails;
+        begun = began;
         tells = tells;
       });
       untouched = λ a b. same;
+      begun = all_begin (File net_name) old new 7 began;
       exact = taken_exact IsCertificate 7 (named net_name certificate_name) old 7 (steps_taken certificate_name old steps has) (prepared_taken (File net_name) old new first made);
       complete = record { succeeds = λ a o n. inr (inr refl) };
       replayed = λ h o n. absurd (held_never old.held new.held made has.named h);

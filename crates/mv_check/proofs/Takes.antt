@@ -5,7 +5,7 @@ use Rattle.mv_base.specs.Outside.{Stored, Held, file_named, Rose}
 use Rattle.mv_base.specs.declared.limits.TheConstants.{MAX_CERTIFICATE_BYTES}
 use Rattle.mv_lex.specs.declared.fault.LexFault.{LexFault}
 use Rattle.mv_lex.specs.declared.lines.LexLine.{LexLine}
-use Rattle.mv_files.specs.FileReading.{Lacks, Stay}
+use Rattle.mv_files.specs.FileReading.{Lacks, Stay, BeganOne}
 use Rattle.mv_files.specs.LexedFiles.{WasLexed, HasFault}
 use Rattle.mv_step.specs.declared.fault.StepFault.{StepFault}
 use Rattle.mv_step.specs.declared.step.Step.{Step}
@@ -15,7 +15,7 @@ use Rattle.mv_task.specs.declared.fault.SourceStop.{SourceStop}
 use Rattle.mv_task.specs.Exact.{SecondEnded, Refused, Missing, NoMemory, Ended}
 use Rattle.mv_task.specs.Faults.{RefusesNetwork, IsNetworkCause, source_status}
 use Rattle.mv_task.specs.Taken.{IsTaken, IsRefused}
-use Rattle.mv_task.specs.Inputs.{Source, Inputs}
+use Rattle.mv_task.specs.Inputs.{Source, File, Inputs, named}
 use Rattle.mv_task.proofs.Networks.{prepared_earlier, faulty_earlier, named_of}
 use Rattle.mv_task.proofs.Seconds.{ended_second_file, ended_behind}
 use Rattle.mv_check.specs.declared.stop.CertificateFault.{CertificateFault}
@@ -26,7 +26,7 @@ use Rattle.mv_check.specs.Certificates.{HasSteps, RefusesCertificate, RefusesTex
 -- ---- the certificate
 
 -- bytes that are refused for a fault are no certificate
-refused_none : (content : List ℕ) (f : CertificateFault) → RefusesText content f → IsCertificate content → ⊥
+pub refused_none : (content : List ℕ) (f : CertificateFault) → RefusesText content f → IsCertificate content → ⊥
 refused_none content (Lex f) r c = let none = c.lexed in cc
 refused_none content (step_fault f) r c = let some = r.1 in let none = c.form in cc
 
@@ -80,11 +80,13 @@ pub ruleset takes_certificate = (certificate_ends, bytes_refused, lines_refused,
 pub network_faulty : (source : Source) (a b : Stored) (f : FileFault) → Stay a b → IfSome b.held (RefusesNetwork source f) → IfSome a.held (RefusesNetwork source f)
 network_faulty source a b f s r = faulty_earlier source f a.held b.held s.same r
 
-pub network_ends : (given : Inputs) (a b c : Stored) (steps : List Step) (stop : SourceStop) → Stay a b → HasSteps given.second a steps → IsNetworkCause given.network b c stop → Ended IsCertificate 7 given a c (source_status stop)
-network_ends given a b c steps stop s h cause = ended_behind IsCertificate given 7 a b c stop s (steps_taken given.second a steps h) cause
+pub network_ends : (network certificate : List ℕ) (a b c : Stored) (steps : List Step) (stop : SourceStop) → Stay a b → HasSteps certificate a steps → IsNetworkCause (File network) b c stop → BeganOne a b → BeganOne b c
+    → Ended IsCertificate 7 (named network certificate) a c (source_status stop)
+network_ends network certificate a b c steps stop s h cause p q =
+    ended_behind IsCertificate (named network certificate) 7 a b c stop s (steps_taken certificate a steps h) cause p q
 
 -- no certificate came
-pub no_certificate : (given : Inputs) (old new : Stored) (status : ℕ) → SecondEnded IsCertificate 7 given.second old new status → Ended IsCertificate 7 given old new status
-no_certificate given old new status e = ended_second_file IsCertificate given 7 old new status e
+pub no_certificate : (given : Inputs) (old new : Stored) (status : ℕ) → SecondEnded IsCertificate 7 given.second old new status → BeganOne old new → Ended IsCertificate 7 given old new status
+no_certificate given old new status e began = ended_second_file IsCertificate given 7 old new status e began
 
 pub ruleset prepares = (prepared_earlier, network_faulty, network_ends, no_certificate)

@@ -9,6 +9,8 @@ use Rattle.mv_read.specs.Reads.{IsNetOf}
 use Rattle.mv_text.specs.Text.{text_of}
 use Rattle.mv_cert.specs.Certificates.{IsCertificate, Certifies, steps_in}
 use Rattle.mv_cert.specs.Replay.{FailsAt}
+use Rattle.mv_files.specs.FileReading.{BeganOne, BeganTwo}
+use Rattle.mv_task.specs.Begun.{BeginsFiles}
 use Rattle.mv_task.specs.Ending.{IsEndCut, done_line}
 use Rattle.mv_task.specs.Exact.{LacksFile, HoldsAll, IsExact, IsComplete}
 use Rattle.mv_task.specs.Faults.{TellsFault}
@@ -37,10 +39,11 @@ pub record IsChecked (net_name certificate_name : List ℕ) (old new : Stored) (
   pub replaced : Replaced net_name old new first net out out'
   pub noted : Gained notes notes' (done_line (literals_in first.nets) (literals_in net.nets))
 
--- the named certificate is refused for a fault of its bytes or of its lines, and the notes tell it
-pub record TellsText (certificate_name : List ℕ) (files : Stored) (notes notes' : Written) : Type 0 where
+-- the named certificate is refused for a fault of its bytes or of its lines, before the network is begun, and the notes tell it
+pub record TellsText (certificate_name : List ℕ) (old new : Stored) (notes notes' : Written) : Type 0 where
   pub fault : CertificateFault
-  pub refuses : RefusesCertificate certificate_name files fault
+  pub refuses : RefusesCertificate certificate_name old fault
+  pub begun : BeganOne old new
   pub tells : TellsLine notes notes' (text_line fault)
 
 -- a rule of the named certificate, at some line, doesn't apply where those before it have led, and the notes tell its line and why
@@ -54,6 +57,7 @@ pub record TellsRule (net_name certificate_name : List ℕ) (old new : Stored) (
   pub line : ℕ
   pub fault : RuleFault
   pub fails : FailsAt (steps_in certificate) first net line fault
+  pub begun : BeganTwo old new
   pub tells : TellsLine notes notes' (rule_line line fault)
 
 -- a write failed at the end
@@ -78,7 +82,8 @@ pub record Checks (net_name certificate_name : List ℕ) (old new : Stored) (out
   pub read_told : status ≡ 4 → TellsLine notes notes' read_line
   pub cut : status ≡ 5 → IsCutOff net_name certificate_name old new out out' notes notes'
   pub short : status ≡ 6 → TellsLine notes notes' memory_line
-  pub certificate : status ≡ 7 → TellsText certificate_name old notes notes' ⊎ TellsRule net_name certificate_name old new notes notes'
+  pub certificate : status ≡ 7 → TellsText certificate_name old new notes notes' ⊎ TellsRule net_name certificate_name old new notes notes'
+  pub begun : BeginsFiles (File net_name) old new status
   pub untouched : (status ≡ 0 → ⊥) → (status ≡ 5 → ⊥) → out' ≡ out
   pub exact : IsExact IsCertificate 7 (named net_name certificate_name) old status
   pub complete : IsComplete IsCertificate (λ s. (s ≡ 0) ⊎ (s ≡ 6) ⊎ (s ≡ 7)) (named net_name certificate_name) old out out' notes notes' status

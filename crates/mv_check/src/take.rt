@@ -1,5 +1,5 @@
-ghost use Rattle.std.specs.Prelude.{◌≡◌, true, Err, IfOk, IfErr, IfSome};
-ghost use Rattle.mv_files.specs.FileReading.{Stay};
+ghost use Rattle.std.specs.Prelude.{◌≡◌, true, Err, IfOk, IfErr, IfSome, OnOk};
+ghost use Rattle.mv_files.specs.FileReading.{BeganOne, BeganTwo, Stay};
 ghost use Rattle.mv_task.specs.declared.fault.FileFault.{FileFault};
 ghost use Rattle.mv_task.specs.declared.fault.SourceStop.TheVariants.{Fault as faulty};
 ghost use Rattle.mv_task.specs.Exact.{SecondEnded, Ended};
@@ -21,7 +21,7 @@ use mv_net::Network;
 use mv_task::take_network;
 use std::alloc::Global;
 
-/// Reads the certificate of this name, and gives its steps.
+/// Reads the certificate of this name, and gives its steps. The file is begun once, and no other is.
 #[tactic(auto, using(crate::proofs::Takes::takes_certificate))]
 fn take_certificate<F: Files>(alloc: Global, name: &str, files: &mut F) -> Result<Items<Step>, Stop>
     ensures steps { IfOk result (HasSteps name.now (F.state files.old)) }
@@ -30,6 +30,7 @@ fn take_certificate<F: Files>(alloc: Global, name: &str, files: &mut F) -> Resul
     ensures text { (fault : CertificateFault) → result ≡ Err (Stop.Text fault)
         → RefusesCertificate name.now (F.state files.old) fault }
     ensures own { (fault : FileFault) → result ≡ Err (Stop.Source (faulty fault)) → ⊥ }
+    ensures starts { BeganOne (F.state files.old) (F.state files.new) }
     ensures ended { IfErr result (λ stop.
         SecondEnded IsCertificate 7 name.now (F.state files.old) (F.state files.new) (status_of stop)) }
 {
@@ -64,6 +65,7 @@ pub fn prepare<F: Files>(
     ensures steps { IfOk result (λ trial. HasSteps certificate.now (F.state files.old) trial.steps) }
     ensures built { IfOk result (λ trial. are_built trial.steps ≡ true) }
     ensures made { IfOk result (λ trial. Prepared (File network.now) (F.state files.old) (F.state files.new) trial.net) }
+    ensures starts { OnOk result (BeganTwo (F.state files.old) (F.state files.new)) }
     ensures text { (fault : CertificateFault) → result ≡ Err (Stop.Text fault)
         → RefusesCertificate certificate.now (F.state files.old) fault }
     ensures faulty { (fault : FileFault) → result ≡ Err (Stop.Source (faulty fault))

@@ -16,11 +16,12 @@ use Rattle.mv_task.specs.Inputs.{Source as Origin, File, Text, Inputs}
 use Rattle.mv_task.specs.Lines.{TellsLine, read_line, memory_line}
 use Rattle.mv_task.specs.Made.{Prepared}
 use Rattle.mv_task.specs.Taken.{IsTaken}
-use Rattle.mv_task.proofs.Endings.{TellsLine-later}
+use Rattle.mv_task.specs.Begun.{BeganAll}
+use Rattle.mv_task.proofs.Endings.{TellsBehind-from, TellsBehind-nothing}
 use Rattle.mv_task.proofs.Exactness.{ended_exact, ended_complete, taken_exact}
 use Rattle.mv_task.proofs.Networks.{prepared_taken}
 use Rattle.mv_task.proofs.Sources.{replaced}
-use Rattle.mv_task.proofs.Statuses.{IsOwn, ended_second, ended_network, ended_read, ended_not_done, ended_not_cut}
+use Rattle.mv_task.proofs.Statuses.{IsOwn, all_begin, ended_second, ended_network, ended_read, ended_not_done, ended_not_cut, ended_began_one, ended_begins}
 use Rattle.mv_opt.specs.declared.stop.Stop.{Stop}
 use Rattle.mv_opt.specs.declared.stop.Stop.TheVariants.{Script, Unbuilt, Read, Memory, Source}
 use Rattle.mv_opt.specs.Optimised.{Replaces, Optimises}
@@ -64,10 +65,10 @@ unfolding print
 short_told given old new (Script fault) notes notes' t e = absurd (omega arith)
 short_told given old new Unbuilt notes notes' t e = absurd (omega arith)
 short_told given old new Read notes notes' t e = absurd (omega arith)
-short_told given old new Memory notes notes' t e = record { entries = []; ran = inl refl; tells = t }
+short_told given old new Memory notes notes' t e = record { entries = []; ran = inl refl; tells = TellsBehind-nothing notes notes' memory_line t }
 short_told given old new (Source (Fault f)) notes notes' t e = absurd (omega arith)
 short_told given old new (Source unread) notes notes' t e = absurd (omega arith)
-short_told given old new (Source short_source) notes notes' t e = record { entries = []; ran = inl refl; tells = t }
+short_told given old new (Source short_source) notes notes' t e = record { entries = []; ran = inl refl; tells = TellsBehind-nothing notes notes' memory_line t }
 
 fault_told : (source : Origin) (old : Stored) (stop : Stop) (notes notes' : Written) → TellsLine notes notes' (line_of stop)
     → ((f : FileFault) → stop ≡ Source (Fault f) → IfSome old.held (RefusesNetwork source f)) → status_of stop ≡ 2 → TellsFault source old notes notes'
@@ -110,6 +111,8 @@ early_of given old new out notes notes' stop ended faulty why tells = record {
   read_told = λ e. read_told stop notes notes' tells e;
   cut = λ e. absurd (ended_not_cut own ended e);
   short = λ e. short_told given old new stop notes notes' tells e;
+  script_begun = λ e. ended_began_one own ended e;
+  begun = ended_begins own ended;
   untouched = λ a b. refl;
   exact = ended_exact IsScript 3 given old new (status_of stop) ended;
   complete = ended_complete IsScript 3 given (λ s. (s ≡ 0) ⊎ (s ≡ 6)) old new out out notes notes' (status_of stop) (λ e. inr e) ended;
@@ -125,7 +128,7 @@ early given old new out notes notes' stop status is ended faulty why tells =
 
 -- memory ran out before anything was read
 pub short_at_once : (given : Inputs) (files : Stored) (out notes notes' : Written) → TellsLine notes notes' memory_line → Optimises given files files out out notes notes' 6
-short_at_once given files out notes notes' tells = early_of given files files out notes notes' Memory (Short refl) (λ f e. absurd cc) tt tells
+short_at_once given files out notes notes' tells = early_of given files files out notes notes' Memory (Short refl (inl refl)) (λ f e. absurd cc) tt tells
 
 -- ---- the work was begun
 
@@ -134,7 +137,7 @@ replaces : (source : Origin) (old new : Stored) (first net : NetParts) (entries 
 replaces (File name) old new first net entries out out' made gained back refines = replaced name old new first net out out' made gained back refines
 replaces (Text text) old new first net entries out out' made gained back refines = refines
 
-module _ (given : Inputs) (old new : Stored) (items : Items) (first : NetParts) (made : Prepared given.network old new first) (script : IfSome old.held (IsTaken IsScript given.second)) (taken : IfSome old.held (TakesItems given.second items)) where
+module _ (given : Inputs) (old new : Stored) (items : Items) (first : NetParts) (made : Prepared given.network old new first) (script : IfSome old.held (IsTaken IsScript given.second)) (taken : IfSome old.held (TakesItems given.second items)) (began : BeganAll given.network old new) where
   pub worked : (out out' notes notes' : Written) → HasWorked (output_for given.network) items first out out' notes notes' → Optimises given old new out out' notes notes' 0
   worked out out' notes notes' w = record {
     done = λ e. record {
@@ -154,6 +157,8 @@ module _ (given : Inputs) (old new : Stored) (items : Items) (first : NetParts) 
     cut = λ e. absurd (omega arith);
     short = λ e. absurd (omega arith);
     untouched = λ a b. absurd (a refl);
+    script_begun = λ e. absurd (omega arith);
+    begun = all_begin given.network old new 0 began;
     exact = taken_exact IsScript 3 given old 0 script (prepared_taken given.network old new first made);
     complete = record { succeeds = λ h o n. inl refl };
     known = omega arith;
@@ -176,6 +181,8 @@ module _ (given : Inputs) (old new : Stored) (items : Items) (first : NetParts) 
     cut = λ e. record { first = first; made = made; items = items; taken = taken; cut = h };
     short = λ e. absurd (omega arith);
     untouched = λ a b. absurd (b refl);
+    script_begun = λ e. absurd (omega arith);
+    begun = all_begin given.network old new 5 began;
     exact = taken_exact IsScript 3 given old 5 script (prepared_taken given.network old new first made);
     complete = record {
       succeeds = λ a o n. absurd (⊎_elim (λ (rose : Rose out.faults out'.faults). o rose) (λ (rose : Rose notes.faults notes'.faults). n rose) (cut_cause out out' notes notes' h));
@@ -196,10 +203,12 @@ module _ (given : Inputs) (old new : Stored) (items : Items) (first : NetParts) 
     cut = λ e. absurd (omega arith);
     short = λ e. record {
       entries = h.stopped.entries;
-      ran = inr (record { first = first; made = made; items = items; taken = taken; net = h.net; stops = h.stopped.stops });
-      tells = TellsLine-later notes mid notes' (print h.stopped.entries) memory_line h.stopped.gained later tells;
+      ran = inr (record { first = first; made = made; items = items; taken = taken; begun = began; net = h.net; stops = h.stopped.stops });
+      tells = TellsBehind-from notes mid notes' (print h.stopped.entries) memory_line h.stopped.gained later tells;
     };
     untouched = λ a b. same;
+    script_begun = λ e. absurd (omega arith);
+    begun = all_begin given.network old new 6 began;
     exact = taken_exact IsScript 3 given old 6 script (prepared_taken given.network old new first made);
     complete = record { succeeds = λ a o n. inr refl };
     known = omega arith;

@@ -5,7 +5,7 @@ use Rattle.std.proofs.lemmas.Bool.{false≢true}
 use Rattle.std.proofs.lemmas.List.{append-nil}
 use Rattle.mv_base.specs.Outside.{Stored, Held, Still, Rose}
 use Rattle.mv_base.specs.declared.limits.TheConstants.{MAX_SCRIPT_BYTES}
-use Rattle.mv_files.specs.FileReading.{WasRead, Read, Lacks, Stay}
+use Rattle.mv_files.specs.FileReading.{WasRead, Read, Lacks, Stay, BeganOne}
 use Rattle.mv_script.specs.declared.fault.TextFault.{TextFault}
 use Rattle.mv_script.specs.Commands.{are_built}
 use Rattle.mv_script.specs.Faults.{IsFirstFault, Long, Within}
@@ -119,12 +119,13 @@ pub network_faulty : (source : Source) (a b : Stored) (f : FileFault) → Stay a
 network_faulty source a b f s r = faulty_earlier source f a.held b.held s.same r
 
 -- no script came
-pub script_lacking : (given : Inputs) (old new : Stored) (status : ℕ) → SecondEnded IsScript 3 given.second old new status → Ended IsScript 3 given old new status
-script_lacking given old new status e = ended_second_file IsScript given 3 old new status e
+pub script_lacking : (given : Inputs) (old new : Stored) (status : ℕ) → SecondEnded IsScript 3 given.second old new status → BeganOne old new → Ended IsScript 3 given old new status
+script_lacking given old new status e began = ended_second_file IsScript given 3 old new status e began
 
 -- no network came of a file
-pub network_lacking : (network script : List ℕ) (a b c : Stored) (stop : SourceStop) → Stay a b → IfSome a.held (IsTaken IsScript script) → IsNetworkCause (File network) b c stop → Ended IsScript 3 (named network script) a c (source_status stop)
-network_lacking network script a b c stop s t h = ended_behind IsScript (named network script) 3 a b c stop s t h
+pub network_lacking : (network script : List ℕ) (a b c : Stored) (stop : SourceStop) → Stay a b → IfSome a.held (IsTaken IsScript script) → IsNetworkCause (File network) b c stop → BeganOne a b → BeganOne b c
+    → Ended IsScript 3 (named network script) a c (source_status stop)
+network_lacking network script a b c stop s t h p q = ended_behind IsScript (named network script) 3 a b c stop s t h p q
 
 -- ---- a network that is drawn
 
@@ -140,9 +141,9 @@ text_cause text a b Unread faulty read = absurd (read refl)
 text_cause text a b Memory faulty read = tt
 
 pub text_lacking : (text script : List ℕ) (a b : Stored) (stop : SourceStop) → Stay a b → IfSome a.held (IsTaken IsScript script) → ((f : FileFault) → stop ≡ Fault f → Refuses text f) → (stop ≡ Unread → ⊥)
-    → Ended IsScript 3 (record { network = Text text; second = script }) a b (source_status stop)
-text_lacking text script a b stop s t faulty read =
-    ended_behind IsScript (record { network = Text text; second = script }) 3 a b b stop s t (text_cause text b b stop faulty read)
+    → BeganOne a b → Ended IsScript 3 (record { network = Text text; second = script }) a b (source_status stop)
+text_lacking text script a b stop s t faulty read began =
+    ended_behind IsScript (record { network = Text text; second = script }) 3 a b b stop s t (text_cause text b b stop faulty read) began refl
 
 pub text_faulty : (text : List ℕ) (old : Stored) (f : FileFault) → Refuses text f → IfSome old.held (RefusesNetwork (Text text) f)
 text_faulty text old f r = text_refused text f old.held r

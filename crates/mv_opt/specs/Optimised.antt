@@ -7,6 +7,8 @@ use Rattle.mv_net.specs.declared.parts.NetParts.{NetParts}
 use Rattle.mv_net.specs.Nets.{literals_in}
 use Rattle.mv_script_run.specs.Runs.{Runs}
 use Rattle.mv_script.specs.Scripts.{Items}
+use Rattle.mv_files.specs.FileReading.{BeganOne}
+use Rattle.mv_task.specs.Begun.{BeginsFiles}
 use Rattle.mv_task.specs.Exact.{LacksFile, IsExact, IsComplete}
 use Rattle.mv_task.specs.Faults.{TellsFault}
 use Rattle.mv_task.specs.Inputs.{Source, File, Text, Inputs}
@@ -48,17 +50,20 @@ pub record IsOptimised (given : Inputs) (old new : Stored) (out out' notes notes
   pub output : Gained out out' (output_of (output_for given.network) first told.entries net)
 
 -- each status and what it says: 0 the work is done; 2 the network is refused, behind a script that was taken, and the notes tell
--- why; 3 the script is refused, and the notes tell why; 4 a read failed; 5 a write failed; 6 memory ran out
+-- why; 3 the script is refused, before the network is begun, and the notes tell why; 4 a read failed; 5 a write failed; 6 memory
+-- ran out
 pub record Optimises (given : Inputs) (old new : Stored) (out out' notes notes' : Written) (status : ℕ) : Type 0 where
   pub done : status ≡ 0 → IsOptimised given old new out out' notes notes'
   pub network : status ≡ 2 → TellsFault given.network old notes notes'
   pub behind : status ≡ 2 → IfSome old.held (IsTaken IsScript given.second)
   pub script : status ≡ 3 → IfSome old.held (IsRefused IsScript given.second)
   pub script_told : status ≡ 3 → TellsScript given.second old notes notes'
+  pub script_begun : status ≡ 3 → BeganOne old new
   pub read : status ≡ 4 → Rose old.faults new.faults × IfSome old.held (LacksFile IsScript given)
   pub read_told : status ≡ 4 → TellsLine notes notes' read_line
   pub cut : status ≡ 5 → EndsCut given old new out out' notes notes'
   pub short : status ≡ 6 → EndsShort given old new notes notes'
+  pub begun : BeginsFiles given.network old new status
   pub untouched : (status ≡ 0 → ⊥) → (status ≡ 5 → ⊥) → out' ≡ out
   pub exact : IsExact IsScript 3 given old status
   pub complete : IsComplete IsScript (λ s. (s ≡ 0) ⊎ (s ≡ 6)) given old out out' notes notes' status

@@ -11,9 +11,10 @@ use Rattle.mv_entry.specs.declared.journal.Tally.{Tally}
 use Rattle.mv_entry.specs.Tallies.{with_entries}
 use Rattle.mv_script_run.specs.Runs.{Runs, RunsTo}
 use Rattle.mv_script.specs.Scripts.{Items}
+use Rattle.mv_task.specs.Begun.{BeganAll}
 use Rattle.mv_task.specs.Inputs.{Inputs}
 use Rattle.mv_task.specs.Made.{Prepared}
-use Rattle.mv_task.specs.Lines.{TellsLine, memory_line}
+use Rattle.mv_task.specs.Lines.{TellsLine, TellsBehind, memory_line}
 use Rattle.mv_opt.specs.declared.output.Output.{Output}
 use Rattle.mv_opt.specs.Outputs.{no_tally, output_of, output_for}
 use Rattle.mv_opt.specs.Noted.{all_notes, IsCertificateOf}
@@ -93,17 +94,19 @@ pub record EndsCut (given : Inputs) (before after : Stored) (out out' notes note
   pub taken : IfSome before.held (TakesItems given.second items)
   pub cut : IsCut (output_for given.network) items first out out' notes notes'
 
--- the named script stopped on the network
+-- the named script stopped on the network, behind all files that are named
 pub record HasStoppedOn (given : Inputs) (before after : Stored) (entries : List Entry) : Type 0 where
   pub first : NetParts
   pub made : Prepared given.network before after first
   pub items : Items
   pub taken : IfSome before.held (TakesItems given.second items)
+  pub begun : BeganAll given.network before after
   pub net : NetParts
   pub stops : RunsTo items first entries net
 
--- memory ran out, before any command or within one, and the notes tell so behind the entries that came
+-- memory ran out, before any command or within one, and the notes tell so behind the entries that came, each of which is there
+-- whole: only the last line may be cut, where the notes failed
 pub record EndsShort (given : Inputs) (before after : Stored) (notes notes' : Written) : Type 0 where
   pub entries : List Entry
   pub ran : (entries ≡ []) ⊎ HasStoppedOn given before after entries
-  pub tells : TellsLine notes notes' (print entries ++ memory_line)
+  pub tells : TellsBehind notes notes' (print entries) memory_line

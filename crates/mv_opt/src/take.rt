@@ -1,10 +1,11 @@
 ghost use Rattle.std.specs.Prelude.{◌≡◌, ◌≤◌, true, Err, IfOk, IfErr, IfSome, OnOk};
-ghost use Rattle.mv_files.specs.FileReading.{Stay};
+ghost use Rattle.mv_files.specs.FileReading.{BeganOne, Stay};
 ghost use Rattle.mv_rules_back.specs.Names.{HasWordNames};
 ghost use Rattle.mv_script.specs.Commands.{are_built, are_named};
 ghost use Rattle.mv_script.specs.Scripts.{items_of};
 ghost use Rattle.mv_task.specs.declared.fault.FileFault.{FileFault};
 ghost use Rattle.mv_task.specs.declared.fault.SourceStop.TheVariants.{Fault as faulty};
+ghost use Rattle.mv_task.specs.Begun.{BeganAll};
 ghost use Rattle.mv_task.specs.Exact.{SecondEnded, Ended};
 ghost use Rattle.mv_task.specs.Faults.{RefusesNetwork};
 ghost use Rattle.mv_task.specs.Made.{Prepared};
@@ -25,7 +26,7 @@ use mv_task::{network_of_text, take_network};
 use mv_work::work_text;
 use std::alloc::Global;
 
-/// Reads the script file of this name.
+/// Reads the script file of this name. It is begun once, and no other is.
 #[tactic(auto, using(crate::proofs::Takes::takes_script))]
 fn take_script<F: Files>(alloc: Global, name: &str, files: &mut F) -> Result<Script, Stop>
     ensures taken { OnOk result (IfSome (F.state files.old).held (IsTaken IsScript name.now)) }
@@ -35,6 +36,7 @@ fn take_script<F: Files>(alloc: Global, name: &str, files: &mut F) -> Result<Scr
     ensures stay { Stay (F.state files.old) (F.state files.new) }
     ensures own { (fault : FileFault) → result ≡ Err (Stop.Source (faulty fault)) → ⊥ }
     ensures refused { IfErr result (IsRefusal name.now (F.state files.old)) }
+    ensures starts { BeganOne (F.state files.old) (F.state files.new) }
     ensures ended { IfErr result (λ stop. SecondEnded IsScript 3 name.now (F.state files.old) (F.state files.new) (status_of stop)) }
 {
     let text = match read_file(alloc, files, name, MAX_SCRIPT_BYTES) {
@@ -75,6 +77,7 @@ pub fn prepare<F: Files>(
     ensures named { IfOk result (λ work. are_named (items_of work.script) ≡ true) }
     ensures made { IfOk result (λ work. Prepared (File network.now) (F.state files.old) (F.state files.new) work.net) }
     ensures names { IfOk result (λ work. HasWordNames work.net.nets) }
+    ensures starts { OnOk result (BeganAll (File network.now) (F.state files.old) (F.state files.new)) }
     ensures faulty { (fault : FileFault) → result ≡ Err (Stop.Source (faulty fault))
         → IfSome (F.state files.old).held (RefusesNetwork (File network.now) fault) }
     ensures refused { IfErr result (IsRefusal script.now (F.state files.old)) }
@@ -108,6 +111,7 @@ pub fn prepare_drawn<F: Files>(
     ensures named { IfOk result (λ work. are_named (items_of work.script) ≡ true) }
     ensures made { IfOk result (λ work. Prepared (Text (work_text size seed)) (F.state files.old) (F.state files.new) work.net) }
     ensures names { IfOk result (λ work. HasWordNames work.net.nets) }
+    ensures starts { OnOk result (BeganAll (Text (work_text size seed)) (F.state files.old) (F.state files.new)) }
     ensures faulty { (fault : FileFault) → result ≡ Err (Stop.Source (faulty fault))
         → IfSome (F.state files.old).held (RefusesNetwork (Text (work_text size seed)) fault) }
     ensures refused { IfErr result (IsRefusal script.now (F.state files.old)) }

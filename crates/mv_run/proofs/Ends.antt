@@ -17,4 +17,4 @@ pub short_at_once : (asked : Option Asked) (files : Stored) (out notes notes' : 
 short_at_once (Some (opt f)) files out notes notes' optimises checks told = optimises (named f.net f.other)
 short_at_once (Some (check f)) files out notes notes' optimises checks told = checks f.net f.other
 short_at_once (Some (work d)) files out notes notes' optimises checks told = optimises (drawn d.size d.seed d.script)
-short_at_once None files out notes notes' optimises checks told = inr (refl, told)
+short_at_once None files out notes notes' optimises checks told = (inr (refl, told), refl)

@@ -1,2 +1,3 @@
+pub mod Again
 mod Ends
 mod Sizes

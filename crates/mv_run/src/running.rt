@@ -2,7 +2,7 @@ ghost use Rattle.std.specs.Prelude.{◌≡◌, ◌≤◌, map, string_bytes, Non
 ghost use Rattle.mv_base.specs.Outside.{Rose};
 ghost use Rattle.mv_task.specs.Lines.{TellsLine};
 ghost use Rattle.mv_command_line.specs.CommandLine.{task_of};
-ghost use Rattle.mv_run.specs.Doing.{EndsAsked};
+ghost use Rattle.mv_run.specs.Doing.{EndsAsked, starts_behind};
 ghost use Rattle.mv_run.specs.Replacing.{IsReplaced, network_asked};
 
 use mv_base::{Files, Sink};
@@ -42,6 +42,8 @@ pub fn run<F: Files, O: Sink, E: Sink>(
     ensures words { result ≡ 1 → task_of (map string_bytes words.now) ≡ None }
     ensures does { EndsAsked (task_of (map string_bytes words.now)) (F.state files.old) (F.state files.new)
         (O.state out.old) (O.state out.new) (E.state notes.old) (E.state notes.new) result }
+    ensures begun { result ≡ 0 → (F.state files.new).starts ≡ starts_behind (task_of (map string_bytes words.now)) (F.state files.old).starts }
+    ensures unread { result ≡ 1 → F.state files.new ≡ F.state files.old }
     ensures read { result ≡ 4 → Rose (F.state files.old).faults (F.state files.new).faults }
     ensures untouched { (result ≡ 0 → ⊥) → (result ≡ 5 → ⊥) → O.state out.new ≡ O.state out.old }
     ensures known { result ≤ 7 }

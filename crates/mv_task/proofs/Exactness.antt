@@ -26,7 +26,7 @@ refuses_none content (Lex f) r a = let none = a.lexed in cc
 refuses_none content (Parse f) r a = refused-excludes (lines_of content) (ParseFault f) (lines-ascend content) r.first (λ e. cc) a.form
 refuses_none content (Flat f) r a = refused-excludes (lines_of content) (FlatFault f) (lines-ascend content) r.unsound (λ e. cc) a.form
 
-taken_faulty : (source : Source) (held : Held) (f : FileFault) → TakesNetwork source held → RefusesNetwork source f held → ⊥
+pub taken_faulty : (source : Source) (held : Held) (f : FileFault) → TakesNetwork source held → RefusesNetwork source f held → ⊥
 taken_faulty (File name) held f t r =
     refuses_none r.content f r.refused (subst IsAccepted (some_content t.content r.content (sym t.named ∙ r.named)) t.accepted)
 taken_faulty (Text text) held f t r = refuses_none text f r t
@@ -58,17 +58,17 @@ module _ (Accepts : List ℕ → Type 0) (refused : ℕ) (given : Inputs) where
       both (IsTaken Accepts given.second) (IsRefused Accepts given.second) held (taken_refused Accepts given.second) t r
 
   pub ended_exact : (old new : Stored) (status : ℕ) → Ended Accepts refused given old new status → IsExact Accepts refused given old status
-  ended_exact old new status (Second is cause) = record {
+  ended_exact old new status (Second is cause b) = record {
     second_refused = λ r u. is;
     network_refused = λ t r u. absurd (second_either old.held t cause);
   }
-  ended_exact old new status (Network is f taken cause) = record {
+  ended_exact old new status (Network is f taken cause b) = record {
     second_refused = λ r u. absurd (second_both old.held r taken);
     network_refused = λ t r u. is;
   }
-  ended_exact old new status (Unread is rose lacks) =
+  ended_exact old new status (Unread is rose lacks b) =
       record { second_refused = λ r u. absurd (u.read is); network_refused = λ t r u. absurd (u.read is) }
-  ended_exact old new status (Short is) =
+  ended_exact old new status (Short is b) =
       record { second_refused = λ r u. absurd (u.memory is); network_refused = λ t r u. absurd (u.memory is) }
 
   -- where both files were taken nothing is refused
@@ -89,13 +89,13 @@ module _ (Accepts : List ℕ → Type 0) (refused : ℕ) (given : Inputs) where
   -- and refuse nothing
   pub ended_complete : (IsEnd : ℕ → Type 0) (old new : Stored) (out out' notes notes' : Written) (status : ℕ) → (status ≡ 6 → IsEnd status) → Ended Accepts refused given old new status
       → IsComplete Accepts IsEnd given old out out' notes notes' status
-  ended_complete IsEnd old new out out' notes notes' status short (Second is cause) = record {
+  ended_complete IsEnd old new out out' notes notes' status short (Second is cause b) = record {
     succeeds = λ h o n. absurd (both (HoldsAll Accepts given) (IsRefused Accepts given.second) old.held (λ f all r. taken_refused Accepts given.second f all.second r) h cause);
   }
-  ended_complete IsEnd old new out out' notes notes' status short (Network is f taken cause) = record {
+  ended_complete IsEnd old new out out' notes notes' status short (Network is f taken cause b) = record {
     succeeds = λ h o n. absurd (both (HoldsAll Accepts given) (RefusesNetwork given.network f) old.held (λ k all r. taken_faulty given.network k f all.network r) h cause);
   }
-  ended_complete IsEnd old new out out' notes notes' status short (Unread is rose lacks) = record {
+  ended_complete IsEnd old new out out' notes notes' status short (Unread is rose lacks b) = record {
     succeeds = λ h o n. absurd (both (HoldsAll Accepts given) (LacksFile Accepts given) old.held lacks_none h lacks);
   }
-  ended_complete IsEnd old new out out' notes notes' status short (Short is) = record { succeeds = λ h o n. short is }
+  ended_complete IsEnd old new out out' notes notes' status short (Short is b) = record { succeeds = λ h o n. short is }

@@ -10,6 +10,7 @@ use Rattle.mv_design.specs.Proper.{numbers_ascend}
 use Rattle.mv_fault.specs.declared.fault.ParseFault.{ParseFault}
 use Rattle.mv_fault.specs.declared.flat.FlatFault.{FlatFault}
 use Rattle.mv_net.specs.declared.parts.NetParts.{NetParts}
+use Rattle.mv_net.specs.Formed.{WellFormed}
 use Rattle.mv_parse.specs.Grammar.{FirstFault}
 use Rattle.mv_parse_laws.specs.Lines.{numbers_of}
 use Rattle.mv_parse_laws.proofs.FileLines.{file_ascends}
@@ -50,16 +51,16 @@ network_unsound name old new lines f w h =
     let P : List LexLine → Type 0 = λ l. IsUnsound l f in
     faulty_of name old.held (Flat f) w.content (named_of name w.content old.held new.held w.read) (record { lexed = w.lexed; unsound = subst P w.lines_are h })
 
-prepared_of : (name : List ℕ) (old new : Option Held) (content : List ℕ) (net : NetParts) → Still old new (λ b a. HasReadAll b a name content) → lex_fault MAX_NETWORK_BYTES content ≡ None → IsNetOf (lines_of content) net → Still old new (λ b a. WasPrepared name b a net)
-prepared_of name None new content net r e h = tt
-prepared_of name (Some o) None content net r e h = absurd r
-prepared_of name (Some o) (Some n) content net r e h =
-    record { content = content; held = r.named; files = r.files; current = r.current; ended = r.ended; net_of = record { lexed = e; net_of = h } }
+prepared_of : (name : List ℕ) (old new : Option Held) (content : List ℕ) (net : NetParts) → Still old new (λ b a. HasReadAll b a name content) → lex_fault MAX_NETWORK_BYTES content ≡ None → IsNetOf (lines_of content) net → WellFormed net → Still old new (λ b a. WasPrepared name b a net)
+prepared_of name None new content net r e h formed = tt
+prepared_of name (Some o) None content net r e h formed = absurd r
+prepared_of name (Some o) (Some n) content net r e h formed =
+    record { content = content; held = r.named; files = r.files; current = r.current; ended = r.ended; net_of = record { lexed = e; net_of = h; formed = formed } }
 
-pub network_prepared : (name : List ℕ) (old new : Stored) (lines : List LexLine) (net : NetParts) → WasLexed old new name MAX_NETWORK_BYTES lines → IsNetOf lines net → Prepared (File name) old new net
-network_prepared name old new lines net w h =
+pub network_prepared : (name : List ℕ) (old new : Stored) (lines : List LexLine) (net : NetParts) → WasLexed old new name MAX_NETWORK_BYTES lines → IsNetOf lines net → WellFormed net → Prepared (File name) old new net
+network_prepared name old new lines net w h formed =
     let P : List LexLine → Type 0 = λ l. IsNetOf l net in
-    prepared_of name old.held new.held w.content net w.read w.lexed (subst P w.lines_are h)
+    prepared_of name old.held new.held w.content net w.read w.lexed (subst P w.lines_are h) formed
 
 -- the numbers of its lines ascend
 pub network_ordered : (name : List ℕ) (old new : Stored) (lines : List LexLine) → WasLexed old new name MAX_NETWORK_BYTES lines → numbers_ascend (numbers_of lines) ≡ true
@@ -108,7 +109,7 @@ prepared_earlier (File name) a b c net s p = prepared_earlier_of name a.held b.h
 prepared_earlier (Text text) a b c net s p = p
 
 -- a network that was made is of a text that is accepted
-text_accepted : (text : List ℕ) (net : NetParts) → IsNetOfText text net → IsAccepted text
+pub text_accepted : (text : List ℕ) (net : NetParts) → IsNetOfText text net → IsAccepted text
 text_accepted text net p =
     let n = p.net_of in
     record { lexed = p.lexed; form = record { design = n.design; is = n.is; within = n.within; sound = n.flat.sound; limits = n.flat.limits; fits = n.flat.fits } }

@@ -13,6 +13,7 @@ use Rattle.mv_design.specs.Proper.{numbers_ascend}
 use Rattle.mv_fault.specs.declared.fault.ParseFault.{ParseFault}
 use Rattle.mv_fault.specs.declared.flat.FlatFault.{FlatFault}
 use Rattle.mv_net.specs.declared.parts.NetParts.{NetParts}
+use Rattle.mv_net.specs.Formed.{WellFormed}
 use Rattle.mv_parse.specs.Grammar.{FirstFault}
 use Rattle.mv_parse_laws.specs.Lines.{numbers_of}
 use Rattle.mv_parse_laws.proofs.FileLines.{file_ascends}
@@ -67,8 +68,8 @@ finish_told limit text first behind f fed t =
 pub text_ordered : (text : List ℕ) (lines : List LexLine) → lines ≡ lines_of text → numbers_ascend (numbers_of lines) ≡ true
 text_ordered text lines e = file_ascends lines (record { bytes = text; are = e })
 
-pub text_made : (text : List ℕ) (lines : List LexLine) (net : NetParts) → lex_fault MAX_NETWORK_BYTES text ≡ None → lines ≡ lines_of text → IsNetOf lines net → IsNetOfText text net
-text_made text lines net clean e h = record { lexed = clean; net_of = subst (λ l. IsNetOf l net) e h }
+pub text_made : (text : List ℕ) (lines : List LexLine) (net : NetParts) → lex_fault MAX_NETWORK_BYTES text ≡ None → lines ≡ lines_of text → IsNetOf lines net → WellFormed net → IsNetOfText text net
+text_made text lines net clean e h formed = record { lexed = clean; net_of = subst (λ l. IsNetOf l net) e h; formed = formed }
 
 pub text_unread : (text : List ℕ) (lines : List LexLine) (f : ParseFault) → lex_fault MAX_NETWORK_BYTES text ≡ None → lines ≡ lines_of text → FirstFault lines f → Refuses text (Parse f)
 text_unread text lines f clean e h = record { lexed = clean; first = subst (λ l. FirstFault l f) e h }

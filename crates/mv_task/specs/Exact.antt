@@ -1,7 +1,8 @@
 -- When a run refuses, the other way round, and when it succeeds. Accepts says which second files are accepted.
 use Rattle.std.specs.Prelude.{◌≡◌, ◌⊎◌, ℕ, true, IfSome, IsSomeAnd, None, List}
 use Rattle.mv_base.specs.Outside.{Held, Stored, Written, Rose, file_named}
-use Rattle.mv_files.specs.FileReading.{Lacks}
+use Rattle.mv_files.specs.FileReading.{BeganNone, BeganOne, Lacks}
+use Rattle.mv_task.specs.Begun.{BeganAll}
 use Rattle.mv_task.specs.Inputs.{Inputs, Misses}
 use Rattle.mv_task.specs.declared.fault.FileFault.{FileFault}
 use Rattle.mv_task.specs.Faults.{RefusesNetwork}
@@ -41,10 +42,11 @@ pub data SecondEnded (Accepts : List ℕ → Type 0) (refused : ℕ) (name : Lis
   NoMemory : (is : status ≡ 6) → SecondEnded Accepts refused name old new status
 
 -- why a run ends before it has a network and a second file: that one is refused, or the network behind it is, or a read failed, or
--- memory ran out
+-- memory ran out; and which files it began
 pub data Ended (Accepts : List ℕ → Type 0) (refused : ℕ) (given : Inputs) (old new : Stored) (status : ℕ) : Type 0 where
-  Second : (is : status ≡ refused) → (cause : IfSome old.held (IsRefused Accepts given.second)) → Ended Accepts refused given old new status
+  Second : (is : status ≡ refused) → (cause : IfSome old.held (IsRefused Accepts given.second)) → (began : BeganOne old new) → Ended Accepts refused given old new status
   Network : (is : status ≡ 2) → (fault : FileFault) → (taken : IfSome old.held (IsTaken Accepts given.second))
-      → (cause : IfSome old.held (RefusesNetwork given.network fault)) → Ended Accepts refused given old new status
-  Unread : (is : status ≡ 4) → (rose : Rose old.faults new.faults) → (lacks : IfSome old.held (LacksFile Accepts given)) → Ended Accepts refused given old new status
-  Short : (is : status ≡ 6) → Ended Accepts refused given old new status
+      → (cause : IfSome old.held (RefusesNetwork given.network fault)) → (began : BeganAll given.network old new) → Ended Accepts refused given old new status
+  Unread : (is : status ≡ 4) → (rose : Rose old.faults new.faults) → (lacks : IfSome old.held (LacksFile Accepts given))
+      → (began : BeganOne old new ⊎ BeganAll given.network old new) → Ended Accepts refused given old new status
+  Short : (is : status ≡ 6) → (began : BeganNone old new ⊎ BeganOne old new ⊎ BeganAll given.network old new) → Ended Accepts refused given old new status

@@ -1,4 +1,5 @@
 pub mod Inputs
+pub mod Begun
 pub mod Lines
 pub mod Taken
 pub mod Faults

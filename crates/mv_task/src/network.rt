@@ -1,4 +1,5 @@
 ghost use Rattle.std.specs.Prelude.{IfOk, IfErr};
+ghost use Rattle.mv_files.specs.FileReading.{BeganOne};
 ghost use Rattle.mv_rules_back.specs.Names.{HasWordNames};
 ghost use Rattle.mv_task.specs.Faults.{IsNetworkCause};
 ghost use Rattle.mv_task.specs.Inputs.{File, Text};
@@ -12,7 +13,7 @@ use mv_net::Network;
 use mv_read::{NetFault, network_of};
 use std::alloc::Global;
 
-/// Reads the network file of this name, and makes its network.
+/// Reads the network file of this name, and makes its network. The file is begun once, and no other is.
 #[tactic(auto, using(crate::proofs::Networks::takes_network))]
 pub fn take_network<F: Files>(
     alloc: Global,
@@ -22,6 +23,7 @@ pub fn take_network<F: Files>(
     ensures made { IfOk result (Prepared (File name.now) (F.state files.old) (F.state files.new)) }
     ensures names { IfOk result (λ net. HasWordNames net.nets) }
     ensures stopped { IfErr result (IsNetworkCause (File name.now) (F.state files.old) (F.state files.new)) }
+    ensures starts { BeganOne (F.state files.old) (F.state files.new) }
 {
     let lines = match read_lines(alloc, files, name, MAX_NETWORK_BYTES) {
         Ok(lines) => lines,
@@ -30,7 +32,10 @@ pub fn take_network<F: Files>(
         Err(LinesStop::Lex(fault)) => return Err(SourceStop::Fault(FileFault::Lex(fault))),
     };
     match network_of(alloc, lines) {
-        Ok(net) => Ok(net),
+        Ok(net) => {
+            net.well_formed();
+            Ok(net)
+        }
         Err(NetFault::Parse(fault)) => Err(SourceStop::Fault(FileFault::Parse(fault))),
         Err(NetFault::Flat(fault)) => Err(SourceStop::Fault(FileFault::Flat(fault))),
         Err(NetFault::Memory) => Err(SourceStop::Memory),

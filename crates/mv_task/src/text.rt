@@ -45,7 +45,10 @@ pub fn network_of_text(alloc: Global, text: &[u8]) -> Result<Network, SourceStop
         Err(fault) => return Err(SourceStop::Fault(FileFault::Lex(fault))),
     };
     match network_of(alloc, lines) {
-        Ok(net) => Ok(net),
+        Ok(net) => {
+            net.well_formed();
+            Ok(net)
+        }
         Err(NetFault::Parse(fault)) => Err(SourceStop::Fault(FileFault::Parse(fault))),
         Err(NetFault::Flat(fault)) => Err(SourceStop::Fault(FileFault::Flat(fault))),
         Err(NetFault::Memory) => Err(SourceStop::Memory),

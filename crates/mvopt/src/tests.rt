@@ -8,6 +8,7 @@ mod instances;
 mod joints;
 mod limits;
 mod refusals;
+mod standard_input;
 mod states;
 mod texts;
 mod works;

@@ -10,4 +10,4 @@ returns-in-Err g c =
 pub returns-in-Ok : goal.returns-in-Ok
 returns-in-Ok g c =
     let given = c.in-Ok.ensures in
-    run_ends _ _ _ _ _ given.made given.taken given.items _ _ _ _ _ c.finish_run.ensures
+    run_ends _ _ _ _ _ given.made given.taken given.items given.starts _ _ _ _ _ c.finish_run.ensures

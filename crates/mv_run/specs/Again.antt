@@ -1,0 +1,46 @@
+-- A check of what an earlier run noted, and certificates that a check refuses.
+use Rattle.std.specs.Prelude.{◌≡◌, ◌⊎◌, ℕ, ◌≤◌, List, ◌++◌, Some, length}
+use Rattle.mv_base.specs.Outside.{Held, Stored, Written, Gained, file_named}
+use Rattle.mv_base.specs.declared.limits.TheConstants.{MAX_CERTIFICATE_BYTES}
+use Rattle.mv_entry.specs.declared.fault.RuleFault.{RuleFault}
+use Rattle.mv_net.specs.declared.parts.NetParts.{NetParts}
+use Rattle.mv_cert.specs.Certificates.{IsCertificate, steps_in}
+use Rattle.mv_cert.specs.Replay.{FailsAt}
+use Rattle.mv_task.specs.Made.{IsNetOfText}
+use Rattle.mv_task.specs.Taken.{IsTaken, IsRefused}
+
+-- the files of a later run, which tell of themselves as those of an earlier one did, have the same network file, and by the name of
+-- a certificate what the notes of the earlier run gained, which isn't longer than a certificate may be
+pub record HoldsNoted (net certificate : List ℕ) (earlier later : Stored) (notes notes' : Written) : Type 0 where
+  pub before : Held
+  pub told : earlier.held ≡ Some before
+  pub now : Held
+  pub tell : later.held ≡ Some now
+  pub network : file_named net now.files ≡ file_named net before.files
+  pub had : List ℕ
+  pub noted : List ℕ
+  pub first : notes.told ≡ Some had
+  pub gained : notes'.told ≡ Some (had ++ noted)
+  pub named : file_named certificate now.files ≡ Some noted
+  pub short : length noted ≤ MAX_CERTIFICATE_BYTES
+
+-- two runs wrote the same text
+pub record WriteSame (out out' again again' : Written) : Type 0 where
+  pub text : List ℕ
+  pub first : Gained out out' text
+  pub second : Gained again again' text
+
+-- the files hold a network file that is accepted and a certificate that is one, and behind some first rules of it, which apply in
+-- turn, beginning with the network, one doesn't
+pub record HoldsFailing (net certificate : List ℕ) (held : Held) : Type 0 where
+  pub first : NetParts
+  pub network : IsTaken (λ text. IsNetOfText text first) net held
+  pub rules : IsTaken IsCertificate certificate held
+  pub last : NetParts
+  pub line : ℕ
+  pub fault : RuleFault
+  pub fails : FailsAt (steps_in rules.content) first last line fault
+
+-- the certificate is refused: its text, or a rule of it
+abbrev pub HoldsRefused : List ℕ → List ℕ → Held → Type 0
+HoldsRefused net certificate held = IsRefused IsCertificate certificate held ⊎ HoldsFailing net certificate held
