@@ -1,5 +1,5 @@
 //! Names that are gathered, each once, in the order in which they come.
-ghost use Rattle.std.specs.Prelude.{◌≡◌, OnOk};
+ghost use Rattle.std.specs.Prelude.{◌≡◌, OnOk, OnErr};
 ghost use Rattle.mv_acyclic.specs.Driving.{with_name, with_named, with_names};
 
 use crate::naming::Naming;
@@ -27,12 +27,18 @@ pub fn add_nets(names: &mut NameSet, nets: &[Name]) -> Result<(), Memory>
     Ok(())
 }
 
-/// Adds the name unless it is there. Most names come again, so it is looked up before it is copied.
+/// Adds the name unless it is there. Most names come again, so it is looked up before it is copied. On an error the names are
+/// as before.
 pub fn add_net(names: &mut NameSet, net: &Name) -> Result<(), Memory>
-    ensures { OnOk result (names.new ≡ with_name names.old net.now) }
+    ensures ok { OnOk result (names.new ≡ with_name names.old net.now) }
+    ensures err { OnErr result (names.new ≡ names.old) }
 {
-    if !names.contains(net) {
-        names.add(net.copy()?)?;
+    if names.contains(net) {
+        return Ok(());
     }
-    Ok(())
+    let copied = net.copy()?;
+    match names.add(copied) {
+        Ok(_new) => Ok(()),
+        Err(memory) => Err(memory),
+    }
 }

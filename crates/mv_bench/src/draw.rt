@@ -3,7 +3,7 @@ ghost use Rattle.std.specs.List.{list_all};
 ghost use Rattle.mv_base.specs.Set.{empty};
 ghost use Rattle.mv_bench.specs.Drawn.{lines_below};
 
-use mv_base::{Items, Memory, NetId, Value, ValueSet};
+use mv_base::{Items, Memory, NetId, PackedSet, Value, ValueSet};
 use mv_cover::{Cube, Line, Lit};
 use rand_core::utils::NextWord;
 use rand_pcg::Pcg32;
@@ -38,16 +38,20 @@ fn drawn_set(random: &mut Pcg32) -> ValueSet
 }
 
 /// A literal on the net, or none, at the odds in `shape`.
-fn drawn_literal(random: &mut Pcg32, shape: Shape, net: u32) -> Option<Lit>
-    ensures net { IfSome result (λ l. l.net.0 ≡ net) }
-    ensures some { IfSome result (λ l. nat_eq l.set empty ≡ false) }
+fn drawn_literal(
+    alloc: Global,
+    random: &mut Pcg32,
+    shape: Shape,
+    net: u32,
+) -> Result<Option<Lit>, Memory>
+    ensures net { IfOk result (λ drawn. IfSome drawn (λ l. l.net.0 ≡ net)) }
+    ensures some { IfOk result (λ drawn. IfSome drawn (λ l. nat_eq l.set empty ≡ false)) }
 {
     if random.next_word() % 8 >= shape.odds {
-        return None;
+        return Ok(None);
     }
-    let net = NetId(net);
     let set = drawn_set(random);
-    Some(Lit { net, set })
+    Ok(Some(Lit::new(alloc, NetId(net), set)?))
 }
 
 /// A cube of this shape.
@@ -57,7 +61,8 @@ fn drawn_cube(alloc: Global, random: &mut Pcg32, shape: Shape) -> Result<Cube, M
 {
     let mut lits = Items::new(alloc);
     for net in 0..shape.nets {
-        if let Some(l) = drawn_literal(random, shape, net) {
+        let drawn = drawn_literal(alloc, random, shape, net)?;
+        if let Some(l) = drawn {
             lits.push(l)?;
         }
     }
@@ -76,7 +81,8 @@ pub fn drawn_lines(
     let mut lines = Items::new(alloc);
     'drawing: for _ in 0..size {
         let cube = drawn_cube(alloc, random, shape)?;
-        let out = ValueSet::one(Value((random.next_word() % 4) as u16));
+        let value = Value((random.next_word() % 4) as u16);
+        let out = PackedSet::new(alloc, ValueSet::one(value))?;
         lines.push(Line { cube, out })?;
     }
     Ok(lines)

@@ -1,7 +1,7 @@
-ghost use Rattle.std.specs.Prelude.{◌≡◌, ◌<◌, false, nat_eq};
+ghost use Rattle.std.specs.Prelude.{◌≡◌, ◌<◌, false, nat_eq, IfOk};
 ghost use Rattle.mv_base.specs.Set.{empty};
 
-use mv_base::{Items, Memory, NetId, Value, ValueSet};
+use mv_base::{Items, Memory, NetId, PackedSet, Value, ValueSet};
 use mv_cover::{Cube, Line, Lit};
 use rand_core::utils::NextWord;
 use rand_pcg::Pcg32;
@@ -14,24 +14,24 @@ pub const NETS: usize = 24;
 
 /// The literal that a net of two values has the second one.
 #[tactic(auto, using(mv_cover::proofs::Points::one_some))]
-fn second_value(net: u32) -> Lit
-    ensures net { result.net.0 ≡ net }
-    ensures some { nat_eq result.set empty ≡ false }
+fn second_value(alloc: Global, net: u32) -> Result<Lit, Memory>
+    ensures net { IfOk result (λ l. l.net.0 ≡ net) }
+    ensures some { IfOk result (λ l. nat_eq l.set empty ≡ false) }
 {
-    Lit {
-        net: NetId(net),
-        set: ValueSet::one(Value(1)),
-    }
+    Lit::new(alloc, NetId(net), ValueSet::one(Value(1)))
 }
 
 /// The line of the pair at this place, in which both nets have the second value.
 fn pair_line(alloc: Global, place: u32) -> Result<Line, Memory>
     requires { place < PAIRS }
 {
-    let lits = [second_value(2 * place), second_value(2 * place + 1)];
+    let lits = [
+        second_value(alloc, 2 * place)?,
+        second_value(alloc, 2 * place + 1)?,
+    ];
     Ok(Line {
         cube: Cube::new(alloc, &lits)?,
-        out: ValueSet::one(Value(1)),
+        out: PackedSet::new(alloc, ValueSet::one(Value(1)))?,
     })
 }
 

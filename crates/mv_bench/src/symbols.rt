@@ -1,4 +1,4 @@
-ghost use Rattle.std.specs.Prelude.{◌≡◌, false, nat_eq, IfSome};
+ghost use Rattle.std.specs.Prelude.{◌≡◌, false, nat_eq, IfOk, IfSome};
 ghost use Rattle.mv_base.specs.Set.{empty};
 
 use mv_base::{Items, Memory, NetId, Value, ValueSet};
@@ -12,17 +12,14 @@ const SYMBOLS: u32 = 30;
 
 /// The symbol of the net, or none, at the odds of one in six.
 #[tactic(auto, using(mv_cover::proofs::Points::one_some))]
-fn drawn_symbol(random: &mut Pcg32, net: u32) -> Option<Lit>
-    ensures net { IfSome result (λ l. l.net.0 ≡ net) }
-    ensures some { IfSome result (λ l. nat_eq l.set empty ≡ false) }
+fn drawn_symbol(alloc: Global, random: &mut Pcg32, net: u32) -> Result<Option<Lit>, Memory>
+    ensures net { IfOk result (λ drawn. IfSome drawn (λ l. l.net.0 ≡ net)) }
+    ensures some { IfOk result (λ drawn. IfSome drawn (λ l. nat_eq l.set empty ≡ false)) }
 {
     if random.next_word() % 6 > 0 {
-        return None;
+        return Ok(None);
     }
-    Some(Lit {
-        net: NetId(net),
-        set: ValueSet::one(Value(1)),
-    })
+    Ok(Some(Lit::new(alloc, NetId(net), ValueSet::one(Value(1)))?))
 }
 
 /// A cube of drawn symbols.
@@ -30,7 +27,8 @@ fn drawn_symbol(random: &mut Pcg32, net: u32) -> Option<Lit>
 fn drawn_cube(alloc: Global, random: &mut Pcg32) -> Result<Cube, Memory> {
     let mut lits = Items::new(alloc);
     for net in 0..SYMBOLS {
-        if let Some(l) = drawn_symbol(random, net) {
+        let drawn = drawn_symbol(alloc, random, net)?;
+        if let Some(l) = drawn {
             lits.push(l)?;
         }
     }

@@ -17,7 +17,7 @@ use Rattle.mv_net.specs.Index.{HasName, kind_in}
 use Rattle.mv_net.specs.Fresh.{is_named}
 use Rattle.mv_net.specs.Formed.{IsReadable, WellFormed}
 use Rattle.mv_net.proofs.Named.{held_below}
-use Rattle.mv_cover.specs.declared.cube.Lit.{Lit}
+use Rattle.mv_cover.specs.Literal.{Lit}
 use Rattle.mv_entry.specs.declared.rule.Body.{Body}
 use Rattle.mv_entry.specs.declared.rule.BodyLit.{BodyLit}
 use Rattle.mv_entry.specs.declared.rule.BodyLine.{BodyLine}

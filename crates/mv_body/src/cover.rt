@@ -33,10 +33,7 @@ pub fn tidy_cover(
     if !is_default_beside(body.default_set(), values, lines.as_slice()) {
         return Ok(None);
     }
-    Ok(Some(Cover {
-        lines,
-        default: body.default_set(),
-    }))
+    Ok(Some(Cover::new(alloc, lines, body.default_set())?))
 }
 
 /// Whether the default of a net of so many values may stand beside the lines.

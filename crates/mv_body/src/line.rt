@@ -5,7 +5,7 @@ ghost use Rattle.mv_body.specs.Bodies.{IsKnown, IsLineKnown, IsTidyCube, IsTidyL
 use crate::literal::{checked_literals, is_output};
 use crate::sorted::{ascend, by_net};
 use indexmap::IndexSet;
-use mv_base::{Items, MAX_VALUES, Memory};
+use mv_base::{Items, MAX_VALUES, Memory, PackedSet};
 use mv_cover::{Cube, Line};
 use mv_entry::{BodyLine, BodyLit};
 use mv_net::Network;
@@ -47,7 +47,7 @@ fn tidy_line(
     match tidy_cube(alloc, net, line.lits.as_slice())? {
         Some(cube) => Ok(Some(Line {
             cube,
-            out: line.out.get(),
+            out: line.out.copy()?,
         })),
         None => Ok(None),
     }

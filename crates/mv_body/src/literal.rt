@@ -30,13 +30,14 @@ fn number_said(net: &Network, name: &[u8]) -> NetId
 }
 
 /// The literal over numbers: on the net with the name, and on the number 0 where there is none.
-fn literal_said(net: &Network, literal: &BodyLit) -> Lit
-    ensures { result ≡ literal_said net.now.nets literal.now }
+fn literal_said(alloc: Global, net: &Network, literal: &BodyLit) -> Result<Lit, Memory>
+    ensures { IfOk result (λ said. said ≡ literal_said net.now.nets literal.now) }
 {
-    Lit {
-        net: number_said(net, literal.net.bytes()),
-        set: literal.set.get(),
-    }
+    Lit::new(
+        alloc,
+        number_said(net, literal.net.bytes()),
+        literal.set.get(),
+    )
 }
 
 /// Whether the set of a literal on a net that can be read has some of the net's values, but not all.
@@ -45,8 +46,9 @@ fn is_literal(net: &Network, literal: &Lit) -> bool
     ensures { MatchBool result (IsLiteral net.now.nets literal.now) (IsLiteral net.now.nets literal.now → ⊥) }
 {
     net.well_formed();
-    let values = net.values(literal.net);
-    is_output(literal.set, values) && literal.set != ValueSet::full(values)
+    let values = net.values(literal.net());
+    let set = literal.set();
+    is_output(set, values) && set != ValueSet::full(values)
 }
 
 /// The literals over numbers, as they stand, unless some net may not have one of them.
@@ -63,7 +65,7 @@ pub fn checked_literals(
     net.well_formed();
     let mut said = Vec::with_capacity(alloc, lits.len())?;
     for literal in lits {
-        let numbered = literal_said(net, literal);
+        let numbered = literal_said(alloc, net, literal)?;
         if !is_literal(net, &numbered) {
             return Ok(None);
         }

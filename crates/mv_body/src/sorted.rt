@@ -8,7 +8,7 @@ use mv_cover::Lit;
 pub fn by_net(mut lits: Vec<Lit>) -> Vec<Lit>
     ensures { IsByNet lits.items result.items }
 {
-    lits.sort_unstable_by_key(|literal| literal.net.0);
+    lits.sort_unstable_by_key(|literal| literal.net().0);
     lits
 }
 
@@ -17,7 +17,7 @@ pub fn ascend(lits: &[Lit]) -> bool
     ensures { result ≡ nets_ascend lits.now }
 {
     for at in 1..lits.len() {
-        if lits[at].net.0 <= lits[at - 1].net.0 {
+        if lits[at].net().0 <= lits[at - 1].net().0 {
             return false;
         }
     }

@@ -6,7 +6,7 @@ use Rattle.std.proofs.lemmas.Bool.{cases_Bool, false≢true, and_parts, and_from
 use Rattle.std.proofs.lemmas.List.Elements.{All-nil, All-cons, All-append, All-head, All-tail}
 use Rattle.mv_base.specs.Set.{has, meet, full, empty}
 use Rattle.mv_base.proofs.Sets.{has-meet}
-use Rattle.mv_cover.specs.declared.cube.Lit.{Lit}
+use Rattle.mv_cover.specs.Literal.{Lit}
 use Rattle.mv_cover.specs.Cubes.{matches, IsCube}
 use Rattle.mv_cover.specs.Covers.{cube_reads}
 use Rattle.mv_cover.specs.Covering.{changed}

@@ -9,7 +9,7 @@ use Rattle.std.proofs.lemmas.List.Sums.{sum_by-cons, sum_by_more}
 use Rattle.mv_base.specs.declared.limits.TheConstants.{MAX_VALUES}
 use Rattle.mv_base.specs.Set.{has, empty, one, meet, join, minus, Within}
 use Rattle.mv_base.proofs.Sets.{has-empty, has-one, has-join, has-minus, same_set, meet_of_Within, Within-from_meet, count-more}
-use Rattle.mv_cover.specs.declared.cube.Lit.{Lit}
+use Rattle.mv_cover.specs.Literal.{Lit}
 use Rattle.mv_cover.specs.declared.line.Line.{Line}
 use Rattle.mv_cover.specs.Cubes.{IsCube}
 use Rattle.mv_cover.specs.Meets.{literal_at}

@@ -9,7 +9,7 @@ use Rattle.std.specs.Cmp.{unsigned_Decides}
 use Rattle.indexmap.specs.IndexSet.{insert_key, insert_all}
 use Rattle.mv_base.specs.declared.limits.TheConstants.{MAX_FANINS}
 use Rattle.mv_base.proofs.Firsts.{keys-firsts}
-use Rattle.mv_cover.specs.declared.cube.Lit.{Lit}
+use Rattle.mv_cover.specs.Literal.{Lit}
 use Rattle.mv_cover.specs.declared.line.Line.{Line}
 use Rattle.mv_cover.specs.declared.cover.Cover.{Cover}
 use Rattle.mv_cover.specs.Meets.{literal_at}

@@ -4,7 +4,7 @@ use Rattle.std.specs.List.{list_any, flat_map}
 use Rattle.mv_base.specs.Firsts.{firsts_by}
 use Rattle.std.specs.Prelude.{nat_eq}
 use Rattle.mv_base.specs.declared.limits.TheConstants.{MAX_COMPOSED_LINES, MAX_FANINS}
-use Rattle.mv_cover.specs.declared.cube.Lit.{Lit}
+use Rattle.mv_cover.specs.Literal.{Lit}
 use Rattle.mv_cover.specs.declared.line.Line.{Line}
 use Rattle.mv_cover.specs.declared.cover.Cover.{Cover}
 use Rattle.mv_cover.specs.Meets.{literal_at}

@@ -26,7 +26,7 @@ fn put_nets(nets: &mut IndexSet<u32>, cube: &Cube) -> Result<(), Memory>
     ensures { OnOk result (nets.new.keys ≡ insert_all nat_eq nets.old.keys (cube_nets cube.now)) }
 {
     for l in cube.lits() {
-        nets.insert(l.net.0)?;
+        nets.insert(l.net().0)?;
     }
     Ok(())
 }

@@ -10,7 +10,7 @@ ghost use Rattle.mv_composite.specs.Composite.{cubes_giving, line_given};
 use crate::Inner;
 use crate::literal::{literal_on, without};
 use crate::taker::Taker;
-use mv_base::{Memory, ValueSet};
+use mv_base::{Memory, PackedSet, ValueSet};
 use mv_cover::{Cover, Cube, Line};
 
 /// Puts what the reader's line gives to the taker; these are the cubes outside all lines of the net.
@@ -28,7 +28,7 @@ pub fn put_given<T: Taker>(
         return Ok(());
     }
     let rest = without(&line.cube, inner.net)?;
-    put_where(taker, &rest, &inner.cover, outside, &asked, line.out)?;
+    put_where(taker, &rest, &inner.cover, outside, &asked, &line.out)?;
     Ok(())
 }
 
@@ -46,10 +46,10 @@ fn put_where<T: Taker>(
     cover: &Cover,
     outside: &[Cube],
     asked: &Option<ValueSet>,
-    out: ValueSet,
+    out: &PackedSet,
 ) -> Result<(), Memory>
     ensures { OnOk result (T.takes taker.old taker.new
-        (lines_for out (flat_map (met rest.now) (cubes_giving outside.now cover.now asked.now)))) }
+        (lines_for out.now (flat_map (met rest.now) (cubes_giving outside.now cover.now asked.now)))) }
 {
     put_giving(taker, rest, cover.lines.as_slice(), asked, out)?;
     if !default_meets(&cover.default, asked) {
@@ -65,13 +65,13 @@ fn put_giving<T: Taker>(
     rest: &Cube,
     lines: &[Line],
     asked: &Option<ValueSet>,
-    out: ValueSet,
+    out: &PackedSet,
 ) -> Result<(), Memory>
     ensures { OnOk result (T.takes taker.old taker.new
-        (lines_for out (flat_map (met rest.now) (cubes_of (filter (λ (l : a_line). spec.set_meets asked.now l.out) lines.now))))) }
+        (lines_for out.now (flat_map (met rest.now) (cubes_of (filter (λ (l : a_line). spec.set_meets asked.now l.out) lines.now))))) }
 {
     for line in lines {
-        if set_meets(asked, line.out) {
+        if set_meets(asked, &line.out) {
             put_met(taker, rest, &line.cube, out)?;
         }
     }
@@ -83,9 +83,9 @@ fn put_all<T: Taker>(
     taker: &mut T,
     rest: &Cube,
     cubes: &[Cube],
-    out: ValueSet,
+    out: &PackedSet,
 ) -> Result<(), Memory>
-    ensures { OnOk result (T.takes taker.old taker.new (lines_for out (flat_map (met rest.now) cubes.now))) }
+    ensures { OnOk result (T.takes taker.old taker.new (lines_for out.now (flat_map (met rest.now) cubes.now))) }
 {
     for cube in cubes {
         put_met(taker, rest, cube, out)?;
@@ -98,32 +98,35 @@ pub fn put_met<T: Taker>(
     taker: &mut T,
     rest: &Cube,
     other: &Cube,
-    out: ValueSet,
+    out: &PackedSet,
 ) -> Result<(), Memory>
-    ensures { OnOk result (T.takes taker.old taker.new (lines_for out (met rest.now other.now))) }
+    ensures { OnOk result (T.takes taker.old taker.new (lines_for out.now (met rest.now other.now))) }
 {
     match rest.meet(other)? {
         None => Ok(()),
-        Some(cube) => taker.take(Line { cube, out }),
+        Some(cube) => taker.take(Line {
+            cube,
+            out: out.copy()?,
+        }),
     }
 }
 
 /// Whether the set has a value that is asked for; where none is, any will do.
-fn set_meets(asked: &Option<ValueSet>, out: ValueSet) -> bool
-    ensures { result ≡ spec.set_meets asked.now out }
+fn set_meets(asked: &Option<ValueSet>, out: &PackedSet) -> bool
+    ensures { result ≡ spec.set_meets asked.now out.now }
 {
     match asked {
         None => true,
-        Some(set) => out.meet(*set) != ValueSet::empty(),
+        Some(set) => out.get().meet(*set) != ValueSet::empty(),
     }
 }
 
 /// Whether the default, if there is one, has a value of the set that is asked for.
-pub fn default_meets(default: &Option<ValueSet>, asked: &Option<ValueSet>) -> bool
+pub fn default_meets(default: &Option<PackedSet>, asked: &Option<ValueSet>) -> bool
     ensures { result ≡ spec.default_meets default.now asked.now }
 {
     match (default, asked) {
-        (Some(out), Some(set)) => out.meet(*set) != ValueSet::empty(),
+        (Some(out), Some(set)) => out.get().meet(*set) != ValueSet::empty(),
         _ => false,
     }
 }

@@ -12,7 +12,7 @@ pub fn weight_of(line: &Line) -> u64
     ensures counted { IsCounted line.now }
     ensures formed { IsCube line.now.cube }
 {
-    cube_weight(&line.cube) + u64::from(set_weight(line.out))
+    cube_weight(&line.cube) + u64::from(set_weight(line.out.get()))
 }
 
 /// What the literals weigh together.
@@ -25,7 +25,7 @@ fn cube_weight(cube: &Cube) -> u64
     let _short = cube.len();
     let mut weight = 0;
     for l in cube.lits() {
-        weight += u64::from(set_weight(l.set));
+        weight += u64::from(set_weight(l.set()));
     }
     weight
 }

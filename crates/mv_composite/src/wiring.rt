@@ -35,7 +35,7 @@ fn rewired(alloc: Global, net: NetId, into: NetId, cover: &Cover) -> Result<Cove
     ensures formed { OnOk result (AreCubes cover.now.lines) }
 {
     let left = given(alloc, net, into, cover.lines.as_slice())?;
-    Ok(left.finish(cover.default))
+    Ok(left.finish(cover.copied_default()?))
 }
 
 /// What is left of the lines that the lines give.
@@ -61,7 +61,7 @@ fn put_wired(left: &mut Absorber, net: NetId, into: NetId, line: &Line) -> Resul
     };
     let rest = without(&line.cube, net)?;
     let literal = one_literal(rest.allocator(), into, set)?;
-    put_met(left, &rest, &literal, line.out)?;
+    put_met(left, &rest, &literal, &line.out)?;
     Ok(())
 }
 
@@ -70,5 +70,6 @@ fn one_literal(alloc: Global, net: NetId, set: ValueSet) -> Result<Cube, Memory>
     requires { nat_eq set empty ≡ false }
     ensures { IfOk result (λ cube. cube ≡ record { net = net; set = set } ∷ []) }
 {
-    Cube::new(alloc, &[Lit { net, set }])
+    let literal = Lit::new(alloc, net, set)?;
+    Cube::new(alloc, &[literal])
 }

@@ -9,7 +9,7 @@ use Rattle.std.proofs.lemmas.Map.Views.{any-filter_same}
 use Rattle.mv_base.specs.Set.{has, meet}
 use Rattle.mv_base.proofs.Firsts.{keys-firsts}
 use Rattle.mv_base.proofs.Sets.{meet_of_Within, Within-from_meet}
-use Rattle.mv_cover.specs.declared.cube.Lit.{Lit}
+use Rattle.mv_cover.specs.Literal.{Lit}
 use Rattle.mv_cover.specs.declared.line.Line.{Line}
 use Rattle.mv_cover.specs.declared.cover.Cover.{Cover}
 use Rattle.mv_cover.specs.Cubes.{matches, IsCube}

@@ -5,7 +5,7 @@ use Rattle.std.specs.List.{list_all}
 use Rattle.std.proofs.lemmas.Bool.{cases_Bool, false≢true, and_parts, and_from, ltb-true, eq-eqb, ne_eqb}
 use Rattle.mv_base.specs.Set.{has, meet, minus, full, empty, Within}
 use Rattle.mv_base.proofs.Sets.{has-minus, has-full, has-empty, same_set, meet_of_Within, Within-from_meet}
-use Rattle.mv_cover.specs.declared.cube.Lit.{Lit}
+use Rattle.mv_cover.specs.Literal.{Lit}
 use Rattle.mv_cover.specs.Cubes.{holds, matches, IsCube}
 use Rattle.mv_cover.specs.Covering.{IsPoint}
 use Rattle.mv_cover.specs.Cofactors.{cube_allows, cube_without}

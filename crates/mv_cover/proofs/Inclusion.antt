@@ -4,7 +4,7 @@ use Rattle.std.proofs.lemmas.List.{drop_all}
 use Rattle.std.proofs.lemmas.Bool.{cases_Bool, false≢true, and_left, ne_eqb, eq-eqb}
 use Rattle.mv_base.specs.Set.{Within, meet}
 use Rattle.mv_base.proofs.Sets.{meet_of_Within, Within-from_meet}
-use Rattle.mv_cover.specs.declared.cube.Lit.{Lit}
+use Rattle.mv_cover.specs.Literal.{Lit}
 use Rattle.mv_cover.specs.Meets.{literal_at}
 use Rattle.mv_cover.specs.Containing.{set_lies, lies_in}
 use Rattle.mv_cover.proofs.Covering.{same_number}

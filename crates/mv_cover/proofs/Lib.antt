@@ -1,3 +1,4 @@
+pub mod Bits
 pub mod Walking
 pub mod Meeting
 pub mod Single

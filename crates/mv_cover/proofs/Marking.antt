@@ -1,19 +1,20 @@
 -- Marks of lines: a line that lies in another has each mark of that one.
-use Rattle.std.proofs.Common.{◌≡◌, ◌∙◌, ℕ, zero, suc, ◌+◌, ◌-◌, ◌<◌, ◌≤◌, length, drop, get_or, set, map, subst, arith, Bool, true, false, ◌&&◌, ◌||◌, List, [], ◌∷◌, nat_eq, inl, inr, refl, sym, ap, Option, Some, None, if◌then◌else◌}
-use Rattle.std.specs.Prelude.{◌==◌, bit_and, bit_or}
-use Rattle.std.proofs.lemmas.Bool.{cases_Bool, false≢true, and_parts, and_from, or_cases, or_left, or_right, eq-eqb, false_from_ne_true}
+use Rattle.std.proofs.Common.{◌≡◌, ◌∙◌, ℕ, zero, suc, ◌+◌, ◌-◌, ◌%◌, ◌<◌, ◌≤◌, IsTrue, lit<, mod-lt, length, drop, get_or, set, map, subst, arith, Bool, true, false, ◌&&◌, ◌||◌, List, [], ◌∷◌, nat_eq, inl, inr, refl, sym, ap, Option, Some, None, if◌then◌else◌}
+use Rattle.std.specs.Prelude.{◌==◌, bit_and, bit_or, count_ones}
+use Rattle.std.specs.Int.Count.{ones-ones}
+use Rattle.std.proofs.lemmas.Bool.{cases_Bool, false≢true, and_parts, and_from, or_cases, or_left, or_right, eq-eqb, lt-ltb, false_from_ne_true}
 use Rattle.std.specs.List.{swap, list_any}
 use Rattle.std.proofs.lemmas.List.{drop_more, drop_all, get_or-map, map-set, length-map}
 use Rattle.std.proofs.lemmas.Nat.{and_comm}
 use Rattle.std.proofs.Math.Bool.{and-false, or-false}
-use Rattle.mv_base.specs.Set.{has, empty, one, meet, join, Within}
-use Rattle.mv_base.proofs.Sets.{has-empty, has-join, same_set, join_empty, meet_of_Within, Within-from_meet}
-use Rattle.mv_cover.specs.declared.cube.Lit.{Lit}
+use Rattle.mv_base.specs.Set.{has, empty, one, full, meet, join, Within}
+use Rattle.mv_base.proofs.Sets.{has-empty, has-one, has-full, has-join, same_set, count-empty, count-more, one_from_count, join_empty, meet_of_Within, Within-from_meet}
+use Rattle.mv_cover.specs.Literal.{Lit}
 use Rattle.mv_cover.specs.declared.line.Line.{Line}
 use Rattle.mv_cover.specs.Meets.{literal_at}
 use Rattle.mv_cover.specs.Containing.{set_within, set_lies, lies_in}
 use Rattle.mv_cover.specs.Absorb.{line_lies}
-use Rattle.mv_cover.specs.Marks.{mark, set_marks, net_place, cube_marks, line_marks, are_close, AreFar}
+use Rattle.mv_cover.specs.Marks.{mark, set_marks, alone, alone_mark, literal_marks, net_place, cube_marks, line_marks, are_close, AreFar}
 use Rattle.mv_cover.proofs.Covering.{same_number}
 use Rattle.mv_cover.proofs.Meets.{order}
 
@@ -61,12 +62,111 @@ mark-within s t v p w =
 set_marks-within : (s t p : ℕ) → Within s t → Within (set_marks t p) (set_marks s p)
 unfolding set_marks
 set_marks-within s t p w =
-    both_within (mark t 0 p) (mark t 1 (p + 1)) (mark s 0 p) (mark s 1 (p + 1)) (mark-within s t 0 p w) (mark-within s t 1 (p + 1) w)
+    both_within (mark t 1 p) (mark t 0 (p + 1)) (mark s 1 p) (mark s 0 (p + 1)) (mark-within s t 1 p w) (mark-within s t 0 (p + 1) w)
+
+-- ---- marks of single values
+
+-- the marks of one value are below 64
+alone_mark-low : (t p : ℕ) → Within (alone_mark t p) (full 64)
+unfolding alone_mark
+alone_mark-low t p v =
+    elim (cases_Bool (nat_eq t empty)) [
+      | inl y ↦ rw y (λ h. h)
+      | inr n ↦
+          elim (cases_Bool (nat_eq t (one (alone t)))) [
+            | inl y ↦ rw n (rw y (λ h.
+                let at : v ≡ (p + alone t) % 62 = same_number v ((p + alone t) % 62) (sym (has-one ((p + alone t) % 62) v) ∙ h) in
+                let low : (p + alone t) % 62 < 62 = mod-lt (p + alone t) (lit< tt) in
+                has-full 64 v ∙ lt-ltb v 64 (omega (arith, at, low))))
+            | inr m ↦ rw n (rw m (empty_within (full 64) v))
+          ]
+    ]
+
+-- a set with a member that lies in a set of one value is that set
+only_value : (s v : ℕ) → Within s (one v) → nat_eq s empty ≡ false → s ≡ one v
+only_value s v w some =
+    same_set s (one v)
+    (λ u. elim (cases_Bool (has s u)) [
+      | inl y ↦ y ∙ sym (w u y)
+      | inr n ↦
+          n ∙ sym (false_from_ne_true (has (one v) u) (λ t.
+          let here : u ≡ v = same_number u v (sym (has-one v u) ∙ t) in
+          let none : s ≡ empty =
+          same_set s empty (λ x. elim (cases_Bool (has s x)) [
+            | inl y ↦
+                let there : x ≡ v = same_number x v (sym (has-one v x) ∙ w x y) in
+                absurd (false≢true (sym n ∙ (ap (has s) (here ∙ sym there) ∙ y)))
+            | inr f ↦ f ∙ sym (has-empty x)
+          ]) in
+          false≢true (sym some ∙ eq-eqb s empty none)))
+    ])
+
+-- the mark of one value is one of each set within its set
+alone_mark-within : (s t p : ℕ) → Within s t → Within (alone_mark t p) (alone_mark s p)
+unfolding alone_mark
+alone_mark-within s t p w =
+    elim (cases_Bool (nat_eq s empty)) [
+      | inl y ↦ rw y (alone_mark-low t p)
+      | inr n ↦
+          elim (cases_Bool (nat_eq t empty)) [
+            | inl z ↦
+                let none : s ≡ empty = same_set s empty (λ v. elim (cases_Bool (has s v)) [
+                  | inl y ↦ y ∙ (sym (w v y) ∙ ap (λ x. has x v) (same_number t empty z))
+                  | inr f ↦ f ∙ sym (has-empty v)
+                ]) in
+                absurd (false≢true (sym n ∙ eq-eqb s empty none))
+            | inr m ↦
+                elim (cases_Bool (nat_eq t (one (alone t)))) [
+                  | inl y ↦
+                      let is : t ≡ one (alone t) = same_number t (one (alone t)) y in
+                      let same : s ≡ t = only_value s (alone t) (λ v h. ap (λ x. has x v) (sym is) ∙ w v h) n ∙ sym is in
+                      λ v h. ap (λ x. has (alone_mark x p) v) same ∙ h
+                  | inr f ↦ rw m (rw f (empty_within (alone_mark s p)))
+                ]
+          ]
+    ]
+
+literal_marks-within : (s t p : ℕ) → Within s t → Within (literal_marks t p) (literal_marks s p)
+unfolding literal_marks
+literal_marks-within s t p w = both_within (set_marks t p) (alone_mark t p) (set_marks s p) (alone_mark s p) (set_marks-within s t p w) (alone_mark-within s t p w)
+
+-- ---- the value of a set that has no other
+
+alone_of-one : (v : ℕ) → alone (one v) ≡ v
+unfolding one
+alone_of-one v = ones-ones v
+
+count_one : (v : ℕ) → count_ones (one v) ≡ 1
+count_one v = ap count_ones (sym (join_empty (one v))) ∙ (count-more empty v (has-empty v) ∙ ap (λ n. n + 1) count-empty)
+
+pub alone_mark-one : (s v p m : ℕ) → IsTrue (has s v) → count_ones s ≡ 1 → m ≡ one ((p + v) % 62) → m ≡ alone_mark s p
+unfolding alone_mark
+alone_mark-one s v p m there single is =
+    let same : s ≡ one v = one_from_count s v there single in
+    let value : alone s ≡ v = ap alone same ∙ alone_of-one v in
+    let some : nat_eq s empty ≡ false = false_from_ne_true (nat_eq s empty) (λ t. absurd (false≢true (sym (has-empty v) ∙ (ap (λ x. has x v) (sym (same_number s empty t)) ∙ there)))) in
+    let lone : nat_eq s (one (alone s)) ≡ true = eq-eqb s (one (alone s)) (same ∙ ap one (sym value)) in
+    rw some (rw lone (is ∙ ap (λ x. one ((p + x) % 62)) (sym value)))
+
+empty_is : empty ≡ 0
+unfolding empty
+empty_is = refl
+
+pub alone_mark-many : (s v p : ℕ) → IsTrue (has s v) → (count_ones s ≡ 1 → ⊥) → 0 ≡ alone_mark s p
+unfolding alone_mark
+alone_mark-many s v p there many =
+    let some : nat_eq s empty ≡ false = false_from_ne_true (nat_eq s empty) (λ t. absurd (false≢true (sym (has-empty v) ∙ (ap (λ x. has x v) (sym (same_number s empty t)) ∙ there)))) in
+    let lone : nat_eq s (one (alone s)) ≡ false = false_from_ne_true (nat_eq s (one (alone s))) (λ t. many (ap count_ones (same_number s (one (alone s)) t) ∙ count_one (alone s))) in
+    rw some (rw lone (sym empty_is))
+
+pub alone_mark-none : (s p : ℕ) → s ≡ empty → 18446744073709551615 ≡ alone_mark s p
+unfolding alone_mark full
+alone_mark-none s p e = rw (eq-eqb s empty e) refl
 
 -- ---- marks of cubes
 
 -- the marks of a literal are marks of its cube
-marks_at : (a : List Lit) (n s : ℕ) → literal_at a n ≡ Some s → Within (set_marks s (net_place n)) (cube_marks a)
+marks_at : (a : List Lit) (n s : ℕ) → literal_at a n ≡ Some s → Within (literal_marks s (net_place n)) (cube_marks a)
 unfolding cube_marks
 marks_at [] n s e = let no : None ≡ Some s = e in absurd (cc)
 marks_at (l ∷ a) n s e =
@@ -76,21 +176,21 @@ marks_at (l ∷ a) n s e =
           let same : l.set ≡ s = cc in
           let net : l.net.0 ≡ n = same_number l.net.0 n t in
           λ v h.
-          within_first (set_marks l.set (net_place l.net.0)) (cube_marks a) v ((λ i. has (set_marks (same i) (net_place (net i))) v) ∙ h)
-      | inr f ↦ λ v h. within_second (set_marks l.set (net_place l.net.0)) (cube_marks a) v (marks_at a n s (rw f at e) v h)
+          within_first (literal_marks l.set (net_place l.net.0)) (cube_marks a) v ((λ i. has (literal_marks (same i) (net_place (net i))) v) ∙ h)
+      | inr f ↦ λ v h. within_second (literal_marks l.set (net_place l.net.0)) (cube_marks a) v (marks_at a n s (rw f at e) v h)
     ]
 
-lies_marked : (a : List Lit) (n s : ℕ) (o : Option ℕ) → literal_at a n ≡ o → set_lies o s ≡ true → Within (set_marks s (net_place n)) (cube_marks a)
+lies_marked : (a : List Lit) (n s : ℕ) (o : Option ℕ) → literal_at a n ≡ o → set_lies o s ≡ true → Within (literal_marks s (net_place n)) (cube_marks a)
 lies_marked a n s None e h = absurd (false≢true h)
 lies_marked a n s (Some u) e h =
-    λ v m. marks_at a n u e v (set_marks-within u s (net_place n) (Within-from_meet u s (same_number (meet u s) u h)) v m)
+    λ v m. marks_at a n u e v (literal_marks-within u s (net_place n) (Within-from_meet u s (same_number (meet u s) u h)) v m)
 
 cube_marks-within : (a b : List Lit) → lies_in a b ≡ true → Within (cube_marks b) (cube_marks a)
 unfolding cube_marks
 cube_marks-within a [] h = empty_within (cube_marks a)
 cube_marks-within a (l ∷ b) h =
     let p = and_parts (set_lies (literal_at a l.net.0) l.set) (lies_in a b) h in
-    joined_within (set_marks l.set (net_place l.net.0)) (cube_marks b) (cube_marks a) (lies_marked a l.net.0 l.set (literal_at a l.net.0) refl p.0) (cube_marks-within a b p.1)
+    joined_within (literal_marks l.set (net_place l.net.0)) (cube_marks b) (cube_marks a) (lies_marked a l.net.0 l.set (literal_at a l.net.0) refl p.0) (cube_marks-within a b p.1)
 
 -- ---- marks of lines
 
@@ -225,10 +325,10 @@ pub record Gathers (lits : List Lit) (i marks : ℕ) : Type 0 where
 pub gathers_none : (lits : List Lit) → Gathers lits 0 empty
 gathers_none lits = record { all = join_empty (cube_marks lits) }
 
-pub gathers_more : (lits : List Lit) (i marks more : ℕ) (l : Lit) → i < length lits → l ≡ get_or lits i l → more ≡ set_marks l.set (net_place l.net.0) → Gathers lits i marks → Gathers lits (i + 1) (bit_or marks more)
+pub gathers_more : (lits : List Lit) (i marks more : ℕ) (l : Lit) → i < length lits → l ≡ get_or lits i l → more ≡ literal_marks l.set (net_place l.net.0) → Gathers lits i marks → Gathers lits (i + 1) (bit_or marks more)
 unfolding cube_marks join
 gathers_more lits i marks more l low here is before =
-    let own = set_marks l.set (net_place l.net.0) in
+    let own = literal_marks l.set (net_place l.net.0) in
     let rest = cube_marks (drop (i + 1) lits) in
     let split : drop i lits ≡ l ∷ drop (i + 1) lits = drop_more lits i l low ∙ ap (λ x. x ∷ drop (i + 1) lits) (sym here) in
     record { all = ap (λ m. join (bit_or marks m) rest) is ∙ (join-append marks own rest ∙ (ap (λ ls. join marks (cube_marks ls)) (sym split) ∙ before.all)) }

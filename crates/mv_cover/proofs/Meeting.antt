@@ -8,7 +8,7 @@ use Rattle.std.specs.Cmp.{unsigned_Decides}
 use Rattle.std.proofs.lemmas.Bool.{cases_Bool, false≢true, and_parts, and_from, or_left, or_right, ltb-true, lt-ltb, ne_eqb, eq-eqb, not-true, not_from_false, false_from_ne_true, eqb-false}
 use Rattle.mv_base.specs.Set.{has, empty, meet}
 use Rattle.mv_base.proofs.Sets.{has-meet, has-empty}
-use Rattle.mv_cover.specs.declared.cube.Lit.{Lit}
+use Rattle.mv_cover.specs.Literal.{Lit}
 use Rattle.mv_cover.specs.declared.line.Line.{Line}
 use Rattle.mv_cover.specs.Cubes.{holds, matches, nets_ascend, IsCube}
 use Rattle.mv_cover.specs.Cofactors.{cube_allows}

@@ -7,7 +7,7 @@ use Rattle.std.proofs.lemmas.Bool.Decides.{leb_tells, Decides-ltb}
 use Rattle.std.proofs.lemmas.List.{drop_all, take_rest}
 use Rattle.mv_base.specs.Set.{has, meet, empty}
 use Rattle.mv_base.proofs.Sets.{has-meet, has-empty}
-use Rattle.mv_cover.specs.declared.cube.Lit.{Lit}
+use Rattle.mv_cover.specs.Literal.{Lit}
 use Rattle.mv_cover.specs.declared.meet.Step.{Step}
 use Rattle.mv_cover.specs.Cubes.{holds, matches, nets_ascend, IsCube}
 use Rattle.mv_cover.specs.Meets.{literal_at, both, IsMet, next_of, put_in, merged, met}

@@ -6,7 +6,7 @@ use Rattle.std.proofs.Math.Nat.{pow-suc}
 use Rattle.mv_base.specs.Set.{has, empty}
 use Rattle.mv_base.proofs.Sets.{has-empty, has_above, same_set}
 use Rattle.std.specs.List.{list_all}
-use Rattle.mv_cover.specs.declared.cube.Lit.{Lit}
+use Rattle.mv_cover.specs.Literal.{Lit}
 use Rattle.mv_cover.specs.Cubes.{holds, matches}
 use Rattle.mv_cover.specs.Meets.{literal_at}
 use Rattle.mv_cover.proofs.Covering.{changed, changed-agrees}

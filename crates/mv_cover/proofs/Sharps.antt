@@ -9,7 +9,7 @@ use Rattle.std.proofs.lemmas.List.Kept.{AllPairs-cons}
 use Rattle.mv_base.specs.Set.{has, meet, minus, full, empty, Within}
 use Rattle.mv_base.specs.declared.limits.TheConstants.{MAX_VALUES}
 use Rattle.mv_base.proofs.Sets.{has-meet, has-minus, has-full, has-empty, same_set}
-use Rattle.mv_cover.specs.declared.cube.Lit.{Lit}
+use Rattle.mv_cover.specs.Literal.{Lit}
 use Rattle.mv_cover.specs.Cubes.{holds, matches, IsCube}
 use Rattle.mv_cover.specs.Covers.{cube_reads}
 use Rattle.mv_cover.specs.Covering.{IsPoint}

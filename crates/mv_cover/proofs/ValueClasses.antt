@@ -4,7 +4,7 @@ use Rattle.std.proofs.lemmas.Bool.{cases_Bool, false≢true, and_parts, not-true
 use Rattle.std.proofs.lemmas.List.{take_more}
 use Rattle.mv_base.specs.Set.{has, empty, meet, minus, join}
 use Rattle.mv_base.proofs.Sets.{has-empty, has-meet, has-minus, has-join}
-use Rattle.mv_cover.specs.declared.cube.Lit.{Lit}
+use Rattle.mv_cover.specs.Literal.{Lit}
 use Rattle.mv_cover.specs.Cofactors.{CubesCover, lit_allows, cube_allows, cube_without, cofactor_of}
 use Rattle.mv_cover.proofs.Covering.{CoverBelow, cover_start, cover_more}
 

@@ -1,7 +1,7 @@
 -- One walk along two cubes, for a test of both: literals that the test doesn't need are passed.
 use Rattle.std.proofs.Common.{◌≡◌, ◌∙◌, ℕ, ◌+◌, ◌<◌, ◌≤◌, Bool, true, false, ◌&&◌, List, [], ◌∷◌, length, drop, get_or, nat_lt, refl, sym, ap, arith, suc, drop-cons, add-one}
 use Rattle.std.proofs.lemmas.Bool.{false≢true, and_parts}
-use Rattle.mv_cover.specs.declared.cube.Lit.{Lit}
+use Rattle.mv_cover.specs.Literal.{Lit}
 use Rattle.mv_cover.specs.Cubes.{nets_ascend}
 
 pub nets_ascend-tail : (l : Lit) (ls : List Lit) → nets_ascend (l ∷ ls) ≡ true → nets_ascend ls ≡ true

@@ -2,7 +2,7 @@
 use Rattle.std.specs.Prelude.{ℕ, ◌+◌, Bool, false, ◌&&◌, ◌||◌, not, nat_eq, Option, Some, None, List, [], ◌∷◌, length}
 use Rattle.std.specs.List.{list_any}
 use Rattle.mv_base.specs.Set.{has}
-use Rattle.mv_cover.specs.declared.cube.Lit.{Lit}
+use Rattle.mv_cover.specs.Literal.{Lit}
 use Rattle.mv_cover.specs.declared.line.Line.{Line}
 use Rattle.mv_cover.specs.declared.cover.Cover.{Cover}
 use Rattle.mv_cover.specs.Cubes.{matches}

@@ -1,3 +1,5 @@
+pub mod Literal
+pub mod Forms
 pub mod Cubes
 pub mod Covers
 pub mod Covering

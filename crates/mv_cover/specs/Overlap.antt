@@ -2,7 +2,7 @@
 use Rattle.std.specs.Prelude.{Bool, ◌||◌, not, nat_eq, List}
 use Rattle.std.specs.List.{list_all}
 use Rattle.mv_base.specs.Set.{empty, meet}
-use Rattle.mv_cover.specs.declared.cube.Lit.{Lit}
+use Rattle.mv_cover.specs.Literal.{Lit}
 
 -- the literals are on two nets, or their sets have a common value
 abbrev pub lits_meet : Lit → Lit → Bool

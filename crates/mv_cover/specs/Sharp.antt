@@ -2,7 +2,7 @@
 use Rattle.std.specs.Prelude.{◌≡◌, ◌+◌, ◌≤◌, ℕ, true, false, ◌&&◌, nat_eq, nat_lt, List, [], ◌∷◌, ◌++◌, slice_index, unwrap_or, if◌then◌else◌}
 use Rattle.mv_base.specs.Set.{empty, full, meet, minus}
 use Rattle.mv_base.specs.declared.limits.TheConstants.{MAX_VALUES}
-use Rattle.mv_cover.specs.declared.cube.Lit.{Lit}
+use Rattle.mv_cover.specs.Literal.{Lit}
 use Rattle.mv_cover.specs.Cubes.{matches, IsCube}
 use Rattle.mv_cover.specs.Covers.{cube_reads}
 use Rattle.mv_cover.specs.Covering.{IsPoint}

@@ -4,7 +4,7 @@ ghost use Rattle.mv_cover.specs.Absorb as spec;
 ghost use Rattle.mv_cover.specs.Absorb.{absorbed, some_bare, IsLeftOf};
 
 use crate::{Absorber, Cover, Line};
-use mv_base::{Memory, ValueSet};
+use mv_base::{Memory, PackedSet};
 use std::alloc::Global;
 
 impl Cover {
@@ -17,7 +17,7 @@ impl Cover {
         ensures err { OnErr result (self.new ≡ self.old) }
     {
         let left = lines_left(self.lines.allocator(), self.lines.as_slice())?;
-        let cover = left.finish(self.default);
+        let cover = left.finish(self.default.take());
         self.lines = cover.lines;
         self.default = cover.default;
         Ok(())
@@ -36,7 +36,7 @@ fn lines_left(alloc: Global, lines: &[Line]) -> Result<Absorber, Memory>
 }
 
 /// The default, unless some line has no literal.
-pub(crate) fn default_beside(lines: &[Line], default: Option<ValueSet>) -> Option<ValueSet>
+pub(crate) fn default_beside(lines: &[Line], default: Option<PackedSet>) -> Option<PackedSet>
     ensures { result ≡ spec.default_beside lines.now default }
 {
     if some_line_is_bare(lines) {

@@ -6,7 +6,7 @@ ghost use Rattle.mv_cover.specs.Absorb as spec;
 use crate::absorb::default_beside;
 use crate::left::put_line;
 use crate::{Cover, Line};
-use mv_base::{Items, Memory, ValueSet};
+use mv_base::{Items, Memory, PackedSet};
 use std::alloc::Global;
 use std::marker::Model;
 
@@ -58,7 +58,7 @@ impl Absorber {
     }
 
     /// The lines that are left, with this default unless one of them has no literal.
-    pub fn finish(self, default: Option<ValueSet>) -> Cover
+    pub fn finish(self, default: Option<PackedSet>) -> Cover
         ensures { result ≡ record { lines = self; default = spec.default_beside self default } }
     {
         let default = default_beside(self.lines.as_slice(), default);

@@ -24,21 +24,21 @@ fn alike_in(cube: &[Lit], net: NetId, value: Value, set: ValueSet) -> ValueSet
 {
     let mut left = set;
     for l in cube {
-        left = narrowed(left, *l, net, value);
+        left = narrowed(left, l, net, value);
     }
     left
 }
 
 /// Those values of the set that the literal, where it is on the net, doesn't tell from this one.
-fn narrowed(set: ValueSet, l: Lit, net: NetId, value: Value) -> ValueSet
+fn narrowed(set: ValueSet, l: &Lit, net: NetId, value: Value) -> ValueSet
     ensures fewer { (u : ℕ) → has result u ≡ true → has set u ≡ true }
-    ensures same { (u : ℕ) → has result u ≡ true → lit_allows net.0 u l ≡ lit_allows net.0 value.0 l }
+    ensures same { (u : ℕ) → has result u ≡ true → lit_allows net.0 u l.now ≡ lit_allows net.0 value.0 l.now }
 {
-    if l.net != net {
+    if l.net() != net {
         set
-    } else if l.set.has(value) {
-        set.meet(l.set)
+    } else if l.has(value) {
+        set.meet(l.set())
     } else {
-        set.minus(l.set)
+        set.minus(l.set())
     }
 }

@@ -42,11 +42,11 @@ fn weighed(weights: &mut IndexMap<NetId, u64>, cube: &[Lit], before: Tally) -> R
     let mut best = before;
     let weight: u64 = 1 << (32 - cube.len().min(32));
     for l in cube {
-        let total = weights.entry(l.net)?.or_insert(0);
+        let total = weights.entry(l.net())?.or_insert(0);
         *total = total.saturating_add(weight);
         if *total > best.weight {
             best = Tally {
-                net: l.net,
+                net: l.net(),
                 weight: *total,
             };
         }

@@ -25,13 +25,13 @@ fn all_lie_in(a: &[Lit], b: &[Lit]) -> bool
     let mut i = 0;
     let mut j = 0;
     'walk: while i < a.len() && j < b.len() {
-        let inner = a[i];
-        let outer = b[j];
-        if inner.net.0 < outer.net.0 {
+        let inner = &a[i];
+        let outer = &b[j];
+        if inner.net().0 < outer.net().0 {
             i += 1;
-        } else if outer.net.0 < inner.net.0 {
+        } else if outer.net().0 < inner.net().0 {
             return false;
-        } else if inner.set.within(outer.set) {
+        } else if inner.within(outer) {
             i += 1;
             j += 1;
         } else {

@@ -7,6 +7,7 @@ ghost use Rattle.mv_cover.specs.Cofactors.{AreCubesWithin, IsChoice, CubesCover,
 use crate::alike::alike;
 use crate::busiest::busiest_net;
 use crate::count::count_of;
+use crate::literal::copies_of;
 use crate::{Cover, Line, Lit};
 use mv_base::{Items, Memory, NetId, Value, ValueSet};
 use std::alloc::Global;
@@ -29,7 +30,7 @@ fn copied_cubes(alloc: Global, lines: &[Line]) -> Result<Items<Items<Lit>>, Memo
 {
     let mut cubes = Items::new(alloc);
     for line in lines {
-        let lits = Vec::from_slice(alloc, line.cube.lits())?;
+        let lits = copies_of(alloc, line.cube.lits())?;
         cubes.push(Items::of(lits))?;
     }
     Ok(cubes)
@@ -100,7 +101,7 @@ fn first_net(cube: &[Lit]) -> Option<NetId>
 {
     match cube.first() {
         None => None,
-        Some(literal) => Some(literal.net),
+        Some(literal) => Some(literal.net()),
     }
 }
 
@@ -126,17 +127,18 @@ fn cofactor(
 fn allows(cube: &[Lit], net: NetId, value: Value) -> bool
     ensures { result ≡ cube_allows net.0 value.0 cube.now }
 {
-    cube.iter().all(|l| l.net != net || l.set.has(value))
+    cube.iter().all(|l| l.net() != net || l.has(value))
 }
 
 /// The literals that aren't on the net.
 fn cube_without(alloc: Global, cube: &[Lit], net: NetId) -> Result<Items<Lit>, Memory>
     ensures { IfOk result (λ rest. rest ≡ cube_without net.0 cube.now) }
 {
-    let rest = cube
-        .iter()
-        .copied()
-        .filter(|l| l.net != net)
-        .collect(alloc)?;
-    Ok(Items::of(rest))
+    let mut rest = Items::new(alloc);
+    for l in cube {
+        if l.net() != net {
+            rest.push(l.copy()?)?;
+        }
+    }
+    Ok(rest)
 }

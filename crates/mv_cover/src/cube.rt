@@ -1,74 +1,25 @@
 ghost use Rattle.std.specs.Prelude.{◌≡◌, ◌<◌, ◌≤◌, ◌^◌, length, IfOk};
 
-use mv_base::{Memory, NetId, ValueSet};
+use crate::Lit;
+use crate::literal::copy_all;
+use mv_base::{Memory, NetId};
+use smallvec::SmallVec;
 use std::alloc::Global;
 use std::hash::{Hash, Hasher};
 use std::marker::Model;
 
-/// A literal: the net has one of these values.
-#[derive(Clone, Copy, Debug)]
-pub struct Lit {
-    pub net: NetId,
-    pub set: ValueSet,
-}
-
-impl Default for Lit {
-    fn default() -> Lit {
-        Lit {
-            net: NetId(0),
-            set: ValueSet::empty(),
-        }
-    }
-}
-
-impl PartialEq for Lit {
-    ghost use Rattle.std.proofs.Common.{rules};
-    ghost use Rattle.std.specs.Cmp.Rules.{comparing};
-    ghost use Rattle.mv_cover.specs.Equal.{lit_eq};
-
-    ghost eq = { lit_eq };
-
-    ghost laws = { Prim.search (comparing, rules) };
-
-    fn eq(&self, other: &Lit) -> bool {
-        self.net == other.net && self.set == other.set
-    }
-}
-
-impl Eq for Lit {
-    ghost use Rattle.std.proofs.Common.{rules};
-    ghost use Rattle.std.specs.Cmp.Rules.{comparing};
-
-    ghost laws = { Prim.search (comparing, rules) };
-}
-
-impl Hash for Lit {
-    ghost use Rattle.std.proofs.Common.{rules};
-    ghost use Rattle.std.specs.Cmp.Rules.{hashing};
-    ghost use Rattle.mv_cover.specs.Equal.{lit_fed};
-
-    ghost hash_input = { lit_fed };
-
-    ghost respects_eq = { Prim.search (hashing, rules) };
-
-    fn hash<H: Hasher>(&self, state: &mut H) {
-        self.net.hash(state);
-        self.set.hash(state);
-    }
-}
-
-/// A cube: all of its literals hold. Their nets ascend, and no set is empty. The literals stand in memory of their own, with
-/// room for no more, so that a cube is small wherever it is kept or moved, however large a set is.
+/// A cube: all of its literals hold. Their nets ascend, and no set is empty. Up to two literals stand in the cube itself, and
+/// more of them in memory of their own.
 #[derive(Drop)]
 pub struct Cube {
-    lits: Vec<Lit>,
+    lits: SmallVec<Lit, 2>,
 }
 
 impl Model for Cube {
     ghost use Rattle.std.specs.Prelude.{List};
-    ghost use Rattle.mv_cover.specs.declared.cube.Lit.{Lit};
+    ghost use Rattle.mv_cover.specs.Literal.{Lit as a_lit};
 
-    ghost Value = { List Lit };
+    ghost Value = { List a_lit };
 
     ghost use Rattle.mv_cover.specs.Cubes.{IsCube};
 
@@ -85,9 +36,19 @@ impl Cube {
         requires { IsCube lits.now }
         ensures { IfOk result (λ cube. cube ≡ lits.now) }
     {
-        Ok(Cube {
-            lits: Vec::from_slice(alloc, lits)?,
-        })
+        let mut copies = SmallVec::with_capacity(alloc, lits.len())?;
+        copy_all(&mut copies, lits)?;
+        Ok(Cube { lits: copies })
+    }
+
+    /// The cube of these literals, whose nets ascend and whose sets aren't empty. It takes no memory.
+    pub fn of(lits: SmallVec<Lit, 2>) -> Cube
+        requires { IsCube lits.items }
+        ensures { result ≡ lits.items }
+    {
+        let mut lits = lits;
+        lits.shrink_to_fit();
+        Cube { lits }
     }
 
     /// The literals, by ascending net.
@@ -120,7 +81,7 @@ impl Cube {
         match lits.last() {
             None => 0,
             Some(last) => {
-                within_numbers(last.net);
+                within_numbers(last.net());
                 lits.len()
             }
         }

@@ -14,6 +14,7 @@ mod cube;
 mod left;
 mod lies;
 mod line;
+mod literal;
 mod marks;
 mod meet;
 mod overlap;
@@ -25,6 +26,7 @@ mod suit;
 
 pub use absorber::Absorber;
 pub use cover::Cover;
-pub use cube::{Cube, Lit};
+pub use cube::Cube;
 pub use line::Line;
+pub use literal::Lit;
 pub use stop::CoverStop;

@@ -4,7 +4,7 @@ ghost use Rattle.mv_cover.specs.Absorb.{line_lies};
 ghost use Rattle.mv_cover.specs.Marks.{line_marks};
 
 use crate::Line;
-use mv_base::ValueSet;
+use mv_base::PackedSet;
 
 /// Whether the line lies in the other. Their marks are looked at first: where the line lies, each mark of the other is one
 /// of its own.
@@ -21,12 +21,12 @@ pub(crate) fn lies_in_marked(line: &Line, own: u64, other: &Line, marks: u64) ->
 pub(crate) fn lies_in(line: &Line, other: &Line) -> bool
     ensures { result ≡ line_lies line.now other.now }
 {
-    is_within(line.out, other.out) && other.cube.contains(&line.cube)
+    is_within(&line.out, &other.out) && other.cube.contains(&line.cube)
 }
 
 /// Whether each value of the first set is one of the second.
-fn is_within(first: ValueSet, second: ValueSet) -> bool
-    ensures { result ≡ set_within first second }
+fn is_within(first: &PackedSet, second: &PackedSet) -> bool
+    ensures { result ≡ set_within first.now second.now }
 {
     first.within(second)
 }

@@ -2,14 +2,14 @@ ghost use Rattle.std.specs.Prelude.{◌≡◌, IfOk};
 ghost use Rattle.mv_cover.specs.Cubes.{IsCube};
 
 use crate::Cube;
-use mv_base::{Memory, ValueSet};
+use mv_base::{Memory, PackedSet};
 use std::hash::{Hash, Hasher};
 
 /// A line of a cover: where the cube holds, each value of the set is allowed.
 #[derive(Drop)]
 pub struct Line {
     pub cube: Cube,
-    pub out: ValueSet,
+    pub out: PackedSet,
 }
 
 impl Line {
@@ -20,7 +20,7 @@ impl Line {
     {
         Ok(Line {
             cube: self.cube.copy()?,
-            out: self.out,
+            out: self.out.copy()?,
         })
     }
 }

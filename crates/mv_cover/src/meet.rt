@@ -4,8 +4,10 @@ ghost use Rattle.mv_base.specs.Set.{empty};
 ghost use Rattle.mv_cover.specs.Cubes.{matches};
 ghost use Rattle.mv_cover.specs.Meets.{IsMet, met, merged, next_of};
 
+use crate::literal::copy_all;
 use crate::{Cube, Lit};
-use mv_base::{Memory, ValueSet};
+use mv_base::Memory;
+use smallvec::SmallVec;
 use std::alloc::Global;
 
 impl Cube {
@@ -22,7 +24,7 @@ impl Cube {
         if !possible(lits.as_slice()) {
             return Ok(None);
         }
-        Ok(Some(Cube::new(alloc, lits.as_slice())?))
+        Ok(Some(Cube::of(lits)))
     }
 }
 
@@ -30,29 +32,29 @@ impl Cube {
 fn possible(lits: &[Lit]) -> bool
     ensures { result ≡ list_all (λ l. not (nat_eq l.set empty)) lits.now }
 {
-    lits.iter().all(|l| l.set != ValueSet::empty())
+    lits.iter().all(|l| !l.is_empty())
 }
 
 /// The literals of both lists by ascending net, with the meet where both have one.
-fn merged(alloc: Global, a: &[Lit], b: &[Lit]) -> Result<Vec<Lit>, Memory>
+fn merged(alloc: Global, a: &[Lit], b: &[Lit]) -> Result<SmallVec<Lit, 2>, Memory>
     ensures { IfOk result (λ met. met.items ≡ merged a.now b.now) }
 {
-    let mut met = Vec::new(alloc);
+    let mut met = SmallVec::with_capacity(alloc, a.len() + b.len())?;
     let mut i = 0;
     let mut j = 0;
     while i < a.len() && j < b.len() {
-        let step = next(a[i], b[j]);
+        let step = next(alloc, &a[i], &b[j])?;
         met.push(step.lit)?;
         i += step.left;
         j += step.right;
     }
-    met.extend_from_slice(&a[i..])?;
-    met.extend_from_slice(&b[j..])?;
+    copy_all(&mut met, &a[i..])?;
+    copy_all(&mut met, &b[j..])?;
     Ok(met)
 }
 
 /// The next literal of two lists that are merged, and how many literals it takes of each.
-#[derive(Clone, Copy)]
+#[derive(Drop)]
 struct Step {
     lit: Lit,
     left: usize,
@@ -60,30 +62,26 @@ struct Step {
 }
 
 /// The literal of the lesser net, or the meet of two on one net.
-fn next(l: Lit, m: Lit) -> Step
-    ensures { result ≡ next_of l m }
+fn next(alloc: Global, l: &Lit, m: &Lit) -> Result<Step, Memory>
+    ensures { IfOk result (λ step. step ≡ next_of l.now m.now) }
 {
-    if l.net.0 < m.net.0 {
-        return Step {
-            lit: l,
+    if l.net().0 < m.net().0 {
+        return Ok(Step {
+            lit: l.copy()?,
             left: 1,
             right: 0,
-        };
+        });
     }
-    if m.net.0 < l.net.0 {
-        return Step {
-            lit: m,
+    if m.net().0 < l.net().0 {
+        return Ok(Step {
+            lit: m.copy()?,
             left: 0,
             right: 1,
-        };
+        });
     }
-    let lit = Lit {
-        net: l.net,
-        set: l.set.meet(m.set),
-    };
-    Step {
-        lit,
+    Ok(Step {
+        lit: l.meet(alloc, m)?,
         left: 1,
         right: 1,
-    }
+    })
 }

@@ -2,7 +2,7 @@ ghost use Rattle.std.specs.Prelude.{◌≡◌, ◌==◌, ◌↔◌, IsTrue, Matc
 ghost use Rattle.mv_cover.specs.Plain.{Agree, GivesOne, IsOneDefault, IsPlainlyDeterministic, AllowsOne};
 
 use crate::{Cover, Line, overlap};
-use mv_base::ValueSet;
+use mv_base::PackedSet;
 
 impl Cover {
     /// Whether each line and the default give one value, and lines that can hold together the same one:
@@ -26,12 +26,12 @@ fn is_plainly_deterministic(cover: &Cover) -> bool
 }
 
 /// Whether the default, if there is one, is one value.
-fn default_is_one(default: &Option<ValueSet>) -> bool
+fn default_is_one(default: &Option<PackedSet>) -> bool
     ensures { IsTrue result ↔ IsOneDefault default.now }
 {
     match default {
         None => true,
-        Some(out) => out.count() == 1,
+        Some(out) => out.get().count() == 1,
     }
 }
 
@@ -39,7 +39,7 @@ fn default_is_one(default: &Option<ValueSet>) -> bool
 fn all_give_one(lines: &[Line]) -> bool
     ensures { IsTrue result ↔ All GivesOne lines.now }
 {
-    lines.iter().all(|line| line.out.count() == 1)
+    lines.iter().all(|line| line.out.get().count() == 1)
 }
 
 /// Whether each two of the lines agree.

@@ -2,7 +2,7 @@ ghost use Rattle.std.specs.Prelude.{◌≡◌, ◌++◌, IfOk, IfErr, OnOk, IsSo
 ghost use Rattle.mv_cover.specs.Complement.{LinesSuit, IsWide, StaysWithin, AllowSame, lines_for, spelled_of};
 
 use crate::{Cover, CoverStop, Cube, Line};
-use mv_base::{Items, Memory, ValueSet};
+use mv_base::{Items, Memory, PackedSet};
 use std::alloc::Global;
 
 impl Cover {
@@ -20,7 +20,7 @@ impl Cover {
         ensures relation { IfOk result (λ cover. AllowSame counts.now cover self.now) }
         ensures suited { IfOk result (λ cover. LinesSuit counts.now cover.lines) }
     {
-        let Some(out) = self.default else {
+        let Some(out) = &self.default else {
             return Ok(self.copy()?);
         };
         let cubes = match self.complement(alloc, counts) {
@@ -35,11 +35,14 @@ impl Cover {
 }
 
 /// Adds a line for each of the cubes, with the output, behind the others.
-fn put_lines(lines: &mut Items<Line>, cubes: Vec<Cube>, out: ValueSet) -> Result<(), Memory>
-    ensures { OnOk result (lines.new ≡ lines.old ++ lines_for out cubes.items) }
+fn put_lines(lines: &mut Items<Line>, cubes: Vec<Cube>, out: &PackedSet) -> Result<(), Memory>
+    ensures { OnOk result (lines.new ≡ lines.old ++ lines_for out.now cubes.items) }
 {
     for cube in cubes {
-        lines.push(Line { cube, out })?;
+        lines.push(Line {
+            cube,
+            out: out.copy()?,
+        })?;
     }
     Ok(())
 }

@@ -44,7 +44,7 @@ fn all_suit(lits: &[Lit], counts: &[u16]) -> bool
     ensures { MatchBool result (Suits counts.now lits.now) (Suits counts.now lits.now → ⊥) }
 {
     for l in lits {
-        if !fits(*l, counts) {
+        if !fits(l, counts) {
             return false;
         }
     }
@@ -52,13 +52,14 @@ fn all_suit(lits: &[Lit], counts: &[u16]) -> bool
 }
 
 /// Whether the net has values, no more than it may have, and the literal's set is some of them but not all.
-fn fits(l: Lit, counts: &[u16]) -> bool
-    ensures { MatchBool result (SuitsNet counts.now l) (SuitsNet counts.now l → ⊥) }
+fn fits(l: &Lit, counts: &[u16]) -> bool
+    ensures { MatchBool result (SuitsNet counts.now l.now) (SuitsNet counts.now l.now → ⊥) }
 {
-    let count = count_of(counts, l.net);
+    let count = count_of(counts, l.net());
     if count == 0 || MAX_VALUES < count {
         return false;
     }
     let full = ValueSet::full(count);
-    l.set.within(full) && l.set != full
+    let set = l.set();
+    set.within(full) && set != full
 }

@@ -29,8 +29,8 @@ fn put_set(said: &mut String, set: ValueSet) -> Result<(), Fail> {
 /// Puts the literals of a cube, each as its net and its values.
 fn put_cube(said: &mut String, cube: &Cube) -> Result<(), Fail> {
     for l in cube.lits() {
-        write!(said, " {}:", l.net.0)?;
-        put_set(said, l.set)?;
+        write!(said, " {}:", l.net().0)?;
+        put_set(said, l.set())?;
     }
     Ok(())
 }
@@ -49,12 +49,12 @@ fn put_cover(said: &mut String, cover: &Cover) -> Result<(), Fail> {
     for line in cover.lines.as_slice() {
         put_cube(said, &line.cube)?;
         said.push_str(" -> ")?;
-        put_set(said, line.out)?;
+        put_set(said, line.out.get())?;
         said.push(';')?;
     }
-    if let Some(out) = cover.default {
+    if let Some(out) = &cover.default {
         said.push_str(" else ")?;
-        put_set(said, out)?;
+        put_set(said, out.get())?;
     }
     Ok(())
 }

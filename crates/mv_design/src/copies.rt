@@ -2,8 +2,31 @@
 ghost use Rattle.std.specs.Prelude.{◌≡◌, IfOk};
 
 use crate::design::{Bind, Decl, FileLatch, FileModel, Part};
-use crate::table::FileTable;
-use mv_base::{Items, Memory};
+use crate::table::{Entry, FileTable};
+use mv_base::{Items, Memory, PackedSet};
+use std::alloc::Global;
+
+/// An equal list of sets.
+pub fn copy_sets(alloc: Global, sets: &[PackedSet]) -> Result<Items<PackedSet>, Memory>
+    ensures { IfOk result (λ c. c ≡ sets.now) }
+{
+    let mut copied = Items::with_room(alloc, sets.len())?;
+    for set in sets {
+        copied.push(set.copy()?)?;
+    }
+    Ok(copied)
+}
+
+/// An equal list of entries.
+pub fn copy_entries(entries: &Items<Entry>) -> Result<Items<Entry>, Memory>
+    ensures { IfOk result (λ c. c ≡ entries.now) }
+{
+    let mut copied = Items::with_room(entries.allocator(), entries.len())?;
+    for entry in entries.as_slice() {
+        copied.push(entry.copy()?)?;
+    }
+    Ok(copied)
+}
 
 /// An equal list of tables.
 pub fn copy_tables(tables: &Items<FileTable>) -> Result<Items<FileTable>, Memory>

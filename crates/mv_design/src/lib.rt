@@ -6,6 +6,7 @@ mod design;
 mod rows;
 mod table;
 
+pub use copies::{copy_entries, copy_sets};
 pub use design::{Bind, Decl, Design, FileLatch, FileModel, Part};
 pub use rows::Rows;
 pub use table::{Entry, FileTable, Row};

@@ -1,13 +1,14 @@
 ghost use Rattle.std.specs.Prelude.{◌≡◌, IfOk};
 
+use crate::copies::{copy_entries, copy_sets};
 use crate::rows::Rows;
-use mv_base::{Items, Memory, Name, ValueSet};
+use mv_base::{Items, Memory, Name, PackedSet};
 
 /// What a row or a default says of an output column.
-#[derive(Clone, Copy, Debug, PartialEq, Eq)]
+#[derive(Debug, Drop)]
 pub enum Entry {
     /// One of these values.
-    Set(ValueSet),
+    Set(PackedSet),
     /// The value at the position of the value of the input column at this place.
     Same(u32),
 }
@@ -15,7 +16,7 @@ pub enum Entry {
 /// A row of a table: the values of each input column, and an entry for each output column.
 #[derive(Drop)]
 pub struct Row {
-    pub ins: Items<ValueSet>,
+    pub ins: Items<PackedSet>,
     pub outs: Items<Entry>,
 }
 
@@ -30,14 +31,26 @@ pub struct FileTable {
     pub default: Option<Items<Entry>>,
 }
 
+impl Entry {
+    /// An equal entry.
+    pub fn copy(&self) -> Result<Entry, Memory>
+        ensures { IfOk result (λ c. c ≡ self.now) }
+    {
+        match self {
+            Entry::Set(set) => Ok(Entry::Set(set.copy()?)),
+            Entry::Same(place) => Ok(Entry::Same(*place)),
+        }
+    }
+}
+
 impl Row {
     /// An equal row.
     pub fn copy(&self) -> Result<Row, Memory>
         ensures { IfOk result (λ c. c ≡ self.now) }
     {
         Ok(Row {
-            ins: self.ins.copy()?,
-            outs: self.outs.copy()?,
+            ins: copy_sets(self.ins.allocator(), self.ins.as_slice())?,
+            outs: copy_entries(&self.outs)?,
         })
     }
 }
@@ -48,7 +61,7 @@ impl FileTable {
         ensures { IfOk result (λ c. c ≡ self.now) }
     {
         let default = match &self.default {
-            Some(entries) => Some(entries.copy()?),
+            Some(entries) => Some(copy_entries(entries)?),
             None => None,
         };
         Ok(FileTable {

@@ -1,6 +1,7 @@
 -- What the covers of a table need: the columns, the mark and the choice net fit it.
 use Rattle.std.proofs.Common.{◌≡◌, ℕ, ◌<◌, ◌+◌, true, false, List, [], ◌∷◌, length, get_or, refl, sym, ◌∙◌, ap, subst, arith}
-use Rattle.std.specs.Prelude.{slice_index_or}
+use Rattle.std.specs.Prelude.{nat_eq, slice_index_or}
+use Rattle.std.specs.List.{list_any}
 use Rattle.mv_base.specs.Names.{among}
 use Rattle.mv_base.specs.declared.limits.TheConstants.{MAX_JOINT_ROWS}
 use Rattle.mv_base.specs.declared.number.NetId.{NetId}
@@ -19,6 +20,7 @@ use Rattle.mv_flat.specs.Placed.{AreColumnsOf}
 use Rattle.mv_flat.specs.Places.{is_joint}
 use Rattle.mv_flat.specs.Sized.{TellsWide}
 use Rattle.mv_flat.proofs.Singles.{single_output, several_outputs}
+use Rattle.mv_flat.proofs.Shapes.{mark_unread}
 use Rattle.mv_flat.proofs.Unmarked.{own_apart}
 
 pub own_single : (names : List (List ℕ)) (t : FileTable) (columns : List Column) → AreColumnsOf names t columns → is_joint t ≡ false → length t.outputs ≡ 1
@@ -51,6 +53,13 @@ numbers_apart names t columns mark choice own h chosen =
     let P : NetId → Type 0 = λ n. AreApart columns n choice in
     let Q : NetId → Type 0 = λ n. AreApart columns (mark_at names t) n in
     subst P (sym own.mark_is) (subst Q (sym own.choice_is) (own_apart names t columns h chosen))
+
+pub numbers_unread : (names : List (List ℕ)) (t : FileTable) (columns : List Column) (mark choice : NetId) → AreOwn names t mark choice
+    → AreColumnsOf names t columns → list_any (λ (c : Column). nat_eq c.net.0 mark.0) columns ≡ false
+numbers_unread names t columns mark choice own h =
+    let P : NetId → Type 0 = λ n. list_any (λ (c : Column). nat_eq c.net.0 n.0) columns ≡ false in
+    let Q : List Column → Type 0 = λ cs. list_any (λ (c : Column). nat_eq c.net.0 (mark_at names t).0) cs ≡ false in
+    subst P (sym own.mark_is) (subst Q (sym h.are) (mark_unread h.decls names t h.placed))
 
 pub joint_made : (names : List (List ℕ)) (t : FileTable) (columns : List Column) (mark choice : NetId) (joint : JointTable) → AreOwn names t mark choice
     → is_joint t ≡ true → IsMadeJoint columns t mark choice joint → IsMadeTable columns t (mark_at names t) (choice_at names t) (Joint joint)

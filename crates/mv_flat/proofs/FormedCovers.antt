@@ -8,7 +8,7 @@ use Rattle.mv_base.specs.Set.{has, empty, full, Within}
 use Rattle.mv_base.specs.declared.number.NetId.{NetId}
 use Rattle.mv_base.proofs.Sets.{has-empty, has-full, same_set}
 use Rattle.mv_cover.specs.Covers.{cube_reads, lines_read, cover_reads}
-use Rattle.mv_cover.specs.declared.cube.Lit.{Lit}
+use Rattle.mv_cover.specs.Literal.{Lit}
 use Rattle.mv_cover.specs.declared.line.Line.{Line}
 use Rattle.mv_cover.specs.declared.cover.Cover.{Cover}
 use Rattle.mv_rows.specs.declared.column.Column.{Column}

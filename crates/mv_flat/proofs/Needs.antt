@@ -21,6 +21,7 @@ use Rattle.mv_rows.specs.Flat.{only_entry, says_nothing, IsRow}
 use Rattle.mv_rows.specs.Lines.{narrowed}
 use Rattle.mv_rows.specs.Marked.{matches_all, is_bare, some_row_bare, is_silent, needs_mark, default_marked, is_marked}
 use Rattle.mv_rows.proofs.Matching.{matched_everywhere, alone, alone-at, alone_ranges}
+use Rattle.mv_joint.specs.Plain.{is_same}
 use Rattle.mv_rows.proofs.Values.{fit_narrowed}
 use Rattle.mv_flat.specs.Numbers.{column_of, columns_at}
 use Rattle.mv_flat.specs.Places.{has_mark, is_joint}
@@ -153,16 +154,24 @@ pub plain_told : (ds : List Decl) (t : FileTable) → is_joint t ≡ false → i
 unfolding is_marked
 plain_told ds t single h = sym (plain_unmarked (columns_at ds t.inputs t) t.rows t.default h) ∙ single_mark ds t single
 
-same_marked : (cs : List Column) (rows : List Row) (entries : List Entry) (k : ℕ) → only_entry entries ≡ Same k → some_row_bare cs rows ≡ false → default_marked cs rows (Some entries) ≡ true
-same_marked cs rows entries k e h =
-    and_from _ _ (and_from _ _ (ap (λ x. not (says_nothing x)) e) (ap not h)) (ap (needs_mark cs rows) e)
+same_speaks : (e : Entry) → is_same e ≡ true → not (says_nothing e) ≡ true
+same_speaks (Set s) h = absurd (false≢true h)
+same_speaks (Same k) h = refl
 
-pub same_told : (ds : List Decl) (t : FileTable) (entries : List Entry) (k : ℕ) → All HasLawfulValues ds → IsNetTable ds t → is_joint t ≡ false
-    → t.default ≡ Some entries → only_entry entries ≡ Same k → some_has_all ds t.inputs t.rows ≡ false → true ≡ has_mark ds t
+same_needs : (cs : List Column) (rows : List Row) (e : Entry) → is_same e ≡ true → needs_mark cs rows e ≡ true
+same_needs cs rows (Set s) h = absurd (false≢true h)
+same_needs cs rows (Same k) h = refl
+
+same_marked : (cs : List Column) (rows : List Row) (entries : List Entry) → is_same (only_entry entries) ≡ true → some_row_bare cs rows ≡ false → default_marked cs rows (Some entries) ≡ true
+same_marked cs rows entries e h =
+    and_from _ _ (and_from _ _ (same_speaks (only_entry entries) e) (ap not h)) (same_needs cs rows (only_entry entries) e)
+
+pub same_told : (ds : List Decl) (t : FileTable) (entries : List Entry) → All HasLawfulValues ds → IsNetTable ds t → is_joint t ≡ false
+    → t.default ≡ Some entries → is_same (only_entry entries) ≡ true → some_has_all ds t.inputs t.rows ≡ false → true ≡ has_mark ds t
 unfolding is_marked
-same_told ds t entries k all f single e o h =
+same_told ds t entries all f single e o h =
     let cs = columns_at ds t.inputs t in
     let bare = none_bare ds t all (own_placed ds t f) (single_output t single f.some) h in
-    sym (ap (default_marked cs t.rows) e ∙ same_marked cs t.rows entries k o bare) ∙ single_mark ds t single
+    sym (ap (default_marked cs t.rows) e ∙ same_marked cs t.rows entries o bare) ∙ single_mark ds t single
 
 pub ruleset told = (plain_told, same_told)

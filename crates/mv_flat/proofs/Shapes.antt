@@ -190,7 +190,17 @@ no_column ds names (w ∷ ws) n known lawful apart =
     let l = and_parts (is_net_name w) _ lawful in
     or_from _ _ (ne_eqb (number_in names w) n (apart w k.0 l.0)) (no_column ds names ws n k.1 l.1 apart)
 
--- the mark is the net of no column, and the choice net of none of them nor the mark
+-- the mark is the net of no column
+pub mark_unread : (ds : List Decl) (names : List (List ℕ)) (t : FileTable) → IsPlacedTable ds names t
+    → list_any (λ (c : Column). nat_eq c.net.0 (mark_at names t).0) (columns_at ds names t) ≡ false
+mark_unread ds names t p = no_column ds names t.inputs (mark_at names t).0 p.known p.fits.inputs (mark_apart names t)
+
+-- nor is a number past all others one of theirs
+pub past_unread : (ds : List Decl) (names : List (List ℕ)) (t : FileTable) → IsPlacedTable ds names t
+    → list_any (λ (c : Column). nat_eq c.net.0 (length names)) (columns_at ds names t) ≡ false
+past_unread ds names t p = no_column ds names t.inputs (length names) p.known p.fits.inputs (past_apart names)
+
+-- the choice net is the net of no column nor the mark
 pub apart : (ds : List Decl) (names : List (List ℕ)) (t : FileTable) → All HasLawfulValues ds → IsPlacedTable ds names t
     → among (choice_name (output_of t)) names ≡ true → AreApart (columns_at ds names t) (mark_at names t) (choice_at names t)
 apart ds names t all p chosen = record {

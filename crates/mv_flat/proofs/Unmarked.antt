@@ -1,6 +1,7 @@
 -- The covers of a table without a mark are the same whatever number the mark would have.
 use Rattle.std.proofs.Common.{◌≡◌, ℕ, Bool, true, false, List, Option, Some, None, length, sym, ◌∙◌, ap, subst, ⊎_elim}
-use Rattle.std.specs.Prelude.{is_some, if◌then◌else◌}
+use Rattle.std.specs.Prelude.{is_some, nat_eq, if◌then◌else◌}
+use Rattle.std.specs.List.{list_any}
 use Rattle.std.proofs.lemmas.Bool.{cases_Bool, cond-false, false≢true}
 use Rattle.mv_base.specs.Names.{among}
 use Rattle.mv_base.specs.declared.number.NetId.{NetId}
@@ -20,7 +21,7 @@ use Rattle.mv_flat.specs.Gathered.{is_plain, IsMarkNumber}
 use Rattle.mv_flat.specs.Placed.{AreColumnsOf}
 use Rattle.mv_flat.proofs.HasMark.{marked_by}
 use Rattle.mv_flat.proofs.Needs.{plain_told}
-use Rattle.mv_flat.proofs.Shapes.{apart, joint_file, marked_columns, past_columns, table_columns, table_is}
+use Rattle.mv_flat.proofs.Shapes.{apart, joint_file, mark_unread, marked_columns, past_columns, past_unread, table_columns, table_is}
 use Rattle.mv_flat.proofs.Singles.{not_joint}
 
 unmarked_by : (columns : List Column) (m n : NetId) (lines : List Line) (entry : Entry) (o : Option ℕ) (flat : FlatTable) → is_some flat.mark ≡ false
@@ -57,16 +58,24 @@ own_apart names t columns h chosen =
     let P : List Column → Type 0 = λ cs. AreApart cs (mark_at names t) (choice_at names t) in
     subst P (sym h.are) (apart h.decls names t h.proper h.placed chosen)
 
+split : {a b : NetId} (c : Bool) (P : NetId → Type 0) → P a → P b → P (if c then a else b)
+split true P p q = p
+split false P p q = q
+
 pub own_marked : (names : List (List ℕ)) (t : FileTable) (columns : List Column) (mark : NetId) → AreColumnsOf names t columns → IsMarkNumber names t mark
     → AreColumns (with_mark columns mark)
 own_marked names t columns mark h is =
     let P : NetId → Type 0 = λ n. AreColumns (with_mark (columns_at h.decls names t) n) in
     let Q : List Column → Type 0 = λ cs. AreColumns (with_mark cs mark) in
     subst Q (sym h.are) (subst P (sym is) (split (is_plain t) P (past_columns h.decls names t h.proper h.placed) (marked_columns h.decls names t h.proper h.placed)))
-  where
-    split : {a b : NetId} (c : Bool) (P : NetId → Type 0) → P a → P b → P (if c then a else b)
-    split true P p q = p
-    split false P p q = q
+
+-- and the mark's number is that of no column
+pub own_unread : (names : List (List ℕ)) (t : FileTable) (columns : List Column) (mark : NetId) → AreColumnsOf names t columns → IsMarkNumber names t mark
+    → list_any (λ (c : Column). nat_eq c.net.0 mark.0) columns ≡ false
+own_unread names t columns mark h is =
+    let P : NetId → Type 0 = λ n. list_any (λ (c : Column). nat_eq c.net.0 n.0) (columns_at h.decls names t) ≡ false in
+    let Q : List Column → Type 0 = λ cs. list_any (λ (c : Column). nat_eq c.net.0 mark.0) cs ≡ false in
+    subst Q (sym h.are) (subst P (sym is) (split (is_plain t) P (past_unread h.decls names t h.placed) (mark_unread h.decls names t h.placed)))
 
 -- covers that are made with such a number are those with the mark's
 pub own_made : (names : List (List ℕ)) (t : FileTable) (columns : List Column) (mark : NetId) (flat : FlatTable) → AreColumnsOf names t columns

@@ -4,7 +4,6 @@ use Rattle.std.specs.Prelude.{◌≡◌, ℕ, Bool, true, false, not, ◌&&◌, 
 use Rattle.std.specs.List.{list_any}
 use Rattle.mv_design.specs.declared.design.Decl.{Decl}
 use Rattle.mv_design.specs.declared.table.Entry.{Entry}
-use Rattle.mv_design.specs.declared.table.Entry.TheVariants.{Set, Same}
 use Rattle.mv_design.specs.declared.table.Row.{Row}
 use Rattle.mv_design.specs.declared.table.FileTable.{FileTable}
 use Rattle.mv_base.specs.Names.{place_of}
@@ -12,6 +11,7 @@ use Rattle.mv_base.specs.Set.{full}
 use Rattle.mv_base.specs.declared.number.NetId.{NetId}
 use Rattle.mv_design.specs.Values.{count_of}
 use Rattle.mv_rows.specs.Flat.{only_entry, says_nothing}
+use Rattle.mv_joint.specs.Plain.{is_same}
 use Rattle.mv_acyclic.specs.Driving.{with_names}
 use Rattle.mv_flat.specs.Numbers.{mark_at}
 use Rattle.mv_flat.specs.Places.{made_places}
@@ -37,8 +37,7 @@ some_has_all ds ins rows = list_any (λ (r : Row). has_all ds ins r.ins) rows
 
 -- a default can stand beside rows: it is a set, and each row says a value
 abbrev pub can_stand : List Row → Entry → Bool
-can_stand rows (Set s) = not (some_silent rows)
-can_stand rows (Same k) = false
+can_stand rows default = not (is_same default) && not (some_silent rows)
 
 -- a default can stand beside rows, if there is one
 abbrev pub none_or_stands : List Row → Option (List Entry) → Bool

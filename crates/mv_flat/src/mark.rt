@@ -1,6 +1,7 @@
 //! Which tables have several outputs and which get a mark, and the names by which a choice net and a mark stand among the nets.
 ghost use Rattle.std.specs.Prelude.{◌≡◌, ◌≤◌, false, length, IfOk, IfSome, All};
 ghost use Rattle.mv_base.specs.declared.limits.TheConstants.{MAX_NETS};
+ghost use Rattle.mv_joint.specs.Plain.{is_same};
 ghost use Rattle.mv_rows.specs.Flat.{only_entry, says_nothing};
 ghost use Rattle.mv_flat.specs.Numbers.{choice_name, mark_name};
 ghost use Rattle.mv_flat.specs.Places.{has_mark, is_joint};
@@ -12,7 +13,7 @@ use crate::columns::declared_columns;
 use crate::covers::single_covers;
 use crate::values::count_of;
 use mv_acyclic::Numbers;
-use mv_base::{Items, Memory, Name, ValueSet};
+use mv_base::{Items, Memory, Name, PackedSet, ValueSet};
 use mv_decl::Declared;
 use mv_design::{Entry, FileTable, Row};
 use mv_joint::is_joint_marked;
@@ -85,10 +86,10 @@ fn told_mark(decls: &Declared, table: &FileTable) -> Option<bool>
         return None;
     };
     let rows = table.rows.as_slice();
-    match first_entry(entries) {
-        Entry::Same(_) if !some_row_has_all(decls, table.inputs.as_slice(), rows) => Some(true),
-        _ => None,
+    if names_column(entries) && !some_row_has_all(decls, table.inputs.as_slice(), rows) {
+        return Some(true);
     }
+    None
 }
 
 /// Whether the table of one output has no default, or one that can stand beside its rows. Such a table gets no mark.
@@ -97,18 +98,15 @@ pub fn is_plain(table: &FileTable) -> bool
 {
     match &table.default {
         None => true,
-        Some(entries) => can_stand(table.rows.as_slice(), &first_entry(entries)),
+        Some(entries) => can_stand(table.rows.as_slice(), entries),
     }
 }
 
 /// Whether the default can stand beside the rows: it is a set, and each row says a value.
-fn can_stand(rows: &[Row], default: &Entry) -> bool
-    ensures { result ≡ can_stand rows.now default.now }
+fn can_stand(rows: &[Row], default: &Items<Entry>) -> bool
+    ensures { result ≡ can_stand rows.now (only_entry default.now) }
 {
-    match default {
-        Entry::Set(_) => !some_row_is_silent(rows),
-        Entry::Same(_) => false,
-    }
+    !names_column(default) && !some_row_is_silent(rows)
 }
 
 /// Whether some row has all values of each of these nets.
@@ -124,11 +122,11 @@ fn some_row_has_all(decls: &Declared, inputs: &[Name], rows: &[Row]) -> bool
 }
 
 /// Whether the sets have all values of each of these nets.
-fn has_all(decls: &Declared, inputs: &[Name], sets: &[ValueSet]) -> bool
+fn has_all(decls: &Declared, inputs: &[Name], sets: &[PackedSet]) -> bool
     ensures { result ≡ has_all decls.now inputs.now sets.now }
 {
     for place in 0..inputs.len().min(sets.len()) {
-        if sets[place] != ValueSet::full(count_of(decls, &inputs[place])) {
+        if sets[place].get() != ValueSet::full(count_of(decls, &inputs[place])) {
             return false;
         }
     }
@@ -140,11 +138,22 @@ fn some_row_is_silent(rows: &[Row]) -> bool
     ensures { result ≡ some_silent rows.now }
 {
     for row in rows {
-        if is_silent(&first_entry(&row.outs)) {
+        if says_nothing(&row.outs) {
             return true;
         }
     }
     false
+}
+
+/// Whether no value lies in the first entry. None does where there is none.
+#[tactic(auto, unfolding(mv_base::specs::Set::empty))]
+fn says_nothing(entries: &Items<Entry>) -> bool
+    ensures { result ≡ says_nothing (only_entry entries.now) }
+{
+    match entries.as_slice() {
+        [first, ..] => is_silent(first),
+        [] => true,
+    }
 }
 
 /// Whether no value lies in the entry.
@@ -152,17 +161,27 @@ fn is_silent(entry: &Entry) -> bool
     ensures { result ≡ says_nothing entry.now }
 {
     match entry {
-        Entry::Set(out) => *out == ValueSet::empty(),
+        Entry::Set(out) => out.is_empty(),
         Entry::Same(_) => false,
     }
 }
 
-/// The first entry, and the empty set where there is none.
-fn first_entry(entries: &Items<Entry>) -> Entry
-    ensures { result ≡ only_entry entries.now }
+/// Whether the first entry names a column.
+fn names_column(entries: &Items<Entry>) -> bool
+    ensures { result ≡ is_same (only_entry entries.now) }
 {
-    match entries.get(0) {
-        Some(entry) => *entry,
-        None => Entry::Set(ValueSet::empty()),
+    match entries.as_slice() {
+        [first, ..] => is_same(first),
+        [] => false,
+    }
+}
+
+/// Whether the entry names a column.
+fn is_same(entry: &Entry) -> bool
+    ensures { result ≡ is_same entry.now }
+{
+    match entry {
+        Entry::Set(_) => false,
+        Entry::Same(_) => true,
     }
 }

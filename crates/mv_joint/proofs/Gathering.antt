@@ -1,7 +1,8 @@
 -- Rows that are gathered one after the other: their distinct rows of outputs only grow.
-use Rattle.std.proofs.Common.{◌≡◌, ℕ, ◌<◌, ◌≤◌, true, false, not, List, [], ◌∷◌, ◌++◌, length, map, refl, sym, ◌∙◌, ap, subst, arith, append_assoc, append-nil, length-append, inl, inr}
+use Rattle.std.proofs.Common.{◌≡◌, ℕ, ◌<◌, ◌≤◌, true, false, not, List, [], ◌∷◌, ◌++◌, length, map, refl, sym, ◌∙◌, ap, subst, arith, append_assoc, append-nil, length-append, inl, inr, ◌+◌, take}
 use Rattle.std.specs.List.{list_any}
-use Rattle.std.proofs.lemmas.Bool.{cases_Bool, cond_both}
+use Rattle.std.proofs.lemmas.Bool.{cases_Bool, cond_both, cond-false, cond-true}
+use Rattle.std.proofs.Math.Seq.{take-append_seam, take-length}
 use Rattle.std.proofs.lemmas.List.{map-append}
 use Rattle.std.proofs.lemmas.List.Elements.{filter-append}
 use Rattle.indexmap.specs.IndexSet.{insert_key, insert_all}
@@ -55,10 +56,43 @@ joined_silent keys r h = rw h refl
 pub joined_said : (keys : List (List ℕ)) (r : PlainRow) → is_silent r ≡ false → joined keys (r ∷ []) ≡ insert_key same_outs keys r.outs
 joined_said keys r h = rw h refl
 
+pub count_silent : (keys : List (List ℕ)) (r : PlainRow) → is_silent r ≡ true → length keys ≡ length (joined keys (r ∷ []))
+count_silent keys r h = ap length (sym (joined_silent keys r h))
+
+pub count_old : (keys : List (List ℕ)) (r : PlainRow) → is_silent r ≡ false → list_any (same_outs r.outs) keys ≡ true → length keys ≡ length (joined keys (r ∷ []))
+count_old keys r h old = ap length (sym (joined_said keys r h ∙ cond-true (list_any (same_outs r.outs) keys) keys (keys ++ r.outs ∷ []) old))
+
+pub count_new : (keys : List (List ℕ)) (r : PlainRow) → is_silent r ≡ false → list_any (same_outs r.outs) keys ≡ false → length keys + 1 ≡ length (joined keys (r ∷ []))
+count_new keys r h new =
+    sym (ap length (joined_said keys r h ∙ cond-false (list_any (same_outs r.outs) keys) keys (keys ++ r.outs ∷ []) new) ∙ length-append keys (r.outs ∷ []))
+
+-- the distinct rows of outputs from before stand in front
+front_said : (keys : List (List ℕ)) (x : List ℕ) → take (length keys) (insert_key same_outs keys x) ≡ keys
+front_said keys x =
+    cond_both (list_any (same_outs x) keys) keys (keys ++ x ∷ []) (λ (ks : List (List ℕ)). take (length keys) ks ≡ keys)
+    (λ _. take-length keys)
+    (λ _. take-append_seam keys (x ∷ []))
+
+pub front_joined : (keys : List (List ℕ)) (r : PlainRow) → take (length keys) (joined keys (r ∷ [])) ≡ keys
+front_joined keys r =
+    elim (cases_Bool (is_silent r)) [
+      | inl silent ↦ ap (take (length keys)) (joined_silent keys r silent) ∙ take-length keys
+      | inr says ↦ ap (take (length keys)) (joined_said keys r says) ∙ front_said keys r.outs
+    ]
+
 -- ---- some rows and some more
 
 pub gathers_none : (g : Gathered) → Gathers [] g g
 gathers_none g = record { rows = sym (append-nil g.rows); outs = refl }
+
+pub gathers_kept : (x y : Gathered) → y.rows ≡ x.rows → y.outs.keys ≡ x.outs.keys → Gathers [] x y
+gathers_kept x y rows keys = record { rows = rows ∙ sym (append-nil x.rows); outs = keys }
+
+-- where a row's outputs are taken back
+pub taken_back : (x y : Gathered) (r : PlainRow) (count : ℕ) (after : List (List ℕ)) → y.rows ≡ x.rows → after ≡ joined x.outs.keys (r ∷ [])
+    → count ≡ length x.outs.keys → y.outs.keys ≡ take count after → Gathers [] x y
+taken_back x y r count after rows joins counts back =
+    gathers_kept x y rows (back ∙ ((λ i. take (counts i) (joins i)) ∙ front_joined x.outs.keys r))
 
 pub gathers_more : (a b : List PlainRow) (x y z : Gathered) → Gathers a x y → Gathers b y z → Gathers (a ++ b) x z
 gathers_more a b x y z p q = record {

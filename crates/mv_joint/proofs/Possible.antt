@@ -1,7 +1,7 @@
 -- What the cube of a row tells: whether the row matches something, and whether it matches everything.
 use Rattle.std.proofs.Common.{◌≡◌, ℕ, Bool, false, not, nat_eq, List, length, Option, Some, None, MatchOption, sym, ap}
 use Rattle.std.specs.Option.{is_some}
-use Rattle.mv_cover.specs.declared.cube.Lit.{Lit}
+use Rattle.mv_cover.specs.Literal.{Lit}
 use Rattle.mv_rows.specs.declared.column.Column.{Column}
 use Rattle.mv_rows.specs.Cubes.{AreColumns, FitRow, HasNoPoint, IsRowCube}
 use Rattle.mv_rows.specs.Marked.{matches_all, matches_none}

@@ -4,7 +4,7 @@ use Rattle.std.specs.Cmp.{IsEquivalence, IsPartialEquivalence, partial_equiv_fro
 use Rattle.std.specs.Cmp.Lexicographic.{pointwise, pointwise_decides}
 use Rattle.std.specs.Hash as fed
 use Rattle.std.specs.Hash.{HashWrites}
-use Rattle.mv_base.specs.Words.{set_fed}
+use Rattle.mv_base.specs.Words.{kept_fed}
 
 -- the same sets, one by one
 abbrev pub same_outs : List ℕ → List ℕ → Bool
@@ -12,7 +12,7 @@ same_outs a b = pointwise nat_eq a b
 
 -- what a hash is fed with: the number of sets, then each of them
 abbrev pub outs_fed : List ℕ → HashWrites
-outs_fed a = fed.slice set_fed a
+outs_fed a = fed.slice kept_fed a
 
 pub same_outs-Decides : (a b : List ℕ) → Decides (same_outs a b) (a ≡ b)
 same_outs-Decides = pointwise_decides unsigned_Decides

@@ -33,8 +33,8 @@ pub record IsJointFile (columns : List Column) (t : FileTable) : Type 0 where
   pub rows : All (IsJointRow columns (length t.outputs)) t.rows
   pub default : (entries : List Entry) → t.default ≡ Some entries → IsJointDefault columns (length t.outputs) entries
 
--- a mark and a choice net for a table over these columns: the mark is the net of none of them, and the choice net of none of
--- them nor the mark
+-- a mark and a choice net for a table over these columns: the mark has two values beside them, and the choice net is the net
+-- of none of them nor the mark
 pub record AreApart (columns : List Column) (mark choice : NetId) : Type 0 where
   pub inputs : AreColumns columns
   pub marked : AreColumns (with_mark columns mark)

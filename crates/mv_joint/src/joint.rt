@@ -14,12 +14,12 @@ ghost use Rattle.mv_joint.specs.Meaning.{IsJointTable};
 ghost use Rattle.mv_joint.specs.Lawful.{IsPlain, IsMarkTable};
 
 use crate::out_row::OutRow;
-use crate::plain::{PlainTable, only_one, plain_table};
+use crate::plain::{PlainTable, one_entry, only_one, plain_table};
 use crate::split::PlainRow;
 use indexmap::IndexSet;
-use mv_base::{Items, MAX_JOINT_ROWS, Memory, NetId, Value, ValueSet};
+use mv_base::{Items, Memory, NetId, PackedSet, Value, ValueSet};
 use mv_cover::Cover;
-use mv_design::{Entry, FileTable, Row, Rows};
+use mv_design::{Entry, FileTable, Row, Rows, copy_sets};
 use mv_rows::{Column, flat_table};
 use std::alloc::Global;
 
@@ -53,7 +53,7 @@ impl From<Memory> for JointStop {
     }
 }
 
-/// The covers of a table with several outputs, whose columns have nets that are not the choice net. Splitting such a table
+/// The covers of a table with several outputs, whose columns have nets that are not the choice net nor the mark. Splitting such a table
 /// into tables for its outputs would allow their values in any mixture; so the choice net gets a value for each distinct row
 /// of outputs, and each output reads it. A row whose entries name columns is one for each choice of their values, the first
 /// named column's slowest. Where the default names a column, or where a row says no value of some output, so that it takes the
@@ -70,6 +70,7 @@ pub fn joint_table(
 ) -> Result<JointTable, JointStop>
     requires columns { AreColumns columns.now }
     requires with_mark { AreColumns (with_mark columns.now mark) }
+    requires unread { list_any (λ c. nat_eq c.net.0 mark.0) columns.now ≡ false }
     requires apart { list_any (λ c. nat_eq c.net.0 choice.0) (with_mark columns.now mark) ≡ false }
     requires table { IsJointFile columns.now table.now }
     ensures lines { IfOk result (λ joint. IsMadeJoint columns.now table.now mark choice joint) }
@@ -89,6 +90,7 @@ fn made(
 ) -> Result<JointTable, JointStop>
     requires columns { AreColumns columns.now }
     requires with_mark { AreColumns (with_mark columns.now mark) }
+    requires unread { list_any (λ c. nat_eq c.net.0 mark.0) columns.now ≡ false }
     requires apart { list_any (λ c. nat_eq c.net.0 choice.0) (with_mark columns.now mark) ≡ false }
     requires table { IsJointFile columns.now table.now }
     ensures made { IfOk result (λ joint. IsMadeJoint columns.now table.now mark choice joint) }
@@ -99,9 +101,6 @@ fn made(
         Err(stop) => return Err(stop),
     };
     let all = &found.choices;
-    if all.len() as u64 > MAX_JOINT_ROWS {
-        return Err(JointStop::Wide);
-    }
     let marks = mark_cover(alloc, columns, &found.table, mark)?;
     let chosen = choice_cover(alloc, &found.table, all, mark)?;
     let all = all.as_slice();
@@ -196,11 +195,11 @@ fn choice_table(
 }
 
 /// The choice net's value for a row of outputs.
-fn choice_entry(all: &IndexSet<OutRow>, outs: &OutRow) -> Entry
+fn choice_entry(alloc: Global, all: &IndexSet<OutRow>, outs: &OutRow) -> Result<Entry, Memory>
     requires few { length all.now.keys ≤ MAX_VALUES }
-    ensures { result ≡ choice_entry all.now.keys outs.now }
+    ensures { IfOk result (λ entry. entry ≡ choice_entry all.now.keys outs.now) }
 {
-    Entry::Set(ValueSet::one(Value(place_of(all, outs))))
+    one_entry(alloc, Value(place_of(all, outs)))
 }
 
 /// The place of the row of outputs among these.
@@ -221,8 +220,8 @@ fn choice_row(alloc: Global, all: &IndexSet<OutRow>, row: &PlainRow) -> Result<R
     ensures { IfOk result (λ r. r ≡ choice_row all.now.keys row.now) }
 {
     Ok(Row {
-        ins: row.ins.copy()?,
-        outs: only_one(alloc, choice_entry(all, &row.outs))?,
+        ins: copy_sets(alloc, row.ins.as_slice())?,
+        outs: only_one(alloc, choice_entry(alloc, all, &row.outs)?)?,
     })
 }
 
@@ -237,7 +236,7 @@ fn choice_default(
 {
     match default {
         None => Ok(None),
-        Some(outs) => Ok(Some(only_one(alloc, choice_entry(all, outs))?)),
+        Some(outs) => Ok(Some(only_one(alloc, choice_entry(alloc, all, outs)?)?)),
     }
 }
 
@@ -317,19 +316,19 @@ fn output_row(alloc: Global, value: Value, outs: &OutRow, output: usize) -> Resu
     ensures { IfOk result (λ row. row ≡ output_row output value.0 outs.now) }
 {
     let mut ins = Items::new(alloc);
-    ins.push(ValueSet::one(value))?;
+    ins.push(PackedSet::new(alloc, ValueSet::one(value))?)?;
     Ok(Row {
         ins,
-        outs: only_one(alloc, Entry::Set(set_at(outs, output)))?,
+        outs: only_one(alloc, Entry::Set(set_at(alloc, outs, output)?))?,
     })
 }
 
 /// The set for the output.
-fn set_at(outs: &OutRow, output: usize) -> ValueSet
-    ensures { result ≡ slice_index_or outs.now output empty }
+fn set_at(alloc: Global, outs: &OutRow, output: usize) -> Result<PackedSet, Memory>
+    ensures { IfOk result (λ set. set ≡ slice_index_or outs.now output empty) }
 {
     match outs.as_slice().get(output) {
-        Some(set) => *set,
-        None => ValueSet::empty(),
+        Some(set) => set.copy(),
+        None => PackedSet::new(alloc, ValueSet::empty()),
     }
 }

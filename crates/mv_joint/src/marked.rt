@@ -9,7 +9,7 @@ ghost use Rattle.mv_joint.specs.Plain.{IsJointFile, is_joint_marked, is_same, st
 ghost use Rattle.mv_joint.specs.Looks.{is_single, gives_bare, gives_silent};
 
 use crate::split::is_possible;
-use mv_base::{Memory, ValueSet};
+use mv_base::{Memory, PackedSet};
 use mv_design::{Entry, FileTable, Row};
 use mv_rows::{Column, Frame};
 use std::alloc::Global;
@@ -125,15 +125,15 @@ fn is_single(columns: &[Column], entry: &Entry) -> bool
     requires { FitEntry columns.now entry.now }
     ensures { result ≡ is_single columns.now entry.now }
 {
-    match *entry {
+    match entry {
         Entry::Set(_) => true,
-        Entry::Same(place) => columns[place as usize].count == 1,
+        Entry::Same(place) => columns[*place as usize].count == 1,
     }
 }
 
 /// Whether a row with these sets matches everything.
 #[tactic(auto, using(crate::proofs::Possible::bare_from_cube))]
-fn is_bare(alloc: Global, frame: &Frame, sets: &[ValueSet]) -> Result<bool, Memory>
+fn is_bare(alloc: Global, frame: &Frame, sets: &[PackedSet]) -> Result<bool, Memory>
     requires frame { IsFrame frame.now }
     requires sets { FitRow frame.now.columns sets.now }
     ensures { IfOk result (λ b. b ≡ matches_all frame.now.columns sets.now) }
@@ -183,7 +183,7 @@ fn is_empty(entry: &Entry) -> bool
     ensures { result ≡ says_nothing entry.now }
 {
     match entry {
-        Entry::Set(out) => *out == ValueSet::empty(),
+        Entry::Set(out) => out.is_empty(),
         Entry::Same(_) => false,
     }
 }

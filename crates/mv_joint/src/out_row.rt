@@ -1,13 +1,15 @@
-ghost use Rattle.std.specs.Prelude.{◌≡◌, ◌∷◌, ◌++◌, [], IfOk, OnOk};
+ghost use Rattle.std.specs.Prelude.{◌≡◌, ◌∷◌, ◌++◌, [], IfOk, OnOk, OnErr};
 
-use mv_base::{Memory, ValueSet};
+use mv_base::{Items, Memory, PackedSet};
+use mv_design::copy_sets;
+use std::alloc::Global;
 use std::hash::{Hash, Hasher};
 use std::marker::Model;
 
 /// A set of values for each output, seen as the list of them.
 #[derive(Debug, Drop)]
 pub struct OutRow {
-    sets: Vec<ValueSet>,
+    sets: Items<PackedSet>,
 }
 
 impl Model for OutRow {
@@ -15,19 +17,19 @@ impl Model for OutRow {
 
     ghost Value = { List ℕ };
 
-    ghost view = { λ a. a.sets.items };
+    ghost view = { λ a. a.sets };
 }
 
 impl OutRow {
     /// These sets.
-    pub fn of(sets: Vec<ValueSet>) -> OutRow
-        ensures { result ≡ sets.items }
+    pub fn of(sets: Items<PackedSet>) -> OutRow
+        ensures { result ≡ sets }
     {
         OutRow { sets }
     }
 
     /// The sets.
-    pub fn as_slice(&self) -> &[ValueSet]
+    pub fn as_slice(&self) -> &[PackedSet]
         ensures { result.now ≡ self.now }
     {
         self.sets.as_slice()
@@ -38,16 +40,19 @@ impl OutRow {
         ensures { IfOk result (λ row. row ≡ self.now) }
     {
         Ok(OutRow {
-            sets: Vec::from_slice(*self.sets.allocator(), self.sets.as_slice())?,
+            sets: copy_sets(self.sets.allocator(), self.sets.as_slice())?,
         })
     }
 
-    /// Adds a set for one output more.
-    pub fn push(&mut self, set: ValueSet) -> Result<(), Memory>
-        ensures { OnOk result (self.new ≡ self.old ++ set ∷ []) }
+    /// Adds a set for one output more. On an error the row is as before.
+    pub fn push(&mut self, set: PackedSet) -> Result<(), Memory>
+        ensures ok { OnOk result (self.new ≡ self.old ++ set ∷ []) }
+        ensures err { OnErr result (self.new ≡ self.old) }
     {
-        self.sets.push(set)?;
-        Ok(())
+        match self.sets.push(set) {
+            Ok(()) => Ok(()),
+            Err(_refused) => Err(Memory),
+        }
     }
 }
 
@@ -59,7 +64,7 @@ impl PartialEq for OutRow {
     ghost laws = { same_outs-partial_equiv };
 
     fn eq(&self, other: &OutRow) -> bool {
-        self.sets == other.sets
+        self.sets.as_slice() == other.sets.as_slice()
     }
 }
 
@@ -77,6 +82,6 @@ impl Hash for OutRow {
     ghost respects_eq = { outs_fed-same };
 
     fn hash<H: Hasher>(&self, state: &mut H) {
-        self.sets.hash(state);
+        self.sets.as_slice().hash(state);
     }
 }

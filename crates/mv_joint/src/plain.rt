@@ -1,7 +1,10 @@
-ghost use Rattle.std.specs.Prelude.{◌≡◌, ◌∷◌, [], false, map, IfOk, IfErr, OnOk, All};
+ghost use Rattle.std.specs.Prelude.{◌≡◌, ◌<◌, ◌≤◌, ◌∷◌, [], false, length, map, nat_eq, IfOk, IfErr, OnOk, All};
 ghost use Rattle.std.specs.List.{list_any};
 ghost use Rattle.indexmap.specs.IndexSet.{insert_all};
+ghost use Rattle.mv_base.specs.Set.{one};
+ghost use Rattle.mv_base.specs.declared.limits.TheConstants.{MAX_JOINT_ROWS, MAX_VALUES};
 ghost use Rattle.mv_design.specs.declared.table.Entry.{Entry};
+ghost use Rattle.mv_design.specs.declared.table.Entry.TheVariants.{Set};
 ghost use Rattle.mv_rows.specs.Cubes.{AreColumns, IsFrame};
 ghost use Rattle.mv_rows.specs.Lines.{FitEntry};
 ghost use Rattle.mv_rows.specs.Flat.{says_nothing, with_mark, marked_sets};
@@ -18,8 +21,8 @@ use crate::marked::{needs_mark, some_empty, stays};
 use crate::out_row::OutRow;
 use crate::split::{PlainRow, is_silent, put_rows};
 use indexmap::IndexSet;
-use mv_base::{Items, Memory, NetId, Value, ValueSet};
-use mv_design::{Entry, FileTable, Row, Rows};
+use mv_base::{Items, MAX_JOINT_ROWS, Memory, NetId, PackedSet, Value, ValueSet};
+use mv_design::{Entry, FileTable, Row, Rows, copy_sets};
 use mv_rows::{Column, Frame};
 use std::alloc::Global;
 
@@ -42,7 +45,7 @@ pub struct PlainChoices {
 
 /// The table without `=`. A row whose entries name columns becomes one for each choice of their values. A default with an
 /// empty entry goes, and one beside a row that matches everything. One that names a column, or beside a row that says nothing
-/// of some output, becomes rows that have the mark at 1. Rows that match nothing, or say nothing of some output, go. There is
+/// of some output, becomes rows that have the mark at 1, which is the net of no column. Rows that match nothing, or say nothing of some output, go. There is
 /// no such table where more than `MAX_JOINT_ROWS` distinct rows of outputs are met on the way.
 pub fn plain_table(
     alloc: Global,
@@ -52,8 +55,10 @@ pub fn plain_table(
 ) -> Result<PlainChoices, JointStop>
     requires columns { AreColumns columns.now }
     requires with_mark { AreColumns (with_mark columns.now mark) }
+    requires unread { list_any (λ c. nat_eq c.net.0 mark.0) columns.now ≡ false }
     requires table { IsJointFile columns.now table.now }
     ensures found { IfOk result (λ found. AreChoices (plain_of columns.now table.now mark) found) }
+    ensures few { IfOk result (λ found. length found.choices.keys ≤ MAX_JOINT_ROWS) }
     ensures stop { IfErr result (λ stop. StopsBy columns.now table.now mark stop) }
 {
     let frame = Frame::new(alloc, columns)?;
@@ -76,6 +81,7 @@ fn all_rows(alloc: Global, frame: &Frame, table: &FileTable) -> Result<Gathered,
     requires frame { IsFrame frame.now }
     requires table { IsJointFile frame.now.columns table.now }
     ensures rows { IfOk result (λ gathered. IsGathered (all_rows frame.now.columns table.now.rows) gathered) }
+    ensures few { IfOk result (λ gathered. length gathered.outs.keys ≤ MAX_JOINT_ROWS) }
     ensures stop { IfErr result (λ stop. StopsRows (all_rows frame.now.columns table.now.rows) stop) }
 {
     let mut gathered = Gathered::new(alloc);
@@ -94,6 +100,7 @@ fn said_rows(alloc: Global, frame: &Frame, table: &FileTable) -> Result<Gathered
     requires frame { IsFrame frame.now }
     requires table { IsJointFile frame.now.columns table.now }
     ensures rows { IfOk result (λ gathered. IsGathered (said (all_rows frame.now.columns table.now.rows)) gathered) }
+    ensures few { IfOk result (λ gathered. length gathered.outs.keys ≤ MAX_JOINT_ROWS) }
     ensures stop { IfErr result (λ stop. StopsRows (all_rows frame.now.columns table.now.rows) stop) }
 {
     let mut gathered = Gathered::new(alloc);
@@ -114,20 +121,20 @@ fn said_rows(alloc: Global, frame: &Frame, table: &FileTable) -> Result<Gathered
 fn sets_of(alloc: Global, entries: &[Entry]) -> Result<OutRow, Memory>
     ensures { IfOk result (λ row. row ≡ map set_of entries.now) }
 {
-    let mut sets = Vec::with_capacity(alloc, entries.len())?;
+    let mut sets = Items::with_room(alloc, entries.len())?;
     for entry in entries {
-        sets.push(set_of(entry))?;
+        sets.push(set_of(alloc, entry)?)?;
     }
     Ok(OutRow::of(sets))
 }
 
 /// The set of an entry that is one.
-fn set_of(entry: &Entry) -> ValueSet
-    ensures { result ≡ set_of entry.now }
+fn set_of(alloc: Global, entry: &Entry) -> Result<PackedSet, Memory>
+    ensures { IfOk result (λ set. set ≡ set_of entry.now) }
 {
     match entry {
-        Entry::Set(out) => *out,
-        Entry::Same(_) => ValueSet::empty(),
+        Entry::Set(out) => out.copy(),
+        Entry::Same(_) => PackedSet::new(alloc, ValueSet::empty()),
     }
 }
 
@@ -141,6 +148,7 @@ fn unmarked(
     requires frame { IsFrame frame.now }
     requires table { IsJointFile frame.now.columns table.now }
     ensures found { IfOk result (λ found. AreChoices (unmarked frame.now.columns (all_rows frame.now.columns table.now.rows) default) found) }
+    ensures few { IfOk result (λ found. length found.choices.keys ≤ MAX_JOINT_ROWS) }
     ensures stop { IfErr result (λ stop. StopsWith (unmarked frame.now.columns (all_rows frame.now.columns table.now.rows) default) stop) }
 {
     let gathered = match said_rows(alloc, frame, table) {
@@ -149,6 +157,9 @@ fn unmarked(
     };
     let mut choices = gathered.outs;
     add_given(&mut choices, &default)?;
+    if choices.len() as u64 > MAX_JOINT_ROWS {
+        return Err(JointStop::Wide);
+    }
     let table = PlainTable {
         columns: frame.columns.copy()?,
         rows: gathered.rows,
@@ -195,6 +206,7 @@ fn marked(
     requires entries { All (FitEntry frame.now.columns) entries.now }
     requires some { list_any says_nothing entries.now ≡ false }
     ensures found { IfOk result (λ found. AreChoices (marked frame.now.columns mark (all_rows frame.now.columns table.now.rows) entries.now) found) }
+    ensures few { IfOk result (λ found. length found.choices.keys ≤ MAX_JOINT_ROWS) }
     ensures stop { IfErr result (λ stop. StopsWith (marked frame.now.columns mark (all_rows frame.now.columns table.now.rows) entries.now) stop) }
 {
     let gathered = match all_rows(alloc, frame, table) {
@@ -215,9 +227,11 @@ fn with_default_rows(
     requires columns { AreColumns columns.now }
     requires with_mark { AreColumns (with_mark columns.now mark) }
     requires gathered { IsGathered gathered.rows gathered }
+    requires few { length gathered.outs.keys ≤ MAX_JOINT_ROWS }
     requires entries { All (FitEntry columns.now) entries.now }
     requires some { list_any says_nothing entries.now ≡ false }
     ensures found { IfOk result (λ found. AreChoices (marked columns.now mark gathered.rows entries.now) found) }
+    ensures few { IfOk result (λ found. length found.choices.keys ≤ MAX_JOINT_ROWS) }
     ensures stop { IfErr result (λ stop. StopsWith (marked columns.now mark gathered.rows entries.now) stop) }
 {
     let both = with_mark(alloc, columns, mark)?;
@@ -257,15 +271,15 @@ fn with_mark(alloc: Global, columns: &[Column], mark: NetId) -> Result<Vec<Colum
 }
 
 /// The sets of a row of all inputs with the mark at 1.
-fn marked_sets(alloc: Global, columns: &[Column]) -> Result<Vec<ValueSet>, Memory>
+fn marked_sets(alloc: Global, columns: &[Column]) -> Result<Vec<PackedSet>, Memory>
     requires { AreColumns columns.now }
     ensures { IfOk result (λ sets. sets.items ≡ marked_sets columns.now) }
 {
     let mut sets = Vec::with_capacity(alloc, columns.len())?;
     for column in columns {
-        sets.push(ValueSet::full(column.count))?;
+        sets.push(PackedSet::new(alloc, ValueSet::full(column.count))?)?;
     }
-    sets.push(ValueSet::one(Value(1)))?;
+    sets.push(PackedSet::new(alloc, ValueSet::one(Value(1)))?)?;
     Ok(sets)
 }
 
@@ -275,17 +289,17 @@ fn with_any_mark(alloc: Global, rows: Items<PlainRow>) -> Result<Items<PlainRow>
 {
     let mut all = Items::with_room(alloc, rows.len())?;
     for row in said(alloc, rows)?.into_vec() {
-        all.push(one_with_any_mark(row)?)?;
+        all.push(one_with_any_mark(alloc, row)?)?;
     }
     Ok(all)
 }
 
 /// The row where the mark has any value.
-fn one_with_any_mark(row: PlainRow) -> Result<PlainRow, Memory>
+fn one_with_any_mark(alloc: Global, row: PlainRow) -> Result<PlainRow, Memory>
     ensures { IfOk result (λ r. r ≡ with_any_mark row) }
 {
     let mut row = row;
-    row.ins.push(ValueSet::full(2))?;
+    row.ins.push(PackedSet::new(alloc, ValueSet::full(2))?)?;
     Ok(row)
 }
 
@@ -297,7 +311,7 @@ fn mark_table(alloc: Global, rows: &[PlainRow]) -> Result<FileTable, Memory>
     for row in rows {
         all.push(mark_row(alloc, row)?)?;
     }
-    let default = only_one(alloc, Entry::Set(ValueSet::one(Value(1))))?;
+    let default = only_one(alloc, one_entry(alloc, Value(1))?)?;
     Ok(FileTable {
         line: 0,
         inputs: Items::new(alloc),
@@ -312,9 +326,17 @@ fn mark_row(alloc: Global, row: &PlainRow) -> Result<Row, Memory>
     ensures { IfOk result (λ r. r ≡ mark_row row.now) }
 {
     Ok(Row {
-        ins: row.ins.copy()?,
-        outs: only_one(alloc, Entry::Set(ValueSet::one(Value(0))))?,
+        ins: copy_sets(alloc, row.ins.as_slice())?,
+        outs: only_one(alloc, one_entry(alloc, Value(0))?)?,
     })
+}
+
+/// The entry of one value.
+pub fn one_entry(alloc: Global, value: Value) -> Result<Entry, Memory>
+    requires { value.0 < MAX_VALUES }
+    ensures { IfOk result (λ entry. entry ≡ Set (one value.0)) }
+{
+    Ok(Entry::Set(PackedSet::new(alloc, ValueSet::one(value))?))
 }
 
 /// The list of one entry.

@@ -1,5 +1,5 @@
 ghost use Rattle.std.specs.Prelude.{◌≡◌, ◌<◌, ◌≤◌, [], true, not, length, filter, IfOk, IfErr, OnOk, All};
-ghost use Rattle.mv_base.specs.declared.limits.TheConstants.{MAX_VALUES};
+ghost use Rattle.mv_base.specs.declared.limits.TheConstants.{MAX_JOINT_ROWS, MAX_VALUES};
 ghost use Rattle.mv_rows.specs.Cubes.{IsFrame, FitRow};
 ghost use Rattle.mv_rows.specs.Lines.{FitEntry, count_at};
 ghost use Rattle.mv_rows.specs.Marked.{matches_none};
@@ -10,15 +10,15 @@ ghost use Rattle.mv_joint.specs.Gather.{rest_of, listed, Gathers, StopsOver};
 use crate::gather::Gathered;
 use crate::joint::JointStop;
 use crate::out_row::OutRow;
-use mv_base::{Items, Memory, Value, ValueSet};
-use mv_design::Entry;
+use mv_base::{Items, Memory, PackedSet, Value, ValueSet};
+use mv_design::{Entry, copy_sets};
 use mv_rows::Frame;
 use std::alloc::Global;
 
 /// A row with a set for each input column and one for each output.
 #[derive(Drop)]
 pub struct PlainRow {
-    pub ins: Items<ValueSet>,
+    pub ins: Items<PackedSet>,
     pub outs: OutRow,
 }
 
@@ -27,7 +27,7 @@ pub fn is_silent(row: &PlainRow) -> bool
     ensures { result ≡ is_silent row.now }
 {
     let sets = row.outs.as_slice();
-    sets.iter().any(|set| *set == ValueSet::empty())
+    sets.iter().any(|set| set.is_empty())
 }
 
 /// Adds the rows with these sets and these entries that match something: one, or where entries name columns one for each
@@ -36,13 +36,15 @@ pub fn put_rows(
     gathered: &mut Gathered,
     alloc: Global,
     frame: &Frame,
-    ins: &[ValueSet],
+    ins: &[PackedSet],
     entries: &[Entry],
 ) -> Result<(), JointStop>
     requires frame { IsFrame frame.now }
     requires sets { FitRow frame.now.columns ins.now }
     requires entries { All (FitEntry frame.now.columns) entries.now }
+    requires few { length gathered.old.outs.keys ≤ MAX_JOINT_ROWS }
     ensures rows { OnOk result (Gathers (rows_of frame.now.columns ins.now entries.now) gathered.old gathered.new) }
+    ensures few { OnOk result (length gathered.new.outs.keys ≤ MAX_JOINT_ROWS) }
     ensures stop { IfErr result (λ stop. StopsOver (rows_of frame.now.columns ins.now entries.now) gathered.old stop) }
 {
     if !is_possible(alloc, frame, ins)? {
@@ -53,18 +55,18 @@ pub fn put_rows(
 }
 
 /// The row with these sets and no output yet, with room for so many.
-fn bare_row(alloc: Global, ins: &[ValueSet], outputs: usize) -> Result<PlainRow, Memory>
+fn bare_row(alloc: Global, ins: &[PackedSet], outputs: usize) -> Result<PlainRow, Memory>
     ensures { IfOk result (λ row. row ≡ record { ins = ins.now; outs = [] }) }
 {
     Ok(PlainRow {
-        ins: Items::of(Vec::from_slice(alloc, ins)?),
-        outs: OutRow::of(Vec::with_capacity(alloc, outputs)?),
+        ins: copy_sets(alloc, ins)?,
+        outs: OutRow::of(Items::with_room(alloc, outputs)?),
     })
 }
 
 /// Whether a row with these sets matches something.
 #[tactic(auto, using(crate::proofs::Possible::possible_from_cube))]
-pub fn is_possible(alloc: Global, frame: &Frame, ins: &[ValueSet]) -> Result<bool, Memory>
+pub fn is_possible(alloc: Global, frame: &Frame, ins: &[PackedSet]) -> Result<bool, Memory>
     requires frame { IsFrame frame.now }
     requires sets { FitRow frame.now.columns ins.now }
     ensures { IfOk result (λ possible. possible ≡ not (matches_none frame.now.columns ins.now)) }
@@ -86,20 +88,22 @@ fn put_rest(
     requires fit { IsFit frame.now.columns row }
     requires possible { is_possible frame.now.columns row ≡ true }
     requires entries { All (FitEntry frame.now.columns) entries.now }
+    requires few { length gathered.old.outs.keys ≤ MAX_JOINT_ROWS }
     ensures rows { OnOk result (Gathers (rest_of frame.now.columns entries.now row) gathered.old gathered.new) }
+    ensures few { OnOk result (length gathered.new.outs.keys ≤ MAX_JOINT_ROWS) }
     ensures stop { IfErr result (λ stop. StopsOver (rest_of frame.now.columns entries.now row) gathered.old stop) }
 {
     let Some((entry, rest)) = entries.split_first() else {
         return gathered.put(row);
     };
-    match *entry {
+    match entry {
         Entry::Set(out) => {
             let mut row = row;
-            row.outs.push(out)?;
+            row.outs.push(out.copy()?)?;
             put_rest(gathered, alloc, frame, row, rest)
         }
         Entry::Same(place) => {
-            let place = place as usize;
+            let place = *place as usize;
             for value in 0..count(frame, place) {
                 let Some(next) = narrowed(alloc, frame, &row, place, Value(value))? else {
                     continue;
@@ -142,12 +146,14 @@ fn narrowed(
     if !row.ins.as_slice()[place].has(value) {
         return Ok(None);
     }
-    let mut ins = row.ins.copy()?;
-    ins.replace(place, ValueSet::one(value));
+    let mut ins = copy_sets(alloc, row.ins.as_slice())?;
+    let alone = PackedSet::new(alloc, ValueSet::one(value))?;
+    let said = alone.copy()?;
+    ins.replace(place, alone);
     if !is_possible(alloc, frame, ins.as_slice())? {
         return Ok(None);
     }
     let mut outs = row.outs.copy()?;
-    outs.push(ValueSet::one(value))?;
+    outs.push(said)?;
     Ok(Some(PlainRow { ins, outs }))
 }

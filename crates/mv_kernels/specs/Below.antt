@@ -1,6 +1,6 @@
 -- The steps by which kernels are found: from a cover by some symbols down to the kernel below.
 use Rattle.std.specs.Prelude.{◌≡◌, ◌≢◌, ℕ, true, List, [], ◌∷◌, ◌++◌, filter, take, All, Contains}
-use Rattle.mv_cover.specs.declared.cube.Lit.{Lit}
+use Rattle.mv_cover.specs.Literal.{Lit}
 use Rattle.mv_kernels.specs.declared.kernel.Kernel.{Kernel}
 use Rattle.mv_kernels.specs.Symbols.{has_each, quotient, all_have}
 use Rattle.mv_kernels.specs.Kernels.{IsKernelBy, IsKernelOf}

@@ -2,7 +2,7 @@
 -- common. A kernel is said as the ascending list of its cubes, so that equal kernels are equal lists.
 use Rattle.std.specs.Prelude.{◌≡◌, ◌≢◌, ◌<◌, ◌≤◌, false, List, All, AllPairs, length}
 use Rattle.mv_base.specs.declared.limits.TheConstants.{MAX_KERNELS}
-use Rattle.mv_cover.specs.declared.cube.Lit.{Lit}
+use Rattle.mv_cover.specs.Literal.{Lit}
 use Rattle.mv_kernels.specs.declared.kernel.Kernel.{Kernel}
 use Rattle.mv_kernels.specs.Symbols.{quotient, all_have, SameCubes}
 use Rattle.mv_kernels.specs.Order.{Ascend}

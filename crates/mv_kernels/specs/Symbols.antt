@@ -2,7 +2,7 @@
 -- its net and its set, so that two sets on one net are two symbols that have nothing to do with each other.
 use Rattle.std.specs.Prelude.{Bool, not, List, map, filter, All, Contains}
 use Rattle.std.specs.List.{list_any, list_all}
-use Rattle.mv_cover.specs.declared.cube.Lit.{Lit}
+use Rattle.mv_cover.specs.Literal.{Lit}
 use Rattle.mv_cover.specs.Equal.{lit_eq}
 
 -- the cube has the symbol

@@ -35,5 +35,5 @@ fn compare(a: &[Lit], b: &[Lit]) -> Ordering
 fn compare_lits(a: &Lit, b: &Lit) -> Ordering
     ensures { result ≡ lit_cmp a.now b.now }
 {
-    a.net.0.cmp(&b.net.0).then(a.set.cmp(&b.set))
+    a.net().0.cmp(&b.net().0).then(a.set().cmp(&b.set()))
 }

@@ -8,7 +8,7 @@ use indexmap::IndexSet;
 use mv_base::Memory;
 use mv_cover::{Cube, Lit};
 use smallvec::SmallVec;
-use std::alloc::{AllocFailed, Global};
+use std::alloc::Global;
 
 /// Whether the literals have the symbol.
 fn has_symbol(lits: &[Lit], symbol: &Lit) -> bool
@@ -28,18 +28,17 @@ pub fn has_each(symbols: &[Lit], lits: &[Lit]) -> bool
 pub fn cube_quotient(alloc: Global, symbols: &[Lit], cube: &Cube) -> Result<Cube, Memory>
     ensures { IfOk result (λ left. left ≡ spec.cube_quotient symbols.now cube.now) }
 {
-    let left = others(alloc, symbols, cube.lits())?;
-    Cube::new(alloc, left.as_slice())
+    Ok(Cube::of(others(alloc, symbols, cube.lits())?))
 }
 
 /// The literals that are none of these symbols.
-fn others(alloc: Global, symbols: &[Lit], lits: &[Lit]) -> Result<SmallVec<Lit, 8>, Memory>
+fn others(alloc: Global, symbols: &[Lit], lits: &[Lit]) -> Result<SmallVec<Lit, 2>, Memory>
     ensures { IfOk result (λ others. others.items ≡ spec.cube_quotient symbols.now lits.now) }
 {
     let mut others = SmallVec::new(alloc);
     for l in lits {
         if !has_symbol(symbols, l) {
-            others.push(*l)?;
+            others.push(l.copy()?)?;
         }
     }
     Ok(others)
@@ -62,7 +61,7 @@ fn shared(alloc: Global, first: &[Lit], rest: &[Cube]) -> Result<Vec<Lit>, Memor
     let mut shared = Vec::new(alloc);
     for l in first {
         if all_have(rest, l) {
-            shared.push(*l)?;
+            shared.push(l.copy()?)?;
         }
     }
     Ok(shared)
@@ -87,11 +86,11 @@ pub fn symbols(alloc: Global, cubes: &[Cube]) -> Result<IndexSet<Lit>, Memory>
 }
 
 /// Puts the literals to the symbols found.
-fn add(found: &mut IndexSet<Lit>, lits: &[Lit]) -> Result<(), AllocFailed<Lit>>
+fn add(found: &mut IndexSet<Lit>, lits: &[Lit]) -> Result<(), Memory>
     ensures { OnOk result (found.new.keys ≡ insert_all lit_eq found.old.keys lits.now) }
 {
     for l in lits {
-        found.insert(*l)?;
+        found.insert(l.copy()?)?;
     }
     Ok(())
 }

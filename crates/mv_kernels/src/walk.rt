@@ -1,5 +1,5 @@
 ghost use Rattle.std.specs.Prelude.{◌≡◌, ◌≤◌, List, All, Contains, length, IfOk, IfErr, OnOk};
-ghost use Rattle.mv_cover.specs.declared.cube.Lit.{Lit};
+ghost use Rattle.mv_cover.specs.Literal.{Lit};
 ghost use Rattle.mv_cover.specs.Cubes.{IsCube};
 ghost use Rattle.mv_kernels.specs.Kernels.{IsKernelOf, AreKernels, HasFew, HasMany};
 ghost use Rattle.mv_kernels.specs.Below.{AreBelow, AreBelowBy, Walked};
@@ -67,7 +67,7 @@ fn below_by(alloc: Global, cubes: &[Cube], symbols: &[Lit]) -> Result<Vec<Kernel
 {
     let mut below = Vec::new(alloc);
     for symbol in symbols {
-        if let Some(kernel) = kernel_by(alloc, cubes, &[*symbol])? {
+        if let Some(kernel) = kernel_by(alloc, cubes, &[symbol.copy()?])? {
             below.push(kernel)?;
         }
     }

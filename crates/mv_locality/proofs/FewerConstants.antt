@@ -12,7 +12,7 @@ use Rattle.mv_base.proofs.Sets.{has-empty, count-empty, count-more, join_empty}
 use Rattle.mv_composite.specs.declared.inner.Inner.{Inner}
 use Rattle.mv_composite.specs.Composite.{set_meets, default_meets, cubes_giving, line_given, lines_given, spelled, composed}
 use Rattle.mv_cover.specs.declared.cover.Cover.{Cover}
-use Rattle.mv_cover.specs.declared.cube.Lit.{Lit}
+use Rattle.mv_cover.specs.Literal.{Lit}
 use Rattle.mv_cover.specs.declared.line.Line.{Line}
 use Rattle.mv_cover.specs.Absorb.{some_bare, absorbed}
 use Rattle.mv_cover.specs.Cofactors.{cube_without}

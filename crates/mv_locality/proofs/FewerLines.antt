@@ -5,7 +5,7 @@ use Rattle.std.proofs.lemmas.Bool.{cases_Bool, cond_both}
 use Rattle.mv_base.specs.Set.{empty}
 use Rattle.mv_composite.specs.Wired.{line_asking, line_wired, wired}
 use Rattle.mv_cover.specs.declared.cover.Cover.{Cover}
-use Rattle.mv_cover.specs.declared.cube.Lit.{Lit}
+use Rattle.mv_cover.specs.Literal.{Lit}
 use Rattle.mv_cover.specs.declared.line.Line.{Line}
 use Rattle.mv_cover.specs.Absorb.{firsts, swallowed_by, left_of, absorbed}
 use Rattle.mv_cover.specs.Cofactors.{cube_without}

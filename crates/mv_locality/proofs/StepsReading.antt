@@ -10,7 +10,7 @@ use Rattle.mv_composite.proofs.Cubes.{All-flat_map}
 use Rattle.mv_composite.proofs.Formed.{all_left}
 use Rattle.mv_composite.proofs.Outside.{complement_reads}
 use Rattle.mv_cover.specs.declared.cover.Cover.{Cover}
-use Rattle.mv_cover.specs.declared.cube.Lit.{Lit}
+use Rattle.mv_cover.specs.Literal.{Lit}
 use Rattle.mv_cover.specs.declared.line.Line.{Line}
 use Rattle.mv_cover.specs.Absorb.{absorbed}
 use Rattle.mv_cover.specs.Cofactors.{cubes_read, cube_without, cubes_of}

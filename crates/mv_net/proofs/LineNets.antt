@@ -1,7 +1,7 @@
 -- The nets of the literals of lines.
 use Rattle.std.proofs.Common.{◌≡◌, ◌∙◌, ℕ, ◌+◌, ◌<◌, ◌||◌, nat_eq, List, [], ◌∷◌, ◌++◌, length, get_or, take, map, append_assoc, refl, sym, ap}
 use Rattle.std.proofs.lemmas.List.{take_more, append-nil}
-use Rattle.mv_cover.specs.declared.cube.Lit.{Lit}
+use Rattle.mv_cover.specs.Literal.{Lit}
 use Rattle.mv_cover.specs.declared.line.Line.{Line}
 use Rattle.mv_cover.specs.Covers.{cube_reads, lines_read}
 use Rattle.mv_graph.specs.Nets.{has_id}

@@ -6,17 +6,18 @@ use Rattle.std.proofs.lemmas.List.{length-append}
 use Rattle.mv_base.specs.declared.number.NetId.{NetId}
 use Rattle.mv_graph.specs.Above.{GoesOn, IsAbove}
 use Rattle.mv_graph.specs.Nets.{has_id, IsAscending}
-use Rattle.mv_graph.proofs.Paths.{goes_more, above_first}
+use Rattle.mv_graph.proofs.Paths.{goes_more, above_more, above_first}
 use Rattle.mv_net.specs.declared.parts.FlatNet.{FlatNet}
 use Rattle.mv_net.specs.declared.parts.NetParts.{NetParts}
+use Rattle.mv_net.specs.declared.search.Way.{Way}
 use Rattle.mv_net.specs.declared.search.Way.TheVariants.{Down, Up}
-use Rattle.mv_net.specs.Nets.{reads_in}
+use Rattle.mv_net.specs.Nets.{slot, reads_in}
 use Rattle.mv_net.specs.Formed.{WellFormed}
 use Rattle.mv_net.specs.Index.{is_held}
 use Rattle.mv_net.specs.Window.{Lists, IsStepsAbove, IsAtMostAbove, IsAround}
-use Rattle.mv_net.specs.Searching.{Reached, HasExactly, HasAdded, HasAll}
+use Rattle.mv_net.specs.Searching.{leads, LedFrom, Reached, HasExactly, HasAdded, HasAll}
 use Rattle.mv_net.proofs.Known.{reads_readable}
-use Rattle.mv_net.proofs.Reaching.{reached_up}
+use Rattle.mv_net.proofs.Reaching.{reached_up, reader_held}
 
 -- ---- a list of found nets, sorted
 
@@ -26,15 +27,24 @@ lists_sorted Claim ns list h is = record {
   members = λ m. (λ e. (h.members m).0 (sym (is.members m) ∙ e), λ p. is.members m ∙ (h.members m).1 p);
 }
 
--- ---- all nets below a net
+-- ---- all nets below a net, and all above one
 
-below_only : (nets : List (Option FlatNet)) (n : ℕ) (first : List NetId) → ((m : ℕ) → has_id first m ≡ true → reads_in nets m n ≡ true) → (steps m : ℕ) → Reached nets Down first steps m → IsAbove (reads_in nets) n m
+-- steps lead on to where a step leads
+led_more : (nets : List (Option FlatNet)) (way : Way) (n k m : ℕ) → leads nets way k m ≡ true → LedFrom nets way n k → LedFrom nets way n m
+led_more nets Down n k m h l = above_first (reads_in nets) m k n h l
+led_more nets Up n k m h l = above_more (reads_in nets) n k m l h
+
+led_once : (nets : List (Option FlatNet)) (way : Way) (n m : ℕ) → leads nets way n m ≡ true → LedFrom nets way n m
+led_once nets Down n m h = record { path = []; goes = h }
+led_once nets Up n m h = record { path = []; goes = h }
+
+led_only : (nets : List (Option FlatNet)) (way : Way) (n : ℕ) (first : List NetId) → ((m : ℕ) → has_id first m ≡ true → leads nets way n m ≡ true) → (steps m : ℕ) → Reached nets way first steps m → LedFrom nets way n m
 unfolding Reached
-below_only nets n first read zero m r = record { path = []; goes = read m r }
-below_only nets n first read (suc steps) m r =
+led_only nets way n first read zero m r = led_once nets way n m (read m r)
+led_only nets way n first read (suc steps) m r =
     ⊎_elim
-    (λ y. below_only nets n first read steps m y)
-    (λ w. above_first (reads_in nets) m w.0 n w.2 (below_only nets n first read steps w.0 w.1))
+    (λ y. led_only nets way n first read steps m y)
+    (λ w. led_more nets way n w.0 m w.2 (led_only nets way n first read steps w.0 w.1))
     r
 
 below_all : (nets : List (Option FlatNet)) (n : ℕ) (first : List NetId) → ((m : ℕ) → reads_in nets m n ≡ true → has_id first m ≡ true) → (path : List ℕ) (m : ℕ) → GoesOn (reads_in nets) n m path → Reached nets Down first (length path) m
@@ -42,12 +52,26 @@ unfolding Reached
 below_all nets n first has [] m g = has m g
 below_all nets n first has (x ∷ path) m g = inr (x, below_all nets n first has path x g.1, g.0)
 
-pub below_exactly : (nets : List (Option FlatNet)) (n : ℕ) (readers first list : List NetId) → IsAscending (λ m. reads_in nets m n) readers → HasAdded [] readers first → HasAll nets Down first list → HasExactly (IsAbove (reads_in nets) n) list
-below_exactly nets n readers first list is a h =
+above_on : (nets : List (Option FlatNet)) (first : List NetId) (m : ℕ) (path : List ℕ) (k n : ℕ) → Reached nets Up first k n → GoesOn (reads_in nets) m n path → (steps : ℕ) × Reached nets Up first steps m
+unfolding Reached
+above_on nets first m [] k n r g = (suc k, inr (n, r, g))
+above_on nets first m (x ∷ path) k n r g = above_on nets first m path (suc k) x (inr (n, r, g.0)) g.1
+
+above_all : (nets : List (Option FlatNet)) (n : ℕ) (first : List NetId) → ((m : ℕ) → reads_in nets n m ≡ true → has_id first m ≡ true) → (path : List ℕ) (m : ℕ) → GoesOn (reads_in nets) m n path → (steps : ℕ) × Reached nets Up first steps m
+unfolding Reached
+above_all nets n first has [] m g = (0, has m g)
+above_all nets n first has (x ∷ path) m g = above_on nets first m path 0 x (has x g.0) g.1
+
+led_all : (nets : List (Option FlatNet)) (way : Way) (n : ℕ) (first : List NetId) → ((m : ℕ) → leads nets way n m ≡ true → has_id first m ≡ true) → (m : ℕ) → LedFrom nets way n m → (steps : ℕ) × Reached nets way first steps m
+led_all nets Down n first has m p = (length p.path, below_all nets n first has p.path m p.goes)
+led_all nets Up n first has m p = above_all nets n first has p.path m p.goes
+
+pub led_exactly : (nets : List (Option FlatNet)) (way : Way) (n : ℕ) (next first list : List NetId) → IsAscending (leads nets way n) next → HasAdded [] next first → HasAll nets way first list → HasExactly (LedFrom nets way n) list
+led_exactly nets way n next first list is a h =
     record {
       members = λ m. (
-        λ e. let r = h.only m e in below_only nets n first (λ k y. sym (is.members k) ∙ a.only k (ap (λ l. has_id l k) (sym a.listed) ∙ y)) r.0 m r.1,
-        λ p. h.all (length p.path) m (below_all nets n first (λ k y. a.all k (is.members k ∙ y)) p.path m p.goes),
+        λ e. let r = h.only m e in led_only nets way n first (λ k y. sym (is.members k) ∙ a.only k (ap (λ l. has_id l k) (sym a.listed) ∙ y)) r.0 m r.1,
+        λ p. let r = led_all nets way n first (λ k y. a.all k (is.members k ∙ y)) m p in h.all r.0 m r.1,
       );
     }
 
@@ -60,6 +84,17 @@ pub below_none : (net : NetParts) (n : ℕ) → WellFormed net → is_held net.n
 below_none net n formed none = record {
   ascending = refl;
   members = λ m. (λ e. absurd (false≢true e), λ p. absurd (false≢true (sym none ∙ last_read net n formed p.path m p.goes)));
+}
+
+first_reads : (nets : List (Option FlatNet)) (n m : ℕ) (path : List ℕ) → GoesOn (reads_in nets) m n path → is_held nets n ≡ true
+first_reads nets n m [] g = reader_held (slot nets n) m g
+first_reads nets n m (x ∷ path) g = reader_held (slot nets n) x g.0
+
+-- above a number that isn't held there is nothing
+pub above_none : (nets : List (Option FlatNet)) (n : ℕ) → is_held nets n ≡ false → Lists (λ m. IsAbove (reads_in nets) m n) []
+above_none nets n none = record {
+  ascending = refl;
+  members = λ m. (λ e. absurd (false≢true e), λ p. absurd (false≢true (sym none ∙ first_reads nets n m p.path p.goes)));
 }
 
 -- ---- so many steps down

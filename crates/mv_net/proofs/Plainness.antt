@@ -12,7 +12,7 @@ use Rattle.mv_base.proofs.Sets.{has-one, has-empty, has-full, has-join, same_set
 use Rattle.mv_base.proofs.Lists.{found}
 use Rattle.mv_cover.specs.declared.cover.Cover.{Cover}
 use Rattle.mv_cover.specs.declared.line.Line.{Line}
-use Rattle.mv_cover.specs.declared.cube.Lit.{Lit}
+use Rattle.mv_cover.specs.Literal.{Lit}
 use Rattle.mv_cover.specs.Covers.{cube_reads, lines_read}
 use Rattle.mv_cover.specs.Plain.{IsPlainlyDeterministic}
 use Rattle.mv_net.specs.declared.parts.FlatNet.{FlatNet}

@@ -16,7 +16,7 @@ use Rattle.mv_net.specs.declared.parts.FlatNet.{FlatNet}
 use Rattle.mv_net.specs.declared.parts.NetParts.{NetParts}
 use Rattle.mv_net.specs.declared.search.Way.{Way}
 use Rattle.mv_net.specs.declared.search.Way.TheVariants.{Down, Up}
-use Rattle.mv_net.specs.Nets.{slot, net_reads, reads_in}
+use Rattle.mv_net.specs.Nets.{slot, net_reads}
 use Rattle.mv_net.specs.Formed.{WellFormed}
 use Rattle.mv_net.specs.Index.{is_held}
 use Rattle.mv_net.specs.Searching.{same_id, leads, Reached, AreHeld, HasAdded, IsLed, HasSpread, IsSearch, HasAll}
@@ -70,23 +70,24 @@ added_all (x ∷ xs) ks = added_more x xs ks _ (list_any (same_id x) ks) refl (a
 
 -- ---- the steps from one net
 
-reader_held : (f : Option FlatNet) (n : ℕ) → net_reads f n ≡ true → is_some f ≡ true
+-- only a net that is held reads something
+pub reader_held : (f : Option FlatNet) (n : ℕ) → net_reads f n ≡ true → is_some f ≡ true
 reader_held None n h = absurd (false≢true h)
 reader_held (Some f) n h = refl
-
--- the readers of a net are held
-pub readers_held : (nets : List (Option FlatNet)) (n : ℕ) (readers old new : List NetId) → IsAscending (λ m. reads_in nets m n) readers → old ≡ [] → HasAdded old readers new → AreHeld nets new
-readers_held nets n readers old new is none a = record {
-  each = λ m h. ⊎_elim
-      (λ (y : has_id old m ≡ true). absurd (false≢true (ap (λ l. has_id l m) (sym none) ∙ y)))
-      (λ (y : has_id a.added m ≡ true). reader_held (slot nets m) n (sym (is.members m) ∙ a.only m y))
-      (in_either old a.added new m a.listed h);
-}
 
 -- a step leads to a held net
 pub leads_held : (net : NetParts) (way : Way) (n m : ℕ) → WellFormed net → leads net.nets way n m ≡ true → is_held net.nets m ≡ true
 leads_held net Down n m formed h = reader_held (slot net.nets m) n h
 leads_held net Up n m formed h = ap is_some (reads_readable net n m formed h).held
+
+-- the nets to which a step leads are held
+pub first_held : (net : NetParts) (way : Way) (n : ℕ) (nets old new : List NetId) → WellFormed net → IsAscending (leads net.nets way n) nets → old ≡ [] → HasAdded old nets new → AreHeld net.nets new
+first_held net way n nets old new formed is none a = record {
+  each = λ m h. ⊎_elim
+      (λ (y : has_id old m ≡ true). absurd (false≢true (ap (λ l. has_id l m) (sym none) ∙ y)))
+      (λ (y : has_id a.added m ≡ true). leads_held net way n m formed (sym (is.members m) ∙ a.only m y))
+      (in_either old a.added new m a.listed h);
+}
 
 pub step_spreads : (net : NetParts) (way : Way) (place : ℕ) (c : NetId) (old nets new : List NetId) → WellFormed net → AreHeld net.nets old → slice_get old place ≡ Some c
     → IsAscending (leads net.nets way c.0) nets → HasAdded old nets new → HasSpread net.nets way place (place + 1) old new

@@ -5,7 +5,7 @@ use Rattle.mv_base.specs.Names.{is_net_name, is_model_name, is_value_name, names
 use Rattle.mv_base.specs.Set.{full}
 use Rattle.mv_base.specs.declared.limits.TheConstants.{MAX_VALUES}
 use Rattle.mv_base.specs.declared.number.NetId.{NetId}
-use Rattle.mv_cover.specs.declared.cube.Lit.{Lit}
+use Rattle.mv_cover.specs.Literal.{Lit}
 use Rattle.mv_cover.specs.Cubes.{IsCube}
 use Rattle.mv_cover.specs.Lines.{IsOutput, lines_differ}
 use Rattle.mv_cover.specs.Absorb.{some_bare}

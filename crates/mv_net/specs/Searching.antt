@@ -9,6 +9,7 @@ use Rattle.mv_net.specs.declared.parts.NetParts.{NetParts}
 use Rattle.mv_net.specs.Nets.{slot, table_in, reads_in}
 use Rattle.mv_net.specs.Index.{is_held}
 use Rattle.mv_net.specs.Window.{IsShown}
+use Rattle.mv_graph.specs.Above.{IsAbove}
 use Rattle.mv_graph.specs.Nets.{has_id}
 
 -- two numbers of nets are equal
@@ -19,6 +20,11 @@ same_id a b = nat_eq a.0 b.0
 abbrev pub leads : List (Option FlatNet) → Way → ℕ → ℕ → Bool
 leads nets Down n m = reads_in nets m n
 leads nets Up n m = reads_in nets n m
+
+-- steps lead from n to m, one at least: m is below n, or above it
+abbrev pub LedFrom : List (Option FlatNet) → Way → ℕ → ℕ → Type 0
+LedFrom nets Down n m = IsAbove (reads_in nets) n m
+LedFrom nets Up n m = IsAbove (reads_in nets) m n
 
 -- at most so many steps lead to the net from one of the first nets
 unfoldable pub Reached : List (Option FlatNet) → Way → List NetId → ℕ → ℕ → Type 0

@@ -1,5 +1,5 @@
 ghost use Rattle.std.specs.Prelude.{◌≡◌, ◌++◌, map, IfOk, OnOk};
-ghost use Rattle.mv_cover.specs.declared.cube.Lit.{Lit};
+ghost use Rattle.mv_cover.specs.Literal.{Lit};
 ghost use Rattle.mv_cover.specs.Covers.{cover_reads};
 ghost use Rattle.mv_net.specs.Nets.{net_reads};
 ghost use Rattle.mv_graph.specs.Nets.{has_id, IsAscending};
@@ -16,7 +16,7 @@ fn add_nets(nets: &mut Vec<NetId>, cube: &Cube) -> Result<(), Memory>
         (nets.new.items ≡ nets.old.items ++ map (λ (l : Lit). l.net) cube.now) }
 {
     for lit in cube.lits() {
-        nets.push(lit.net)?;
+        nets.push(lit.net())?;
     }
     Ok(())
 }

@@ -5,7 +5,7 @@ ghost use Rattle.mv_net.specs.Index.{is_held};
 ghost use Rattle.mv_net.specs.Plain.{IsPlainNet, IsPlainConstant, IsPlainBuffer, IsCopy, AreCopies, bare_set, steady_set, first_literal, first_net, some_has};
 
 use crate::Network;
-use mv_base::{MAX_VALUES, NetId, Value, ValueSet};
+use mv_base::{MAX_VALUES, NetId, PackedSet, Value, ValueSet};
 use mv_cover::{Cover, Line, Lit};
 
 impl Network {
@@ -68,9 +68,19 @@ fn steady_set(cover: &Cover) -> Option<ValueSet>
     ensures { result ≡ steady_set cover.now.lines cover.now.default }
 {
     match cover.lines.as_slice() {
-        [] => cover.default,
+        [] => default_set(&cover.default),
         [line] => bare_set(line),
         _ => None,
+    }
+}
+
+/// The default's set.
+fn default_set(default: &Option<PackedSet>) -> Option<ValueSet>
+    ensures { result ≡ default.now }
+{
+    match default {
+        None => None,
+        Some(out) => Some(out.get()),
     }
 }
 
@@ -79,7 +89,7 @@ fn bare_set(line: &Line) -> Option<ValueSet>
     ensures { result ≡ bare_set line.now.cube line.now.out }
 {
     match line.cube.lits() {
-        [] => Some(line.out),
+        [] => Some(line.out.get()),
         _ => None,
     }
 }
@@ -116,7 +126,7 @@ fn first_literal(lits: &[Lit]) -> Option<NetId>
 {
     match lits {
         [] => None,
-        [literal, ..] => Some(literal.net),
+        [literal, ..] => Some(literal.net()),
     }
 }
 
@@ -147,9 +157,9 @@ fn is_copy(line: &Line, net: NetId) -> bool
     ensures { IsTrue result ↔ IsCopy net.0 line.now }
 {
     match line.cube.lits() {
-        [literal] => literal.net == net
-            && literal.set == line.out
-            && only_value(line.out).is_some(),
+        [literal] => literal.net() == net
+            && literal.set() == line.out.get()
+            && only_value(line.out.get()).is_some(),
         _ => false,
     }
 }
@@ -160,7 +170,7 @@ fn values_given(lines: &[Line]) -> ValueSet
 {
     let mut given = ValueSet::empty();
     for line in lines {
-        given = given.join(line.out);
+        given = given.join(line.out.get());
     }
     given
 }

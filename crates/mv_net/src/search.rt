@@ -17,7 +17,7 @@ pub enum Way {
 
 impl Network {
     /// The nets to which a step leads from a held net.
-    fn next(&self, way: Way, net: NetId) -> &[NetId]
+    pub(crate) fn next(&self, way: Way, net: NetId) -> &[NetId]
         requires { IsTrue (is_held self.now.nets net.0) }
         ensures { IsAscending (leads self.now.nets way net.0) result.now }
     {

@@ -104,6 +104,28 @@ fn set_counts(nets: &mut Items<Option<FlatNet>>, tallies: &mut Tallies, mut valu
     }
 }
 
+/// Lets the net of this number go, and its name with it.
+fn drop_net(
+    nets: &mut Items<Option<FlatNet>>,
+    tallies: &mut Tallies,
+    names: &mut NameIndex,
+    made: &mut u32,
+    n: NetId,
+)
+    requires few { length nets.old ≤ MAX_NETS }
+    requires tallies { AreTallies nets.old tallies.old }
+    requires names { AreNames nets.old names.old }
+    requires made { AreMade nets.old made.old }
+    ensures nets { nets.new ≡ slice_set nets.old n.0 None }
+    ensures tallies { AreTallies nets.new tallies.new }
+    ensures names { AreNames nets.new names.new }
+    ensures made { AreMade nets.new made.new }
+{
+    let net = take_net(nets, tallies, n);
+    remove_net(names, &net);
+    *made = lowered(*made, &net);
+}
+
 /// Lets the nets of these numbers go, and their names with them.
 fn drop_nets(
     nets: &mut Items<Option<FlatNet>>,
@@ -123,9 +145,7 @@ fn drop_nets(
     ensures made { AreMade nets.new made.new }
 {
     'all: while let Some(n) = gone.pop() {
-        let net = take_net(nets, tallies, n);
-        remove_net(names, &net);
-        *made = lowered(*made, &net);
+        drop_net(nets, tallies, names, made, n);
     }
 }
 

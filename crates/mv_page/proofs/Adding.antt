@@ -38,22 +38,24 @@ adds_more : (a b c : Paged) (x y : List ℕ) (r : Result (Unit {0}) Failed) → 
 adds_more a b c x y (Ok u) p q = record {
   ok = took_both a b c x y a.sink.told p.ok q.ok;
   part = tt;
+  empty = tt;
   cause = HasCause-then a.sink.faults b.sink.faults c.sink.faults (Ok tt) (Ok u) p.cause q.cause;
 }
 adds_more a b c x y (Err e) p q = record {
   ok = tt;
   part = part_behind a b x y c.sink.told a.sink.told p.ok q.part;
+  empty = q.empty;
   cause = HasCause-then a.sink.faults b.sink.faults c.sink.faults (Ok tt) (Err e) p.cause q.cause;
 }
 
 adds_cut : (a b : Paged) (x y : List ℕ) (e : Failed) → AddsPiece a b x (Err e) → AddsPiece a b (x ++ y) (Err e)
 adds_cut a b x y e p =
     let P : List ℕ → Type 0 = λ z. GainedPart a.sink b.sink z in
-    record { ok = tt; part = subst P (append_assoc a.held x y) (GainedPart-more a.sink b.sink (a.held ++ x) y p.part); cause = p.cause }
+    record { ok = tt; part = subst P (append_assoc a.held x y) (GainedPart-more a.sink b.sink (a.held ++ x) y p.part); empty = p.empty; cause = p.cause }
 
 pub adds : Appending AddsPiece
 adds = record {
-  nothing = λ a. record { ok = took_nothing a a.sink.told refl; part = tt; cause = record { later = omega arith; failed = tt } };
+  nothing = λ a. record { ok = took_nothing a a.sink.told refl; part = tt; empty = tt; cause = record { later = omega arith; failed = tt } };
   more = adds_more;
   cut = adds_cut;
 }

@@ -17,6 +17,7 @@ pub holds_more : (s : Written) (held new piece : List ℕ) → new ≡ held ++ p
 holds_more s held new piece h = record {
   ok = took_held s held new piece s.told refl h;
   part = tt;
+  empty = tt;
   cause = record { later = omega arith; failed = tt };
 }
 
@@ -26,8 +27,8 @@ took_all a b old new piece (Some had) g e = record { taken = old ++ piece; told 
 
 -- what was held and the piece are handed on, and nothing is held then
 pub hands_on : (a b : Written) (old new piece : List ℕ) (r : Result (Unit {0}) Failed) → Appends a b (old ++ piece) r → new ≡ [] → AddsPiece (paged a old) (paged b new) piece r
-hands_on a b old new piece (Ok u) p e = record { ok = took_all a b old new piece a.told p.ok e; part = tt; cause = p.cause }
-hands_on a b old new piece (Err f) p e = record { ok = tt; part = p.part; cause = p.cause }
+hands_on a b old new piece (Ok u) p e = record { ok = took_all a b old new piece a.told p.ok e; part = tt; empty = tt; cause = p.cause }
+hands_on a b old new piece (Err f) p e = record { ok = tt; part = p.part; empty = e; cause = p.cause }
 
 -- what was held is handed on, and the piece comes behind it
 pub hands_on_first : (a b c : Written) (old new piece : List ℕ) (r : Result (Unit {0}) Failed) → Appends a b old (Ok tt) → AddsPiece (paged b []) (paged c new) piece r → AddsPiece (paged a old) (paged c new) piece r
@@ -36,8 +37,8 @@ hands_on_first a b c old new piece r p q =
     adds.more (paged a old) (paged b []) (paged c new) [] piece r (hands_on a b old [] [] (Ok tt) (subst P (sym (append-nil old)) p) refl) q
 
 -- handing on failed
-pub hands_on_cut : (a b : Written) (old new piece : List ℕ) (e : Failed) → Appends a b old (Err e) → AddsPiece (paged a old) (paged b new) piece (Err e)
-hands_on_cut a b old new piece e p = record { ok = tt; part = GainedPart-more a b old piece p.part; cause = p.cause }
+pub hands_on_cut : (a b : Written) (old new piece : List ℕ) (e : Failed) → Appends a b old (Err e) → new ≡ [] → AddsPiece (paged a old) (paged b new) piece (Err e)
+hands_on_cut a b old new piece e p none = record { ok = tt; part = GainedPart-more a b old piece p.part; empty = none; cause = p.cause }
 
 pub ruleset paging = (holds_more, hands_on, hands_on_first, hands_on_cut)
 

@@ -80,7 +80,7 @@ impl<const LEAST: usize> Page<LEAST> {
     }
 
     /// Puts a piece behind what is held, and hands on what was held where there is no room. At Failed the sink took some
-    /// first part of what was held and the piece.
+    /// first part of what was held and the piece, and nothing is held any more.
     #[tactic(auto, using(crate::proofs::Paging::paging))]
     pub fn put<K: Sink>(&mut self, piece: &[u8], out: &mut K) -> Result<(), Failed>
         ensures { AddsPiece (paged (K.state out.old) self.old) (paged (K.state out.new) self.new) piece.now result }

@@ -8,7 +8,7 @@ use Rattle.std.proofs.lemmas.List.Elements.{All-head, All-tail, All-weaker}
 use Rattle.mv_base.specs.Set.{has, empty, full, meet, Within}
 use Rattle.mv_base.specs.declared.limits.TheConstants.{MAX_VALUES}
 use Rattle.mv_base.proofs.Sets.{has-full, has-meet, has-empty}
-use Rattle.mv_cover.specs.declared.cube.Lit.{Lit}
+use Rattle.mv_cover.specs.Literal.{Lit}
 use Rattle.mv_cover.specs.Cubes.{holds, matches, IsCube}
 use Rattle.mv_cover.specs.Meets.{literal_at}
 use Rattle.mv_cover.proofs.Covering.{same_number}

@@ -6,7 +6,7 @@ use Rattle.std.proofs.lemmas.List.Elements.{All-nil, All-cons, All-head, All-tai
 use Rattle.std.proofs.lemmas.List.FromFn.{get_or-map-range_with_len}
 use Rattle.mv_base.specs.Set.{empty}
 use Rattle.mv_base.proofs.Sets.{has-full, meet_of_Within}
-use Rattle.mv_cover.specs.declared.cube.Lit.{Lit}
+use Rattle.mv_cover.specs.Literal.{Lit}
 use Rattle.mv_cover.specs.declared.line.Line.{Line}
 use Rattle.mv_cover.specs.Absorb.{line_lies, swallowed_by}
 use Rattle.mv_cover.specs.Containing.{set_within, lies_in, FitsNet, FitsCube}

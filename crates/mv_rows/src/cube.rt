@@ -5,18 +5,18 @@ ghost use Rattle.mv_rows.specs.Cubes.{IsFrame, FitRow, IsRowCube, HasNoPoint};
 ghost use Rattle.mv_rows.specs.Meeting.{opened, ended, closed, continued, literals_of, all_possible, ArePossible};
 
 use crate::column::{Column, Frame, Placed};
-use mv_base::{Memory, ValueSet};
+use mv_base::{Memory, PackedSet, ValueSet};
 use mv_cover::{Cube, Lit};
 use smallvec::SmallVec;
 use std::alloc::Global;
 
-/// The literals of a row while it is made: those of few columns take no memory.
-type Lits = SmallVec<Lit, 8>;
+/// The literals of a row while it is made: two of them take no memory.
+type Lits = SmallVec<Lit, 2>;
 
 impl Frame {
     /// The cube of a row with these sets in the columns: the sets of columns of one net are met, and a full set is no
     /// literal. None where no values of the nets lie in all sets.
-    pub fn cube(&self, alloc: Global, sets: &[ValueSet]) -> Result<Option<Cube>, Memory>
+    pub fn cube(&self, alloc: Global, sets: &[PackedSet]) -> Result<Option<Cube>, Memory>
         requires frame { IsFrame self.now }
         requires sets { FitRow self.now.columns sets.now }
         ensures { IfOk result (λ found. MatchOption found (HasNoPoint self.now.columns sets.now) (λ cube. IsRowCube self.now.columns sets.now cube)) }
@@ -26,7 +26,7 @@ impl Frame {
 }
 
 /// The cube of a row whose columns are in order, or None where a net is left without values.
-fn cube(alloc: Global, order: &[Placed], sets: &[ValueSet]) -> Result<Option<Cube>, Memory>
+fn cube(alloc: Global, order: &[Placed], sets: &[PackedSet]) -> Result<Option<Cube>, Memory>
     requires places { All (λ p. p.place < length sets.now) order.now }
     requires counts { All (λ p. p.column.count ≤ MAX_VALUES) order.now }
     requires rises { rises_after 0 order.now ≡ true }
@@ -38,14 +38,14 @@ fn cube(alloc: Global, order: &[Placed], sets: &[ValueSet]) -> Result<Option<Cub
     if !possible(lits.as_slice()) {
         return Ok(None);
     }
-    Ok(Some(Cube::new(alloc, lits.as_slice())?))
+    Ok(Some(Cube::of(lits)))
 }
 
 /// Whether no literal has the empty set.
 fn possible(lits: &[Lit]) -> bool
     ensures { result ≡ all_possible lits.now }
 {
-    lits.iter().all(|l| l.set != ValueSet::empty())
+    lits.iter().all(|l| !l.is_empty())
 }
 
 /// A net whose columns are being met, and what they leave it so far.
@@ -56,7 +56,7 @@ struct Group {
 }
 
 /// Adds a literal for each net whose columns leave a value out, by ascending net, where there is none so far.
-fn put_literals(lits: &mut Lits, order: &[Placed], sets: &[ValueSet]) -> Result<(), Memory>
+fn put_literals(lits: &mut Lits, order: &[Placed], sets: &[PackedSet]) -> Result<(), Memory>
     requires none { lits.old.items ≡ [] }
     requires places { All (λ p. p.place < length sets.now) order.now }
     requires counts { All (λ p. p.column.count ≤ MAX_VALUES) order.now }
@@ -68,7 +68,7 @@ fn put_literals(lits: &mut Lits, order: &[Placed], sets: &[ValueSet]) -> Result<
     let mut group = opened(&first.column);
     for placed in order {
         put_ended(lits, &group, &placed.column)?;
-        group = continued(&group, &placed.column, sets[placed.place]);
+        group = continued(&group, &placed.column, sets[placed.place].get());
     }
     put_closed(lits, &group)
 }
@@ -119,9 +119,7 @@ fn put_closed(lits: &mut Lits, group: &Group) -> Result<(), Memory>
     if group.set == ValueSet::full(group.column.count) {
         return Ok(());
     }
-    lits.push(Lit {
-        net: group.column.net,
-        set: group.set,
-    })?;
+    let alloc = *lits.allocator();
+    lits.push(Lit::new(alloc, group.column.net, group.set)?)?;
     Ok(())
 }

@@ -1,34 +1,35 @@
-ghost use Rattle.std.specs.Prelude.{◌≡◌, ◌<◌, ◌≤◌, length, OnOk};
+ghost use Rattle.std.specs.Prelude.{◌≡◌, ◌<◌, ◌≤◌, length, OnOk, OnErr};
 ghost use Rattle.mv_base.specs.declared.limits.TheConstants.{MAX_VALUES};
 ghost use Rattle.mv_base.specs.Set.{one};
 ghost use Rattle.mv_rows.specs.Cubes.{IsFrame, FitRow};
 ghost use Rattle.mv_rows.specs.Lines.{AddsLines, OneLine, EachValue, EntryLines, FitEntry, narrowed, count_at};
 
 use crate::column::Frame;
-use mv_base::{Memory, Value, ValueSet};
+use mv_base::{Memory, PackedSet, Value, ValueSet};
 use mv_cover::Line;
-use mv_design::Entry;
+use mv_design::{Entry, copy_sets};
 use std::alloc::Global;
 
 impl Frame {
     /// Adds the lines of a row with these sets and this entry: one with the entry's set, which may be empty, or one for
     /// each value that the row leaves the column which the entry names, ascending. There is none where no values of the
-    /// nets lie in all sets.
+    /// nets lie in all sets. On an error the lines are as before.
     pub fn put_row(
         &self,
         lines: &mut Vec<Line>,
         alloc: Global,
-        sets: &[ValueSet],
-        entry: Entry,
+        sets: &[PackedSet],
+        entry: &Entry,
     ) -> Result<(), Memory>
         requires frame { IsFrame self.now }
         requires sets { FitRow self.now.columns sets.now }
-        requires entry { FitEntry self.now.columns entry }
-        ensures { OnOk result (AddsLines (EntryLines self.now.columns sets.now entry) lines.old.items lines.new.items) }
+        requires entry { FitEntry self.now.columns entry.now }
+        ensures lines { OnOk result (AddsLines (EntryLines self.now.columns sets.now entry.now) lines.old.items lines.new.items) }
+        ensures err { OnErr result (lines.new.items ≡ lines.old.items) }
     {
         match entry {
-            Entry::Set(out) => put_line(lines, alloc, self, sets, out),
-            Entry::Same(place) => put_values(lines, alloc, self, sets, place as usize),
+            Entry::Set(out) => put_line(lines, alloc, self, sets, out.copy()?),
+            Entry::Same(place) => put_values(lines, alloc, self, sets, *place as usize),
         }
     }
 }
@@ -38,18 +39,21 @@ fn put_line(
     lines: &mut Vec<Line>,
     alloc: Global,
     frame: &Frame,
-    sets: &[ValueSet],
-    out: ValueSet,
+    sets: &[PackedSet],
+    out: PackedSet,
 ) -> Result<(), Memory>
     requires frame { IsFrame frame.now }
     requires sets { FitRow frame.now.columns sets.now }
-    ensures { OnOk result (AddsLines (OneLine frame.now.columns sets.now out) lines.old.items lines.new.items) }
+    ensures lines { OnOk result (AddsLines (OneLine frame.now.columns sets.now out) lines.old.items lines.new.items) }
+    ensures err { OnErr result (lines.new.items ≡ lines.old.items) }
 {
     let Some(cube) = frame.cube(alloc, sets)? else {
         return Ok(());
     };
-    lines.push(Line { cube, out })?;
-    Ok(())
+    match lines.push(Line { cube, out }) {
+        Ok(()) => Ok(()),
+        Err(_refused) => Err(Memory),
+    }
 }
 
 /// Adds a line for each value that the row leaves the column at the place.
@@ -57,17 +61,25 @@ fn put_values(
     lines: &mut Vec<Line>,
     alloc: Global,
     frame: &Frame,
-    sets: &[ValueSet],
+    sets: &[PackedSet],
     place: usize,
 ) -> Result<(), Memory>
     requires frame { IsFrame frame.now }
     requires sets { FitRow frame.now.columns sets.now }
     requires place { place < length frame.now.columns }
-    ensures { OnOk result (AddsLines (EachValue frame.now.columns sets.now place (count_at frame.now.columns place)) lines.old.items lines.new.items) }
+    ensures lines { OnOk result (AddsLines (EachValue frame.now.columns sets.now place (count_at frame.now.columns place)) lines.old.items lines.new.items) }
+    ensures err { OnErr result (lines.new.items ≡ lines.old.items) }
 {
+    let before = lines.len();
     let count = count(frame, place);
     for value in 0..count {
-        put_value(lines, alloc, frame, sets, place, Value(value))?;
+        match put_value(lines, alloc, frame, sets, place, Value(value)) {
+            Ok(()) => {}
+            Err(memory) => {
+                lines.truncate(before);
+                return Err(memory);
+            }
+        }
     }
     Ok(())
 }
@@ -87,7 +99,7 @@ fn put_value(
     lines: &mut Vec<Line>,
     alloc: Global,
     frame: &Frame,
-    sets: &[ValueSet],
+    sets: &[PackedSet],
     place: usize,
     value: Value,
 ) -> Result<(), Memory>
@@ -95,19 +107,20 @@ fn put_value(
     requires sets { FitRow frame.now.columns sets.now }
     requires place { place < length sets.now }
     requires value { value.0 < MAX_VALUES }
-    ensures { OnOk result (AddsLines (OneLine frame.now.columns (narrowed sets.now place value.0) (one value.0)) lines.old.items lines.new.items) }
+    ensures lines { OnOk result (AddsLines (OneLine frame.now.columns (narrowed sets.now place value.0) (one value.0)) lines.old.items lines.new.items) }
+    ensures err { OnErr result (lines.new.items ≡ lines.old.items) }
 {
-    let set = sets[place].meet(ValueSet::one(value));
+    let set = sets[place].get().meet(ValueSet::one(value));
     if set == ValueSet::empty() {
         return Ok(());
     }
-    let mut narrowed = Vec::from_slice(alloc, sets)?;
-    narrowed[place] = set;
+    let mut narrowed = copy_sets(alloc, sets)?;
+    narrowed.replace(place, PackedSet::new(alloc, set)?);
     put_line(
         lines,
         alloc,
         frame,
         narrowed.as_slice(),
-        ValueSet::one(value),
+        PackedSet::new(alloc, ValueSet::one(value))?,
     )
 }

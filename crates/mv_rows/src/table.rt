@@ -1,4 +1,4 @@
-ghost use Rattle.std.specs.Prelude.{◌≡◌, List, ◌++◌, ◌∷◌, [], length, nat_eq, map, Some, None, IfOk, OnOk, All};
+ghost use Rattle.std.specs.Prelude.{◌≡◌, List, ◌++◌, ◌∷◌, [], true, false, length, nat_eq, map, option_copied, Some, None, IfOk, OnOk, All};
 ghost use Rattle.std.specs.List.{list_any};
 ghost use Rattle.mv_base.specs.Set.{empty};
 ghost use Rattle.mv_cover.specs.Absorb.{some_bare};
@@ -9,10 +9,11 @@ ghost use Rattle.mv_rows.specs.Lines.{AddsLines, EntryLines, FitEntry};
 ghost use Rattle.mv_rows.specs.Flat.{only_entry, IsRow, IsTable, IsDefault, RowsLines, kept, insert_kept, says_nothing, default_left};
 ghost use Rattle.mv_rows.specs.Flat.{plain_default, mark_cover, with_mark, marked_sets, unmarked, IsMarked, IsMade};
 ghost use Rattle.mv_rows.specs.Covers.{IsFlatTable};
+ghost use Rattle.mv_rows.specs.Marked.{is_marked};
 
 use crate::column::{Column, Frame};
 use indexmap::IndexSet;
-use mv_base::{Items, Memory, NetId, Value, ValueSet};
+use mv_base::{Items, Memory, NetId, PackedSet, Value, ValueSet};
 use mv_cover::{Cover, Line};
 use mv_design::{Entry, FileTable, Row};
 use std::alloc::Global;
@@ -27,8 +28,8 @@ pub struct FlatTable {
 /// The covers of a table with one output: a line for each row, with a literal for each net of which the row's columns
 /// leave a value out. Where a row's entry names a column, it gives a line for each value there. Where the default names
 /// one, or where a row says no value, so that it takes the default away and has no line, the default can't stand in the
-/// cover. Then the net `mark` gets a cover, which is 0 where some row matches and 1 elsewhere, and the default becomes
-/// lines that have the mark at 1. Equal lines stand once.
+/// cover. Then the net `mark`, which is that of no column, gets a cover, which is 0 where some row matches and 1 elsewhere,
+/// and the default becomes lines that have the mark at 1. Equal lines stand once.
 #[tactic(auto, using(crate::proofs::Flat::IsFlatTable_made))]
 pub fn flat_table(
     alloc: Global,
@@ -38,6 +39,7 @@ pub fn flat_table(
 ) -> Result<FlatTable, Memory>
     requires columns { AreColumns columns.now }
     requires with_mark { AreColumns (with_mark columns.now mark) }
+    requires unread { is_marked columns.now table.now ≡ true → list_any (λ c. nat_eq c.net.0 mark.0) columns.now ≡ false }
     requires table { IsTable columns.now table.now }
     ensures lines { IfOk result (λ flat. IsMade columns.now table.now mark flat) }
     ensures relation { IfOk result (λ flat. IsFlatTable columns.now table.now mark flat) }
@@ -63,7 +65,7 @@ fn made(
     let Some(entry) = left(&table.default, lines.as_slice()) else {
         return without_mark(alloc, lines, None);
     };
-    match plain(&entry, lines.as_slice()) {
+    match plain(entry, lines.as_slice()) {
         Some(out) => without_mark(alloc, lines, Some(out)),
         None => with_mark(alloc, columns, lines, entry, mark),
     }
@@ -84,23 +86,23 @@ fn row_lines(alloc: Global, frame: &Frame, rows: &[Row]) -> Result<Vec<Line>, Me
 }
 
 /// The only entry.
-fn only(entries: &Items<Entry>) -> Entry
+fn only(entries: &Items<Entry>) -> &Entry
     requires { length entries.now ≡ 1 }
-    ensures { result ≡ only_entry entries.now }
+    ensures { result.now ≡ only_entry entries.now }
 {
-    entries.as_slice()[0]
+    &entries.as_slice()[0]
 }
 
 /// The default, unless no value lies in its entry or some line has no literal.
-fn left(default: &Option<Items<Entry>>, lines: &[Line]) -> Option<Entry>
+fn left<'a>(default: &'a Option<Items<Entry>>, lines: &[Line]) -> Option<&'a Entry>
     requires { (entries : List Entry) → default.now ≡ Some entries → length entries ≡ 1 }
-    ensures { result ≡ default_left default.now lines.now }
+    ensures { option_copied result ≡ default_left default.now lines.now }
 {
     let Some(entries) = default else {
         return None;
     };
     let entry = only(entries);
-    if is_empty(&entry) || some_line_is_bare(lines) {
+    if is_empty(entry) || some_line_is_bare(lines) {
         return None;
     }
     Some(entry)
@@ -111,7 +113,7 @@ fn is_empty(entry: &Entry) -> bool
     ensures { result ≡ says_nothing entry.now }
 {
     match entry {
-        Entry::Set(out) => *out == ValueSet::empty(),
+        Entry::Set(out) => out.is_empty(),
         Entry::Same(_) => false,
     }
 }
@@ -127,20 +129,20 @@ fn some_line_is_bare(lines: &[Line]) -> bool
 fn plain(entry: &Entry, lines: &[Line]) -> Option<ValueSet>
     ensures { result ≡ plain_default entry.now lines.now }
 {
-    let Entry::Set(out) = *entry else {
+    let Entry::Set(out) = entry else {
         return None;
     };
     if some_output_is_empty(lines) {
         return None;
     }
-    Some(out)
+    Some(out.get())
 }
 
 /// Whether some line has no output.
 fn some_output_is_empty(lines: &[Line]) -> bool
     ensures { result ≡ list_any (λ l. nat_eq l.out empty) lines.now }
 {
-    lines.iter().any(|line| line.out == ValueSet::empty())
+    lines.iter().any(|line| line.out.is_empty())
 }
 
 /// The table with these lines and this default.
@@ -152,10 +154,7 @@ fn without_mark(
     ensures { IfOk result (λ flat. flat ≡ unmarked lines.items default) }
 {
     Ok(FlatTable {
-        cover: Cover {
-            lines: kept(alloc, lines)?,
-            default,
-        },
+        cover: Cover::new(alloc, kept(alloc, lines)?, default)?,
         mark: None,
     })
 }
@@ -165,12 +164,12 @@ fn with_mark(
     alloc: Global,
     columns: &[Column],
     lines: Vec<Line>,
-    entry: Entry,
+    entry: &Entry,
     mark: NetId,
 ) -> Result<FlatTable, Memory>
     requires columns { AreColumns (with_mark columns.now mark) }
-    requires entry { FitEntry columns.now entry }
-    ensures { IfOk result (λ flat. IsMarked columns.now mark lines.items entry flat) }
+    requires entry { FitEntry columns.now entry.now }
+    ensures { IfOk result (λ flat. IsMarked columns.now mark lines.items entry.now flat) }
 {
     let marks = marks(alloc, lines.as_slice())?;
     let mut lines = lines;
@@ -192,12 +191,12 @@ fn marks(alloc: Global, lines: &[Line]) -> Result<Cover, Memory>
     for line in lines {
         marked.insert(Line {
             cube: line.cube.copy()?,
-            out: ValueSet::one(Value(0)),
+            out: PackedSet::new(alloc, ValueSet::one(Value(0)))?,
         })?;
     }
     Ok(Cover {
         lines: listed(alloc, marked)?,
-        default: Some(ValueSet::one(Value(1))),
+        default: Some(PackedSet::new(alloc, ValueSet::one(Value(1)))?),
     })
 }
 
@@ -206,12 +205,12 @@ fn put_default(
     lines: &mut Vec<Line>,
     alloc: Global,
     columns: &[Column],
-    entry: Entry,
+    entry: &Entry,
     mark: NetId,
 ) -> Result<(), Memory>
     requires columns { AreColumns (with_mark columns.now mark) }
-    requires entry { FitEntry columns.now entry }
-    ensures { OnOk result (AddsLines (EntryLines (with_mark columns.now mark) (marked_sets columns.now) entry) lines.old.items lines.new.items) }
+    requires entry { FitEntry columns.now entry.now }
+    ensures { OnOk result (AddsLines (EntryLines (with_mark columns.now mark) (marked_sets columns.now) entry.now) lines.old.items lines.new.items) }
 {
     let mut marked = Vec::from_slice(alloc, columns)?;
     marked.push(Column {
@@ -224,15 +223,15 @@ fn put_default(
 }
 
 /// The sets of a row of all inputs with the mark at 1.
-fn default_sets(alloc: Global, columns: &[Column]) -> Result<Vec<ValueSet>, Memory>
+fn default_sets(alloc: Global, columns: &[Column]) -> Result<Vec<PackedSet>, Memory>
     requires { AreColumns columns.now }
     ensures { IfOk result (λ sets. sets.items ≡ marked_sets columns.now) }
 {
     let mut sets = Vec::new(alloc);
     for column in columns {
-        sets.push(ValueSet::full(column.count))?;
+        sets.push(PackedSet::new(alloc, ValueSet::full(column.count))?)?;
     }
-    sets.push(ValueSet::one(Value(1)))?;
+    sets.push(PackedSet::new(alloc, ValueSet::one(Value(1)))?)?;
     Ok(sets)
 }
 
@@ -267,7 +266,7 @@ fn kept_of_few(alloc: Global, lines: Vec<Line>) -> Result<Items<Line>, Memory>
 fn add_kept(distinct: &mut Items<Line>, line: Line) -> Result<(), Memory>
     ensures { OnOk result (distinct.new ≡ insert_kept distinct.old line) }
 {
-    if line.out == ValueSet::empty() || stands_among(&line, distinct.as_slice()) {
+    if line.out.is_empty() || stands_among(&line, distinct.as_slice()) {
         return Ok(());
     }
     distinct.push(line)?;
@@ -297,7 +296,7 @@ fn kept_of_many(alloc: Global, lines: Vec<Line>) -> Result<Items<Line>, Memory>
 fn put_kept(distinct: &mut IndexSet<Line>, line: Line) -> Result<(), Memory>
     ensures { OnOk result (distinct.new.keys ≡ insert_kept distinct.old.keys line) }
 {
-    if line.out == ValueSet::empty() {
+    if line.out.is_empty() {
         return Ok(());
     }
     distinct.insert(line)?;

@@ -14,7 +14,7 @@ use Rattle.mv_base.proofs.Sets.{has-full, has-one}
 use Rattle.mv_composite.proofs.Cubes.{has_asked, matches_own, matches-met}
 use Rattle.mv_composite.proofs.Giving.{some_with, with-lines_for}
 use Rattle.mv_composite.proofs.Meaning.{allowed-bare, both_true, matches-with}
-use Rattle.mv_cover.specs.declared.cube.Lit.{Lit}
+use Rattle.mv_cover.specs.Literal.{Lit}
 use Rattle.mv_cover.specs.declared.line.Line.{Line}
 use Rattle.mv_cover.specs.declared.cover.Cover.{Cover}
 use Rattle.mv_cover.specs.Cofactors.{cube_without}

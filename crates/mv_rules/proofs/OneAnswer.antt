@@ -5,7 +5,7 @@ use Rattle.std.proofs.lemmas.Option.{same_Some}
 use Rattle.mv_body.specs.Bodies.{cover_said}
 use Rattle.mv_composite.specs.Wired.{wired}
 use Rattle.mv_cover.specs.declared.cover.Cover.{Cover}
-use Rattle.mv_cover.specs.declared.cube.Lit.{Lit}
+use Rattle.mv_cover.specs.Literal.{Lit}
 use Rattle.mv_cover.specs.declared.line.Line.{Line}
 use Rattle.mv_entry.specs.declared.rule.Body.{Body}
 use Rattle.mv_entry.specs.declared.rule.Rule.{Rule}

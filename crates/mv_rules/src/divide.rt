@@ -1,4 +1,4 @@
-ghost use Rattle.std.specs.Prelude.{◌≡◌, ◌↔◌, ℕ, [], ◌∷◌, All, IsTrue, IfOk, MatchBool};
+ghost use Rattle.std.specs.Prelude.{◌≡◌, ◌↔◌, ℕ, Some, [], ◌∷◌, All, IsTrue, IfOk, MatchBool};
 ghost use Rattle.mv_base.specs.Set.{one};
 ghost use Rattle.mv_body.specs.Bodies.{AreKnown, IsTidy, cover_said};
 ghost use Rattle.mv_cover.specs.declared.line.Line.{Line};
@@ -14,7 +14,7 @@ ghost use Rattle.mv_rules.specs.Plans.{IsPlanned};
 use crate::expand::stands_for;
 use crate::lookup::tabled;
 use crate::order::keeps_order;
-use mv_base::{Items, Memory, Name, NetId, Value, ValueSet};
+use mv_base::{Items, Memory, Name, NetId, PackedSet, Value, ValueSet};
 use mv_body::{is_known, tidy_cover};
 use mv_cover::{Cover, Line};
 use mv_entry::{Body, RuleFault};
@@ -111,16 +111,26 @@ fn is_divisor(net: &Network, d: NetId) -> bool
     let Some(table) = net.table(d) else {
         return false;
     };
-    net.values(d) == 2
-        && table.default == Some(ValueSet::one(Value(0)))
-        && all_give_one(table.lines.as_slice())
+    net.values(d) == 2 && is_zero(&table.default) && all_give_one(table.lines.as_slice())
+}
+
+/// Whether the default is the value 0 alone.
+fn is_zero(default: &Option<PackedSet>) -> bool
+    ensures { IsTrue result ↔ default.now ≡ Some (one 0) }
+{
+    match default {
+        Some(set) => set.get() == ValueSet::one(Value(0)),
+        None => false,
+    }
 }
 
 /// Whether each line gives the value 1 alone.
 fn all_give_one(lines: &[Line]) -> bool
     ensures { IsTrue result ↔ All (λ (l : Line). l.out ≡ one 1) lines.now }
 {
-    lines.iter().all(|line| line.out == ValueSet::one(Value(1)))
+    lines
+        .iter()
+        .all(|line| line.out.get() == ValueSet::one(Value(1)))
 }
 
 /// Whether the table has the default of that of the net n, and stands for its lines.
@@ -154,7 +164,7 @@ fn completed(alloc: Global, net: &Network, n: NetId, mut table: Cover) -> Result
     ensures { IfOk result (λ new. IsCompletedAt net.now.nets n.0 table new) }
 {
     if is_less(alloc, net, n, &table)? {
-        table.default = Some(ValueSet::one(Value(0)));
+        table.default = Some(PackedSet::new(alloc, ValueSet::one(Value(0)))?);
     }
     Ok(table)
 }

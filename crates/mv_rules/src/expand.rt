@@ -7,7 +7,7 @@ ghost use Rattle.mv_cover.specs.Meets.{literal_at, met};
 ghost use Rattle.mv_rules.specs.Expanding.{asks_one, line_expanded, expanded, AreSameLines, HasFound, HasMissed};
 
 use indexmap::IndexSet;
-use mv_base::{Memory, NetId, Value, ValueSet};
+use mv_base::{Memory, NetId, PackedSet, Value, ValueSet};
 use mv_composite::{literal_on, without};
 use mv_cover::{Cover, Cube, Line};
 use std::alloc::Global;
@@ -87,7 +87,7 @@ fn find_expanded(
         return find(line.copy()?, wanted, found);
     }
     let rest = without(&line.cube, d)?;
-    find_parts(&rest, line.out, inner.lines.as_slice(), wanted, found)
+    find_parts(&rest, &line.out, inner.lines.as_slice(), wanted, found)
 }
 
 /// Whether this is the set of the value 1 alone.
@@ -103,14 +103,14 @@ fn is_one(set: Option<ValueSet>) -> bool
 /// Whether the rest of a line, met with the cube of each part, is wanted with its output: the lines are then found.
 fn find_parts(
     rest: &Cube,
-    out: ValueSet,
+    out: &PackedSet,
     parts: &[Line],
     wanted: &IndexSet<Line>,
     found: &mut IndexSet<Line>,
 ) -> Result<bool, Memory>
     ensures { IfOk result (λ yes. MatchBool yes
-        (HasFound wanted.now.keys found.old.keys (flat_map (λ (k : Line). lines_for out (met rest.now k.cube)) parts.now) found.new.keys)
-        (HasMissed wanted.now.keys (flat_map (λ (k : Line). lines_for out (met rest.now k.cube)) parts.now))) }
+        (HasFound wanted.now.keys found.old.keys (flat_map (λ (k : Line). lines_for out.now (met rest.now k.cube)) parts.now) found.new.keys)
+        (HasMissed wanted.now.keys (flat_map (λ (k : Line). lines_for out.now (met rest.now k.cube)) parts.now))) }
 {
     for part in parts {
         if !find_part(rest, out, part, wanted, found)? {
@@ -123,17 +123,20 @@ fn find_parts(
 /// Whether the rest of a line, met with the cube of the part, is wanted with the output, if the two meet: it is then found.
 fn find_part(
     rest: &Cube,
-    out: ValueSet,
+    out: &PackedSet,
     part: &Line,
     wanted: &IndexSet<Line>,
     found: &mut IndexSet<Line>,
 ) -> Result<bool, Memory>
     ensures { IfOk result (λ yes. MatchBool yes
-        (HasFound wanted.now.keys found.old.keys (lines_for out (met rest.now part.now.cube)) found.new.keys)
-        (HasMissed wanted.now.keys (lines_for out (met rest.now part.now.cube)))) }
+        (HasFound wanted.now.keys found.old.keys (lines_for out.now (met rest.now part.now.cube)) found.new.keys)
+        (HasMissed wanted.now.keys (lines_for out.now (met rest.now part.now.cube)))) }
 {
     match rest.meet(&part.cube)? {
-        Some(cube) => find(Line { cube, out }, wanted, found),
+        Some(cube) => {
+            let out = out.copy()?;
+            find(Line { cube, out }, wanted, found)
+        }
         None => Ok(true),
     }
 }

@@ -5,7 +5,7 @@ ghost use Rattle.mv_base.specs.Names.{place_of};
 ghost use Rattle.mv_word.specs.Entries.{word_set};
 ghost use Rattle.mv_table.specs.Entries.{AreLookedUp, places_of, same_at, out_word, entry_faults, ins_faults, ins_said, outs_faults, outs_said};
 
-use mv_base::{Items, Memory, Name, ValueSet};
+use mv_base::{Items, Memory, Name, PackedSet};
 use mv_decl::Decls;
 use mv_design::Entry;
 use mv_fault::ParseFault;
@@ -53,19 +53,19 @@ fn places(alloc: Global, decls: &Decls, nets: &[Name]) -> Result<Vec<Option<usiz
     Ok(places)
 }
 
-/// What the word says as a set of values.
+/// What the word says as a set of values, to be kept.
 fn entry_set(
     alloc: Global,
     number: u32,
     values: &[Name],
     word: &[u8],
-) -> Result<ValueSet, ParseFault>
+) -> Result<PackedSet, ParseFault>
     requires { length values.now ≤ most_values }
     ensures fault { Tells result (entry_faults number (word_set values.now word.now)) }
     ensures ok { IfOk result (λ set. word_set values.now word.now ≡ Ok set) }
 {
     match word_set(alloc, values, word) {
-        Ok(set) => Ok(set),
+        Ok(set) => Ok(PackedSet::new(alloc, set)?),
         Err(EntryFault::Unknown(word)) => Err(ParseFault::UnknownValue { line: number, word }),
         Err(EntryFault::Equal(name)) => Err(ParseFault::BadEqual { line: number, name }),
         Err(EntryFault::Memory) => Err(ParseFault::Memory),
@@ -140,7 +140,7 @@ pub fn in_entries(
     decls: &Decls,
     columns: &Columns,
     words: &[Name],
-) -> Result<Items<ValueSet>, ParseFault>
+) -> Result<Items<PackedSet>, ParseFault>
     requires { AreLookedUp decls.now columns.now }
     ensures fault { Tells result (ins_faults number decls.now columns.now.ins.now words.now) }
     ensures ok { IfOk result (λ sets. sets ≡ ins_said decls.now columns.now.ins.now words.now) }

@@ -6,7 +6,7 @@ use Rattle.std.proofs.lemmas.Bool.{cond-true, cond-false, and_parts, and_from, o
 use Rattle.std.proofs.Math.Bool.{and-true}
 use Rattle.mv_base.specs.Set.{has}
 use Rattle.mv_base.proofs.Sets.{has-full}
-use Rattle.mv_cover.specs.declared.cube.Lit.{Lit}
+use Rattle.mv_cover.specs.Literal.{Lit}
 use Rattle.mv_cover.specs.declared.line.Line.{Line}
 use Rattle.mv_cover.specs.declared.cover.Cover.{Cover}
 use Rattle.mv_cover.specs.Cubes.{holds, matches, nets_ascend}

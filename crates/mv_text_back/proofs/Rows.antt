@@ -7,7 +7,7 @@ use Rattle.std.proofs.lemmas.Bool.{cond_both, eqb-true}
 use Rattle.std.proofs.lemmas.List.{length-map}
 use Rattle.mv_design.specs.declared.table.Entry.TheVariants.{Set}
 use Rattle.mv_design.specs.declared.design.Decl.{Decl}
-use Rattle.mv_cover.specs.declared.cube.Lit.{Lit}
+use Rattle.mv_cover.specs.Literal.{Lit}
 use Rattle.mv_cover.specs.declared.line.Line.{Line}
 use Rattle.mv_cover.specs.Lines.{IsOutput}
 use Rattle.mv_word.specs.Entries.{word_set}

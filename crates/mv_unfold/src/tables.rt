@@ -7,7 +7,7 @@ ghost use Rattle.mv_unfold.specs.Placed.{place_at};
 use crate::layout::Layout;
 use crate::resets::home;
 use mv_base::{Items, Memory, Name};
-use mv_design::{Entry, FileLatch, FileTable};
+use mv_design::{Entry, FileLatch, FileTable, copy_entries};
 use std::alloc::Global;
 
 /// The latches of all places over the names of the whole.
@@ -100,7 +100,7 @@ fn default_copy(default: &Option<Items<Entry>>) -> Result<Option<Items<Entry>>, 
     ensures { IfOk result (λ copy. copy ≡ default.now) }
 {
     match default {
-        Some(entries) => Ok(Some(entries.copy()?)),
+        Some(entries) => Ok(Some(copy_entries(entries)?)),
         None => Ok(None),
     }
 }

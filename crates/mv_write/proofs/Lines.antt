@@ -6,7 +6,7 @@ use Rattle.std.proofs.lemmas.List.Concat.{flat_map-append}
 use Rattle.mv_base.specs.declared.number.NetId.{NetId}
 use Rattle.mv_lex.specs.Text.{spaced, line_text}
 use Rattle.mv_page.proofs.Items.{items-more}
-use Rattle.mv_cover.specs.declared.cube.Lit.{Lit}
+use Rattle.mv_cover.specs.Literal.{Lit}
 use Rattle.mv_cover.specs.declared.line.Line.{Line}
 use Rattle.mv_cover.specs.Cubes.{IsCube}
 use Rattle.mv_net.specs.declared.parts.FlatNet.{FlatNet}

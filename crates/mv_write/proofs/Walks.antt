@@ -3,7 +3,7 @@ use Rattle.std.proofs.Common.{◌≡◌, ◌∙◌, ℕ, ◌<◌, ◌≤◌, Boo
 use Rattle.std.proofs.lemmas.Bool.{cases_Bool, or_cases, false≢true, and_parts, ltb-true, ne_eqb, or_left, or_right, eqb-false}
 use Rattle.mv_base.specs.Set.{full}
 use Rattle.mv_base.specs.declared.number.NetId.{NetId}
-use Rattle.mv_cover.specs.declared.cube.Lit.{Lit}
+use Rattle.mv_cover.specs.Literal.{Lit}
 use Rattle.mv_cover.specs.Cubes.{nets_ascend}
 use Rattle.mv_cover.specs.Covers.{cube_reads}
 use Rattle.mv_cover.proofs.Walking.{nets_ascend-tail}

@@ -23,7 +23,7 @@ fn first_of<'a>(count: u16, lits: &'a [Lit], net: NetId) -> (ValueSet, &'a [Lit]
     ensures rest { result.1.now ≡ literals_behind lits.now net.0 }
 {
     match lits.split_first() {
-        Some((lit, rest)) if lit.net == net => (lit.set, rest),
+        Some((lit, rest)) if lit.net() == net => (lit.set(), rest),
         _ => (ValueSet::full(count), lits),
     }
 }
@@ -67,7 +67,7 @@ fn put_row<K: Sink>(
         (line_text (line_words net.now.nets (spelled_in (slot net.now.nets n.0)) (numbers fanins.now) line.now)) result }
 {
     put_entries(net, line.cube.lits(), fanins, page, out)?;
-    put_entry(net, n, line.out, b'\n', page, out)
+    put_entry(net, n, line.out.get(), b'\n', page, out)
 }
 
 /// Appends the rows of the table of this net.

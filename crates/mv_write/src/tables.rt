@@ -12,7 +12,7 @@ use crate::page::Page;
 use crate::pieces::put_head;
 use crate::resets::{head_word, told_name};
 use crate::rows::put_rows;
-use mv_base::{Failed, NetId, Sink, ValueSet};
+use mv_base::{Failed, NetId, PackedSet, Sink};
 use mv_cover::Cover;
 use mv_net::Network;
 
@@ -20,19 +20,19 @@ use mv_net::Network;
 fn put_default<K: Sink>(
     net: &Network,
     n: NetId,
-    default: Option<ValueSet>,
+    default: &Option<PackedSet>,
     page: &mut Page,
     out: &mut K,
 ) -> Result<(), Failed>
     requires held { IsTrue (is_held net.now.nets n.0) }
-    requires default { IsDefaultSet (values_in (slot net.now.nets n.0)) default }
+    requires default { IsDefaultSet (values_in (slot net.now.nets n.0)) default.now }
     ensures { AddsPiece (paged (K.state out.old) page.old) (paged (K.state out.new) page.new)
-        (flat_map line_text (default_words (spelled_in (slot net.now.nets n.0)) default)) result }
+        (flat_map line_text (default_words (spelled_in (slot net.now.nets n.0)) default.now)) result }
 {
     match default {
         Some(set) => {
             page.put(b".default ", out)?;
-            put_entry(net, n, set, b'\n', page, out)
+            put_entry(net, n, set.get(), b'\n', page, out)
         }
         None => Ok(()),
     }
@@ -54,7 +54,7 @@ fn put_table<K: Sink>(
     net.well_formed();
     let fanins = net.fanins(n);
     put_head(head_word(net, n), net, fanins, told_name(net, n), page, out)?;
-    put_default(net, n, cover.default, page, out)?;
+    put_default(net, n, &cover.default, page, out)?;
     put_rows(net, n, cover.lines.as_slice(), fanins, page, out)
 }
 

@@ -23,4 +23,4 @@ returns c =
     let said : lines ≡ lines_said nets body.lines = found.1 ∙ ap (lines_said nets) c.as_slice.ensures in
     let behind = subst (λ (ls : List Line). IsDefaultBeside values c.default_set.result ls) c.as_slice-2.ensures c.if-not-is_default_beside.ensures in
     let beside = subst (λ (d : Option ℕ). IsDefaultBeside values d lines) c.default_set.ensures behind in
-    (tidy_from nets values body lines are said beside, λ i. record { lines = said i; default = c.default_set-2.ensures i })
+    (tidy_from nets values body lines are said beside, c.in_ok-new.ensures ∙ λ i. record { lines = said i; default = c.default_set-2.ensures i })

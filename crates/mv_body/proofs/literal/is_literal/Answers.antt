@@ -5,8 +5,8 @@ use Rattle.mv_body.proofs.literal.is_literal.Goals as goal
 
 pub is_output-requires : goal.is_output-requires
 is_output-requires c =
-    subst (λ n. n ≤ MAX_VALUES) (sym c.values-values.ensures) (values_few c.args.net.now c.args.literal.now.net.0 c.well_formed-2.ensures)
+    subst (λ n. n ≤ MAX_VALUES) (sym c.values-values.ensures) (values_few c.args.net.now c.net.result.0 c.well_formed-2.ensures)
 
 pub full-requires : goal.full-requires
 full-requires c =
-    subst (λ n. n ≤ MAX_VALUES) (sym c.values-values.ensures) (values_few c.args.net.now c.args.literal.now.net.0 c.well_formed-2.ensures)
+    subst (λ n. n ≤ MAX_VALUES) (sym c.values-values.ensures) (values_few c.args.net.now c.net.result.0 c.well_formed-2.ensures)

@@ -12,13 +12,13 @@ use Rattle.mv_composite.proofs.put.put_where.Goals as goal
 pub returns-then-not-default_meets : goal.returns-then-not-default_meets
 returns-then-not-default_meets g c =
     let P = g.T.Taker.takes c.args.taker.now c.put_giving.new.taker in
-    puts_giving P c.args.outside.now c.args.cover.now c.args.asked.now c.args.rest.now c.args.out (sym c.default_meets.ensures ∙ c.if-not-default_meets.true)
-    (subst (λ (ls : List Line). P (lines_for c.args.out (flat_map (met c.args.rest.now) (cubes_of (filter (λ (l : Line). set_meets c.args.asked.now l.out) ls))))) c.as_slice.ensures c.in_ok-put_giving.ensures)
+    puts_giving P c.args.outside.now c.args.cover.now c.args.asked.now c.args.rest.now c.args.out.now (sym c.default_meets.ensures ∙ c.if-not-default_meets.true)
+    (subst (λ (ls : List Line). P (lines_for c.args.out.now (flat_map (met c.args.rest.now) (cubes_of (filter (λ (l : Line). set_meets c.args.asked.now l.out) ls))))) c.as_slice.ensures c.in_ok-put_giving.ensures)
 
 pub returns : goal.returns
 returns g c =
-    let own = λ (ls : List Line). lines_for c.args.out (flat_map (met c.args.rest.now) (cubes_of (filter (λ (l : Line). set_meets c.args.asked.now l.out) ls))) in
-    puts_where (g.T.Taker.takes c.args.taker.now c.put_all.new.taker) c.args.outside.now c.args.cover.now c.args.asked.now c.args.rest.now c.args.out (sym c.default_meets.ensures ∙ c.if-not-default_meets.false)
-    (g.met.T.Taker.takes_more c.args.taker.now c.put_giving.new.taker c.put_all.new.taker (own c.args.cover.now.lines) (lines_for c.args.out (flat_map (met c.args.rest.now) c.args.outside.now))
+    let own = λ (ls : List Line). lines_for c.args.out.now (flat_map (met c.args.rest.now) (cubes_of (filter (λ (l : Line). set_meets c.args.asked.now l.out) ls))) in
+    puts_where (g.T.Taker.takes c.args.taker.now c.put_all.new.taker) c.args.outside.now c.args.cover.now c.args.asked.now c.args.rest.now c.args.out.now (sym c.default_meets.ensures ∙ c.if-not-default_meets.false)
+    (g.met.T.Taker.takes_more c.args.taker.now c.put_giving.new.taker c.put_all.new.taker (own c.args.cover.now.lines) (lines_for c.args.out.now (flat_map (met c.args.rest.now) c.args.outside.now))
     (subst (λ (ls : List Line). g.T.Taker.takes c.args.taker.now c.put_giving.new.taker (own ls)) c.as_slice.ensures c.in_ok-put_giving.ensures)
     c.in_ok-put_all.ensures)

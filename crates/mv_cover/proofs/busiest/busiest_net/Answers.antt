@@ -1,7 +1,7 @@
 -- The busiest net so far is one of the cubes'.
 use Rattle.std.proofs.Common.{◌∙◌, ap, List}
 use Rattle.mv_base.specs.declared.number.NetId.{NetId}
-use Rattle.mv_cover.specs.declared.cube.Lit.{Lit}
+use Rattle.mv_cover.specs.Literal.{Lit}
 use Rattle.mv_cover.specs.Covers.{cube_reads}
 use Rattle.mv_cover.proofs.Covering.{read_more}
 use Rattle.mv_cover.proofs.busiest.busiest_net.Goals as goal

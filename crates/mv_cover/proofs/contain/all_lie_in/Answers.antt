@@ -10,22 +10,22 @@ use Rattle.mv_cover.proofs.contain.all_lie_in.Goals.{then-walk-test+else-j-b, el
 pub walk-init : goal.walk-init
 walk-init c = walked_none lies_in c.args.a.now c.args.b.now c.requires.first c.requires.second
 
-pub walk-preserved-then-inner-outer : goal.walk-preserved-then-inner-outer
-walk-preserved-then-inner-outer c =
-    walked_first c.args.a.now c.args.b.now c.walk.i c.walk.j c.index-a-i.result c.index-b-j.result c.walk-test.true c.if-j-b.true c.index-a-i.is c.index-b-j.is c.if-inner-outer.true c.walk.invariant
+pub walk-preserved-then-net : goal.walk-preserved-then-net
+walk-preserved-then-net c =
+    walked_first c.args.a.now c.args.b.now c.walk.i c.walk.j c.index-a-i.result c.index-b-j.result c.walk-test.true c.if-j-b.true c.index-a-i.is c.index-b-j.is (omega (arith, c.net.ensures.number, c.net-in-walk.ensures.number)) c.walk.invariant
 
-pub returns-then-outer-inner : goal.returns-then-outer-inner
-returns-then-outer-inner c =
-    sym (walked_missing c.args.a.now c.args.b.now c.walk.i c.walk.j c.index-a-i.result c.index-b-j.result c.walk-test.true c.if-j-b.true c.index-a-i.is c.index-b-j.is c.if-outer-inner.true c.walk.invariant)
+pub returns-then-net-2 : goal.returns-then-net-2
+returns-then-net-2 c =
+    sym (walked_missing c.args.a.now c.args.b.now c.walk.i c.walk.j c.index-a-i.result c.index-b-j.result c.walk-test.true c.if-j-b.true c.index-a-i.is c.index-b-j.is (omega (arith, c.net.ensures.number, c.net-in-walk.ensures.number, c.net-else-net.ensures.number, c.net-else-net-2.ensures.number)) c.walk.invariant)
 
 pub walk-preserved : goal.walk-preserved
 walk-preserved c =
-    walked_both c.args.a.now c.args.b.now c.walk.i c.walk.j c.index-a-i.result c.index-b-j.result c.walk-test.true c.if-j-b.true c.index-a-i.is c.index-b-j.is (omega arith)
+    walked_both c.args.a.now c.args.b.now c.walk.i c.walk.j c.index-a-i.result c.index-b-j.result c.walk-test.true c.if-j-b.true c.index-a-i.is c.index-b-j.is (omega (arith, c.net.ensures.number, c.net-in-walk.ensures.number, c.net-else-net.ensures.number, c.net-else-net-2.ensures.number))
     (c.within.ensures.0 c.if-within.true) c.walk.invariant
 
 pub returns-else-within : goal.returns-else-within
 returns-else-within c =
-    sym (walked_apart c.args.a.now c.args.b.now c.walk.i c.walk.j c.index-a-i.result c.index-b-j.result c.walk-test.true c.if-j-b.true c.index-a-i.is c.index-b-j.is (omega arith)
+    sym (walked_apart c.args.a.now c.args.b.now c.walk.i c.walk.j c.index-a-i.result c.index-b-j.result c.walk-test.true c.if-j-b.true c.index-a-i.is c.index-b-j.is (omega (arith, c.net.ensures.number, c.net-in-walk.ensures.number, c.net-else-net.ensures.number, c.net-else-net-2.ensures.number))
     (λ w. false≢true (sym c.if-within.false ∙ c.within.ensures.1 w)) c.walk.invariant)
 
 pub returns : goal.returns

@@ -6,7 +6,7 @@ use Rattle.mv_cover.proofs.sharp.put_parts.Goals as goal
 pub loop-l-init : goal.loop-l-init
 loop-l-init c =
     cut_none c.args.counts.now c.args.cube.now c.args.other.now c.in_ok-lits.lits.items c.args.list.now.items
-    (c.in_ok-lits.ensures.items ∙ c.lits.ensures.lits) c.lits.ensures.formed c.requires.cube c.requires.suited c.requires.meet
+    (c.in_ok-lits.ensures ∙ c.lits.ensures.lits) c.lits.ensures.formed c.requires.cube c.requires.suited c.requires.meet
 
 pub put_part-requires-clause-cube : goal.put_part-requires-clause-cube
 put_part-requires-clause-cube c =

@@ -1,6 +1,6 @@
 -- The columns, the mark and the choice net fit the table, and its covers are by the numbers that these have among the names.
 use Rattle.mv_joint.specs.Plain.{AreApart}
-use Rattle.mv_flat.proofs.CoverNeeds.{AreOwn, own_numbers, numbers_apart, joint_made}
+use Rattle.mv_flat.proofs.CoverNeeds.{AreOwn, own_numbers, numbers_apart, numbers_unread, joint_made}
 use Rattle.mv_flat.proofs.Unmarked.{own_file}
 use Rattle.mv_flat.proofs.covers.joint_covers.Goals as goal
 use Rattle.mv_flat.proofs.covers.joint_covers.Goals.{Joined-branch-4}
@@ -23,6 +23,10 @@ joint_table-requires-clause-columns c = (apart c).inputs
 
 pub joint_table-requires-clause-with_mark : goal.joint_table-requires-clause-with_mark
 joint_table-requires-clause-with_mark c = (apart c).marked
+
+pub joint_table-requires-clause-unread : goal.joint_table-requires-clause-unread
+joint_table-requires-clause-unread c =
+    numbers_unread c.args.names.now c.args.table.now c.args.columns.now c.number_or_past-mark.result c.number_or_past-choice.result (own c) c.requires.columns
 
 pub joint_table-requires-clause-apart : goal.joint_table-requires-clause-apart
 joint_table-requires-clause-apart c = (apart c).chosen

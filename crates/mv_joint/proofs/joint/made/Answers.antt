@@ -21,12 +21,12 @@ returns-clause-made c =
     let choice = c.args.choice in
     let found = c.in-Ok.ensures.found in
     let keys : c.as_slice-all.result.now ≡ distinct (plain_of columns c.args.table.now mark) = c.as_slice-all.ensures.keys ∙ found.choices in
-    let few : length (distinct (plain_of columns c.args.table.now mark)) ≤ MAX_VALUES = rw (sym found.choices) (omega arith) in
+    let few : length (distinct (plain_of columns c.args.table.now mark)) ≤ MAX_VALUES = rw (sym found.choices) (omega (arith, c.in-Ok.ensures.few)) in
     record {
       few = few;
       values = c.choice_count.ensures ∙ ap choice_count keys;
       chosen = subst (λ (p : PlainTable). IsCoverOf p.columns (choice_table p) mark c.in_ok-chosen.chosen) found.table c.in_ok-chosen.ensures;
-      many = c.in_ok-outputs.ensures.many ∙ c.len-2.ensures;
+      many = c.in_ok-outputs.ensures.many ∙ c.len.ensures;
       each = subst (λ (all : List (List ℕ)). AreOutputs all mark choice 0 c.in_ok-outputs.outputs) keys c.in_ok-outputs.ensures.each;
       marked = subst (λ (p : PlainTable). IsMarkOf columns mark p.mark c.in_ok-marks.marks) found.table c.in_ok-marks.ensures;
     }

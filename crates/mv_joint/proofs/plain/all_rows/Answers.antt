@@ -6,5 +6,5 @@ returns-in-Err-clause-stop c =
     stops_at_row c.args.frame.now.columns c.args.table.now.rows c.loop-row.row-index c.row-item.result c.loop-row.gathered c.in-Err.stop
     (rw c.as_slice-row-items.ensures at c.loop-row-test.true)
     (rw c.as_slice-row-items.ensures at c.row-item.is)
-    c.loop-row.invariant
+    c.loop-row.invariant.gathered
     (rw (c.as_slice-ins.ensures, c.as_slice-outs.ensures) at c.in-Err.ensures.stop)

@@ -17,7 +17,10 @@ loop-value-preserved-in_default-2 t c =
       fit = c.requires.fit;
       is = ap listed (sym c.in_default-2.is) ∙ c.in_ok-next-in-Same.ensures;
     } in
-    gathers_no_value cs c.in-Some.rest.now c.in-Same.place c.args.row c.loop-value.value _ _ found c.loop-value.invariant
+    record {
+      gathers = gathers_no_value cs c.in-Some.rest.now c.in-Same.place c.args.row c.loop-value.value _ _ found c.loop-value.invariant.gathers;
+      few = c.loop-value.invariant.few;
+    }
 
 pub put_rest-requires-in-loop-value : goal.put_rest-requires-in-loop-value
 put_rest-requires-in-loop-value t c =
@@ -47,7 +50,7 @@ returns-in-Err-clause-stop t c =
     let entries : c.args.entries.now ≡ Same c.in-Same.place ∷ c.in-Some.rest.now = grind arith in
     let many : (c.loop-value.value + 1) + (count_at cs c.in-Same.place - (c.loop-value.value + 1)) ≡ count_at cs c.in-Same.place = omega arith in
     rw entries
-    (stops_value cs c.in-Some.rest.now c.in-Same.place c.args.row c.loop-value.value _ c.in-Some-2.next _ _ c.in-Err.stop many found c.loop-value.invariant c.in-Err.ensures.stop)
+    (stops_value cs c.in-Some.rest.now c.in-Same.place c.args.row c.loop-value.value _ c.in-Some-2.next _ _ c.in-Err.stop many found c.loop-value.invariant.gathers c.in-Err.ensures.stop)
 
 pub loop-value-preserved : goal.loop-value-preserved
 loop-value-preserved t c =
@@ -59,11 +62,14 @@ loop-value-preserved t c =
       fit = c.requires.fit;
       is = ap listed (sym c.in-Some-2.is) ∙ c.in_ok-next-in-Same.ensures;
     } in
-    gathers_value cs c.in-Some.rest.now c.in-Same.place c.args.row c.loop-value.value c.in-Some-2.next _ _ _ found c.loop-value.invariant c.in-Ok.ensures.rows
+    record {
+      gathers = gathers_value cs c.in-Some.rest.now c.in-Same.place c.args.row c.loop-value.value c.in-Some-2.next _ _ _ found c.loop-value.invariant.gathers c.in-Ok.ensures.rows;
+      few = c.in-Ok.ensures.few;
+    }
 
 pub returns-after-loop-value-clause-rows : goal.returns-after-loop-value-clause-rows
 returns-after-loop-value-clause-rows t c =
     let cs = c.args.frame.now.columns in
     let entries : c.args.entries.now ≡ Same c.in-Same.place ∷ c.in-Some.rest.now = grind arith in
     let many : c.loop-value.value ≡ count_at cs c.in-Same.place = omega arith in
-    rw entries (gathers_same cs c.in-Some.rest.now c.in-Same.place c.args.row c.loop-value.value _ _ many c.loop-value.invariant)
+    rw entries (gathers_same cs c.in-Some.rest.now c.in-Same.place c.args.row c.loop-value.value _ _ many c.loop-value.invariant.gathers)

@@ -25,7 +25,7 @@ returns-then-not-has c =
     narrowing_none c.args.frame.now.columns c.args.place c.args.row.now c.args.value.0 gone
 
 pub replace-requires : goal.replace-requires
-replace-requires c = rw c.in_ok-ins.ensures (omega (arith, fit_length c.args.frame.now.columns c.args.row.now.ins c.requires.fit.sets))
+replace-requires c = rw (c.in_ok-ins.ensures ∙ c.as_slice-2.ensures) (omega (arith, fit_length c.args.frame.now.columns c.args.row.now.ins c.requires.fit.sets))
 
 pub is_possible-requires-clause-sets : goal.is_possible-requires-clause-sets
 is_possible-requires-clause-sets c =
@@ -35,8 +35,8 @@ is_possible-requires-clause-sets c =
     get_or_read c.as_slice.result.now _ _ low c.index-as_slice-place.is 0 ∙ ap (λ (xs : List ℕ). slice_index xs c.args.place) c.as_slice.ensures in
     let there : has (slice_index c.args.row.now.ins c.args.place) c.args.value.0 ≡ true = ap (λ s. has s c.args.value.0) (sym item) ∙ (sym c.has.ensures ∙ c.if-not-has.false) in
     let ins : c.replace.new.self ≡ slice_set sets c.args.place (one c.args.value.0) =
-    c.replace.ensures.items ∙ (λ i. slice_set (c.in_ok-ins.ensures i) c.args.place (c.one.ensures i)) in
-    rw (c.as_slice-2.ensures ∙ ins) (fit_one c.args.frame.now.columns c.args.row.now.ins c.args.place c.args.value.0 c.requires.fit.sets there)
+    c.replace.ensures.items ∙ (λ i. slice_set ((c.in_ok-ins.ensures ∙ c.as_slice-2.ensures) i) c.args.place ((c.in_ok-alone.ensures ∙ c.one.ensures) i)) in
+    rw (c.as_slice-3.ensures ∙ ins) (fit_one c.args.frame.now.columns c.args.row.now.ins c.args.place c.args.value.0 c.requires.fit.sets there)
 
 pub returns : goal.returns
 returns c =
@@ -46,9 +46,9 @@ returns c =
     get_or_read c.as_slice.result.now _ _ low c.index-as_slice-place.is 0 ∙ ap (λ (xs : List ℕ). slice_index xs c.args.place) c.as_slice.ensures in
     let there : has (slice_index c.args.row.now.ins c.args.place) c.args.value.0 ≡ true = ap (λ s. has s c.args.value.0) (sym item) ∙ (sym c.has.ensures ∙ c.if-not-has.false) in
     let ins : c.replace.new.self ≡ slice_set sets c.args.place (one c.args.value.0) =
-    c.replace.ensures.items ∙ (λ i. slice_set (c.in_ok-ins.ensures i) c.args.place (c.one.ensures i)) in
+    c.replace.ensures.items ∙ (λ i. slice_set ((c.in_ok-ins.ensures ∙ c.as_slice-2.ensures) i) c.args.place ((c.in_ok-alone.ensures ∙ c.one.ensures) i)) in
     let outs : c.push.new.self ≡ c.args.row.now.outs ++ one c.args.value.0 ∷ [] =
-    c.in_ok-push.ensures ∙ (λ i. c.in_ok-outs.ensures i ++ c.one-2.ensures i ∷ []) in
+    c.in_ok-push.ensures.ok ∙ (λ i. c.in_ok-outs.ensures i ++ (c.in_ok-said.ensures ∙ (c.in_ok-alone.ensures ∙ c.one.ensures)) i ∷ []) in
     let possible : not (matches_none c.args.frame.now.columns c.replace.new.self) ≡ true =
-    ap (λ s. not (matches_none c.args.frame.now.columns s)) (sym c.as_slice-2.ensures) ∙ (sym c.in_ok-is_possible.ensures ∙ c.if-not-branch.false) in
+    ap (λ s. not (matches_none c.args.frame.now.columns s)) (sym c.as_slice-3.ensures) ∙ (sym c.in_ok-is_possible.ensures ∙ c.if-not-branch.false) in
     narrowing_kept c.args.frame.now.columns c.args.place c.args.row.now c.args.value.0 c.replace.new.self c.push.new.self there ins outs possible

@@ -1,7 +1,7 @@
 -- What the quotient becomes without the symbols that all of its cubes have is the kernel below, unless no two of its cubes
 -- differ.
 use Rattle.std.proofs.Common.{◌≡◌, ◌∙◌, List, ap, sym, subst, arith}
-use Rattle.mv_cover.specs.declared.cube.Lit.{Lit}
+use Rattle.mv_cover.specs.Literal.{Lit}
 use Rattle.mv_kernels.specs.Symbols as spec
 use Rattle.mv_kernels.specs.Symbols.{SameCubes}
 use Rattle.mv_kernels.specs.Below.{HasOneCube, IsBelow, common_of}

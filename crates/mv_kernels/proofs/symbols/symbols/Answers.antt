@@ -1,7 +1,7 @@
 -- The symbols found so far stay, and those of the next cube come to them.
 use Rattle.std.proofs.Common.{All, Contains, List, subst, arith}
 use Rattle.std.proofs.lemmas.List.{take_all}
-use Rattle.mv_cover.specs.declared.cube.Lit.{Lit}
+use Rattle.mv_cover.specs.Literal.{Lit}
 use Rattle.mv_kernels.proofs.Walks.{symbols_more}
 use Rattle.mv_kernels.proofs.symbols.symbols.Goals as goal
 

@@ -1,7 +1,7 @@
 -- Symbols that no cube has lead to no kernel, so those of the cubes are enough.
 use Rattle.std.proofs.Common.{subst, sym, List, All, Contains}
 use Rattle.std.proofs.lemmas.Result.{IfOk-weaker}
-use Rattle.mv_cover.specs.declared.cube.Lit.{Lit}
+use Rattle.mv_cover.specs.Literal.{Lit}
 use Rattle.mv_kernels.specs.Below.{AreBelowBy, AreBelow}
 use Rattle.mv_kernels.proofs.Walks.{below_all}
 use Rattle.mv_kernels.proofs.walk.below.Goals as goal

@@ -1,7 +1,7 @@
 -- Each turn puts the kernels below the next one to those found; behind the last one none is missed.
 use Rattle.std.proofs.Common.{◌≡◌, ◌∙◌, List, Contains, Some, None, slice_get, subst, sym, ap, arith}
 use Rattle.std.specs.Option.{option_copied}
-use Rattle.mv_cover.specs.declared.cube.Lit.{Lit}
+use Rattle.mv_cover.specs.Literal.{Lit}
 use Rattle.mv_kernels.specs.declared.kernel.Kernel.{Kernel}
 use Rattle.mv_kernels.specs.Kernels.{AreKernels}
 use Rattle.mv_kernels.specs.Below.{AreBelow}

@@ -1,5 +1,5 @@
 use Rattle.std.proofs.Common.{◌≡◌, ◌++◌, map, take}
-use Rattle.mv_cover.specs.declared.cube.Lit.{Lit}
+use Rattle.mv_cover.specs.Literal.{Lit}
 use Rattle.mv_net.proofs.fanins.add_nets.Given as goal
 
 abbrev pub invariant-loop-lit : goal.invariant-loop-lit

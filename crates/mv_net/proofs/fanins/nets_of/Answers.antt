@@ -1,5 +1,5 @@
 use Rattle.std.proofs.Common.{◌∙◌, ◌++◌, map, sym, ap, arith}
-use Rattle.mv_cover.specs.declared.cube.Lit.{Lit}
+use Rattle.mv_cover.specs.Literal.{Lit}
 use Rattle.mv_net.proofs.LineNets.{line_nets-more}
 use Rattle.mv_net.proofs.fanins.nets_of.Goals as goal
 

@@ -3,7 +3,7 @@ use Rattle.mv_rows.specs.Meeting.{all_possible}
 use Rattle.mv_rows.proofs.Cubes.{IsCube-literals}
 use Rattle.mv_rows.proofs.cube.cube.Goals as goal
 
-pub new-requires : goal.new-requires
-new-requires c =
-    let some : all_possible c.as_slice-2.result.now ≡ true = ap all_possible (c.as_slice-2.ensures ∙ sym c.as_slice.ensures) ∙ sym c.if-not-possible.ensures in
-    IsCube-literals c.args.sets.now c.args.order.now c.as_slice-2.result.now c.requires.rises (c.as_slice-2.ensures ∙ c.in_ok-put_literals.ensures) some
+pub of-requires : goal.of-requires
+of-requires c =
+    let some : all_possible c.put_literals.new.lits.items ≡ true = ap all_possible (sym c.as_slice.ensures) ∙ sym c.if-not-possible.ensures in
+    IsCube-literals c.args.sets.now c.args.order.now c.put_literals.new.lits.items c.requires.rises c.in_ok-put_literals.ensures some

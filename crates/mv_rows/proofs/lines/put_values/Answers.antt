@@ -10,9 +10,9 @@ pub put_value-requires-clause-place : goal.put_value-requires-clause-place
 put_value-requires-clause-place c = omega (arith, fit_length c.args.frame.now.columns c.args.sets.now c.requires.sets)
 
 pub loop-value-preserved : goal.loop-value-preserved
-loop-value-preserved c = values_more _ _ _ _ _ _ _ c.loop-value.invariant c.in_ok-put_value.ensures
+loop-value-preserved c = values_more _ _ _ _ _ _ _ c.loop-value.invariant c.in-Ok.ensures.lines
 
-pub returns : goal.returns
-returns c =
+pub returns-clause-lines : goal.returns-clause-lines
+returns-clause-lines c =
     let all : c.loop-value.value ≡ c.count-count.result = omega arith in
     rw (← (all ∙ c.count-count.ensures.value)) c.loop-value.invariant
