@@ -11,3 +11,4 @@ mod sorted;
 pub use choice::is_choice;
 pub use cover::tidy_cover;
 pub use known::is_known;
+pub use literal::is_output;

@@ -2,7 +2,7 @@
 use Rattle.std.proofs.Common.{◌≡◌, ◌∙◌, ℕ, Bool, true, false, inl, inr, refl, sym, ap}
 use Rattle.std.proofs.lemmas.Bool.{false≢true}
 use Rattle.mv_entry.specs.declared.rule.Rule.{Rule}
-use Rattle.mv_entry.specs.declared.rule.Rule.TheVariants.{Remove, Add, Divide, Wire, Collapse}
+use Rattle.mv_entry.specs.declared.rule.Rule.TheVariants.{Remove, Add, Divide, Wire, Collapse, Fill}
 use Rattle.mv_entry.specs.declared.fault.RuleFault.{RuleFault}
 use Rattle.mv_entry.specs.declared.fault.RuleFault.TheVariants.{Memory}
 use Rattle.mv_net.specs.declared.parts.NetParts.{NetParts}
@@ -34,19 +34,20 @@ with_spares IsIt Rest rest = record { none = λ f. by f }
     by (inl p) = false≢true (sym (ap is_memory p.1))
     by (inr p) = (rest p.0).none p.2
 
-row_spares : (rule : Rule) (net : NetParts) → Spares (Fails rule net)
-row_spares (Remove w) net =
+row_spares : (free : Bool) (rule : Rule) (net : NetParts) → Spares (Fails free rule net)
+row_spares free (Remove w) net =
     with_spares _ _ (λ n. unless_spares _ _ _ refl (unless_spares _ _ _ refl (unless_spares _ _ _ refl passed_spares)))
-row_spares (Add w body) net =
+row_spares free (Add w body) net =
     unless_spares _ _ _ refl (unless_spares _ _ _ refl (unless_spares _ _ _ refl (unless_spares _ _ _ refl passed_spares)))
-row_spares (Divide w by body) net =
+row_spares free (Divide w by body) net =
     with_spares _ _ (λ n.
     with_spares _ _ (λ d.
     unless_spares _ _ _ refl (unless_spares _ _ _ refl (unless_spares _ _ _ refl (unless_spares _ _ _ refl (unless_spares _ _ _ refl passed_spares))))))
-row_spares (Wire w) net = with_spares _ _ (λ n. unless_spares _ _ _ refl (unless_spares _ _ _ refl passed_spares))
-row_spares (Collapse w) net =
+row_spares free (Wire w) net = with_spares _ _ (λ n. unless_spares _ _ _ refl (unless_spares _ _ _ refl passed_spares))
+row_spares free (Collapse w) net =
     with_spares _ _ (λ n. unless_spares _ _ _ refl (unless_spares _ _ _ refl (unless_spares _ _ _ refl (unless_spares _ _ _ refl passed_spares))))
-row_spares _ net = record { none = λ x. x }
+row_spares free (Fill w out) net = with_spares _ _ (λ n. unless_spares _ _ _ refl (unless_spares _ _ _ refl (unless_spares _ _ _ refl (unless_spares _ _ _ refl passed_spares))))
+row_spares free _ net = record { none = λ x. x }
 
-pub never_memory : (rule : Rule) (net : NetParts) → Fails rule net Memory → ⊥
-never_memory rule net f = (row_spares rule net).none f
+pub never_memory : (free : Bool) (rule : Rule) (net : NetParts) → Fails free rule net Memory → ⊥
+never_memory free rule net f = (row_spares free rule net).none f

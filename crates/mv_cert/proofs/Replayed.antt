@@ -22,35 +22,35 @@ use Rattle.mv_cert.specs.Replay.{LeadPart, FailsAt, EndsEarly, rules_in}
 use Rattle.mv_cert.proofs.Causes.{never_memory}
 
 -- rules that all apply, and a front of them behind which one fails
-rules_never : (front : List Step) (step : Step) (behind : List Step) (old one other : NetParts) (fault : RuleFault) → WellFormed old
-    → Replays (rules_in (front ++ step ∷ behind)) old one → Replays (rules_in front) old other → Fails step.rule other fault → ⊥
-rules_never [] step behind old one other fault formed all here fails =
-    not_both step.rule old all.0 fault formed all.1.0 (subst (λ n. Fails step.rule n fault) here fails)
-rules_never (s ∷ front) step behind old one other fault formed all here fails =
-    let same = one_network s.rule old here.0 all.0 formed here.1.0 all.1.0 in
-    rules_never front step behind all.0 one other fault (kept_formed s.rule old all.0 formed all.1.0) all.1.1
-    (subst (λ n. Replays (rules_in front) n other) same here.1.1) fails
+rules_never : (free : Bool) (front : List Step) (step : Step) (behind : List Step) (old one other : NetParts) (fault : RuleFault) → WellFormed old
+    → Replays free (rules_in (front ++ step ∷ behind)) old one → Replays free (rules_in front) old other → Fails free step.rule other fault → ⊥
+rules_never free [] step behind old one other fault formed all here fails =
+    not_both free step.rule old all.0 fault formed all.1.0 (subst (λ n. Fails free step.rule n fault) here fails)
+rules_never free (s ∷ front) step behind old one other fault formed all here fails =
+    let same = one_network free s.rule old here.0 all.0 formed here.1.0 all.1.0 in
+    rules_never free front step behind all.0 one other fault (kept_formed free s.rule old all.0 formed all.1.0) all.1.1
+    (subst (λ n. Replays free (rules_in front) n other) same here.1.1) fails
 
-pub never_both : (steps : List Step) (old one other : NetParts) (line : ℕ) (fault : RuleFault) → WellFormed old → Replays (rules_in steps) old one → FailsAt steps old other line fault → ⊥
-never_both steps old one other line fault formed all at =
-    rules_never at.front at.step at.behind old one other fault formed (subst (λ ss. Replays (rules_in ss) old one) at.steps_are all) at.replays at.fails
+pub never_both : (free : Bool) (steps : List Step) (old one other : NetParts) (line : ℕ) (fault : RuleFault) → WellFormed old → Replays free (rules_in steps) old one → FailsAt free steps old other line fault → ⊥
+never_both free steps old one other line fault formed all at =
+    rules_never free at.front at.step at.behind old one other fault formed (subst (λ ss. Replays free (rules_in ss) old one) at.steps_are all) at.replays at.fails
 
 -- ---- one step more, the end, and where it stops
 
-module _ (steps : List Step) (i : ℕ) (old mid : NetParts) (ran : Replays (rules_in (take i steps)) old mid) where
-  pub more : (d : Step) (new : NetParts) → i < length steps → Applies (get_or steps i d).rule mid new → Replays (rules_in (take (i + 1) steps)) old new
+module _ (free : Bool) (steps : List Step) (i : ℕ) (old mid : NetParts) (ran : Replays free (rules_in (take i steps)) old mid) where
+  pub more : (d : Step) (new : NetParts) → i < length steps → Applies free (get_or steps i d).rule mid new → Replays free (rules_in (take (i + 1) steps)) old new
   more d new low applies =
-      subst (λ ss. Replays (rules_in ss) old new) (sym (take_more steps i d low))
-      (subst (λ rs. Replays rs old new) (sym (map-append (λ (s : Step). s.rule) (take i steps) (get_or steps i d ∷ [])))
-      (replayed_then (rules_in (take i steps)) ((get_or steps i d).rule ∷ []) old mid new ran (new, (applies, refl))))
+      subst (λ ss. Replays free (rules_in ss) old new) (sym (take_more steps i d low))
+      (subst (λ rs. Replays free rs old new) (sym (map-append (λ (s : Step). s.rule) (take i steps) (get_or steps i d ∷ [])))
+      (replayed_then free (rules_in (take i steps)) ((get_or steps i d).rule ∷ []) old mid new ran (new, (applies, refl))))
 
-  pub all_led : length steps ≤ i → Replays (rules_in steps) old mid
-  all_led past = subst (λ ss. Replays (rules_in ss) old mid) (take_all i steps past) ran
+  pub all_led : length steps ≤ i → Replays free (rules_in steps) old mid
+  all_led past = subst (λ ss. Replays free (rules_in ss) old mid) (take_all i steps past) ran
 
-  pub part_led : LeadPart steps old mid
+  pub part_led : LeadPart free steps old mid
   part_led = record { front = take i steps; behind = drop i steps; steps_are = sym (take-append-drop i steps); replays = ran }
 
-  fails_here : (d : Step) (line : ℕ) (fault : RuleFault) → i < length steps → line ≡ (get_or steps i d).line → Fails (get_or steps i d).rule mid fault → FailsAt steps old mid line fault
+  fails_here : (d : Step) (line : ℕ) (fault : RuleFault) → i < length steps → line ≡ (get_or steps i d).line → Fails free (get_or steps i d).rule mid fault → FailsAt free steps old mid line fault
   fails_here d line fault low at fails = record {
     front = take i steps;
     step = get_or steps i d;
@@ -62,12 +62,12 @@ module _ (steps : List Step) (i : ℕ) (old mid : NetParts) (ran : Replays (rule
   }
 
   -- the rule of the next step isn't applied
-  pub stops_here : (d : Step) (line : ℕ) (fault : RuleFault) (answer : ReplayFault) → i < length steps → line ≡ (get_or steps i d).line → (fault ≡ out_of_memory) ⊎ Fails (get_or steps i d).rule mid fault
-      → (fault ≡ out_of_memory → answer ≡ Memory) → ((fault ≡ out_of_memory → ⊥) → answer ≡ RuleFails line fault) → EndsEarly steps old mid answer
-  stops_here d line fault answer low at (inl e) memory rule = subst (λ a. EndsEarly steps old mid a) (sym (memory e)) part_led
+  pub stops_here : (d : Step) (line : ℕ) (fault : RuleFault) (answer : ReplayFault) → i < length steps → line ≡ (get_or steps i d).line → (fault ≡ out_of_memory) ⊎ Fails free (get_or steps i d).rule mid fault
+      → (fault ≡ out_of_memory → answer ≡ Memory) → ((fault ≡ out_of_memory → ⊥) → answer ≡ RuleFails line fault) → EndsEarly free steps old mid answer
+  stops_here d line fault answer low at (inl e) memory rule = subst (λ a. EndsEarly free steps old mid a) (sym (memory e)) part_led
   stops_here d line fault answer low at (inr fails) memory rule =
-      let known = rule (λ e. never_memory (get_or steps i d).rule mid (subst (λ f. Fails (get_or steps i d).rule mid f) e fails)) in
-      subst (λ a. EndsEarly steps old mid a) (sym known) (fails_here d line fault low at fails)
+      let known = rule (λ e. never_memory free (get_or steps i d).rule mid (subst (λ f. Fails free (get_or steps i d).rule mid f) e fails)) in
+      subst (λ a. EndsEarly free steps old mid a) (sym known) (fails_here d line fault low at fails)
 
 -- each step of steps that are built is
 pub step_built : (steps : List Step) (i : ℕ) (d : Step) → are_built steps ≡ true → i < length steps → is_built (get_or steps i d).rule ≡ true
@@ -78,5 +78,5 @@ step_built steps i d built low =
 
 -- ---- certificates
 
-pub one_outcome : (bytes : List ℕ) (first one other : NetParts) → WellFormed first → Certifies bytes first one → Certifies bytes first other → one ≡ other
-one_outcome bytes first one other formed c d = replayed_one (rules_in (steps_in bytes)) first one other formed c.replays d.replays
+pub one_outcome : (free : Bool) (bytes : List ℕ) (first one other : NetParts) → WellFormed first → Certifies free bytes first one → Certifies free bytes first other → one ≡ other
+one_outcome free bytes first one other formed c d = replayed_one free (rules_in (steps_in bytes)) first one other formed c.replays d.replays

@@ -1,5 +1,5 @@
 -- Certificates: which bytes are one, and what it leads to.
-use Rattle.std.specs.Prelude.{◌≡◌, ℕ, None, List}
+use Rattle.std.specs.Prelude.{◌≡◌, ℕ, Bool, None, List}
 use Rattle.mv_base.specs.declared.limits.TheConstants.{MAX_CERTIFICATE_BYTES}
 use Rattle.mv_lex.specs.Lines.{lines_of, lex_fault}
 use Rattle.mv_net.specs.declared.parts.NetParts.{NetParts}
@@ -18,6 +18,6 @@ abbrev pub steps_in : List ℕ → List Step
 steps_in bytes = steps_of (lines_of bytes)
 
 -- the bytes are a certificate whose rules apply in turn, and lead from the first network to the other
-pub record Certifies (bytes : List ℕ) (first net : NetParts) : Type 0 where
+pub record Certifies (free : Bool) (bytes : List ℕ) (first net : NetParts) : Type 0 where
   pub accepted : IsCertificate bytes
-  pub replays : Replays (rules_in (steps_in bytes)) first net
+  pub replays : Replays free (rules_in (steps_in bytes)) first net

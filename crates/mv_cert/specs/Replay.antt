@@ -1,5 +1,5 @@
 -- A certificate's steps, replayed on a network.
-use Rattle.std.specs.Prelude.{◌≡◌, ℕ, List, ◌∷◌, ◌++◌, map}
+use Rattle.std.specs.Prelude.{◌≡◌, ℕ, Bool, List, ◌∷◌, ◌++◌, map}
 use Rattle.mv_entry.specs.declared.rule.Rule.{Rule}
 use Rattle.mv_entry.specs.declared.fault.RuleFault.{RuleFault}
 use Rattle.mv_net.specs.declared.parts.NetParts.{NetParts}
@@ -14,24 +14,24 @@ abbrev pub rules_in : List Step → List Rule
 rules_in steps = map (λ (s : Step). s.rule) steps
 
 -- some first steps lead from the old network to the new one
-pub record LeadPart (steps : List Step) (old new : NetParts) : Type 0 where
+pub record LeadPart (free : Bool) (steps : List Step) (old new : NetParts) : Type 0 where
   pub front : List Step
   pub behind : List Step
   pub steps_are : steps ≡ front ++ behind
-  pub replays : Replays (rules_in front) old new
+  pub replays : Replays free (rules_in front) old new
 
 -- some first steps lead from the old network to the new one, to which the rule of the next, which stands at the line, doesn't
 -- apply, for this fault
-pub record FailsAt (steps : List Step) (old new : NetParts) (line : ℕ) (fault : RuleFault) : Type 0 where
+pub record FailsAt (free : Bool) (steps : List Step) (old new : NetParts) (line : ℕ) (fault : RuleFault) : Type 0 where
   pub front : List Step
   pub step : Step
   pub behind : List Step
   pub steps_are : steps ≡ front ++ step ∷ behind
-  pub replays : Replays (rules_in front) old new
+  pub replays : Replays free (rules_in front) old new
   pub line_is : line ≡ step.line
-  pub fails : Fails step.rule new fault
+  pub fails : Fails free step.rule new fault
 
 -- how a replay that ends early leaves the network
-abbrev pub EndsEarly : List Step → NetParts → NetParts → ReplayFault → Type 0
-EndsEarly steps old new (rule_fault line fault) = FailsAt steps old new line fault
-EndsEarly steps old new Memory = LeadPart steps old new
+abbrev pub EndsEarly : Bool → List Step → NetParts → NetParts → ReplayFault → Type 0
+EndsEarly free steps old new (rule_fault line fault) = FailsAt free steps old new line fault
+EndsEarly free steps old new Memory = LeadPart free steps old new

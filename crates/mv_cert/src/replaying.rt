@@ -1,6 +1,6 @@
 ghost use Rattle.std.specs.Prelude.{◌≡◌, true, OnOk, IfErr};
 ghost use Rattle.mv_entry.specs.declared.fault.RuleFault.TheVariants.{Memory as out_of_memory};
-ghost use Rattle.mv_base.specs.Meaning.{SameMeaning};
+ghost use Rattle.mv_base.specs.Meaning.{Refines};
 ghost use Rattle.mv_net.specs.Allowed.{of_net};
 ghost use Rattle.mv_rules.specs.Replaying.{Replays};
 ghost use Rattle.mv_step.specs.Certificates.{are_built};
@@ -9,7 +9,7 @@ ghost use Rattle.mv_cert.specs.Replay.{EndsEarly, rules_in};
 use crate::ReplayFault;
 use mv_entry::RuleFault;
 use mv_net::Network;
-use mv_rules::apply;
+use mv_rules::{Terms, apply_on};
 use mv_step::Step;
 use std::alloc::Global;
 
@@ -24,22 +24,23 @@ fn refusal(line: u32, fault: RuleFault) -> ReplayFault
     ReplayFault::Rule { line, fault }
 }
 
-/// Applies the steps in turn. At Ok all of them applied; else the fault is that of the first that doesn't, with its line, and the
-/// network is as the steps before it leave it, as it is for want of memory. The network means always what it meant. The budget
-/// is that of diagram nodes. The rules have to be built in this version, as those that `read_cert` lists are.
+/// Applies the steps in turn on these terms. At Ok all of them applied; else the fault is that of the first that doesn't, with its
+/// line, and the network is as the steps before it leave it, as it is for want of memory. The network may always take the place of
+/// the old one, where free under values where that one allows some choice. The rules have to be built in this version, as those
+/// that `read_cert` lists are.
 pub fn replay(
     alloc: Global,
     net: &mut Network,
     steps: &[Step],
-    budget: u32,
+    terms: Terms,
 ) -> Result<(), ReplayFault>
     requires { are_built steps.now ≡ true }
-    ensures replays { OnOk result (Replays (rules_in steps.now) net.old net.new) }
-    ensures stops { IfErr result (EndsEarly steps.now net.old net.new) }
-    ensures means { SameMeaning (of_net net.new) (of_net net.old) }
+    ensures replays { OnOk result (Replays terms.free (rules_in steps.now) net.old net.new) }
+    ensures stops { IfErr result (EndsEarly terms.free steps.now net.old net.new) }
+    ensures refines { Refines terms.free (of_net net.new) (of_net net.old) }
 {
     for step in steps {
-        match apply(alloc, net, &step.rule, budget) {
+        match apply_on(alloc, net, &step.rule, terms) {
             Ok(()) => {}
             Err(fault) => return Err(refusal(step.line, fault)),
         }

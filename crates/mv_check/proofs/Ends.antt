@@ -1,5 +1,5 @@
 -- How a check ends: what was put to the notes and to the output, and what its status says.
-use Rattle.std.proofs.Common.{◌≡◌, ◌∙◌, ◌⊎◌, ℕ, ◌≤◌, List, Option, Some, None, Result, Ok, Err, inl, inr, refl, sym, ap, subst, arith, ⊎_elim}
+use Rattle.std.proofs.Common.{Bool, ◌≡◌, ◌∙◌, ◌⊎◌, ℕ, ◌≤◌, List, Option, Some, None, Result, Ok, Err, inl, inr, refl, sym, ap, subst, arith, ⊎_elim}
 use Rattle.std.specs.Prelude.{IfSome, IsSomeAnd}
 use Rattle.mv_base.specs.Outside.{Held, Stored, Written, Still, file_named, Rose}
 use Rattle.mv_lex.specs.Lines.{lines_of}
@@ -108,20 +108,20 @@ never_three (Source unread) e = omega arith
 never_three (Source short_source) e = omega arith
 
 -- files that hold a certificate that replays hold all that is named
-all_held : (net_name certificate_name : List ℕ) (held : Option Held) → IsSomeAnd held (HoldsReplay net_name certificate_name) → IsSomeAnd held (HoldsAll IsCertificate (named net_name certificate_name))
-all_held net_name certificate_name None h = h
-all_held net_name certificate_name (Some o) h = h.all
+all_held : (free : Bool) (net_name certificate_name : List ℕ) (held : Option Held) → IsSomeAnd held (HoldsReplay free net_name certificate_name) → IsSomeAnd held (HoldsAll IsCertificate (named net_name certificate_name))
+all_held free net_name certificate_name None h = h
+all_held free net_name certificate_name (Some o) h = h.all
 
 -- an end before the work is complete where they are held only for want of memory
-early_replayed : (net_name certificate_name : List ℕ) (old new : Stored) (out out' notes notes' : Written) (status : ℕ) → Ended IsCertificate 7 (named net_name certificate_name) old new status
-    → IsSomeAnd old.held (HoldsReplay net_name certificate_name) → (Rose out.faults out'.faults → ⊥) → (Rose notes.faults notes'.faults → ⊥) → (status ≡ 0) ⊎ (status ≡ 6)
-early_replayed net_name certificate_name old new out out' notes notes' status ended h o n =
-    inr ((ended_complete IsCertificate 7 (named net_name certificate_name) (λ s. s ≡ 6) old new out out' notes notes' status (λ e. e) ended).succeeds (all_held net_name certificate_name old.held h) o n)
+early_replayed : (free : Bool) (net_name certificate_name : List ℕ) (old new : Stored) (out out' notes notes' : Written) (status : ℕ) → Ended IsCertificate 7 (named net_name certificate_name) old new status
+    → IsSomeAnd old.held (HoldsReplay free net_name certificate_name) → (Rose out.faults out'.faults → ⊥) → (Rose notes.faults notes'.faults → ⊥) → (status ≡ 0) ⊎ (status ≡ 6)
+early_replayed free net_name certificate_name old new out out' notes notes' status ended h o n =
+    inr ((ended_complete IsCertificate 7 (named net_name certificate_name) (λ s. s ≡ 6) old new out out' notes notes' status (λ e. e) ended).succeeds (all_held free net_name certificate_name old.held h) o n)
 
-early_of : (net_name certificate_name : List ℕ) (old new : Stored) (out notes notes' : Written) (stop : Stop) → Ended IsCertificate 7 (named net_name certificate_name) old new (status_of stop)
+early_of : (free : Bool) (net_name certificate_name : List ℕ) (old new : Stored) (out notes notes' : Written) (stop : Stop) → Ended IsCertificate 7 (named net_name certificate_name) old new (status_of stop)
     → ((f : CertificateFault) → stop ≡ Text f → RefusesCertificate certificate_name old f) → ((f : FileFault) → stop ≡ Source (Fault f) → IfSome old.held (RefusesNetwork (File net_name) f))
-    → TellsLine notes notes' (line_of stop) → Checks net_name certificate_name old new out out notes notes' (status_of stop)
-early_of net_name certificate_name old new out notes notes' stop ended refused faulty tells = record {
+    → TellsLine notes notes' (line_of stop) → Checks free net_name certificate_name old new out out notes notes' (status_of stop)
+early_of free net_name certificate_name old new out notes notes' stop ended refused faulty tells = record {
   done = λ e. absurd (ended_not_done own ended e);
   network = λ e. fault_told net_name old stop notes notes' tells faulty e;
   behind = λ e. ended_network own ended e;
@@ -134,41 +134,41 @@ early_of net_name certificate_name old new out notes notes' stop ended refused f
   untouched = λ a b. refl;
   exact = ended_exact IsCertificate 7 (named net_name certificate_name) old new (status_of stop) ended;
   complete = ended_complete IsCertificate 7 (named net_name certificate_name) (λ s. (s ≡ 0) ⊎ (s ≡ 6) ⊎ (s ≡ 7)) old new out out notes notes' (status_of stop) (λ e. inr (inl e)) ended;
-  replayed = λ h o n. early_replayed net_name certificate_name old new out out notes notes' (status_of stop) ended h o n;
+  replayed = λ h o n. early_replayed free net_name certificate_name old new out out notes notes' (status_of stop) ended h o n;
   known = small_status stop;
   words_accepted = λ e. never_one stop e;
   no_script = λ e. never_three stop e;
 }
 
-pub early : (net_name certificate_name : List ℕ) (old new : Stored) (out notes notes' : Written) (stop : Stop) (status : ℕ) → status ≡ status_of stop → Ended IsCertificate 7 (named net_name certificate_name) old new (status_of stop)
+pub early : (free : Bool) (net_name certificate_name : List ℕ) (old new : Stored) (out notes notes' : Written) (stop : Stop) (status : ℕ) → status ≡ status_of stop → Ended IsCertificate 7 (named net_name certificate_name) old new (status_of stop)
     → ((f : CertificateFault) → stop ≡ Text f → RefusesCertificate certificate_name old f) → ((f : FileFault) → stop ≡ Source (Fault f) → IfSome old.held (RefusesNetwork (File net_name) f))
-    → TellsLine notes notes' (line_of stop) → Checks net_name certificate_name old new out out notes notes' status
-early net_name certificate_name old new out notes notes' stop status is ended refused faulty tells =
-    subst (λ s. Checks net_name certificate_name old new out out notes notes' s) (sym is) (early_of net_name certificate_name old new out notes notes' stop ended refused faulty tells)
+    → TellsLine notes notes' (line_of stop) → Checks free net_name certificate_name old new out out notes notes' status
+early free net_name certificate_name old new out notes notes' stop status is ended refused faulty tells =
+    subst (λ s. Checks free net_name certificate_name old new out out notes notes' s) (sym is) (early_of free net_name certificate_name old new out notes notes' stop ended refused faulty tells)
 
 -- memory ran out before anything was read
-pub short_at_once : (net_name certificate_name : List ℕ) (files : Stored) (out notes notes' : Written) → TellsLine notes notes' memory_line → Checks net_name certificate_name files files out out notes notes' 6
-short_at_once net_name certificate_name files out notes notes' tells =
-    early_of net_name certificate_name files files out notes notes' Memory (Short refl (inl refl)) (λ f e. absurd cc) (λ f e. absurd cc) tells
+pub short_at_once : (free : Bool) (net_name certificate_name : List ℕ) (files : Stored) (out notes notes' : Written) → TellsLine notes notes' memory_line → Checks free net_name certificate_name files files out out notes notes' 6
+short_at_once free net_name certificate_name files out notes notes' tells =
+    early_of free net_name certificate_name files files out notes notes' Memory (Short refl (inl refl)) (λ f e. absurd cc) (λ f e. absurd cc) tells
 
 -- ---- the work was begun
 
-module _ (net_name certificate_name : List ℕ) (old new : Stored) (steps : List Step) (first : NetParts) (made : Prepared (File net_name) old new first) (has : HasSteps certificate_name old steps) (began : BeganTwo old new) where
-  certifies : (net : NetParts) → Replays (rules_in steps) first net → IsCertified net_name certificate_name old new first net
+module _ (free : Bool) (net_name certificate_name : List ℕ) (old new : Stored) (steps : List Step) (first : NetParts) (made : Prepared (File net_name) old new first) (has : HasSteps certificate_name old steps) (began : BeganTwo old new) where
+  certifies : (net : NetParts) → Replays free (rules_in steps) first net → IsCertified free net_name certificate_name old new first net
   certifies net replays = record {
     made = made;
     certificate = has.content;
     named = has.named;
-    certifies = record { accepted = has.accepted; replays = subst (λ ss. Replays (rules_in ss) first net) has.steps_are replays };
+    certifies = record { accepted = has.accepted; replays = subst (λ ss. Replays free (rules_in ss) first net) has.steps_are replays };
   }
 
-  pub tried_all : (out out' notes notes' : Written) → HasTried steps first out out' notes notes' → Checks net_name certificate_name old new out out' notes notes' 0
+  pub tried_all : (out out' notes notes' : Written) → HasTried free steps first out out' notes notes' → Checks free net_name certificate_name old new out out' notes notes' 0
   tried_all out out' notes notes' w = record {
     done = λ e. record {
       first = first;
       net = w.net;
       certified = certifies w.net w.replays;
-      replaced = replaced net_name old new first w.net out out' made w.gained w.back w.refines;
+      replaced = replaced free net_name old new first w.net out out' made w.gained w.back w.refines;
       noted = w.noted;
     };
     network = λ e. absurd (omega arith);
@@ -189,14 +189,14 @@ module _ (net_name certificate_name : List ℕ) (old new : Stored) (steps : List
   }
 
   -- the cause of a write that failed
-  cut_cause : (out out' notes notes' : Written) → IsTrialCut steps first out out' notes notes' → Rose out.faults out'.faults ⊎ Rose notes.faults notes'.faults
+  cut_cause : (out out' notes notes' : Written) → IsTrialCut free steps first out out' notes notes' → Rose out.faults out'.faults ⊎ Rose notes.faults notes'.faults
   cut_cause out out' notes notes' h = ⊎_elim (λ text. inl text.0) (λ line. inr line.1) h.cut.how
 
-  no_cut : {P : Type 0} (out out' notes notes' : Written) → IsTrialCut steps first out out' notes notes' → (Rose out.faults out'.faults → ⊥) → (Rose notes.faults notes'.faults → ⊥) → P
+  no_cut : {P : Type 0} (out out' notes notes' : Written) → IsTrialCut free steps first out out' notes notes' → (Rose out.faults out'.faults → ⊥) → (Rose notes.faults notes'.faults → ⊥) → P
   no_cut out out' notes notes' h o n =
       absurd (⊎_elim (λ (rose : Rose out.faults out'.faults). o rose) (λ (rose : Rose notes.faults notes'.faults). n rose) (cut_cause out out' notes notes' h))
 
-  pub cut_off : (out out' notes notes' : Written) → IsTrialCut steps first out out' notes notes' → Checks net_name certificate_name old new out out' notes notes' 5
+  pub cut_off : (out out' notes notes' : Written) → IsTrialCut free steps first out out' notes notes' → Checks free net_name certificate_name old new out out' notes notes' 5
   cut_off out out' notes notes' h = record {
     done = λ e. absurd (omega arith);
     network = λ e. absurd (omega arith);
@@ -216,7 +216,7 @@ module _ (net_name certificate_name : List ℕ) (old new : Stored) (steps : List
     no_script = λ e. omega arith;
   }
 
-  pub ran_short : (out out' notes notes' : Written) → out' ≡ out → TellsLine notes notes' memory_line → Checks net_name certificate_name old new out out' notes notes' 6
+  pub ran_short : (out out' notes notes' : Written) → out' ≡ out → TellsLine notes notes' memory_line → Checks free net_name certificate_name old new out out' notes notes' 6
   ran_short out out' notes notes' same tells = record {
     done = λ e. absurd (omega arith);
     network = λ e. absurd (omega arith);
@@ -236,19 +236,19 @@ module _ (net_name certificate_name : List ℕ) (old new : Stored) (steps : List
     no_script = λ e. omega arith;
   }
 
-  module _ (line : ℕ) (fault : RuleFault) (failed : FailsTrial steps first line fault) where
+  module _ (line : ℕ) (fault : RuleFault) (failed : FailsTrial free steps first line fault) where
     -- where the files hold a certificate that replays, no rule of it fails
-    held_never : (before after : Option Held) → Still before after (λ b a. WasPrepared net_name b a first) → IfSome before (λ h. file_named certificate_name h.files ≡ Some has.content) → IsSomeAnd before (HoldsReplay net_name certificate_name) → ⊥
+    held_never : (before after : Option Held) → Still before after (λ b a. WasPrepared net_name b a first) → IfSome before (λ h. file_named certificate_name h.files ≡ Some has.content) → IsSomeAnd before (HoldsReplay free net_name certificate_name) → ⊥
     held_never None after p named h = h
     held_never (Some b) None p named h = p
     held_never (Some b) (Some a) p named h =
         let network = same_content p.content h.all.network.content (sym p.held ∙ h.all.network.named) in
         let certificate = same_content has.content h.all.second.content (sym named ∙ h.all.second.named) in
         let replays = h.replays first (subst (λ c. IsNetOf (lines_of c) first) network p.net_of.net_of) in
-        never_both steps first replays.0 failed.net line fault failed.formed
-        (subst (λ ss. Replays (rules_in ss) first replays.0) (sym (has.steps_are ∙ ap steps_in certificate)) replays.1.replays) failed.fails
+        never_both free steps first replays.0 failed.net line fault failed.formed
+        (subst (λ ss. Replays free (rules_in ss) first replays.0) (sym (has.steps_are ∙ ap steps_in certificate)) replays.1.replays) failed.fails
 
-    pub rule_failed : (out out' notes notes' : Written) → out' ≡ out → TellsLine notes notes' (rule_line line fault) → Checks net_name certificate_name old new out out' notes notes' 7
+    pub rule_failed : (out out' notes notes' : Written) → out' ≡ out → TellsLine notes notes' (rule_line line fault) → Checks free net_name certificate_name old new out out' notes notes' 7
     rule_failed out out' notes notes' same tells = record {
       done = λ e. absurd (omega arith);
       network = λ e. absurd (omega arith);
@@ -266,7 +266,7 @@ module _ (net_name certificate_name : List ℕ) (old new : Stored) (steps : List
         net = failed.net;
         line = line;
         fault = fault;
-        fails = subst (λ ss. FailsAt ss first failed.net line fault) has.steps_are failed.fails;
+        fails = subst (λ ss. FailsAt free ss first failed.net line fault) has.steps_are failed.fails;
         begun = began;
         tells = tells;
       });

@@ -1,8 +1,7 @@
 -- The work on a certificate: its rules in turn, then the done line, then the text.
-use Rattle.std.proofs.Common.{false, ◌≡◌, ℕ, List, subst}
-use Rattle.mv_base.specs.Meaning.{SameMeaning}
+use Rattle.std.proofs.Common.{Bool, ◌≡◌, ℕ, List, subst}
+use Rattle.mv_base.specs.Meaning.{Refines}
 use Rattle.mv_base.specs.Outside.{Written, Gained}
-use Rattle.mv_base.proofs.Meanings.{Refines-from_same}
 use Rattle.mv_net.specs.declared.parts.NetParts.{NetParts}
 use Rattle.mv_net.specs.Allowed.{of_net}
 use Rattle.mv_net.specs.Nets.{literals_in}
@@ -14,18 +13,18 @@ use Rattle.mv_cert.specs.Replay.{rules_in}
 use Rattle.mv_task.specs.Ending.{IsEndCut, done_line}
 use Rattle.mv_check.specs.Trials.{HasTried, IsTrialCut}
 
-module _ (steps : List Step) (first net : NetParts) (before : ℕ) (count : before ≡ literals_in first.nets) (replays : Replays (rules_in steps) first net) (out out' notes notes' : Written) where
-  pub tried : SameMeaning (of_net net) (of_net first) → ReadsBack net → Gained out out' (text_of net) → Gained notes notes' (done_line before (literals_in net.nets)) → HasTried steps first out out' notes notes'
-  tried means back text line = record {
+module _ (free : Bool) (steps : List Step) (first net : NetParts) (before : ℕ) (count : before ≡ literals_in first.nets) (replays : Replays free (rules_in steps) first net) (out out' notes notes' : Written) where
+  pub tried : Refines free (of_net net) (of_net first) → ReadsBack net → Gained out out' (text_of net) → Gained notes notes' (done_line before (literals_in net.nets)) → HasTried free steps first out out' notes notes'
+  tried refines back text line = record {
     net = net;
     replays = replays;
     noted = subst (λ k. Gained notes notes' (done_line k (literals_in net.nets))) count line;
     gained = text;
     back = back;
-    refines = Refines-from_same false (of_net net) (of_net first) means;
+    refines = refines;
   }
 
-  pub trial_cut : IsEndCut out out' notes notes' (done_line before (literals_in net.nets)) (text_of net) → IsTrialCut steps first out out' notes notes'
+  pub trial_cut : IsEndCut out out' notes notes' (done_line before (literals_in net.nets)) (text_of net) → IsTrialCut free steps first out out' notes notes'
   trial_cut cut = record {
     net = net;
     replays = replays;

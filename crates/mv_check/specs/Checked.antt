@@ -1,5 +1,5 @@
 -- How a run ends that is asked to check a certificate.
-use Rattle.std.specs.Prelude.{◌≡◌, ◌⊎◌, ℕ, ◌≤◌, IfSome, IsSomeAnd, List}
+use Rattle.std.specs.Prelude.{◌≡◌, ◌⊎◌, ℕ, ◌≤◌, Bool, IfSome, IsSomeAnd, List}
 use Rattle.mv_base.specs.Outside.{Held, Stored, Written, Gained, Rose}
 use Rattle.mv_lex.specs.Lines.{lines_of}
 use Rattle.mv_entry.specs.declared.fault.RuleFault.{RuleFault}
@@ -24,19 +24,19 @@ use Rattle.mv_check.specs.Certificates.{RefusesCertificate, IsNamed}
 use Rattle.mv_check.specs.Tellings.{text_line, rule_line}
 
 -- the named certificate, of which nothing else is assumed, leads from the network of the named file to another one
-pub record IsCertified (net_name certificate_name : List ℕ) (old new : Stored) (first net : NetParts) : Type 0 where
+pub record IsCertified (free : Bool) (net_name certificate_name : List ℕ) (old new : Stored) (first net : NetParts) : Type 0 where
   pub made : Prepared (File net_name) old new first
   pub certificate : List ℕ
   pub named : IsNamed certificate_name old certificate
-  pub certifies : Certifies certificate first net
+  pub certifies : Certifies free certificate first net
 
 -- the work is done: the network to which the certificate leads was written, and takes the place of the one that was read; and the
 -- notes gained the done line alone
-pub record IsChecked (net_name certificate_name : List ℕ) (old new : Stored) (out out' notes notes' : Written) : Type 0 where
+pub record IsChecked (free : Bool) (net_name certificate_name : List ℕ) (old new : Stored) (out out' notes notes' : Written) : Type 0 where
   pub first : NetParts
   pub net : NetParts
-  pub certified : IsCertified net_name certificate_name old new first net
-  pub replaced : Replaced net_name old new first net out out'
+  pub certified : IsCertified free net_name certificate_name old new first net
+  pub replaced : Replaced free net_name old new first net out out'
   pub noted : Gained notes notes' (done_line (literals_in first.nets) (literals_in net.nets))
 
 -- the named certificate is refused for a fault of its bytes or of its lines, before the network is begun, and the notes tell it
@@ -47,7 +47,7 @@ pub record TellsText (certificate_name : List ℕ) (old new : Stored) (notes not
   pub tells : TellsLine notes notes' (text_line fault)
 
 -- a rule of the named certificate, at some line, doesn't apply where those before it have led, and the notes tell its line and why
-pub record TellsRule (net_name certificate_name : List ℕ) (old new : Stored) (notes notes' : Written) : Type 0 where
+pub record TellsRule (free : Bool) (net_name certificate_name : List ℕ) (old new : Stored) (notes notes' : Written) : Type 0 where
   pub first : NetParts
   pub made : Prepared (File net_name) old new first
   pub certificate : List ℕ
@@ -56,38 +56,38 @@ pub record TellsRule (net_name certificate_name : List ℕ) (old new : Stored) (
   pub net : NetParts
   pub line : ℕ
   pub fault : RuleFault
-  pub fails : FailsAt (steps_in certificate) first net line fault
+  pub fails : FailsAt free (steps_in certificate) first net line fault
   pub begun : BeganTwo old new
   pub tells : TellsLine notes notes' (rule_line line fault)
 
 -- a write failed at the end
-pub record IsCutOff (net_name certificate_name : List ℕ) (old new : Stored) (out out' notes notes' : Written) : Type 0 where
+pub record IsCutOff (free : Bool) (net_name certificate_name : List ℕ) (old new : Stored) (out out' notes notes' : Written) : Type 0 where
   pub first : NetParts
   pub net : NetParts
-  pub certified : IsCertified net_name certificate_name old new first net
+  pub certified : IsCertified free net_name certificate_name old new first net
   pub cut : IsEndCut out out' notes notes' (done_line (literals_in first.nets) (literals_in net.nets)) (text_of net)
 
 -- the files hold a certificate whose rules apply in turn, beginning with any network of the named file
-pub record HoldsReplay (net_name certificate_name : List ℕ) (held : Held) : Type 0 where
+pub record HoldsReplay (free : Bool) (net_name certificate_name : List ℕ) (held : Held) : Type 0 where
   pub all : HoldsAll IsCertificate (named net_name certificate_name) held
-  pub replays : (first : NetParts) → IsNetOf (lines_of all.network.content) first → (net : NetParts) × Certifies all.second.content first net
+  pub replays : (first : NetParts) → IsNetOf (lines_of all.network.content) first → (net : NetParts) × Certifies free all.second.content first net
 
 -- each status and what it says: 0 the work is done; 2 the network is refused, behind a certificate that was accepted, and the notes
 -- tell why; 4 a read failed; 5 a write failed; 6 memory ran out; 7 the certificate is refused, or a rule of it doesn't apply
-pub record Checks (net_name certificate_name : List ℕ) (old new : Stored) (out out' notes notes' : Written) (status : ℕ) : Type 0 where
-  pub done : status ≡ 0 → IsChecked net_name certificate_name old new out out' notes notes'
+pub record Checks (free : Bool) (net_name certificate_name : List ℕ) (old new : Stored) (out out' notes notes' : Written) (status : ℕ) : Type 0 where
+  pub done : status ≡ 0 → IsChecked free net_name certificate_name old new out out' notes notes'
   pub network : status ≡ 2 → TellsFault (File net_name) old notes notes'
   pub behind : status ≡ 2 → IfSome old.held (IsTaken IsCertificate certificate_name)
   pub read : status ≡ 4 → Rose old.faults new.faults × IfSome old.held (LacksFile IsCertificate (named net_name certificate_name))
   pub read_told : status ≡ 4 → TellsLine notes notes' read_line
-  pub cut : status ≡ 5 → IsCutOff net_name certificate_name old new out out' notes notes'
+  pub cut : status ≡ 5 → IsCutOff free net_name certificate_name old new out out' notes notes'
   pub short : status ≡ 6 → TellsLine notes notes' memory_line
-  pub certificate : status ≡ 7 → TellsText certificate_name old new notes notes' ⊎ TellsRule net_name certificate_name old new notes notes'
+  pub certificate : status ≡ 7 → TellsText certificate_name old new notes notes' ⊎ TellsRule free net_name certificate_name old new notes notes'
   pub begun : BeginsFiles (File net_name) old new status
   pub untouched : (status ≡ 0 → ⊥) → (status ≡ 5 → ⊥) → out' ≡ out
   pub exact : IsExact IsCertificate 7 (named net_name certificate_name) old status
   pub complete : IsComplete IsCertificate (λ s. (s ≡ 0) ⊎ (s ≡ 6) ⊎ (s ≡ 7)) (named net_name certificate_name) old out out' notes notes' status
-  pub replayed : IsSomeAnd old.held (HoldsReplay net_name certificate_name) → (Rose out.faults out'.faults → ⊥)
+  pub replayed : IsSomeAnd old.held (HoldsReplay free net_name certificate_name) → (Rose out.faults out'.faults → ⊥)
       → (Rose notes.faults notes'.faults → ⊥) → (status ≡ 0) ⊎ (status ≡ 6)
   pub known : status ≤ 7
   pub words_accepted : status ≡ 1 → ⊥

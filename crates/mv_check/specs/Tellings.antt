@@ -2,7 +2,7 @@
 use Rattle.std.specs.Prelude.{ℕ, List, [], ◌∷◌, ◌++◌, codes, decimal}
 use Rattle.mv_lex.specs.declared.fault.LexFault.TheVariants.{BadByte, LongWord, OpenBracket, TooLarge, Memory as short_bytes}
 use Rattle.mv_entry.specs.declared.fault.RuleFault.{RuleFault}
-use Rattle.mv_entry.specs.declared.fault.RuleFault.TheVariants.{NoNet, Visible, Read, Unread, Shared, Partial, Varied, NotFresh, NotSame, Loop, Form, Outside, Lost, Wide, Nets, Window, Nodes, Memory}
+use Rattle.mv_entry.specs.declared.fault.RuleFault.TheVariants.{NoNet, Visible, Read, Unread, Shared, Partial, Varied, NotFresh, NotSame, Loop, Form, Outside, Lost, Wide, Nets, Window, Strict, Total, Nodes, Memory}
 use Rattle.mv_step.specs.declared.fault.StepFault.TheVariants.{Syntax, NotBuilt, Memory as short_steps}
 use Rattle.mv_task.specs.Lines.{memory_line}
 use Rattle.mv_check.specs.declared.stop.CertificateFault.{CertificateFault}
@@ -41,6 +41,8 @@ fault_name Lost = codes "Lost"
 fault_name Wide = codes "Wide"
 fault_name Nets = codes "Nets"
 fault_name Window = codes "Window"
+fault_name Strict = codes "Strict"
+fault_name Total = codes "Total"
 fault_name Nodes = codes "Nodes"
 fault_name Memory = codes "Memory"
 

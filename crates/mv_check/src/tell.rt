@@ -30,6 +30,8 @@ fn fault_name(fault: RuleFault) -> &'static [u8]
         RuleFault::Wide => b"Wide",
         RuleFault::Nets => b"Nets",
         RuleFault::Window => b"Window",
+        RuleFault::Strict => b"Strict",
+        RuleFault::Total => b"Total",
         RuleFault::Nodes => b"Nodes",
         RuleFault::Memory => b"Memory",
     }

@@ -1,5 +1,5 @@
 -- The collapses of `eliminate`, and its notes behind them.
-use Rattle.std.proofs.Common.{◌≡◌, ◌∙◌, ℕ, ◌<◌, ◌≤◌, true, Option, is_some, List, [], ◌++◌, length, inl, inr, refl, sym, ap, subst, arith}
+use Rattle.std.proofs.Common.{◌≡◌, ◌∙◌, ℕ, ◌<◌, ◌≤◌, Bool, true, Option, is_some, List, [], ◌++◌, length, inl, inr, refl, sym, ap, subst, arith}
 use Rattle.std.proofs.lemmas.List.{append-nil}
 use Rattle.mv_agenda.specs.Agenda.{AllWait, AllWaitBut, NoneWaits, PutsNear, TakesLeast, WaitBelow}
 use Rattle.mv_agenda.specs.Near.{IsNear}
@@ -61,8 +61,8 @@ wait_without net old new n wait takes stays = all_without_taken (IsSaving net) n
 -- ---- its collapse
 
 module _ (net : NetParts) (n : ℕ) (name : List ℕ) (named : name ≡ name_in (slot net.nets n)) where
-  pub saving_applies : IsSaving net n → CanApply (Collapse name) net
-  saving_applies saving = record {
+  pub saving_applies : (free : Bool) → IsSaving net n → CanApply free (Collapse name) net
+  saving_applies free saving = record {
     new = collapsed net saving.composites.inner;
     applies = record {
       number = n;
@@ -78,8 +78,8 @@ module _ (net : NetParts) (n : ℕ) (name : List ℕ) (named : name ≡ name_in 
   pub least_step : IsLeastSaving net n → IsEliminateStep net (Applied (Collapse name))
   least_step first = record { number = n; first = first; named = sym named }
 
-  pub went_into : (new : NetParts) → WellFormed net → WellFormed new → IsSaving net n → Applies (Collapse name) net new → WentInto net new n
-  went_into new formed formed' saving r = record {
+  pub went_into : (free : Bool) (new : NetParts) → WellFormed net → WellFormed new → IsSaving net n → Applies free (Collapse name) net new → WentInto net new n
+  went_into free new formed formed' saving r = record {
     name = name;
     collapses = r;
     number = names_itself net name n r.number formed r.net (saving_held net n saving) named;
@@ -123,37 +123,37 @@ all_wait_behind old new n before agenda formed others put w =
 -- ---- all steps
 
 -- no step is some way of the course
-pub not_begun : (net : NetParts) → Eliminates net [] net
-not_begun net = record { collapses = []; notes = []; steps_are = refl; goes = refl; noted = record { how = inl refl } }
+pub not_begun : (free : Bool) (net : NetParts) → Eliminates free net [] net
+not_begun free net = record { collapses = []; notes = []; steps_are = refl; goes = refl; noted = record { how = inl refl } }
 
-module _ (old new : NetParts) where
-  only_collapses : (es : List Entry) → Goes IsEliminateStep old es new → Eliminates old es new
+module _ (free : Bool) (old new : NetParts) where
+  only_collapses : (es : List Entry) → Goes free IsEliminateStep old es new → Eliminates free old es new
   only_collapses es g =
       record { collapses = es; notes = []; steps_are = sym (append-nil es); goes = g; noted = record { how = inl refl } }
 
-  with_notes : NoneSaves new → (xs ys : List Entry) → Goes IsEliminateStep old xs new → NotesFirst new ys → Eliminates old (xs ++ ys) new
+  with_notes : NoneSaves new → (xs ys : List Entry) → Goes free IsEliminateStep old xs new → NotesFirst new ys → Eliminates free old (xs ++ ys) new
   with_notes none xs ys g p =
       record { collapses = xs; notes = ys; steps_are = refl; goes = g; noted = record { how = inr (none, (p.end, p.noted)) } }
 
-  with_all : NoneSaves new → (xs ys : List Entry) → Goes IsEliminateStep old xs new → NotesWide new (length new.nets) ys → Eliminates old (xs ++ ys) new × EndsEliminate (xs ++ ys) new
+  with_all : NoneSaves new → (xs ys : List Entry) → Goes free IsEliminateStep old xs new → NotesWide new (length new.nets) ys → Eliminates free old (xs ++ ys) new × EndsEliminate (xs ++ ys) new
   with_all none xs ys g p = (
     with_notes none xs ys g (record { end = length new.nets; noted = p }),
     record { collapses = xs; notes = ys; steps_are = refl; none_saves = none; noted = p },
   )
 
   module _ (j k : Journaled) where
-    pub eliminates : Went IsEliminateStep old new j k → Took (λ steps. Eliminates old steps new) j k
+    pub eliminates : Went free IsEliminateStep old new j k → Took (λ steps. Eliminates free old steps new) j k
     eliminates = Took-as j k only_collapses
 
-    pub eliminates_part : WentPart IsEliminateStep old new j k → TookPart (λ steps. Eliminates old steps new) j k
+    pub eliminates_part : WentPart free IsEliminateStep old new j k → TookPart (λ steps. Eliminates free old steps new) j k
     eliminates_part = TookPart-as j k only_collapses
 
-    module _ (l : Journaled) (went : Went IsEliminateStep old new j k) (none : NoneSaves new) where
-      pub eliminated : Took (NotesWide new (length new.nets)) k l → Took (λ steps. Eliminates old steps new × EndsEliminate steps new) j l
+    module _ (l : Journaled) (went : Went free IsEliminateStep old new j k) (none : NoneSaves new) where
+      pub eliminated : Took (NotesWide new (length new.nets)) k l → Took (λ steps. Eliminates free old steps new × EndsEliminate steps new) j l
       eliminated notes = Took-then (with_all none) j k l went notes
 
-      pub eliminates_noted : Took (NotesFirst new) k l → Took (λ steps. Eliminates old steps new) j l
+      pub eliminates_noted : Took (NotesFirst new) k l → Took (λ steps. Eliminates free old steps new) j l
       eliminates_noted notes = Took-then (with_notes none) j k l went notes
 
-      pub eliminates_cut : TookPart (NotesFirst new) k l → TookPart (λ steps. Eliminates old steps new) j l
+      pub eliminates_cut : TookPart (NotesFirst new) k l → TookPart (λ steps. Eliminates free old steps new) j l
       eliminates_cut notes = TookPart-then (with_notes none) j k l went notes

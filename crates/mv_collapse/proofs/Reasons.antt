@@ -1,5 +1,5 @@
 -- The one step of `collapse NET`: a check of the rule that fails has its note, and a step is all.
-use Rattle.std.proofs.Common.{◌≡◌, ◌⊎◌, ⊎_elim, ◌<◌, ◌≤◌, ℕ, List, [], ◌∷◌, inl, inr, Result, Ok, refl, sym, ap, subst, arith}
+use Rattle.std.proofs.Common.{◌≡◌, ◌⊎◌, ⊎_elim, ◌<◌, ◌≤◌, ℕ, Bool, false, List, [], ◌∷◌, inl, inr, Result, Ok, refl, sym, ap, subst, arith}
 use Rattle.std.specs.Prelude.{MatchOption}
 use Rattle.mv_entry.specs.declared.fault.RuleFault.{RuleFault}
 use Rattle.mv_entry.specs.declared.fault.RuleFault.TheVariants.{Memory as out_of_memory}
@@ -36,14 +36,14 @@ fails_for net name f (inr (n, tabled, inr (unseen, inr (read, inr (unshared, inl
     rw e (inr (n, tabled, inr (unseen, inr (read, inr (unshared, inl (wide, refl))))))
 fails_for net name f (inr (n, tabled, inr (unseen, inr (read, inr (unshared, inr nothing))))) = absurd nothing.1
 
-pub reason_for : (net : NetParts) (name : List ℕ) (rule : Rule) (f : RuleFault) → rule ≡ Collapse name → (f ≡ out_of_memory) ⊎ Fails rule net f → (f ≡ out_of_memory → ⊥) → MatchOption (why_for f) ⊥ (StaysFor net name)
+pub reason_for : (net : NetParts) (name : List ℕ) (rule : Rule) (f : RuleFault) → rule ≡ Collapse name → (f ≡ out_of_memory) ⊎ Fails false rule net f → (f ≡ out_of_memory → ⊥) → MatchOption (why_for f) ⊥ (StaysFor net name)
 reason_for net name rule f is answer not_memory =
-    ⊎_elim (λ e. absurd (not_memory e)) (λ (fails : Fails rule net f). fails_for net name f (subst (λ r. Fails r net f) is fails)) answer
+    ⊎_elim (λ e. absurd (not_memory e)) (λ (fails : Fails false rule net f). fails_for net name f (subst (λ r. Fails false r net f) is fails)) answer
 
-pub free : (net : NetParts) (name : List ℕ) (rule : Rule) (after before : ℕ) → rule ≡ Collapse name → LeavesLiterals rule net after → before ≡ literals_in net.nets → after ≤ before → CollapsesFreely net name
-free net name rule after before is leaves now low = record {
+pub freely : (net : NetParts) (name : List ℕ) (rule : Rule) (after before : ℕ) → rule ≡ Collapse name → LeavesLiterals rule net after → before ≡ literals_in net.nets → after ≤ before → CollapsesFreely net name
+freely net name rule after before is leaves now low = record {
   new = leaves.new;
-  applies = subst (λ r. Applies r net leaves.new) is leaves.applies;
+  applies = subst (λ r. Applies false r net leaves.new) is leaves.applies;
   no_more = omega (arith, low, now, leaves.counted);
 }
 
@@ -51,15 +51,15 @@ pub raised : (net : NetParts) (name : List ℕ) (rule : Rule) (after before : �
 raised net name rule after before is leaves now up =
     record { now = now; leaves = subst (λ r. LeavesLiterals r net after) is leaves; rises = up }
 
-pub can_apply : (net : NetParts) (name : List ℕ) (rule : Rule) → rule ≡ Collapse name → CollapsesFreely net name → CanApply rule net
-can_apply net name rule is f = record { new = f.new; applies = subst (λ r. Applies r net f.new) (sym is) f.applies }
+pub can_apply : (free : Bool) (net : NetParts) (name : List ℕ) (rule : Rule) → rule ≡ Collapse name → CollapsesFreely net name → CanApply free rule net
+can_apply free net name rule is f = record { new = f.new; applies = subst (λ r. Applies free r net f.new) (sym is) f.applies }
 
 -- ---- the step
 
 -- the rule
-pub took_rule : (name : List ℕ) (rule : Rule) (a b : NetParts) (j k : Journaled) → rule ≡ Collapse name → CollapsesFreely a name → TookRule rule a b j k → TookAll name a b j k
-took_rule name rule a b j k is f t =
-    let u = subst (λ r. TookRule r a b j k) is t in
+pub took_rule : (free : Bool) (name : List ℕ) (rule : Rule) (a b : NetParts) (j k : Journaled) → rule ≡ Collapse name → CollapsesFreely a name → TookRule free rule a b j k → TookAll free name a b j k
+took_rule free name rule a b j k is f t =
+    let u = subst (λ r. TookRule free r a b j k) is t in
     record {
       entries = Applied (Collapse name) ∷ [];
       are = (((refl, f), (b, (u.applies, refl))), tt);
@@ -68,8 +68,8 @@ took_rule name rule a b j k is f t =
     }
 
 -- the note
-pub took_note : (name own : List ℕ) (why : Why) (a : NetParts) (j k : Journaled) → own ≡ name → StaysFor a name why → Takes j k (Noted (Dropped why own)) (Ok tt) → TookAll name a a j k
-took_note name own why a j k is stays t = Took-one j k (Noted (Dropped why own)) (((is, stays), refl), tt) t
+pub took_note : (free : Bool) (name own : List ℕ) (why : Why) (a : NetParts) (j k : Journaled) → own ≡ name → StaysFor a name why → Takes j k (Noted (Dropped why own)) (Ok tt) → TookAll free name a a j k
+took_note free name own why a j k is stays t = Took-one j k (Noted (Dropped why own)) (((is, stays), refl), tt) t
 
 -- a copy of the name serves as well as the name
 pub is_rule : (own name : List ℕ) → own ≡ name → Collapse own ≡ Collapse name

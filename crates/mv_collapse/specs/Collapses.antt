@@ -8,12 +8,13 @@ use Rattle.mv_entry.specs.declared.note.Why.TheVariants.{Literals, Lines, Shared
 use Rattle.mv_entry.specs.Entries.{Entry, Applied, Noted}
 use Rattle.mv_net.specs.declared.parts.NetParts.{NetParts}
 use Rattle.mv_net.specs.Nets.{literals_in}
-use Rattle.mv_rules.specs.Applies.{Applies, Fails, LeavesLiterals}
+use Rattle.mv_rules.specs.Applies.{LeavesLiterals}
+use Rattle.mv_rules.specs.Collapsing.{Collapses, FailsCollapse}
 
 -- the net with this name can go into its readers, and the literals are no more then
 pub record CollapsesFreely (net : NetParts) (name : List ℕ) : Type 0 where
   pub new : NetParts
-  pub applies : Applies (Collapse name) net new
+  pub applies : Collapses net name new
   pub no_more : literals_in new.nets ≤ literals_in net.nets
 
 -- it can, but the literals would rise from the one number to the other
@@ -25,11 +26,11 @@ pub record RaisesLiterals (net : NetParts) (name : List ℕ) (before after : ℕ
 -- why the net with this name stays: there is no such net with a table; or it is seen, isn't read, has several readers and may have one
 -- of several values, or has a composite that is too wide, which the rule asks in this order; or the literals would rise
 abbrev pub StaysFor : NetParts → List ℕ → Why → Type 0
-StaysFor net name Absent = Fails (Collapse name) net NoNet
-StaysFor net name Seen = Fails (Collapse name) net Visible
-StaysFor net name Unread = Fails (Collapse name) net unread_net
-StaysFor net name Shared = Fails (Collapse name) net shared_net
-StaysFor net name Lines = Fails (Collapse name) net Wide
+StaysFor net name Absent = FailsCollapse net name NoNet
+StaysFor net name Seen = FailsCollapse net name Visible
+StaysFor net name Unread = FailsCollapse net name unread_net
+StaysFor net name Shared = FailsCollapse net name shared_net
+StaysFor net name Lines = FailsCollapse net name Wide
 StaysFor net name (Literals before after) = RaisesLiterals net name before after
 StaysFor net name _ = ⊥
 

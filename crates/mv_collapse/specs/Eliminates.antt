@@ -1,5 +1,5 @@
 -- What the command `eliminate` does to a network.
-use Rattle.std.specs.Prelude.{◌≡◌, ◌⊎◌, ℕ, ◌<◌, true, List, [], ◌++◌, length, map}
+use Rattle.std.specs.Prelude.{◌≡◌, ◌⊎◌, ℕ, ◌<◌, Bool, true, List, [], ◌++◌, length, map}
 use Rattle.mv_base.specs.declared.number.NetId.{NetId}
 use Rattle.mv_entry.specs.declared.rule.Rule.TheVariants.{Collapse}
 use Rattle.mv_entry.specs.declared.note.Note.TheVariants.{Dropped}
@@ -39,11 +39,11 @@ pub record HasNoted (net : NetParts) (notes : List Entry) : Type 0 where
   pub how : (notes ≡ []) ⊎ (NoneSaves net × ((end : ℕ) × NotesWide net end notes))
 
 -- the course of `eliminate`: collapses, and then notes
-pub record Eliminates (old : NetParts) (steps : List Entry) (new : NetParts) : Type 0 where
+pub record Eliminates (free : Bool) (old : NetParts) (steps : List Entry) (new : NetParts) : Type 0 where
   pub collapses : List Entry
   pub notes : List Entry
   pub steps_are : steps ≡ collapses ++ notes
-  pub goes : Goes IsEliminateStep old collapses new
+  pub goes : Goes free IsEliminateStep old collapses new
   pub noted : HasNoted new notes
 
 -- `eliminate` ends where no net saves any more, and the notes are those of all nets that are too wide

@@ -1,5 +1,5 @@
 -- On the way through `collapse NET`: why the net stays, and its one step. For private functions.
-use Rattle.std.specs.Prelude.{Option, Some, None, List, ℕ}
+use Rattle.std.specs.Prelude.{Bool, Option, Some, None, List, ℕ}
 use Rattle.mv_entry.specs.declared.fault.RuleFault.{RuleFault}
 use Rattle.mv_entry.specs.declared.fault.RuleFault.TheVariants.{NoNet, Visible, Unread as unread_net, Shared as shared_net, Wide}
 use Rattle.mv_entry.specs.declared.note.Why.{Why}
@@ -20,5 +20,5 @@ why_for Wide = Some Lines
 why_for _ = None
 
 -- the journal took the one step
-abbrev pub TookAll : List ℕ → NetParts → NetParts → Journaled → Journaled → Type 0
-TookAll name old new journal journal' = Took (λ steps. Goes (IsCollapseStep name) old steps new × EndsCollapse steps new) journal journal'
+abbrev pub TookAll : Bool → List ℕ → NetParts → NetParts → Journaled → Journaled → Type 0
+TookAll free name old new journal journal' = Took (λ steps. Goes free (IsCollapseStep name) old steps new × EndsCollapse steps new) journal journal'

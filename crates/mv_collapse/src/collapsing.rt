@@ -1,21 +1,21 @@
-ghost use Rattle.std.specs.Prelude.{◌≡◌, true, Err, IfOk, OnOk, MatchOption};
-ghost use Rattle.mv_base.specs.Meaning.{SameMeaning};
+ghost use Rattle.std.specs.Prelude.{◌≡◌, true, false, Err, IfOk, OnOk, MatchOption};
+ghost use Rattle.mv_base.specs.Meaning.{Refines, SameMeaning};
 ghost use Rattle.mv_base.specs.Outside.{Rose};
 ghost use Rattle.mv_collapse.specs.Collapses.{CollapsesFreely, StaysFor, IsCollapseStep, EndsCollapse};
 ghost use Rattle.mv_collapse.specs.Reasons.{why_for, TookAll};
 ghost use Rattle.mv_entry.specs.declared.note.Command.TheVariants.{Collapse as collapse_command};
 ghost use Rattle.mv_entry.specs.Entries.{is_visible_name};
 ghost use Rattle.mv_net.specs.Allowed.{of_net};
-ghost use Rattle.mv_pass.specs.Going.{Goes};
+ghost use Rattle.mv_pass.specs.Going.{Begun, Does, Goes};
 ghost use Rattle.mv_pass.specs.Passing.{Passes};
 ghost use Rattle.mv_pass.specs.Taking.{GoesOn, Went, WentPart};
 
-use crate::{NO_BUDGET, Stop};
+use crate::Stop;
 use mv_base::{Memory, Name};
 use mv_entry::{Command, Journal, Note, Rule, RuleFault, Why};
 use mv_net::Network;
 use mv_pass::{few_literals, take};
-use mv_rules::literals_after;
+use mv_rules::{Terms, literals_after};
 use std::alloc::Global;
 
 /// The note of a check of the rule that fails.
@@ -33,11 +33,17 @@ fn why_of(fault: RuleFault) -> Option<Why>
 }
 
 /// Why the net with this name stays, if it does.
-fn reason(alloc: Global, net: &Network, rule: &Rule, name: &Name) -> Result<Option<Why>, Memory>
+fn reason(
+    alloc: Global,
+    net: &Network,
+    rule: &Rule,
+    name: &Name,
+    terms: Terms,
+) -> Result<Option<Why>, Memory>
     requires { rule.now ≡ Rule.Collapse name.now }
     ensures { IfOk result (λ why. MatchOption why (CollapsesFreely net.now name.now) (StaysFor net.now name.now)) }
 {
-    match literals_after(alloc, net, rule, NO_BUDGET) {
+    match literals_after(alloc, net, rule, terms.budget) {
         Ok(after) => {
             let before = net.literals();
             if before < after {
@@ -62,14 +68,15 @@ fn note_reason<J: Journal>(
     net: &Network,
     name: &Name,
     why: Why,
+    terms: Terms,
     journal: &mut J,
 ) -> Result<(), Stop>
     requires visible { is_visible_name name.now ≡ true }
     requires stays { StaysFor net.now name.now why }
-    ensures ok { OnOk result (TookAll name.now net.now net.now (J.state journal.old) (J.state journal.new)) }
+    ensures ok { OnOk result (TookAll terms.free name.now net.now net.now (J.state journal.old) (J.state journal.new)) }
     ensures memory { result ≡ Err Stop.Memory → J.state journal.new ≡ J.state journal.old }
     ensures note { result ≡ Err Stop.Note
-        → WentPart (IsCollapseStep name.now) net.now net.now (J.state journal.old) (J.state journal.new) }
+        → WentPart terms.free (IsCollapseStep name.now) net.now net.now (J.state journal.old) (J.state journal.new) }
     ensures cause { result ≡ Err Stop.Note → Rose (J.state journal.old).written.faults (J.state journal.new).written.faults }
     ensures goes_on { GoesOn (J.state journal.old) (J.state journal.new) }
 {
@@ -88,14 +95,15 @@ fn step<J: Journal>(
     alloc: Global,
     net: &mut Network,
     name: &Name,
+    terms: Terms,
     journal: &mut J,
 ) -> Result<(), Stop>
     requires { is_visible_name name.now ≡ true }
-    ensures ok { OnOk result (TookAll name.now net.old net.new (J.state journal.old) (J.state journal.new)) }
+    ensures ok { OnOk result (TookAll terms.free name.now net.old net.new (J.state journal.old) (J.state journal.new)) }
     ensures memory { result ≡ Err Stop.Memory
-        → Went (IsCollapseStep name.now) net.old net.new (J.state journal.old) (J.state journal.new) }
+        → Went terms.free (IsCollapseStep name.now) net.old net.new (J.state journal.old) (J.state journal.new) }
     ensures note { result ≡ Err Stop.Note
-        → WentPart (IsCollapseStep name.now) net.old net.new (J.state journal.old) (J.state journal.new) }
+        → WentPart terms.free (IsCollapseStep name.now) net.old net.new (J.state journal.old) (J.state journal.new) }
     ensures cause { result ≡ Err Stop.Note → Rose (J.state journal.old).written.faults (J.state journal.new).written.faults }
     ensures means { SameMeaning (of_net net.new) (of_net net.old) }
     ensures goes_on { GoesOn (J.state journal.old) (J.state journal.new) }
@@ -105,12 +113,12 @@ fn step<J: Journal>(
         Err(_memory) => return Err(Stop::Memory),
     };
     let rule = Rule::Collapse { net: own };
-    match reason(alloc, net, &rule, name) {
-        Ok(None) => match take(alloc, net, &rule, NO_BUDGET, journal) {
+    match reason(alloc, net, &rule, name, terms) {
+        Ok(None) => match take(alloc, net, &rule, terms, journal) {
             Ok(()) => Ok(()),
             Err(stop) => Err(stop),
         },
-        Ok(Some(why)) => note_reason(net, name, why, journal),
+        Ok(Some(why)) => note_reason(net, name, why, terms, journal),
         Err(_memory) => Err(Stop::Memory),
     }
 }
@@ -124,10 +132,13 @@ pub fn collapse<J: Journal>(
     net: &mut Network,
     name: &Name,
     journal: &mut J,
+    terms: Terms,
 ) -> Result<(), Stop>
     requires { is_visible_name name.now ≡ true }
-    ensures passes { Passes (Goes (IsCollapseStep name.now)) EndsCollapse (collapse_command name.now)
+    ensures passes { Passes terms.free (Does (Goes terms.free (IsCollapseStep name.now)) EndsCollapse (collapse_command name.now))
+        (Begun (Goes terms.free (IsCollapseStep name.now)) EndsCollapse (collapse_command name.now))
         net.old net.new (J.state journal.old) (J.state journal.new) result }
+    ensures refines { Refines false (of_net net.new) (of_net net.old) }
 {
     let own = match name.copy() {
         Ok(own) => own,
@@ -137,7 +148,7 @@ pub fn collapse<J: Journal>(
         Ok(()) => {}
         Err(_failed) => return Err(Stop::Note),
     }
-    match step(alloc, net, name, journal) {
+    match step(alloc, net, name, terms, journal) {
         Ok(()) => {}
         Err(stop) => return Err(stop),
     }

@@ -1,24 +1,26 @@
-ghost use Rattle.std.specs.Prelude.{◌≡◌, Err, IfOk, OnOk, MatchOption};
+ghost use Rattle.std.specs.Prelude.{◌≡◌, false, Err, IfOk, OnOk, MatchOption};
 ghost use Rattle.mv_agenda.specs.Agenda.{AllWait};
-ghost use Rattle.mv_base.specs.Meaning.{SameMeaning};
+ghost use Rattle.mv_base.specs.Meaning.{Refines, SameMeaning};
 ghost use Rattle.mv_base.specs.Outside.{Rose};
 ghost use Rattle.mv_collapse.specs.Eliminates.{Eliminates, EndsEliminate, IsEliminateStep};
 ghost use Rattle.mv_collapse.specs.Eliminating.{IsNextSaving, WentInto};
 ghost use Rattle.mv_entry.specs.declared.note.Command.TheVariants.{Eliminate as eliminate_command};
 ghost use Rattle.mv_net.specs.Allowed.{of_net};
+ghost use Rattle.mv_pass.specs.Going.{Begun, Does};
 ghost use Rattle.mv_pass.specs.Passing.{Passes};
 ghost use Rattle.mv_pass.specs.Taking.{GoesOn, Took, TookPart, Went, WentPart};
 ghost use Rattle.mv_gain.specs.Kept.{AreRight};
 ghost use Rattle.mv_gain.specs.Savings.{IsSaving, IsLeastSaving, NoneSaves};
 
+use crate::Stop;
 use crate::noting::note_wide;
-use crate::{NO_BUDGET, Stop};
 use mv_agenda::{Agenda, put_near};
 use mv_base::{Memory, Name, NetId};
 use mv_entry::{Command, Journal, Note, Rule};
 use mv_gain::KeptComposites;
 use mv_net::Network;
 use mv_pass::{few_literals, take};
+use mv_rules::Terms;
 use std::alloc::Global;
 
 /// The least net that waits and saves, if one does; those before it wait no more.
@@ -47,14 +49,20 @@ fn next_saving(
 }
 
 /// Collapses the net, which is the least that saves, and notes it.
-fn step<J: Journal>(alloc: Global, net: &mut Network, n: NetId, journal: &mut J) -> Result<(), Stop>
+fn step<J: Journal>(
+    alloc: Global,
+    net: &mut Network,
+    n: NetId,
+    terms: Terms,
+    journal: &mut J,
+) -> Result<(), Stop>
     requires { IsLeastSaving net.old n.0 }
-    ensures ok { OnOk result (Went IsEliminateStep net.old net.new (J.state journal.old) (J.state journal.new)) }
+    ensures ok { OnOk result (Went terms.free IsEliminateStep net.old net.new (J.state journal.old) (J.state journal.new)) }
     ensures into { OnOk result (WentInto net.old net.new n.0) }
     ensures memory { result ≡ Err Stop.Memory
-        → Went IsEliminateStep net.old net.new (J.state journal.old) (J.state journal.new) }
+        → Went terms.free IsEliminateStep net.old net.new (J.state journal.old) (J.state journal.new) }
     ensures note { result ≡ Err Stop.Note
-        → WentPart IsEliminateStep net.old net.new (J.state journal.old) (J.state journal.new) }
+        → WentPart terms.free IsEliminateStep net.old net.new (J.state journal.old) (J.state journal.new) }
     ensures cause { result ≡ Err Stop.Note → Rose (J.state journal.old).written.faults (J.state journal.new).written.faults }
     ensures means { SameMeaning (of_net net.new) (of_net net.old) }
     ensures goes_on { GoesOn (J.state journal.old) (J.state journal.new) }
@@ -65,7 +73,7 @@ fn step<J: Journal>(alloc: Global, net: &mut Network, n: NetId, journal: &mut J)
         Err(_memory) => return Err(Stop::Memory),
     };
     let rule = Rule::Collapse { net: name };
-    match take(alloc, net, &rule, NO_BUDGET, journal) {
+    match take(alloc, net, &rule, terms, journal) {
         Ok(()) => {
             net.well_formed();
             Ok(())
@@ -80,16 +88,17 @@ fn collapse_each<J: Journal>(
     alloc: Global,
     net: &mut Network,
     kept: &mut KeptComposites,
+    terms: Terms,
     journal: &mut J,
 ) -> Result<(), Stop>
     requires { AreRight net.old.nets kept.old }
-    ensures ok { OnOk result (Went IsEliminateStep net.old net.new (J.state journal.old) (J.state journal.new)) }
+    ensures ok { OnOk result (Went terms.free IsEliminateStep net.old net.new (J.state journal.old) (J.state journal.new)) }
     ensures none_saves { OnOk result (NoneSaves net.new) }
     ensures right { OnOk result (AreRight net.new.nets kept.new) }
     ensures memory { result ≡ Err Stop.Memory
-        → Went IsEliminateStep net.old net.new (J.state journal.old) (J.state journal.new) }
+        → Went terms.free IsEliminateStep net.old net.new (J.state journal.old) (J.state journal.new) }
     ensures note { result ≡ Err Stop.Note
-        → WentPart IsEliminateStep net.old net.new (J.state journal.old) (J.state journal.new) }
+        → WentPart terms.free IsEliminateStep net.old net.new (J.state journal.old) (J.state journal.new) }
     ensures cause { result ≡ Err Stop.Note → Rose (J.state journal.old).written.faults (J.state journal.new).written.faults }
     ensures means { SameMeaning (of_net net.new) (of_net net.old) }
     ensures goes_on { GoesOn (J.state journal.old) (J.state journal.new) }
@@ -113,7 +122,7 @@ fn collapse_each<J: Journal>(
             Ok(()) => {}
             Err(_memory) => return Err(Stop::Memory),
         }
-        match step(alloc, net, n, journal) {
+        match step(alloc, net, n, terms, journal) {
             Ok(()) => {}
             Err(stop) => return Err(stop),
         }
@@ -124,14 +133,15 @@ fn collapse_each<J: Journal>(
 fn collapse_and_note<J: Journal>(
     alloc: Global,
     net: &mut Network,
+    terms: Terms,
     journal: &mut J,
 ) -> Result<(), Stop>
-    ensures ok { OnOk result (Took (λ steps. Eliminates net.old steps net.new × EndsEliminate steps net.new)
+    ensures ok { OnOk result (Took (λ steps. Eliminates terms.free net.old steps net.new × EndsEliminate steps net.new)
         (J.state journal.old) (J.state journal.new)) }
     ensures memory { result ≡ Err Stop.Memory
-        → Took (λ steps. Eliminates net.old steps net.new) (J.state journal.old) (J.state journal.new) }
+        → Took (λ steps. Eliminates terms.free net.old steps net.new) (J.state journal.old) (J.state journal.new) }
     ensures note { result ≡ Err Stop.Note
-        → TookPart (λ steps. Eliminates net.old steps net.new) (J.state journal.old) (J.state journal.new) }
+        → TookPart (λ steps. Eliminates terms.free net.old steps net.new) (J.state journal.old) (J.state journal.new) }
     ensures cause { result ≡ Err Stop.Note → Rose (J.state journal.old).written.faults (J.state journal.new).written.faults }
     ensures means { SameMeaning (of_net net.new) (of_net net.old) }
     ensures goes_on { GoesOn (J.state journal.old) (J.state journal.new) }
@@ -140,7 +150,7 @@ fn collapse_and_note<J: Journal>(
         Ok(kept) => kept,
         Err(_memory) => return Err(Stop::Memory),
     };
-    match collapse_each(alloc, net, &mut kept, journal) {
+    match collapse_each(alloc, net, &mut kept, terms, journal) {
         Ok(()) => {}
         Err(stop) => return Err(stop),
     }
@@ -153,14 +163,21 @@ fn collapse_and_note<J: Journal>(
 /// The command `eliminate`: collapses the least-numbered net which the rule lets go into its readers and whose composites leave the
 /// literals no higher, until there is none; and then notes each net that the rule refuses for this alone that a composite is too wide. What
 /// the network means stays, also where the command stops. (So does SIS's `eliminate 0`, but by the literals of factored forms.)
-pub fn eliminate<J: Journal>(alloc: Global, net: &mut Network, journal: &mut J) -> Result<(), Stop>
-    ensures passes { Passes Eliminates EndsEliminate eliminate_command net.old net.new (J.state journal.old) (J.state journal.new) result }
+pub fn eliminate<J: Journal>(
+    alloc: Global,
+    net: &mut Network,
+    journal: &mut J,
+    terms: Terms,
+) -> Result<(), Stop>
+    ensures passes { Passes terms.free (Does (Eliminates terms.free) EndsEliminate eliminate_command)
+        (Begun (Eliminates terms.free) EndsEliminate eliminate_command) net.old net.new (J.state journal.old) (J.state journal.new) result }
+    ensures refines { Refines false (of_net net.new) (of_net net.old) }
 {
     match journal.note(&Note::Begin(Command::Eliminate)) {
         Ok(()) => {}
         Err(_failed) => return Err(Stop::Note),
     }
-    match collapse_and_note(alloc, net, journal) {
+    match collapse_and_note(alloc, net, terms, journal) {
         Ok(()) => {}
         Err(stop) => return Err(stop),
     }

@@ -8,6 +8,3 @@ mod noting;
 pub use collapsing::collapse;
 pub use eliminating::eliminate;
 pub use mv_pass::Stop;
-
-/// The budget of diagram nodes: no rule of these commands makes a diagram.
-const NO_BUDGET: u32 = 0;

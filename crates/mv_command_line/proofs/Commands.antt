@@ -1,16 +1,24 @@
 -- The command behind a task's name, as it is built.
 use Rattle.std.proofs.Common.{◌≡◌, Bool, true, false, cond, List, [], ◌∷◌, Some, None, codes, refl, ℕ}
 use Rattle.std.specs.Str.{bytes_eq}
-use Rattle.mv_command_line.specs.Commands.{budget_given, command_given, two_given, word_given}
+use Rattle.mv_command_line.specs.Commands.{budget_given, command_given, free_given, two_given, word_given}
 use Rattle.clap.specs.Walk.{Rule, Text, arg_by_long, arg_by_short}
 use Rattle.clap.specs.Simple.{App, Shape, built, new_shape, with_rule}
 use Rattle.clap.specs.Faults.{is_simple_and_free}
 use Rattle.clap.specs.Simple.{is_simple}
-use Rattle.clap.specs.declared.builder.value_parser.ValueParser.TheVariants.{String as text}
+use Rattle.clap.specs.declared.builder.value_parser.ValueParser.TheVariants.{String as text, Bool as flag}
 
--- the option and a positional word, as the build leaves them
+-- the options and a positional word, as the build leaves them
 abbrev pub budget_rule : Rule
 budget_rule = record budget_given { range = Some (record { start_inclusive = 1; end_inclusive = 1 }); parser = Some text }
+
+abbrev pub free_rule : Rule
+free_rule = record free_given {
+  range = Some (record { start_inclusive = 0; end_inclusive = 0 });
+  defaults = codes "false" ∷ [];
+  missing = codes "true" ∷ [];
+  parser = Some flag;
+}
 
 abbrev pub word_rule : Text → ℕ → Rule
 word_rule id place = record (word_given id) {
@@ -28,8 +36,11 @@ second_rule = word_rule (codes "second") 2
 abbrev pub third_rule : Rule
 third_rule = word_rule (codes "third") 3
 
+abbrev pub word_rules : Bool → List Rule
+word_rules third = first_rule ∷ second_rule ∷ cond third (third_rule ∷ []) []
+
 abbrev pub rules_of : Bool → List Rule
-rules_of third = budget_rule ∷ first_rule ∷ second_rule ∷ cond third (third_rule ∷ []) []
+rules_of third = budget_rule ∷ free_rule ∷ word_rules third
 
 abbrev pub shape_of : Bool → Shape
 shape_of third = record (new_shape (codes "mvopt")) {
@@ -61,13 +72,16 @@ pub is_plain : (third : Bool) → is_simple (command_given third) ≡ true
 is_plain true = refl
 is_plain false = refl
 
--- a long name is the option's or none's, and there are no short ones
-pub long_found : (third : Bool) (name : Text) → bytes_eq (codes "budget") name ≡ true → arg_by_long (rules_of third) name ≡ Some budget_rule
-long_found third name e = rw e refl
+-- a long name is that of an option or none's, and there are no short ones
+pub budget_found : (third : Bool) (name : Text) → bytes_eq (codes "budget") name ≡ true → arg_by_long (rules_of third) name ≡ Some budget_rule
+budget_found third name e = rw e refl
 
-pub long_missing : (third : Bool) (name : Text) → bytes_eq (codes "budget") name ≡ false → arg_by_long (rules_of third) name ≡ None
-long_missing true name e = rw e refl
-long_missing false name e = rw e refl
+pub free_found : (third : Bool) (name : Text) → bytes_eq (codes "budget") name ≡ false → bytes_eq (codes "free") name ≡ true → arg_by_long (rules_of third) name ≡ Some free_rule
+free_found third name n e = rw (n, e) refl
+
+pub long_missing : (third : Bool) (name : Text) → bytes_eq (codes "budget") name ≡ false → bytes_eq (codes "free") name ≡ false → arg_by_long (rules_of third) name ≡ None
+long_missing true name n m = rw (n, m) refl
+long_missing false name n m = rw (n, m) refl
 
 pub short_missing : (third : Bool) (letter : ℕ) → arg_by_short (rules_of third) letter ≡ None
 short_missing true letter = refl

@@ -3,10 +3,11 @@ use Rattle.std.proofs.Common.{◌≡◌, ◌∙◌, ◌⊎◌, inl, inr, ℕ, �
 use Rattle.std.specs.Prelude.{slice_get, unwrap_or, is_some, suc, take, drop}
 use Rattle.std.specs.List.{list_all, position_or_len}
 use Rattle.std.specs.Str.{bytes_eq, chars, IsUtf8, encode_utf8_all}
-use Rattle.std.proofs.lemmas.Bool.{cases_Bool, false≢true, and_parts, ne_eqb}
+use Rattle.std.proofs.lemmas.Bool.{cases_Bool, false≢true, and_left, and_parts, ne_eqb}
 use Rattle.std.proofs.lemmas.Str.{IsUtf8-past_char, encodes-chars, encode_ascii}
+use Rattle.mv_base.specs.Names.{same_word}
 use Rattle.clap.specs.Lexer.{has_byte, long_of, name_and_value, short_of}
-use Rattle.mv_command_line.specs.CommandLine.{positional, ends, apart, attached, refused, behind, is_dashed, option_sort, sort_of}
+use Rattle.mv_command_line.specs.CommandLine.{Sort, positional, ends, frees, apart, attached, refused, behind, is_dashed, option_sort, sort_of}
 
 -- ---- what stands behind a beginning without `=`
 
@@ -91,6 +92,21 @@ value_is (a ∷ start) (b ∷ w) rest clear e =
     ⊎_elim (λ (y : (b == a) ≡ true). value_more b w (stays_other a b 61 y other) ∙ value_is start w rest parts.1 (rw y at e))
     (λ (n : (b == a) ≡ false). absurd (none_is rest (rw n at e))) (cases_Bool (b == a))
 
+-- what stands behind a beginning is nothing exactly where the word is that beginning
+abbrev pub is_over : Option (List ℕ) → Bool
+is_over None = false
+is_over (Some []) = true
+is_over (Some (b ∷ bs)) = false
+
+pub same_is : (start w : List ℕ) → same_word w start ≡ is_over (behind start w)
+same_is [] [] = refl
+same_is [] (b ∷ w) = refl
+same_is (a ∷ start) [] = refl
+same_is (a ∷ start) (b ∷ w) = ⊎_elim
+    (λ (y : (b == a) ≡ true). rw y (same_is start w))
+    (λ (n : (b == a) ≡ false). rw n refl)
+    (cases_Bool (b == a))
+
 -- ---- the first letter of a short option
 
 letter_of : (cs : List ℕ) (b : ℕ) (bs : List ℕ) → encode_utf8_all cs ≡ b ∷ bs → (c : ℕ) × (slice_get cs 0 ≡ Some c)
@@ -119,9 +135,13 @@ pub record IsEnd (w : List ℕ) : Type 0 where
   pub dashed : is_dashed w ≡ true
   pub is : bytes_eq w dashes ≡ true
 
+-- the sort of a long option by what stands behind its dashes
+abbrev pub long_sort : List ℕ → Sort
+long_sort text = cond (same_word text (codes "free")) frees (option_sort (behind (codes "budget") text))
+
 pub record IsLong (w : List ℕ) : Type 0 where
   pub text : List ℕ
-  pub sort : sort_of w ≡ option_sort (behind (codes "budget") text)
+  pub sort : sort_of w ≡ long_sort text
   pub dashed : is_dashed w ≡ true
   pub long : long_of w ≡ Some (name_and_value text)
   pub goes_on : bytes_eq w dashes ≡ false
@@ -187,11 +207,12 @@ looks (b ∷ c ∷ w) u = ⊎_elim
     (λ (y : (b == 45) ≡ true). ⊎_elim (two_dashes b c w y) (λ n. inr (inr (inr (one_dash b c w u y n)))) (cases_Bool (c == 45)))
     (λ (n : (b == 45) ≡ false). inl (undashed b c w n)) (cases_Bool (b == 45))
 
--- ---- a long option is the command's, with its value or apart from it, or none
+-- ---- a long option is one of the command's, with its value or apart from it, or none
 
 pub record IsUnknown (w : List ℕ) (l : IsLong w) : Type 0 where
   pub sort : sort_of w ≡ refused
-  pub other : bytes_eq (codes "budget") (name_in l.text) ≡ false
+  pub budget : bytes_eq (codes "budget") (name_in l.text) ≡ false
+  pub free : bytes_eq (codes "free") (name_in l.text) ≡ false
 
 pub record IsApart (w : List ℕ) (l : IsLong w) : Type 0 where
   pub sort : sort_of w ≡ apart
@@ -204,30 +225,104 @@ pub record IsAttached (w : List ℕ) (l : IsLong w) : Type 0 where
   pub same : bytes_eq (codes "budget") (name_in l.text) ≡ true
   pub given : value_in l.text ≡ Some value
 
-abbrev pub Means : (w : List ℕ) → IsLong w → Type 0
-Means w l = IsUnknown w l ⊎ (IsApart w l ⊎ IsAttached w l)
+-- the name is that of the flag, and not that of the option
+pub record IsFlagName (text : List ℕ) : Type 0 where
+  pub budget : bytes_eq (codes "budget") (name_in text) ≡ false
+  pub free : bytes_eq (codes "free") (name_in text) ≡ true
 
-means_behind : (w : List ℕ) (l : IsLong w) (rest : Option (List ℕ)) → behind (codes "budget") l.text ≡ rest → Means w l
-means_behind w l None e = inl (record { sort = l.sort ∙ ap option_sort e; other = name_is (codes "budget") l.text refl ∙ ap ends_name e })
-means_behind w l (Some []) e = inr (inl (record {
-  sort = l.sort ∙ ap option_sort e;
-  same = name_is (codes "budget") l.text refl ∙ ap ends_name e;
-  none = value_is (codes "budget") l.text [] refl e;
-}))
-means_behind w l (Some (b ∷ bs)) e =
-    let name = name_is (codes "budget") l.text refl ∙ ap ends_name e in
-    ⊎_elim
-    (λ (y : (b == 61) ≡ true). inr (inr (record {
+pub record IsFlag (w : List ℕ) (l : IsLong w) : Type 0 where
+  pub sort : sort_of w ≡ frees
+  pub name : IsFlagName l.text
+  pub none : value_in l.text ≡ None
+
+-- the flag has a value
+pub record IsFlagWith (w : List ℕ) (l : IsLong w) : Type 0 where
+  pub value : List ℕ
+  pub sort : sort_of w ≡ refused
+  pub name : IsFlagName l.text
+  pub given : value_in l.text ≡ Some value
+
+abbrev pub Means : (w : List ℕ) → IsLong w → Type 0
+Means w l = IsUnknown w l ⊎ (IsApart w l ⊎ (IsAttached w l ⊎ (IsFlag w l ⊎ IsFlagWith w l)))
+
+-- a word that isn't the flag alone is sorted as an option
+as_option : (w : List ℕ) (l : IsLong w) (s : Sort) → same_word l.text (codes "free") ≡ false → option_sort (behind (codes "budget") l.text) ≡ s → sort_of w ≡ s
+as_option w l s other e = l.sort ∙ (ap (λ t. cond t frees (option_sort (behind (codes "budget") l.text))) other ∙ e)
+
+-- the name of the option isn't that of the flag, and the other way round
+other_name : (n : List ℕ) → bytes_eq (codes "free") n ≡ true → bytes_eq (codes "budget") n ≡ false
+other_name [] e = refl
+other_name (b ∷ n) e =
+    let first = and_parts (102 == b) (bytes_eq (codes "ree") n) e in
+    and_left (98 == b) (bytes_eq (codes "udget") n) (ap (λ x. 98 == x) (sym (eqb-true 102 b first.0)))
+
+-- a word whose name isn't the option's is refused, if it isn't the flag alone
+not_option : (o : Option (List ℕ)) → ends_name o ≡ false → option_sort o ≡ refused
+not_option None e = refl
+not_option (Some []) e = absurd (false≢true (sym e))
+not_option (Some (b ∷ bs)) e = ap (λ t. cond t (attached bs) refused) e
+
+-- by what stands behind `free`
+flag_name : (text : List ℕ) → bytes_eq (codes "free") (name_in text) ≡ true → IsFlagName text
+flag_name text e = record { budget = other_name (name_in text) e; free = e }
+
+flag_behind : (w : List ℕ) (l : IsLong w) (rest : Option (List ℕ)) → behind (codes "free") l.text ≡ rest → bytes_eq (codes "free") (name_in l.text) ≡ true → Means w l
+flag_behind w l None e y = absurd (false≢true (sym (name_is (codes "free") l.text refl ∙ ap ends_name e) ∙ y))
+flag_behind w l (Some []) e y = inr (inr (inr (inl (record {
+  sort = l.sort ∙ ap (λ t. cond t frees (option_sort (behind (codes "budget") l.text))) (same_is (codes "free") l.text ∙ ap is_over e);
+  name = flag_name l.text y;
+  none = value_is (codes "free") l.text [] refl e;
+}))))
+flag_behind w l (Some (b ∷ bs)) e y =
+    let name = flag_name l.text y in
+    let equals : (b == 61) ≡ true = sym (name_is (codes "free") l.text refl ∙ ap ends_name e) ∙ y in
+    inr (inr (inr (inr (record {
       value = bs;
-      sort = l.sort ∙ (ap option_sort e ∙ ap (λ t. cond t (attached bs) refused) y);
-      same = name ∙ y;
-      given = value_is (codes "budget") l.text (b ∷ bs) refl e ∙ rw y refl;
-    })))
-    (λ (n : (b == 61) ≡ false). inl (record {
-      sort = l.sort ∙ (ap option_sort e ∙ ap (λ t. cond t (attached bs) refused) n);
-      other = name ∙ n;
+      sort =
+          as_option w l refused (same_is (codes "free") l.text ∙ ap is_over e)
+          (not_option (behind (codes "budget") l.text) (sym (name_is (codes "budget") l.text refl) ∙ name.budget));
+      name = name;
+      given = value_is (codes "free") l.text (b ∷ bs) refl e ∙ rw equals refl;
+    }))))
+
+-- by what stands behind `budget`, where the name isn't the flag's
+not_flag : (o : Option (List ℕ)) → ends_name o ≡ false → is_over o ≡ false
+not_flag None e = refl
+not_flag (Some []) e = e
+not_flag (Some (b ∷ bs)) e = refl
+
+option_behind : (w : List ℕ) (l : IsLong w) (rest : Option (List ℕ)) → behind (codes "budget") l.text ≡ rest → bytes_eq (codes "free") (name_in l.text) ≡ false → Means w l
+option_behind w l rest e m = by rest e
+  where
+    other : same_word l.text (codes "free") ≡ false
+    other = same_is (codes "free") l.text ∙ not_flag (behind (codes "free") l.text) (sym (name_is (codes "free") l.text refl) ∙ m)
+
+    name : (o : Option (List ℕ)) → behind (codes "budget") l.text ≡ o → bytes_eq (codes "budget") (name_in l.text) ≡ ends_name o
+    name o h = name_is (codes "budget") l.text refl ∙ ap ends_name h
+
+    by : (o : Option (List ℕ)) → behind (codes "budget") l.text ≡ o → Means w l
+    by None h = inl (record { sort = as_option w l refused other (ap option_sort h); budget = name None h; free = m })
+    by (Some []) h = inr (inl (record {
+      sort = as_option w l apart other (ap option_sort h);
+      same = name (Some []) h;
+      none = value_is (codes "budget") l.text [] refl h;
     }))
-    (cases_Bool (b == 61))
+    by (Some (b ∷ bs)) h = ⊎_elim
+        (λ (y : (b == 61) ≡ true). inr (inr (inl (record {
+          value = bs;
+          sort = as_option w l (attached bs) other (ap option_sort h ∙ ap (λ t. cond t (attached bs) refused) y);
+          same = name (Some (b ∷ bs)) h ∙ y;
+          given = value_is (codes "budget") l.text (b ∷ bs) refl h ∙ rw y refl;
+        }))))
+        (λ (n : (b == 61) ≡ false). inl (record {
+          sort = as_option w l refused other (ap option_sort h ∙ ap (λ t. cond t (attached bs) refused) n);
+          budget = name (Some (b ∷ bs)) h ∙ n;
+          free = m;
+        }))
+        (cases_Bool (b == 61))
 
 pub means : (w : List ℕ) (l : IsLong w) → Means w l
-means w l = means_behind w l (behind (codes "budget") l.text) refl
+means w l = ⊎_elim
+    (λ (y : bytes_eq (codes "free") (name_in l.text) ≡ true). flag_behind w l (behind (codes "free") l.text) refl y)
+    (λ (m : bytes_eq (codes "free") (name_in l.text) ≡ false). option_behind w l (behind (codes "budget") l.text) refl m)
+    (cases_Bool (bytes_eq (codes "free") (name_in l.text)))

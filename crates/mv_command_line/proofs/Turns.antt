@@ -1,18 +1,18 @@
 -- What clap makes of a word, by how it looks.
-use Rattle.std.proofs.Common.{◌≡◌, ◌∙◌, ℕ, ◌+◌, Bool, true, false, cond, List, [], ◌∷◌, Option, Some, None, codes, refl, sym, ap, ⊎_elim}
+use Rattle.std.proofs.Common.{◌≡◌, ◌∙◌, ℕ, ◌+◌, Bool, true, false, cond, List, [], ◌∷◌, Option, Some, None, inl, inr, codes, refl, sym, ap}
 use Rattle.std.specs.Prelude.{min}
 use Rattle.std.specs.Option.{option_map_or}
 use Rattle.std.specs.Str.{bytes_eq}
-use Rattle.std.proofs.lemmas.Bool.{cases_Bool, and_right}
+use Rattle.std.proofs.lemmas.Bool.{and_right}
 use Rattle.std.proofs.Math.Bool.{or-false}
 use Rattle.clap.specs.Kinds.{Kinds}
 use Rattle.clap.specs.Lexer.{usize_max}
-use Rattle.clap.specs.Walk.{Held, Row, Step, Text, Waiting, Walk, after_step, arg_by_index, arg_by_long, idle, is_pending, option_met, settled_rows, to_positional, trailing, value, walked, word_met, after_flag}
-use Rattle.clap.specs.Faults.{flags_fault, long_fault, option_fault, positional_fault, settle_fault, step_fault, stray_fault, turn_fault, word_fault}
-use Rattle.clap.specs.declared.error.kind.ErrorKind.TheVariants.{UnknownArgument}
+use Rattle.clap.specs.Walk.{Held, Row, Step, Text, Waiting, Walk, after_step, arg_by_index, arg_by_long, idle, is_pending, next, option_met, settled_rows, to_positional, trailing, used, value, walked, word_met, after_flag}
+use Rattle.clap.specs.Faults.{flags_fault, long_fault, option_fault, positional_fault, react_fault, settle_fault, step_fault, stray_fault, turn_fault, word_fault}
+use Rattle.clap.specs.declared.error.kind.ErrorKind.TheVariants.{TooManyValues, UnknownArgument}
 use Rattle.clap.proofs.FaultLemmas.{past}
-use Rattle.mv_command_line.proofs.Commands.{budget_rule, rules_of, shape_of, long_found, long_missing, short_missing, word_rule}
-use Rattle.mv_command_line.proofs.Looks.{IsEnd, IsLong, IsPlain, IsShort, name_in, value_in}
+use Rattle.mv_command_line.proofs.Commands.{budget_found, budget_rule, free_found, free_rule, long_missing, rules_of, shape_of, short_missing, word_rule}
+use Rattle.mv_command_line.proofs.Looks.{IsEnd, IsFlagName, IsLong, IsPlain, IsShort, Means, means, name_in, value_in}
 use Rattle.mv_command_line.proofs.Walks.{Pending, held_at, walk_at, first_empty, some_fault, no_subcommand}
 
 abbrev pub turn : Bool → Walk → Text → Kinds
@@ -52,7 +52,7 @@ pub met_long : (third : Bool) (place : ℕ) (rows : List Row) (pending : Pending
     → bytes_eq (codes "budget") (name_in l.text) ≡ true → met third false idle place rows pending word
     ≡ after_flag (rules_of third) idle word (option_met (rules_of third) budget_rule (value_in l.text) (held_at rows pending)).0
     (option_met (rules_of third) budget_rule (value_in l.text) (held_at rows pending)).1
-met_long third place rows pending word l same = rw (l.goes_on, l.long) (rw (long_found third (name_in l.text) same) refl)
+met_long third place rows pending word l same = rw (l.goes_on, l.long) (rw (budget_found third (name_in l.text) same) refl)
 
 pub fault_long : (third : Bool) (waiting : Waiting) (rows : List Row) (pending : Pending) (word : Text) (l : IsLong word)
     → own_fault third false waiting rows pending word
@@ -64,13 +64,38 @@ pub fault_option : (third : Bool) (waiting : Waiting) (rows : List Row) (pending
     → own_fault third false waiting rows pending word ≡ option_fault (rules_of third) false budget_rule (value_in l.text) (held_at rows pending)
 fault_option third waiting rows pending word l same =
     fault_long third waiting rows pending word l
-    ∙ ap (λ o. long_fault (rules_of third) false o (value_in l.text) (held_at rows pending)) (long_found third (name_in l.text) same)
+    ∙ ap (λ o. long_fault (rules_of third) false o (value_in l.text) (held_at rows pending)) (budget_found third (name_in l.text) same)
 
 pub fault_unknown : (third : Bool) (waiting : Waiting) (rows : List Row) (pending : Pending) (word : Text) (l : IsLong word)
-    → bytes_eq (codes "budget") (name_in l.text) ≡ false → own_fault third false waiting rows pending word ≡ UnknownArgument ∷ []
-fault_unknown third waiting rows pending word l other =
+    → bytes_eq (codes "budget") (name_in l.text) ≡ false → bytes_eq (codes "free") (name_in l.text) ≡ false
+    → own_fault third false waiting rows pending word ≡ UnknownArgument ∷ []
+fault_unknown third waiting rows pending word l n m =
     fault_long third waiting rows pending word l
-    ∙ ap (λ o. long_fault (rules_of third) false o (value_in l.text) (held_at rows pending)) (long_missing third (name_in l.text) other)
+    ∙ ap (λ o. long_fault (rules_of third) false o (value_in l.text) (held_at rows pending)) (long_missing third (name_in l.text) n m)
+
+-- `--free`
+pub met_flag : (third : Bool) (place : ℕ) (rows : List Row) (pending : Pending) (word : Text) (l : IsLong word) → IsFlagName l.text → value_in l.text ≡ None
+    → met third false idle place rows pending word ≡ (held_at (used free_rule [] (settled_rows (rules_of third) pending rows)) None, next idle)
+met_flag third place rows pending word l name none =
+    rw (l.goes_on, l.long) (rw (free_found third (name_in l.text) name.budget name.free) (rw none refl))
+
+fault_flag_name : (third : Bool) (waiting : Waiting) (rows : List Row) (pending : Pending) (word : Text) (l : IsLong word) → IsFlagName l.text
+    → own_fault third false waiting rows pending word ≡ long_fault (rules_of third) false (Some free_rule) (value_in l.text) (held_at rows pending)
+fault_flag_name third waiting rows pending word l name =
+    fault_long third waiting rows pending word l
+    ∙ ap (λ o. long_fault (rules_of third) false o (value_in l.text) (held_at rows pending)) (free_found third (name_in l.text) name.budget name.free)
+
+pub fault_flag : (third : Bool) (waiting : Waiting) (rows : List Row) (pending : Pending) (word : Text) (l : IsLong word) → IsFlagName l.text → value_in l.text ≡ None
+    → own_fault third false waiting rows pending word ≡ react_fault (rules_of third) false free_rule [] (held_at rows pending)
+fault_flag third waiting rows pending word l name none =
+    fault_flag_name third waiting rows pending word l name
+    ∙ ap (λ v. long_fault (rules_of third) false (Some free_rule) v (held_at rows pending)) none
+
+pub fault_flag_with : (third : Bool) (waiting : Waiting) (rows : List Row) (pending : Pending) (word : Text) (l : IsLong word) (v : Text) → IsFlagName l.text → value_in l.text ≡ Some v
+    → own_fault third false waiting rows pending word ≡ TooManyValues ∷ []
+fault_flag_with third waiting rows pending word l v name some =
+    fault_flag_name third waiting rows pending word l name
+    ∙ ap (λ o. long_fault (rules_of third) false (Some free_rule) o (held_at rows pending)) some
 
 pub fault_short : (third : Bool) (waiting : Waiting) (rows : List Row) (pending : Pending) (word : Text) → IsShort word
     → own_fault third false waiting rows pending word ≡ UnknownArgument ∷ []
@@ -86,10 +111,17 @@ option_fails third (Some v) rows pending bad e = bad (first_empty (settles third
 
 pub long_fails : (third : Bool) (waiting : Waiting) (rows : List Row) (pending : Pending) (word : Text) → IsLong word → (settles third rows pending ≡ [] → ⊥)
     → own_fault third false waiting rows pending word ≡ [] → ⊥
-long_fails third waiting rows pending word l bad e = ⊎_elim
-    (λ (y : bytes_eq (codes "budget") (name_in l.text) ≡ true). option_fails third (value_in l.text) rows pending bad (sym (fault_option third waiting rows pending word l y) ∙ e))
-    (λ (n : bytes_eq (codes "budget") (name_in l.text) ≡ false). some_fault _ _ (sym (fault_unknown third waiting rows pending word l n) ∙ e))
-    (cases_Bool (bytes_eq (codes "budget") (name_in l.text)))
+long_fails third waiting rows pending word l bad e = by (means word l)
+  where
+    option : bytes_eq (codes "budget") (name_in l.text) ≡ true → ⊥
+    option y = option_fails third (value_in l.text) rows pending bad (sym (fault_option third waiting rows pending word l y) ∙ e)
+
+    by : Means word l → ⊥
+    by (inl u) = some_fault _ _ (sym (fault_unknown third waiting rows pending word l u.budget u.free) ∙ e)
+    by (inr (inl a)) = option a.same
+    by (inr (inr (inl a))) = option a.same
+    by (inr (inr (inr (inl f)))) = bad (first_empty (settles third rows pending) _ (sym (fault_flag third waiting rows pending word l f.name f.none) ∙ e))
+    by (inr (inr (inr (inr f)))) = some_fault _ _ (sym (fault_flag_with third waiting rows pending word l f.value f.name f.given) ∙ e)
 
 pub short_fails : (third : Bool) (waiting : Waiting) (rows : List Row) (pending : Pending) (word : Text) → IsShort word
     → own_fault third false waiting rows pending word ≡ [] → ⊥

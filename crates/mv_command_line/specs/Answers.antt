@@ -1,6 +1,6 @@
 -- How words are answered.
 use Rattle.std.specs.Prelude.{◌≡◌, Option, Some, None, Result, MatchResult}
-use Rattle.mv_command_line.specs.CommandLine.{Asked, opt, check, work}
+use Rattle.mv_command_line.specs.CommandLine.{Asked, opt, check, work, files_with, draw_with}
 use Rattle.mv_command_line.specs.declared.task.Task.{Task}
 use Rattle.mv_command_line.specs.declared.task.Task.TheVariants as task
 use Rattle.mv_command_line.specs.declared.task.WordsStop.{WordsStop}
@@ -13,9 +13,9 @@ IsRefusedBy asked Memory = Unit {0}
 
 -- the task as a value of the definition
 abbrev pub asked_of : Task → Asked
-asked_of (task.Opt net script budget) = opt (record { net = net.now; other = script.now; budget = budget })
-asked_of (task.Check net certificate budget) = check (record { net = net.now; other = certificate.now; budget = budget })
-asked_of (task.Work size seed script budget) = work (record { size = size; seed = seed; script = script.now; budget = budget })
+asked_of (task.Opt net script options) = opt (files_with net.now script.now options.free options.budget)
+asked_of (task.Check net certificate options) = check (files_with net.now certificate.now options.free options.budget)
+asked_of (task.Work size seed script options) = work (draw_with size seed script.now options.free options.budget)
 
 -- exactly the task that is asked for
 abbrev pub Answers : Option Asked → Result Task WordsStop → Type 0

@@ -1,9 +1,10 @@
 -- What the words of a command line ask for. A word is the list of its bytes.
-use Rattle.std.specs.Prelude.{ℕ, Bool, true, false, ◌&&◌, ◌==◌, nat_lt, nat_le, List, [], ◌∷◌, length, codes}
+use Rattle.std.specs.Prelude.{ℕ, zero, suc, Bool, true, false, ◌&&◌, ◌==◌, nat_lt, nat_le, List, [], ◌∷◌, length, codes}
 use Rattle.std.specs.Prelude.{Option, Some, None, option_map, option_and_then, if◌then◌else◌}
 use Rattle.std.specs.Char.{is_ascii_digit}
 use Rattle.std.specs.List.{list_all}
 use Rattle.std.specs.Str.Parse.{digits_value}
+use Rattle.mv_base.specs.declared.limits.TheConstants.{DEFAULT_BUDGET}
 use Rattle.mv_base.specs.Names.{same_word}
 
 -- a word that begins with `-` and isn't `-` alone
@@ -18,11 +19,12 @@ behind [] w = Some w
 behind (a ∷ start) [] = None
 behind (a ∷ start) (b ∷ w) = if b == a then behind start w else None
 
--- what a word is, where options may stand: a positional word, `--` which ends options, `--budget` whose value is the next word,
--- `--budget=` with its value, or a word that is refused
+-- what a word is, where options may stand: a positional word, `--` which ends options, `--free`, `--budget` whose value is the next
+-- word, `--budget=` with its value, or a word that is refused
 pub data Sort : Type 0 where
   positional : Sort
   ends : Sort
+  frees : Sort
   apart : Sort
   attached : List ℕ → Sort
   refused : Sort
@@ -36,14 +38,19 @@ option_sort (Some (b ∷ bs)) = if b == 61 then attached bs else refused
 -- the sort of a word where options may stand
 unfoldable pub sort_of : List ℕ → Sort
 sort_of w =
-    if is_dashed w then (if same_word w (codes "--") then ends else option_sort (behind (codes "--budget") w)) else positional
+    if is_dashed w then (
+    if same_word w (codes "--") then ends
+    else if same_word w (codes "--free") then frees
+    else option_sort (behind (codes "--budget") w))
+    else positional
 
--- the words behind the first one: those that are positional, and the values of the option
+-- the words behind the first one: those that are positional, the values of `--budget`, and how many are `--free`
 pub record Parts : Type 0 where
   pub words : List (List ℕ)
   pub values : List (List ℕ)
+  pub frees : ℕ
 
--- with one more positional word in front, and with one more value
+-- with one more positional word in front, with one more value, and with one more `--free`
 abbrev pub with_word : List ℕ → Option Parts → Option Parts
 with_word w None = None
 with_word w (Some p) = Some (record p { words = w ∷ p.words })
@@ -52,18 +59,23 @@ abbrev pub with_value : List ℕ → Option Parts → Option Parts
 with_value v None = None
 with_value v (Some p) = Some (record p { values = v ∷ p.values })
 
+abbrev pub with_free : Option Parts → Option Parts
+with_free None = None
+with_free (Some p) = Some (record p { frees = suc p.frees })
+
 -- what a word of this sort and the words behind it are, by what those are where options may stand, and where a value has to
 abbrev pub parts_by : Sort → List ℕ → List (List ℕ) → Option Parts → Option Parts → Option Parts
-parts_by positional w ws free held = with_word w free
-parts_by ends w ws free held = Some (record { words = ws; values = [] })
-parts_by apart w ws free held = held
-parts_by (attached v) w ws free held = with_value v free
-parts_by refused w ws free held = None
+parts_by positional w ws loose held = with_word w loose
+parts_by ends w ws loose held = Some (record { words = ws; values = []; frees = 0 })
+parts_by frees w ws loose held = with_free loose
+parts_by apart w ws loose held = held
+parts_by (attached v) w ws loose held = with_value v loose
+parts_by refused w ws loose held = None
 
--- the parts of these words, none where one is refused. Where the first is to be the value of the option it is no dashed word,
+-- the parts of these words, none where one is refused. Where the first is to be the value of `--budget` it is no dashed word,
 -- since no number is
 abbrev pub parts_of : Bool → List (List ℕ) → Option Parts
-parts_of false [] = Some (record { words = []; values = [] })
+parts_of false [] = Some (record { words = []; values = []; frees = 0 })
 parts_of true [] = None
 parts_of false (w ∷ ws) = parts_by (sort_of w) w ws (parts_of false ws) (parts_of true ws)
 parts_of true (w ∷ ws) = if is_dashed w then None else with_value w (parts_of false ws)
@@ -84,23 +96,32 @@ size_of = number_of 5 1 20000
 abbrev pub seed_of : List ℕ → Option ℕ
 seed_of = number_of 20 0 18446744073709551615
 
--- the budget that the values of the option give: none without a value; more than one value are refused
-abbrev pub budget_given : List (List ℕ) → Option (Option ℕ)
-budget_given [] = Some None
-budget_given (v ∷ []) = option_map (λ n. Some n) (budget_of v)
+-- the budget that the values of `--budget` give: without one the usual budget; more than one are refused
+abbrev pub budget_given : List (List ℕ) → Option ℕ
+budget_given [] = Some DEFAULT_BUDGET
+budget_given (v ∷ []) = budget_of v
 budget_given (v ∷ u ∷ vs) = None
 
--- two names of files and a budget; what is drawn, the name of a script and a budget
+-- whether `--free` is given, by how many words say so; more than one are refused
+abbrev pub free_given : ℕ → Option Bool
+free_given zero = Some false
+free_given (suc zero) = Some true
+free_given (suc (suc n)) = None
+
+-- two names of files, whether values under which the network allows nothing may be given any meaning, and how many nodes of diagrams
+-- may be made; what is drawn, the name of a script, and the same
 pub record Files : Type 0 where
   pub net : List ℕ
   pub other : List ℕ
-  pub budget : Option ℕ
+  pub free : Bool
+  pub budget : ℕ
 
 pub record Draw : Type 0 where
   pub size : ℕ
   pub seed : ℕ
   pub script : List ℕ
-  pub budget : Option ℕ
+  pub free : Bool
+  pub budget : ℕ
 
 -- what a command line asks for: that a network is optimised by a script, that a certificate is checked on it, or that a network
 -- is drawn and optimised by a script
@@ -113,29 +134,33 @@ pub data Asked : Type 0 where
 abbrev pub is_stdin : List ℕ → Bool
 is_stdin w = same_word w (codes "-")
 
-abbrev pub files_with : List ℕ → List ℕ → Option ℕ → Files
-files_with net other budget = record { net = net; other = other; budget = budget }
+abbrev pub files_with : List ℕ → List ℕ → Bool → ℕ → Files
+files_with net other free budget = record { net = net; other = other; free = free; budget = budget }
 
-abbrev pub draw_with : ℕ → ℕ → List ℕ → Option ℕ → Draw
-draw_with size seed script budget = record { size = size; seed = seed; script = script; budget = budget }
+abbrev pub draw_with : ℕ → ℕ → List ℕ → Bool → ℕ → Draw
+draw_with size seed script free budget = record { size = size; seed = seed; script = script; free = free; budget = budget }
+
+-- what is made of both, where both are given
+abbrev pub of_both : {A : Type 0} → (Bool → ℕ → A) → Option Bool → Option ℕ → Option A
+of_both make free budget = option_and_then (λ f. option_map (make f) budget) free
 
 -- exactly two names of files, of which one at most is standard input
-abbrev pub files_in : List (List ℕ) → Option (Option ℕ) → Option Files
-files_in (net ∷ other ∷ []) budget =
-    if is_stdin net && is_stdin other then None else option_map (files_with net other) budget
-files_in _ budget = None
+abbrev pub files_in : List (List ℕ) → Option Bool → Option ℕ → Option Files
+files_in (net ∷ other ∷ []) free budget =
+    if is_stdin net && is_stdin other then None else of_both (files_with net other) free budget
+files_in _ free budget = None
 
 -- exactly a size, a seed and the name of a script
-abbrev pub draw_in : List (List ℕ) → Option (Option ℕ) → Option Draw
-draw_in (size ∷ seed ∷ script ∷ []) budget =
-    option_and_then (λ n. option_and_then (λ s. option_map (draw_with n s script) budget) (seed_of seed)) (size_of size)
-draw_in _ budget = None
+abbrev pub draw_in : List (List ℕ) → Option Bool → Option ℕ → Option Draw
+draw_in (size ∷ seed ∷ script ∷ []) free budget =
+    option_and_then (λ n. option_and_then (λ s. of_both (draw_with n s script) free budget) (seed_of seed)) (size_of size)
+draw_in _ free budget = None
 
 abbrev pub files_asked : Parts → Option Files
-files_asked p = files_in p.words (budget_given p.values)
+files_asked p = files_in p.words (free_given p.frees) (budget_given p.values)
 
 abbrev pub draw_asked : Parts → Option Draw
-draw_asked p = draw_in p.words (budget_given p.values)
+draw_asked p = draw_in p.words (free_given p.frees) (budget_given p.values)
 
 -- what the words behind the first one ask for
 abbrev pub asked_by : List ℕ → Option Parts → Option Asked

@@ -2,21 +2,24 @@
 use Rattle.std.specs.Prelude.{Bool, true, [], ◌∷◌, ◌++◌, Some, codes, if◌then◌else◌}
 use Rattle.clap.specs.Walk.{Rule, Text}
 use Rattle.clap.specs.Simple.{App, new_rule, new_shape}
-use Rattle.clap.specs.declared.builder.action.ArgAction.TheVariants.{Set}
+use Rattle.clap.specs.declared.builder.action.ArgAction.TheVariants.{Set, SetTrue}
 
--- the option, and a positional word
+-- the options, and a positional word
 abbrev pub budget_given : Rule
 budget_given = record (new_rule (codes "budget")) { long = Some (codes "budget"); action = Some Set }
+
+abbrev pub free_given : Rule
+free_given = record (new_rule (codes "free")) { long = Some (codes "free"); action = Some SetTrue }
 
 abbrev pub word_given : Text → Rule
 word_given id = record (new_rule id) { action = Some Set; required = true }
 
--- two positional words, the option, and no flag for help
+-- two positional words, the options, and no flag for help
 abbrev pub two_given : App
 two_given = record {
   top = record (new_shape (codes "mvopt")) {
     disable_help_flag = true;
-    rules = budget_given ∷ word_given (codes "first") ∷ word_given (codes "second") ∷ [];
+    rules = budget_given ∷ free_given ∷ word_given (codes "first") ∷ word_given (codes "second") ∷ [];
   };
   subs = [];
 }

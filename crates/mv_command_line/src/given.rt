@@ -3,23 +3,25 @@ ghost use Rattle.mv_base.specs.Names.{same_word};
 ghost use Rattle.mv_command_line.specs.CommandLine.{is_stdin};
 ghost use Rattle.mv_command_line.specs.Given.{text_of, files_of, draw_of, budget_by, files_by, draw_by};
 
+use crate::Options;
 use crate::number::{budget_of, seed_of, size_of};
+use mv_base::DEFAULT_BUDGET;
 
-/// Two names of files and a budget.
+/// Two names of files, and what the options say.
 #[derive(Clone, Copy)]
 pub struct Files<'a> {
     pub net: &'a str,
     pub other: &'a str,
-    pub budget: Option<u32>,
+    pub options: Options,
 }
 
-/// What is drawn, the name of a script and a budget.
+/// What is drawn, the name of a script, and what the options say.
 #[derive(Clone, Copy)]
 pub struct Draw<'a> {
     pub size: u32,
     pub seed: u64,
     pub script: &'a str,
-    pub budget: Option<u32>,
+    pub options: Options,
 }
 
 /// Whether the word is this text.
@@ -36,26 +38,24 @@ fn is_stdin(word: &[u8]) -> bool
     is_text(word, b"-")
 }
 
-/// The budget that the option's value says, if it has one; None where it says none.
-fn budget_by(value: Option<&str>) -> Option<Option<u32>>
+/// The budget that the value of `--budget` says, or the usual one; None where it says none.
+fn budget_by(value: Option<&str>) -> Option<u32>
     ensures { result ≡ budget_by (text_of value.entry) }
 {
     match value {
-        None => Some(None),
-        Some(text) => {
-            let budget = budget_of(text.as_bytes())?;
-            Some(Some(budget))
-        }
+        None => Some(DEFAULT_BUDGET as u32),
+        Some(text) => budget_of(text.as_bytes()),
     }
 }
 
-/// Two names of files, of which one at most is standard input, with a budget.
+/// Two names of files, of which one at most is standard input, with what the options say.
 pub fn files_by<'a>(
     net: Option<&'a str>,
     other: Option<&'a str>,
+    free: bool,
     budget: Option<&'a str>,
 ) -> Option<Files<'a>>
-    ensures { option_map files_of result ≡ files_by (text_of net.entry) (text_of other.entry) (text_of budget.entry) }
+    ensures { option_map files_of result ≡ files_by (text_of net.entry) (text_of other.entry) free (text_of budget.entry) }
 {
     let net = net?;
     let other = other?;
@@ -63,27 +63,34 @@ pub fn files_by<'a>(
         return None;
     }
     let budget = budget_by(budget)?;
-    Some(Files { net, other, budget })
+    let options = Options { free, budget };
+    Some(Files {
+        net,
+        other,
+        options,
+    })
 }
 
-/// A size, a seed and the name of a script, with a budget.
+/// A size, a seed and the name of a script, with what the options say.
 pub fn draw_by<'a>(
     size: Option<&'a str>,
     seed: Option<&'a str>,
     script: Option<&'a str>,
+    free: bool,
     budget: Option<&'a str>,
 ) -> Option<Draw<'a>>
     ensures { option_map draw_of result
-        ≡ draw_by (text_of size.entry) (text_of seed.entry) (text_of script.entry) (text_of budget.entry) }
+        ≡ draw_by (text_of size.entry) (text_of seed.entry) (text_of script.entry) free (text_of budget.entry) }
 {
     let size = size_of(size?.as_bytes())?;
     let seed = seed_of(seed?.as_bytes())?;
     let script = script?;
     let budget = budget_by(budget)?;
+    let options = Options { free, budget };
     Some(Draw {
         size,
         seed,
         script,
-        budget,
+        options,
     })
 }

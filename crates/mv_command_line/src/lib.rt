@@ -7,7 +7,7 @@ mod reading;
 mod task;
 
 pub use reading::read_words;
-pub use task::{Task, WordsStop};
+pub use task::{Options, Task, WordsStop};
 
 #[cfg(test)]
 mod tests;

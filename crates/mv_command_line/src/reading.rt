@@ -1,7 +1,7 @@
 ghost use Rattle.std.specs.Prelude.{◌≡◌, ◌<◌, false, Some, [], IfOk, MatchResult, length, map, slice_index_or, string_bytes};
 ghost use Rattle.std.specs.Prelude.{option_map, option_and_then};
 ghost use Rattle.clap.specs.Words.{app_of, rule_of};
-ghost use Rattle.mv_command_line.specs.Commands.{budget_given, command_given, two_given, word_given};
+ghost use Rattle.mv_command_line.specs.Commands.{budget_given, free_given, command_given, two_given, word_given};
 ghost use Rattle.mv_command_line.specs.CommandLine.{opt, check, work, asked_by, files_asked, draw_asked, task_of};
 ghost use Rattle.mv_command_line.specs.Answers.{Answers, IsRefusedBy};
 ghost use Rattle.mv_command_line.specs.Given.{AreMatched, files_of, draw_of, rest_parts};
@@ -12,7 +12,7 @@ use clap::error::ErrorKind;
 use clap::{Arg, ArgAction, ArgMatches, Command};
 use std::alloc::{AllocError, Global};
 
-/// The option, whose value is a text.
+/// The option `--budget`, whose value is a text.
 fn budget_given<'a>(alloc: Global) -> Arg<'a>
     ensures rule { rule_of result ≡ budget_given }
     ensures local { result.global ≡ false }
@@ -20,6 +20,16 @@ fn budget_given<'a>(alloc: Global) -> Arg<'a>
     Arg::new(alloc, "budget")
         .action(ArgAction::Set)
         .long("budget")
+}
+
+/// The option `--free`, which has no value.
+fn free_given<'a>(alloc: Global) -> Arg<'a>
+    ensures rule { rule_of result ≡ free_given }
+    ensures local { result.global ≡ false }
+{
+    Arg::new(alloc, "free")
+        .action(ArgAction::SetTrue)
+        .long("free")
 }
 
 /// A positional word, which has to be there.
@@ -30,13 +40,14 @@ fn word_given(alloc: Global, id: &str) -> Arg<'_>
     Arg::new(alloc, id).action(ArgAction::Set).required(true)
 }
 
-/// The command that reads the words behind a task's name, where they are two positional ones and the option.
+/// The command that reads the words behind a task's name, where they are two positional ones and the options.
 fn two_words<'a>(alloc: Global) -> Result<Command<'a>, AllocError>
     ensures { IfOk result (λ c. app_of c ≡ two_given) }
 {
     let command = Command::new(alloc, "mvopt")
         .disable_help_flag(true)
         .arg(budget_given(alloc))?
+        .arg(free_given(alloc))?
         .arg(word_given(alloc, "first"))?
         .arg(word_given(alloc, "second"))?;
     Ok(command)
@@ -79,8 +90,9 @@ fn files<'a>(alloc: Global, words: &'a [String]) -> Result<Files<'a>, WordsStop>
     };
     let net = matches.get_str("first");
     let other = matches.get_str("second");
+    let free = matches.get_flag("free");
     let budget = matches.get_str("budget");
-    match files_by(net, other, budget) {
+    match files_by(net, other, free, budget) {
         Some(files) => Ok(files),
         None => Err(WordsStop::Refused),
     }
@@ -98,8 +110,9 @@ fn draw<'a>(alloc: Global, words: &'a [String]) -> Result<Draw<'a>, WordsStop>
     let size = matches.get_str("first");
     let seed = matches.get_str("second");
     let script = matches.get_str("third");
+    let free = matches.get_flag("free");
     let budget = matches.get_str("budget");
-    match draw_by(size, seed, script, budget) {
+    match draw_by(size, seed, script, free, budget) {
         Some(draw) => Ok(draw),
         None => Err(WordsStop::Refused),
     }
@@ -113,7 +126,7 @@ fn opt<'a>(alloc: Global, words: &'a [String]) -> Result<Task<'a>, WordsStop>
         Ok(files) => Ok(Task::Opt {
             net: files.net,
             script: files.other,
-            budget: files.budget,
+            options: files.options,
         }),
         Err(stop) => Err(stop),
     }
@@ -127,7 +140,7 @@ fn check<'a>(alloc: Global, words: &'a [String]) -> Result<Task<'a>, WordsStop>
         Ok(files) => Ok(Task::Check {
             net: files.net,
             certificate: files.other,
-            budget: files.budget,
+            options: files.options,
         }),
         Err(stop) => Err(stop),
     }
@@ -142,7 +155,7 @@ fn work<'a>(alloc: Global, words: &'a [String]) -> Result<Task<'a>, WordsStop>
             size: draw.size,
             seed: draw.seed,
             script: draw.script,
-            budget: draw.budget,
+            options: draw.options,
         }),
         Err(stop) => Err(stop),
     }
@@ -173,8 +186,8 @@ fn first_word(words: &[String]) -> &str
 }
 
 /// The task that the words ask for, without the program's name: `opt NET SCRIPT`, `check NET CERTIFICATE` or
-/// `work SIZE SEED SCRIPT`, with `--budget N` or `--budget=N` at most once among the words behind the first one, before any `--`,
-/// which ends options. Behind it every word is positional. N has up to seven digits and is from 1,000 to 4,000,000, SIZE up to
+/// `work SIZE SEED SCRIPT`, with `--free` at most once and `--budget N` or `--budget=N` at most once among the words behind the first
+/// one, before any `--`, which ends options. Behind it every word is positional. N has up to seven digits and is from 1,000 to 4,000,000, SIZE up to
 /// five and is from 1 to 20,000, SEED up to twenty and is below 2^64. One name of a file at most is `-`. All else is refused.
 pub fn read_words<'a>(alloc: Global, words: &'a [String]) -> Result<Task<'a>, WordsStop>
     ensures { Answers (task_of (map string_bytes words.now)) result }

@@ -1,27 +1,36 @@
 use std::alloc::AllocError;
 
+/// What the options of a command line say.
+#[derive(Clone, Copy, Debug, PartialEq, Eq)]
+pub struct Options {
+    /// Whether values under which the network allows nothing may be given any meaning.
+    pub free: bool,
+    /// How many nodes a diagram may have: from 1,000 to 4,000,000, or `DEFAULT_BUDGET` where no number is given.
+    pub budget: u32,
+}
+
 /// What a command line asks for. A name of a file is as it was given: `-` is standard input, and an empty one names a file of that
-/// name. A budget of diagram nodes is from 1,000 to 4,000,000, or isn't given.
+/// name.
 #[derive(Clone, Copy, Debug, PartialEq, Eq)]
 pub enum Task<'a> {
     /// A network is to be optimised by a script.
     Opt {
         net: &'a str,
         script: &'a str,
-        budget: Option<u32>,
+        options: Options,
     },
     /// A certificate of such a run is to be checked.
     Check {
         net: &'a str,
         certificate: &'a str,
-        budget: Option<u32>,
+        options: Options,
     },
     /// A network of this size, from 1 to 20,000, is to be drawn from the seed and optimised by a script.
     Work {
         size: u32,
         seed: u64,
         script: &'a str,
-        budget: Option<u32>,
+        options: Options,
     },
 }
 

@@ -1,4 +1,4 @@
-use crate::{Task, WordsStop, read_words};
+use crate::{Options, Task, WordsStop, read_words};
 use std::alloc::Global;
 use std::process::Abort;
 use std::test::Fail;
@@ -33,37 +33,54 @@ fn are_refused(rt: &impl Abort, alloc: Global, lines: &[&str]) -> Result<(), Fai
     Ok(())
 }
 
-fn opt(net: &'static str, script: &'static str, budget: Option<u32>) -> Task<'static> {
+fn opt(net: &'static str, script: &'static str, free: bool, budget: u32) -> Task<'static> {
     Task::Opt {
         net,
         script,
-        budget,
+        options: Options { free, budget },
     }
 }
+
+/// The budget where none is given.
+const USUAL: u32 = 200_000;
 
 #[test]
 fn tasks_are_asked_for(rt: HostRuntime) -> Result<(), Fail> {
     let check = Task::Check {
         net: "-",
         certificate: "c",
-        budget: Some(4_000_000),
+        options: Options {
+            free: true,
+            budget: 4_000_000,
+        },
     };
     let work = Task::Work {
         size: 20_000,
         seed: 18_446_744_073_709_551_615,
         script: "-",
-        budget: Some(1_000),
+        options: Options {
+            free: false,
+            budget: 1_000,
+        },
     };
     let lines = [
-        ("opt|n|s", opt("n", "s", None)),
-        ("opt||s", opt("", "s", None)),
-        ("opt|--budget|1000|n|s", opt("n", "s", Some(1_000))),
-        ("opt|n|--budget=0001000|s", opt("n", "s", Some(1_000))),
-        ("opt|n|s|--", opt("n", "s", None)),
-        ("opt|n|--|--budget=1000", opt("n", "--budget=1000", None)),
-        ("opt|--|--|-x", opt("--", "-x", None)),
-        ("opt|n|-", opt("n", "-", None)),
-        ("check|-|c|--budget|4000000", check),
+        ("opt|n|s", opt("n", "s", false, USUAL)),
+        ("opt||s", opt("", "s", false, USUAL)),
+        ("opt|--budget|1000|n|s", opt("n", "s", false, 1_000)),
+        ("opt|n|--budget=0001000|s", opt("n", "s", false, 1_000)),
+        ("opt|n|s|--", opt("n", "s", false, USUAL)),
+        (
+            "opt|n|--|--budget=1000",
+            opt("n", "--budget=1000", false, USUAL),
+        ),
+        ("opt|--|--|-x", opt("--", "-x", false, USUAL)),
+        ("opt|n|-", opt("n", "-", false, USUAL)),
+        ("opt|--free|n|s", opt("n", "s", true, USUAL)),
+        ("opt|n|--budget|1000|--free|s", opt("n", "s", true, 1_000)),
+        ("opt|n|s|--free|--", opt("n", "s", true, USUAL)),
+        ("opt|n|--|--free", opt("n", "--free", false, USUAL)),
+        ("opt|n|--free|--|--free", opt("n", "--free", true, USUAL)),
+        ("check|-|c|--budget|4000000|--free", check),
         ("work|20000|18446744073709551615|-|--budget=1000", work),
     ];
     are_asked(&rt, rt.alloc(), lines.as_slice())
@@ -95,6 +112,21 @@ fn words_are_refused(rt: HostRuntime) -> Result<(), Fail> {
         "opt|n|s|--budget=00001000",
         "opt|n|s|--budget=+1000",
         "opt|n|s|--budget=1000|--budget=1000",
+        "--free|opt|n|s",
+        "opt|--free|n",
+        "opt|n|s|--free|--free",
+        "opt|--free|n|s|--free",
+        "opt|n|s|--free=",
+        "opt|n|s|--free=x",
+        "opt|n|s|--free=true",
+        "opt|n|s|--fre",
+        "opt|n|s|--freed",
+        "opt|n|s|-free",
+        "opt|n|s|--Free",
+        "opt|n|s|--budget|--free",
+        "opt|n|s|--free|true",
+        "check|n|c|--free|--budget=1000|--free",
+        "work|1|1|s|--free|--free",
         "work|0|1|s",
         "work|20001|1|s",
         "work|000001|1|s",

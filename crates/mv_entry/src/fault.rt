@@ -53,6 +53,12 @@ pub enum RuleFault {
     /// The window is too large.
     #[error("the window is too large")]
     Window,
+    /// The rule leaves more choices than there were, and only those that keep to them are asked for.
+    #[error("the rule isn't among those that are asked for")]
+    Strict,
+    /// The table allows something everywhere.
+    #[error("the table is total")]
+    Total,
     /// The nodes of diagrams are used up.
     #[error("there are too many nodes")]
     Nodes,

@@ -171,7 +171,8 @@ impl Rule {
             | Rule::Add { .. }
             | Rule::Divide { .. }
             | Rule::Wire { .. }
-            | Rule::Collapse { .. } => true,
+            | Rule::Collapse { .. }
+            | Rule::Fill { .. } => true,
             _ => false,
         }
     }

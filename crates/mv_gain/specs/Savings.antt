@@ -1,11 +1,9 @@
 -- Nets that can go into their readers with no more literals than before, and nets that can't because a composite is too wide.
 use Rattle.std.specs.Prelude.{◌≡◌, ℕ, ◌<◌, ◌≤◌, true, is_some}
-use Rattle.mv_entry.specs.declared.rule.Rule.TheVariants.{Collapse}
 use Rattle.mv_entry.specs.declared.fault.RuleFault.TheVariants.{Wide}
 use Rattle.mv_net.specs.declared.parts.NetParts.{NetParts}
 use Rattle.mv_net.specs.Nets.{slot, name_in, table_in, literals_in}
-use Rattle.mv_rules.specs.Applies.{Fails}
-use Rattle.mv_rules.specs.Collapsing.{CanCollapse, HasComposites, collapsed}
+use Rattle.mv_rules.specs.Collapsing.{CanCollapse, HasComposites, FailsCollapse, collapsed}
 
 -- the net at n can go into its readers, and their composites leave the literals no higher
 pub record IsSaving (net : NetParts) (n : ℕ) : Type 0 where
@@ -26,4 +24,4 @@ pub record IsLeastSaving (net : NetParts) (n : ℕ) : Type 0 where
 -- the net at n can't go into its readers, for this alone that a composite is too wide
 pub record IsWideNet (net : NetParts) (n : ℕ) : Type 0 where
   pub tabled : is_some (table_in (slot net.nets n)) ≡ true
-  pub fails : Fails (Collapse (name_in (slot net.nets n))) net Wide
+  pub fails : FailsCollapse net (name_in (slot net.nets n)) Wide

@@ -6,3 +6,5 @@ pub mod Adding
 pub mod OneTable
 pub mod Changing
 pub mod Wiring
+pub mod Ranked
+pub mod Filling

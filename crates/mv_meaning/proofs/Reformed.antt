@@ -62,7 +62,7 @@ pub IsReformed-back : (old new : List (Option FlatNet)) → IsReformed old new �
 IsReformed-back old new r = record { each = λ n. IsAlike-back (slot old n) (slot new n) (r.each n) }
 
 -- a file spells their values alike
-spelled_alike : (f g : Option FlatNet) → IsAlike f g → spelled_in g ≡ spelled_in f
+pub spelled_alike : (f g : Option FlatNet) → IsAlike f g → spelled_in g ≡ spelled_in f
 spelled_alike None None a = refl
 spelled_alike None (Some h) a = let bad = a.kind in cc
 spelled_alike (Some f) None a = let bad = a.kind in cc

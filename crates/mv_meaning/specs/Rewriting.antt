@@ -1,11 +1,13 @@
 -- What a network becomes where tables are rewritten, one net is given another table, or a net comes; and how such nets
 -- compare with those that were there.
 use Rattle.std.specs.Prelude.{◌≡◌, ◌⊎◌, ◌↔◌, ◌<◌, ◌≤◌, ℕ, true, false, if◌then◌else◌, is_some, Option, Some, None, List, [], map, slice_set}
+use Rattle.mv_base.specs.Meaning.{Meaning, AllowsSome}
 use Rattle.mv_base.specs.Names.{is_net_name}
 use Rattle.mv_base.specs.declared.limits.TheConstants.{MAX_VALUES}
 use Rattle.mv_cover.specs.declared.cover.Cover.{Cover}
 use Rattle.mv_cover.specs.Covers.{allowed, cover_reads}
 use Rattle.mv_cover.specs.Covering.{IsPoint}
+use Rattle.mv_cover.specs.Plain.{AllowsOne}
 use Rattle.mv_graph.specs.Above.{IsAbove}
 use Rattle.mv_net.specs.declared.change.NewTable.{NewTable}
 use Rattle.mv_net.specs.declared.parts.Kind.TheVariants.{Latch, Table, Reset}
@@ -62,6 +64,16 @@ pub record AreCovers (over nets : List (Option FlatNet)) : Type 0 where
 -- what a new net reads is above it among the old ones
 pub record ReadsAlong (old new : List (Option FlatNet)) : Type 0 where
   pub along : (n m : ℕ) → reads_in new n m ≡ true → IsAbove (reads_in old) m n
+
+-- b looks like a, and allows the same under all values where a allows some choice
+pub record SameWhereAllowed (b a : Meaning) : Type 0 where
+  pub same : b.interface ≡ a.interface
+  pub only : (i s o n r : List ℕ) → AllowsSome a i s → b.allows i s o n r → a.allows i s o n r
+  pub all : (i s o n r : List ℕ) → a.allows i s o n r → b.allows i s o n r
+
+-- each table above the net allows one value at most
+pub record AllowOneAbove (nets : List (Option FlatNet)) (n : ℕ) : Type 0 where
+  pub each : (m : ℕ) (c : Cover) → IsAbove (reads_in nets) m n → table_in (slot nets m) ≡ Some c → AllowsOne c
 
 -- ---- readers
 

@@ -1,9 +1,10 @@
 ghost use Rattle.std.specs.Prelude.{◌≡◌, ◌⊎◌, ◌↔◌, ℕ, true, false, List, [], ◌∷◌, ◌++◌, Option, Some, None, map, slice_set};
-ghost use Rattle.mv_base.specs.Meaning.{SameMeaning};
+ghost use Rattle.mv_base.specs.Meaning.{Refines, SameMeaning};
 ghost use Rattle.mv_base.specs.declared.number.NetId.{NetId};
 ghost use Rattle.mv_cover.specs.declared.cover.Cover.{Cover};
 ghost use Rattle.mv_cover.specs.Covers.{allowed, cover_reads};
 ghost use Rattle.mv_cover.specs.Covering.{IsPoint};
+ghost use Rattle.mv_cover.specs.Lines.{IsOutput};
 ghost use Rattle.mv_cover.specs.Plain.{AllowsOne};
 ghost use Rattle.mv_graph.specs.Above.{IsAbove, IsAcyclic};
 ghost use Rattle.mv_net.specs.declared.change.NewNet.{NewNet};
@@ -19,6 +20,7 @@ ghost use Rattle.mv_net.specs.Plain.{IsPlainBuffer};
 ghost use Rattle.mv_net.specs.Total.{IsTotal};
 ghost use Rattle.mv_meaning.specs.Rewriting.{
   AgreesUnread,
+  AllowOneAbove,
   AreCovers,
   HasOneReader,
   JoinsTables,
@@ -29,6 +31,7 @@ ghost use Rattle.mv_meaning.specs.Rewriting.{
   IsReformed,
   PutsAbove,
   ReadsAlong,
+  SameWhereAllowed,
   SetsReaders,
   rewritten,
   with_net_table,
@@ -119,6 +122,21 @@ pub fn wiring_laws()
         → ((at : ℕ → ℕ) → IsPoint (map values_in net.nets) at → at n ≡ at other → (m : ℕ) (c : Cover)
         → IsReader net.nets n m c → allowed (new c) at (at m) ≡ allowed c at (at m))
         → SameMeaning (of_net (with_nets net (rewritten new n net.nets))) (of_net net) }
+{}
+
+/// A net whose table isn't total gets the table with a default: the network is well formed where the default gives some values of
+/// the net; and where each table above the net allows one value at most, the network allows what it allowed under all values where
+/// it allowed some choice, and so may take the old one's place where others are free.
+pub fn filling_laws()
+    ensures formed { (net : NetParts) (n : ℕ) (c : Cover) (out : ℕ) → WellFormed net → table_in (slot net.nets n) ≡ Some c
+        → (IsTotal net.nets c → ⊥) → IsOutput (values_in (slot net.nets n)) out
+        → WellFormed (with_nets net (with_net_table net.nets n (record c { default = Some out }))) }
+    ensures means { (net : NetParts) (n : ℕ) (c : Cover) (out : ℕ) → WellFormed net → table_in (slot net.nets n) ≡ Some c
+        → (IsTotal net.nets c → ⊥) → AllowOneAbove net.nets n
+        → SameWhereAllowed (of_net (with_nets net (with_net_table net.nets n (record c { default = Some out })))) (of_net net) }
+    ensures refines { (net : NetParts) (n : ℕ) (c : Cover) (out : ℕ) → WellFormed net → table_in (slot net.nets n) ≡ Some c
+        → (IsTotal net.nets c → ⊥) → AllowOneAbove net.nets n
+        → Refines true (of_net (with_nets net (with_net_table net.nets n (record c { default = Some out })))) (of_net net) }
 {}
 
 /// What a change leaves that gives one net a table, that gives the readers of a net their new ones, that lets the net go besides, or

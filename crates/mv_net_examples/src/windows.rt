@@ -146,32 +146,38 @@ fn points_end_at_the_greatest_number(rt: HostRuntime) -> Result<(), Fail> {
     Ok(())
 }
 
-/// Puts the nets below one, and a semicolon.
-fn put_below(said: &mut String, net: &Network, n: NetId) -> Result<(), Fail> {
+/// Puts the nets below one, behind a bar those above it, and a semicolon.
+fn put_beyond(said: &mut String, net: &Network, n: NetId) -> Result<(), Fail> {
     let below = net.below(n)?;
     put_nets(said, below.as_slice())?;
+    said.push_str(" |")?;
+    let above = net.above(n)?;
+    put_nets(said, above.as_slice())?;
     Ok(said.push(';')?)
 }
 
-/// The nets below each of these, in a network.
-fn below_in(alloc: Global, net: &Network, nets: &[NetId]) -> Result<String, Fail> {
+/// The nets below and above each of these, in a network.
+fn beyond_in(alloc: Global, net: &Network, nets: &[NetId]) -> Result<String, Fail> {
     let mut said = String::new(alloc);
     for n in nets {
-        put_below(&mut said, net, *n)?;
+        put_beyond(&mut said, net, *n)?;
     }
     Ok(said)
 }
 
-/// The nets below each of these.
-fn below(alloc: Global, nets: &[NetId]) -> Result<String, Fail> {
+/// The nets below and above each of these.
+fn beyond(alloc: Global, nets: &[NetId]) -> Result<String, Fail> {
     let net = network(alloc, NETWORK)?;
-    below_in(alloc, &net, nets)
+    beyond_in(alloc, &net, nets)
 }
 
 #[test]
-fn nets_below(rt: HostRuntime) -> Result<(), Fail> {
+fn nets_below_and_above(rt: HostRuntime) -> Result<(), Fail> {
     let nets = [NetId(0), NetId(3), NetId(4), NetId(5), NetId(9)];
-    assert_eq!(rt; below(rt.alloc(), &nets)?.as_str(), " 3 4 5 6; 4 5 6; 5;;;");
+    assert_eq!(rt;
+        beyond(rt.alloc(), &nets)?.as_str(),
+        " 3 4 5 6 |; 4 5 6 | 0 1; 5 | 0 1 2 3; | 0 1 2 3 4; |;"
+    );
     Ok(())
 }
 

@@ -1,5 +1,5 @@
 -- What a script puts to the notes is a certificate of what it did.
-use Rattle.std.proofs.Common.{◌≡◌, ◌∙◌, ℕ, ◌≤◌, true, nat_eq, is_some, List, [], ◌∷◌, ◌++◌, length, map, All, Option, Some, None, refl, sym, ap, subst, ⊎_elim}
+use Rattle.std.proofs.Common.{◌≡◌, ◌∙◌, ℕ, ◌≤◌, Bool, true, nat_eq, is_some, List, [], ◌∷◌, ◌++◌, length, map, All, Option, Some, None, refl, sym, ap, subst, ⊎_elim}
 use Rattle.std.proofs.lemmas.Bool.{and_parts, eq-eqb, false≢true, or_left, or_right}
 use Rattle.std.proofs.lemmas.List.{append-nil}
 use Rattle.std.proofs.lemmas.List.Elements.{All-nil, All-cons, All-append}
@@ -22,21 +22,25 @@ use Rattle.mv_net.specs.declared.parts.FlatNet.{FlatNet}
 use Rattle.mv_net.specs.declared.parts.NetParts.{NetParts}
 use Rattle.mv_net.specs.Formed.{WellFormed}
 use Rattle.mv_net.specs.Nets.{slot, name_in, table_in, literals_in}
+use Rattle.mv_pass.specs.Courses.{Course}
 use Rattle.mv_pass.specs.Going.{Goes}
 use Rattle.mv_pass.proofs.Going.{rules_of-append}
+use Rattle.mv_pass.proofs.Turns.{of_visits}
 use Rattle.mv_rules_back.specs.Names.{HasWordNames}
 use Rattle.mv_rules_back.specs.Notes.{notes_of}
 use Rattle.mv_rules.specs.Replaying.{Replays}
+use Rattle.mv_rules.proofs.Kept.{kept_formed}
 use Rattle.mv_rules.proofs.Replayed.{replayed_formed}
 use Rattle.mv_rules.proofs.Spoken.{held_visible}
 use Rattle.mv_script_run.specs.Commands.{CourseOf, DoesCommand, RunsCommand}
-use Rattle.mv_script_run.specs.Runs.{Course, Runs}
+use Rattle.mv_script_run.specs.Runs.{Runs}
 use Rattle.mv_script_run.proofs.Inductions.{of_items}
 use Rattle.mv_script_run.proofs.Rules.{course_replays, does_replays, runs_replays}
 use Rattle.mv_script.specs.Commands.{IsCommand, is_named, are_named}
 use Rattle.mv_script.specs.Scripts.{Items}
 use Rattle.mv_script.proofs.Commands.{built_lawful}
 use Rattle.mv_sweep.specs.Drops.{IsDropStep}
+use Rattle.mv_sweep.specs.Fills.{Filled, FillsNet, FillsTables, LetBe, Stays, rule_of}
 use Rattle.mv_sweep.specs.Sweeps.{IsSweepStep}
 use Rattle.mv_opt.specs.Noted.{IsCertificateOf, all_notes}
 use Rattle.mv_opt.proofs.Seen.{IsSeenNote, seen_certifies}
@@ -56,10 +60,10 @@ seen_append xs ys p q = subst (λ ns. All IsSeenNote ns) (sym (notes_of-append x
 -- ---- the notes of a command's steps
 
 -- where each note that is lawful can be seen, all can
-goes_seen : (Lawful : NetParts → Entry → Type 0) → ((net : NetParts) (note : Note) → Lawful net (Noted note) → IsSeenNote note) → (a b : NetParts) (es : List Entry) → Goes Lawful a es b → AreSeen es
-goes_seen Lawful each a b [] g = All-nil IsSeenNote
-goes_seen Lawful each a b (Applied r ∷ es) g = goes_seen Lawful each g.1.0 b es g.1.1.1
-goes_seen Lawful each a b (Noted n ∷ es) g = All-cons IsSeenNote n (notes_of es) (each a n g.0) (goes_seen Lawful each a b es g.1)
+goes_seen : (free : Bool) (Lawful : NetParts → Entry → Type 0) → ((net : NetParts) (note : Note) → Lawful net (Noted note) → IsSeenNote note) → (a b : NetParts) (es : List Entry) → Goes free Lawful a es b → AreSeen es
+goes_seen free Lawful each a b [] g = All-nil IsSeenNote
+goes_seen free Lawful each a b (Applied r ∷ es) g = goes_seen free Lawful each g.1.0 b es g.1.1.1
+goes_seen free Lawful each a b (Noted n ∷ es) g = All-cons IsSeenNote n (notes_of es) (each a n g.0) (goes_seen free Lawful each a b es g.1)
 
 -- the name of a net with a table
 tabled_visible : (net : NetParts) (n : ℕ) → WellFormed net → is_some (table_in (slot net.nets n)) ≡ true → is_visible_name (name_in (slot net.nets n)) ≡ true
@@ -86,45 +90,16 @@ noted_seen net notes formed h =
     subst AreSeen (sym wide.notes_are) (wide_seen net wide.numbers formed (λ n y. (wide.wide n y).1.tabled)))
     h.how
 
-eliminates_seen : (a b : NetParts) (steps : List Entry) → WellFormed b → Eliminates a steps b → AreSeen steps
-eliminates_seen a b steps formed e =
+eliminates_seen : (free : Bool) (a b : NetParts) (steps : List Entry) → WellFormed b → Eliminates free a steps b → AreSeen steps
+eliminates_seen free a b steps formed e =
     subst AreSeen (sym e.steps_are)
-    (seen_append e.collapses e.notes (goes_seen IsEliminateStep (λ net note never. absurd never) a b e.collapses e.goes) (noted_seen b e.notes formed e.noted))
+    (seen_append e.collapses e.notes (goes_seen free IsEliminateStep (λ net note never. absurd never) a b e.collapses e.goes) (noted_seen b e.notes formed e.noted))
 
 collapse_note_seen : (name : List ℕ) → is_visible_name name ≡ true → (net : NetParts) (note : Note) → IsCollapseStep name net (Noted note) → IsSeenNote note
 collapse_note_seen name h net (Begin command) never = absurd never
 collapse_note_seen name h net (Dropped why w) stays = visible-one (Noted (Dropped why w)) w refl (subst (λ v. is_visible_name v ≡ true) (sym stays.0) h)
 collapse_note_seen name h net (End literals) never = absurd never
 collapse_note_seen name h net (Done before after) never = absurd never
-
-course_seen : (c : Command) (a b : NetParts) (steps : List Entry) → IsCommand c → WellFormed b → CourseOf c a steps b → AreSeen steps
-course_seen Drop a b steps is formed g = goes_seen IsDropStep (λ net note never. absurd never) a b steps g
-course_seen Sweep a b steps is formed g = goes_seen IsSweepStep (λ net note never. absurd never) a b steps g
-course_seen Eliminate a b steps is formed e = eliminates_seen a b steps formed e
-course_seen (Collapse name) a b steps is formed g =
-    goes_seen (IsCollapseStep name) (collapse_note_seen name (and_parts (is_visible_name name) true is.names.each).0) a b steps g
-course_seen Kernel a b steps is formed g = absurd g
-course_seen Cube a b steps is formed g = absurd g
-course_seen (Simplify down up) a b steps is formed g = absurd g
-course_seen Merge a b steps is formed g = absurd g
-course_seen Default a b steps is formed g = absurd g
-course_seen Determinize a b steps is formed g = absurd g
-course_seen Encode a b steps is formed g = absurd g
-course_seen Fill a b steps is formed g = absurd g
-
--- ---- the notes of commands
-
-numbers_seen : (note : Note) → entry_names (Noted note) ≡ [] → AreSeen (Noted note ∷ [])
-numbers_seen note none = All-cons IsSeenNote note [] (visible-none (Noted note) none) (All-nil IsSeenNote)
-
-does_seen : (c : Command) (a b : NetParts) (es : List Entry) → IsCommand c → WellFormed a → DoesCommand c a es b → AreSeen es
-does_seen c a b es is formed d =
-    let formed' = replayed_formed (rules_of d.steps) a b formed (course_replays c a b d.steps d.course) in
-    let end = End (literals_in b.nets) in
-    let rest = seen_append d.steps (Noted end ∷ []) (course_seen c a b d.steps is formed' d.course) (numbers_seen end refl) in
-    subst AreSeen (sym d.entries_are) (All-cons IsSeenNote (Begin c) (notes_of (d.steps ++ Noted end ∷ [])) is.names rest)
-
--- ---- the notes of scripts
 
 -- where a network is well formed, the notes can be seen, and the network that is left is well formed
 abbrev StaysSeen : Course
@@ -136,23 +111,65 @@ seen_then a b c xs ys p q formed =
     let second = q first.0 in
     (second.0, seen_append xs ys first.1 second.1)
 
-command_seen : (c : Command) → is_named c ≡ true → (a : NetParts) (es : List Entry) (b : NetParts) → RunsCommand c a es b → StaysSeen a es b
-command_seen c named a es b r formed =
-    (replayed_formed (rules_of es) a b formed (does_replays c a b es r.does), does_seen c a b es (built_lawful c named r.built) formed r.does)
+-- a visit of `fill`
+visit_seen : (free : Bool) (n : ℕ) (a : NetParts) (es : List Entry) (b : NetParts) → FillsNet free n a es b → StaysSeen a es b
+visit_seen free n a es b (LetBe full still) formed = (subst WellFormed (sym still.1) formed, subst AreSeen (sym still.0) (All-nil IsSeenNote))
+visit_seen free n a es b (Stays why unfilled stays is same) formed =
+    let name = name_in (slot a.nets n) in
+    let seen = visible-one (Noted (Dropped why name)) name refl (tabled_visible a n formed unfilled.tabled) in
+    (subst WellFormed (sym same) formed, subst AreSeen (sym is) (All-cons IsSeenNote (Dropped why name) [] seen (All-nil IsSeenNote)))
+visit_seen free n a es b (Filled unfilled applies is) formed = (kept_formed free (rule_of a n) a b formed applies, subst AreSeen (sym is) (All-nil IsSeenNote))
 
-runs_seen : (items : Items) (a b : NetParts) (es : List Entry) → are_named items ≡ true → WellFormed a → Runs items a es b → AreSeen es
-runs_seen items a b es named formed r =
-    (of_items StaysSeen (λ n formed'. (formed', All-nil IsSeenNote)) seen_then is_named command_seen items named a es b r formed).1
+fills_seen : (free : Bool) (a b : NetParts) (steps : List Entry) → WellFormed a → FillsTables free a steps b → AreSeen steps
+fills_seen free a b steps formed t =
+    (of_visits StaysSeen (λ n formed'. (formed', All-nil IsSeenNote)) seen_then (FillsNet free) (visit_seen free) t.end a steps b t.visits formed).1
+
+course_seen : (free : Bool) (c : Command) (a b : NetParts) (steps : List Entry) → IsCommand c → WellFormed a → WellFormed b → CourseOf free c a steps b → AreSeen steps
+course_seen free Drop a b steps is formed formed' g = goes_seen free IsDropStep (λ net note never. absurd never) a b steps g
+course_seen free Sweep a b steps is formed formed' g = goes_seen free IsSweepStep (λ net note never. absurd never) a b steps g
+course_seen free Eliminate a b steps is formed formed' e = eliminates_seen free a b steps formed' e
+course_seen free (Collapse name) a b steps is formed formed' g =
+    goes_seen free (IsCollapseStep name) (collapse_note_seen name (and_parts (is_visible_name name) true is.names.each).0) a b steps g
+course_seen free Kernel a b steps is formed formed' g = absurd g
+course_seen free Cube a b steps is formed formed' g = absurd g
+course_seen free (Simplify down up) a b steps is formed formed' g = absurd g
+course_seen free Merge a b steps is formed formed' g = absurd g
+course_seen free Default a b steps is formed formed' g = absurd g
+course_seen free Determinize a b steps is formed formed' g = absurd g
+course_seen free Encode a b steps is formed formed' g = absurd g
+course_seen free Fill a b steps is formed formed' g = fills_seen free a b steps formed g
+
+-- ---- the notes of commands
+
+numbers_seen : (note : Note) → entry_names (Noted note) ≡ [] → AreSeen (Noted note ∷ [])
+numbers_seen note none = All-cons IsSeenNote note [] (visible-none (Noted note) none) (All-nil IsSeenNote)
+
+does_seen : (free : Bool) (c : Command) (a b : NetParts) (es : List Entry) → IsCommand c → WellFormed a → DoesCommand free c a es b → AreSeen es
+does_seen free c a b es is formed d =
+    let formed' = replayed_formed free (rules_of d.steps) a b formed (course_replays free c a b d.steps d.course) in
+    let end = End (literals_in b.nets) in
+    let rest = seen_append d.steps (Noted end ∷ []) (course_seen free c a b d.steps is formed formed' d.course) (numbers_seen end refl) in
+    subst AreSeen (sym d.entries_are) (All-cons IsSeenNote (Begin c) (notes_of (d.steps ++ Noted end ∷ [])) is.names rest)
+
+-- ---- the notes of scripts
+
+command_seen : (free : Bool) (c : Command) → is_named c ≡ true → (a : NetParts) (es : List Entry) (b : NetParts) → RunsCommand free c a es b → StaysSeen a es b
+command_seen free c named a es b r formed =
+    (replayed_formed free (rules_of es) a b formed (does_replays free c a b es r.does), does_seen free c a b es (built_lawful c named r.built) formed r.does)
+
+runs_seen : (free : Bool) (items : Items) (a b : NetParts) (es : List Entry) → are_named items ≡ true → WellFormed a → Runs free items a es b → AreSeen es
+runs_seen free items a b es named formed r =
+    (of_items free StaysSeen (λ n formed'. (formed', All-nil IsSeenNote)) seen_then is_named (command_seen free) items named a es b r formed).1
 
 -- ---- the certificate
 
-pub certified : (items : Items) (first net : NetParts) (es : List Entry) → are_named items ≡ true → WellFormed first → HasWordNames first.nets → Runs items first es net → IsCertificateOf es first net
-certified items first net es named formed names runs short =
+pub certified : (free : Bool) (items : Items) (first net : NetParts) (es : List Entry) → are_named items ≡ true → WellFormed first → HasWordNames first.nets → Runs free items first es net → IsCertificateOf free es first net
+certified free items first net es named formed names runs short =
     let done = Done (literals_in first.nets) (literals_in net.nets) in
     let all = es ++ Noted done ∷ [] in
     let text : print all ≡ all_notes es first net = print-append es (Noted done ∷ []) ∙ ap (λ t. print es ++ t) (print-one (Noted done)) in
-    let replays : Replays (rules_of all) first net =
-    subst (λ rs. Replays rs first net) (sym (rules_of-append es (Noted done ∷ []) ∙ append-nil (rules_of es))) (runs_replays items first net es runs) in
-    let notes = seen_append es (Noted done ∷ []) (runs_seen items first net es named formed runs) (numbers_seen done refl) in
-    subst (λ t. Certifies t first net) text
-    (seen_certifies all first net formed names notes replays (subst (λ t. length t ≤ MAX_CERTIFICATE_BYTES) (sym text) short))
+    let replays : Replays free (rules_of all) first net =
+    subst (λ rs. Replays free rs first net) (sym (rules_of-append es (Noted done ∷ []) ∙ append-nil (rules_of es))) (runs_replays free items first net es runs) in
+    let notes = seen_append es (Noted done ∷ []) (runs_seen free items first net es named formed runs) (numbers_seen done refl) in
+    subst (λ t. Certifies free t first net) text
+    (seen_certifies free all first net formed names notes replays (subst (λ t. length t ≤ MAX_CERTIFICATE_BYTES) (sym text) short))

@@ -1,6 +1,6 @@
 -- The text of entries whose rules can be printed and whose notes can be seen: as a certificate it lists the rules. A note is a comment
 -- line, which has no words to who reads it: its names may be as long as they like, and any words that can be seen.
-use Rattle.std.proofs.Common.{◌≡◌, ◌∙◌, ℕ, zero, suc, ◌+◌, ◌/◌, ◌%◌, ◌<◌, ◌≤◌, true, false, not, ◌==◌, None, List, [], ◌∷◌, ◌++◌, length, decimal, codes, All, refl, sym, ap, subst, arith}
+use Rattle.std.proofs.Common.{◌≡◌, ◌∙◌, ℕ, Bool, zero, suc, ◌+◌, ◌/◌, ◌%◌, ◌<◌, ◌≤◌, true, false, not, ◌==◌, None, List, [], ◌∷◌, ◌++◌, length, decimal, codes, All, refl, sym, ap, subst, arith}
 use Rattle.std.specs.Fmt.{digit_glyph, digits, digits_onto}
 use Rattle.std.specs.List.{flat_map, list_all, list_any, AllByRecursion}
 use Rattle.std.specs.Prelude.{nat_le, nat_lt, if◌then◌else◌}
@@ -205,17 +205,17 @@ module _ (es : List Entry) (printable : All Printable (quiet es)) (seen : All Is
   form : list_all is_built (rules_of es) ≡ true → fault_of (lines_of (print es)) ≡ None
   form built = ap fault_of same_lines ∙ steps-faultless (quiet es) printable (ap (list_all is_built) (quiet_rules es) ∙ built)
 
-  read_back : (a b : NetParts) → Replays (rules_of es) a b → Replays (rules_in (steps_of (lines_of (print es)))) a b
-  read_back a b p =
-      let quiet_replays : Replays (rules_of (quiet es)) a b = subst (λ rs. Replays rs a b) (sym (quiet_rules es)) p in
-      subst (λ ls. Replays (rules_in (steps_of ls)) a b) (sym same_lines) (replayed_from_print (quiet es) a b printable quiet_replays)
+  read_back : (free : Bool) (a b : NetParts) → Replays free (rules_of es) a b → Replays free (rules_in (steps_of (lines_of (print es)))) a b
+  read_back free a b p =
+      let quiet_replays : Replays free (rules_of (quiet es)) a b = subst (λ rs. Replays free rs a b) (sym (quiet_rules es)) p in
+      subst (λ ls. Replays free (rules_in (steps_of ls)) a b) (sym same_lines) (replayed_from_print free (quiet es) a b printable quiet_replays)
 
 -- where the rules apply in turn, and the notes can be seen, the text is a certificate if it isn't too long
-pub seen_certifies : (es : List Entry) (a b : NetParts) → WellFormed a → HasWordNames a.nets → All IsSeenNote (notes_of es) → Replays (rules_of es) a b
-    → length (print es) ≤ MAX_CERTIFICATE_BYTES → Certifies (print es) a b
-seen_certifies es a b formed names seen p fits =
-    let printable = replayed_printable (quiet es) a b formed names (quiet_notes es) (subst (λ rs. Replays rs a b) (sym (quiet_rules es)) p) in
+pub seen_certifies : (free : Bool) (es : List Entry) (a b : NetParts) → WellFormed a → HasWordNames a.nets → All IsSeenNote (notes_of es) → Replays free (rules_of es) a b
+    → length (print es) ≤ MAX_CERTIFICATE_BYTES → Certifies free (print es) a b
+seen_certifies free es a b formed names seen p fits =
+    let printable = replayed_printable free (quiet es) a b formed names (quiet_notes es) (subst (λ rs. Replays free rs a b) (sym (quiet_rules es)) p) in
     record {
-      accepted = record { lexed = lexed es printable seen MAX_CERTIFICATE_BYTES fits; form = form es printable seen (replayed_built (rules_of es) a b p) };
-      replays = read_back es printable seen a b p;
+      accepted = record { lexed = lexed es printable seen MAX_CERTIFICATE_BYTES fits; form = form es printable seen (replayed_built free (rules_of es) a b p) };
+      replays = read_back es printable seen free a b p;
     }

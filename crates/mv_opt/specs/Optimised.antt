@@ -1,5 +1,5 @@
 -- How a run ends that is asked to optimise a network by a script: one that it reads from a file, or one that it draws itself.
-use Rattle.std.specs.Prelude.{false, ◌≡◌, ◌⊎◌, ℕ, ◌≤◌, IfSome, List}
+use Rattle.std.specs.Prelude.{◌≡◌, ◌⊎◌, ℕ, ◌≤◌, Bool, IfSome, List}
 use Rattle.mv_base.specs.Meaning.{Refines}
 use Rattle.mv_base.specs.Outside.{Stored, Written, Gained, Rose}
 use Rattle.mv_entry.specs.Entries.{Entry}
@@ -24,36 +24,36 @@ use Rattle.mv_opt.specs.Scripts.{IsScript, TakesItems, TellsScript}
 
 -- what the script did: the named one ran on the first network, and the notes gained its entries and the done line, which are a
 -- certificate of it
-pub record Told (script : List ℕ) (files : Stored) (first net : NetParts) (notes notes' : Written) : Type 0 where
+pub record Told (free : Bool) (script : List ℕ) (files : Stored) (first net : NetParts) (notes notes' : Written) : Type 0 where
   pub items : Items
   pub taken : IfSome files.held (TakesItems script items)
   pub entries : List Entry
-  pub runs : Runs items first entries net
+  pub runs : Runs free items first entries net
   pub noted : Gained notes notes' (all_notes entries first net)
-  pub certified : IsCertificateOf entries first net
+  pub certified : IsCertificateOf free entries first net
   -- it ends with no more literals than it began with
   pub no_more : literals_in net.nets ≤ literals_in first.nets
 
 -- the network that was left takes the place of the first one. That of a file was written, and reads back so
-abbrev pub Replaces : Source → Stored → Stored → NetParts → NetParts → Written → Written → Type 0
-Replaces (File name) old new first net out out' = Replaced name old new first net out out'
-Replaces (Text text) old new first net out out' = Refines false (of_net net) (of_net first)
+abbrev pub Replaces : Bool → Source → Stored → Stored → NetParts → NetParts → Written → Written → Type 0
+Replaces free (File name) old new first net out out' = Replaced free name old new first net out out'
+Replaces free (Text text) old new first net out out' = Refines free (of_net net) (of_net first)
 
 -- the work is done: the network came from where it was to; the script led from it to another one, and told what it did; that
--- one takes its place; and the output was written
-pub record IsOptimised (given : Inputs) (old new : Stored) (out out' notes notes' : Written) : Type 0 where
+-- one takes its place, where free with any meaning under values under which the first allows nothing; and the output was written
+pub record IsOptimised (free : Bool) (given : Inputs) (old new : Stored) (out out' notes notes' : Written) : Type 0 where
   pub first : NetParts
   pub made : Prepared given.network old new first
   pub net : NetParts
-  pub replaces : Replaces given.network old new first net out out'
-  pub told : Told given.second old first net notes notes'
+  pub replaces : Replaces free given.network old new first net out out'
+  pub told : Told free given.second old first net notes notes'
   pub output : Gained out out' (output_of (output_for given.network) first told.entries net)
 
 -- each status and what it says: 0 the work is done; 2 the network is refused, behind a script that was taken, and the notes tell
 -- why; 3 the script is refused, before the network is begun, and the notes tell why; 4 a read failed; 5 a write failed; 6 memory
 -- ran out
-pub record Optimises (given : Inputs) (old new : Stored) (out out' notes notes' : Written) (status : ℕ) : Type 0 where
-  pub done : status ≡ 0 → IsOptimised given old new out out' notes notes'
+pub record Optimises (free : Bool) (given : Inputs) (old new : Stored) (out out' notes notes' : Written) (status : ℕ) : Type 0 where
+  pub done : status ≡ 0 → IsOptimised free given old new out out' notes notes'
   pub network : status ≡ 2 → TellsFault given.network old notes notes'
   pub behind : status ≡ 2 → IfSome old.held (IsTaken IsScript given.second)
   pub script : status ≡ 3 → IfSome old.held (IsRefused IsScript given.second)
@@ -61,8 +61,8 @@ pub record Optimises (given : Inputs) (old new : Stored) (out out' notes notes' 
   pub script_begun : status ≡ 3 → BeganOne old new
   pub read : status ≡ 4 → Rose old.faults new.faults × IfSome old.held (LacksFile IsScript given)
   pub read_told : status ≡ 4 → TellsLine notes notes' read_line
-  pub cut : status ≡ 5 → EndsCut given old new out out' notes notes'
-  pub short : status ≡ 6 → EndsShort given old new notes notes'
+  pub cut : status ≡ 5 → EndsCut free given old new out out' notes notes'
+  pub short : status ≡ 6 → EndsShort free given old new notes notes'
   pub begun : BeginsFiles given.network old new status
   pub untouched : (status ≡ 0 → ⊥) → (status ≡ 5 → ⊥) → out' ≡ out
   pub exact : IsExact IsScript 3 given old status

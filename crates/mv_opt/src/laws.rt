@@ -1,3 +1,4 @@
+ghost use Rattle.std.specs.Prelude.{Bool};
 ghost use Rattle.mv_base.specs.Outside.{Stored, Written};
 ghost use Rattle.mv_opt.specs.Optimised.{Optimises};
 ghost use Rattle.mv_task.specs.Inputs.{Inputs};
@@ -6,6 +7,6 @@ ghost use Rattle.mv_task.specs.Lines.{TellsLine, memory_line};
 /// A run for which no memory is there before it has begun ends so.
 #[tactic(auto, using(crate::proofs::Ends::short_at_once))]
 pub fn short_at_once()
-    ensures { (given : Inputs) (files : Stored) (out notes notes' : Written) → TellsLine notes notes' memory_line
-        → Optimises given files files out out notes notes' 6 }
+    ensures { (free : Bool) (given : Inputs) (files : Stored) (out notes notes' : Written) → TellsLine notes notes' memory_line
+        → Optimises free given files files out out notes notes' 6 }
 {}

@@ -15,6 +15,7 @@ use crate::stop::{Stop, put_line, status};
 use crate::take::{Work, prepare, prepare_drawn};
 use crate::working::{WorkStop, carry_out};
 use mv_base::{Files, Sink};
+use mv_rules::Terms;
 use std::alloc::Global;
 
 /// Puts the line of a refusal to the notes, as far as they take it.
@@ -31,6 +32,7 @@ fn refuse<E: Sink>(stop: &Stop, notes: &mut E)
 fn finish_run<O: Sink, E: Sink>(
     alloc: Global,
     work: Work,
+    terms: Terms,
     output: Output,
     out: &mut O,
     notes: &mut E,
@@ -38,9 +40,9 @@ fn finish_run<O: Sink, E: Sink>(
     requires names { HasWordNames work.net.nets }
     requires built { are_built (items_of work.script) ≡ true }
     requires named { are_named (items_of work.script) ≡ true }
-    ensures { EndsRun output (items_of work.script) work.net (O.state out.old) (O.state out.new) (E.state notes.old) (E.state notes.new) result }
+    ensures { EndsRun terms.free output (items_of work.script) work.net (O.state out.old) (O.state out.new) (E.state notes.old) (E.state notes.new) result }
 {
-    match carry_out(alloc, work, output, out, notes) {
+    match carry_out(alloc, work, terms, output, out, notes) {
         Ok(()) => 0,
         Err(WorkStop::Write) => 5,
         Err(WorkStop::Memory) => {
@@ -51,21 +53,22 @@ fn finish_run<O: Sink, E: Sink>(
 }
 
 /// Reads the script and the network file of these names, runs the script on the network, and writes to `out` a network
-/// that may take the place of the one read. What the commands do is put to `notes` as they do it, and then the line that says how it
+/// that may take the place of the one read, on these terms. What the commands do is put to `notes` as they do it, and then the line that says how it
 /// ended: for status 0 before `out` is begun, so that it is there too where `out` fails; status 5 has no line.
 pub fn optimise<F: Files, O: Sink, E: Sink>(
     alloc: Global,
     network: &str,
     script: &str,
+    terms: Terms,
     files: &mut F,
     out: &mut O,
     notes: &mut E,
 ) -> u8
-    ensures { Optimises (named network.now script.now) (F.state files.old) (F.state files.new)
+    ensures { Optimises terms.free (named network.now script.now) (F.state files.old) (F.state files.new)
         (O.state out.old) (O.state out.new) (E.state notes.old) (E.state notes.new) result }
 {
     match prepare(alloc, network, script, files) {
-        Ok(work) => finish_run(alloc, work, Output::Network, out, notes),
+        Ok(work) => finish_run(alloc, work, terms, Output::Network, out, notes),
         Err(stop) => {
             refuse(&stop, notes);
             status(&stop)
@@ -81,17 +84,18 @@ pub fn work<F: Files, O: Sink, E: Sink>(
     size: u32,
     seed: u64,
     script: &str,
+    terms: Terms,
     files: &mut F,
     out: &mut O,
     notes: &mut E,
 ) -> u8
     requires least { MIN_WORK_TABLES ≤ size }
     requires most { size ≤ MAX_WORK_TABLES }
-    ensures { Optimises (drawn size seed script.now) (F.state files.old) (F.state files.new)
+    ensures { Optimises terms.free (drawn size seed script.now) (F.state files.old) (F.state files.new)
         (O.state out.old) (O.state out.new) (E.state notes.old) (E.state notes.new) result }
 {
     match prepare_drawn(alloc, size, seed, script, files) {
-        Ok(work) => finish_run(alloc, work, Output::Summary, out, notes),
+        Ok(work) => finish_run(alloc, work, terms, Output::Summary, out, notes),
         Err(stop) => {
             refuse(&stop, notes);
             status(&stop)

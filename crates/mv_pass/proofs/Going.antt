@@ -1,5 +1,5 @@
 -- Entries one after the other: two stretches of them, and the rules among them.
-use Rattle.std.proofs.Common.{◌≡◌, ◌≤◌, List, [], ◌∷◌, ◌++◌, refl, ap, subst, arith}
+use Rattle.std.proofs.Common.{◌≡◌, ◌≤◌, Bool, List, [], ◌∷◌, ◌++◌, refl, ap, subst, arith}
 use Rattle.mv_entry.specs.declared.rule.Rule.{Rule}
 use Rattle.mv_entry.specs.Entries.{Entry, Applied, Noted, rules_of}
 use Rattle.mv_net.specs.declared.parts.NetParts.{NetParts}
@@ -10,14 +10,14 @@ use Rattle.mv_rules.specs.Replaying.{Replays}
 use Rattle.mv_rules.proofs.Kept.{kept_formed}
 use Rattle.mv_pass.specs.Going.{Goes}
 
-module _ (Lawful : NetParts → Entry → Type 0) where
-  pub Goes-append : (a b c : NetParts) (xs ys : List Entry) → Goes Lawful a xs b → Goes Lawful b ys c → Goes Lawful a (xs ++ ys) c
-  Goes-append a b c [] ys g h = subst (λ n. Goes Lawful n ys c) g h
+module _ (free : Bool) (Lawful : NetParts → Entry → Type 0) where
+  pub Goes-append : (a b c : NetParts) (xs ys : List Entry) → Goes free Lawful a xs b → Goes free Lawful b ys c → Goes free Lawful a (xs ++ ys) c
+  Goes-append a b c [] ys g h = subst (λ n. Goes free Lawful n ys c) g h
   Goes-append a b c (Applied r ∷ xs) ys g h = (g.0, (g.1.0, (g.1.1.0, Goes-append g.1.0 b c xs ys g.1.1.1 h)))
   Goes-append a b c (Noted n ∷ xs) ys g h = (g.0, Goes-append a b c xs ys g.1 h)
 
   -- whatever the law, the rules among the entries apply in turn
-  pub goes_replays : (a b : NetParts) (es : List Entry) → Goes Lawful a es b → Replays (rules_of es) a b
+  pub goes_replays : (a b : NetParts) (es : List Entry) → Goes free Lawful a es b → Replays free (rules_of es) a b
   goes_replays a b [] g = g
   goes_replays a b (Applied r ∷ es) g = (g.1.0, (g.1.1.0, goes_replays g.1.0 b es g.1.1.1))
   goes_replays a b (Noted n ∷ es) g = goes_replays a b es g.1
@@ -28,13 +28,13 @@ rules_of-append (Applied r ∷ xs) ys = ap (λ rs. r ∷ rs) (rules_of-append xs
 rules_of-append (Noted n ∷ xs) ys = rules_of-append xs ys
 
 -- where each rule that is lawful leaves no more literals than there were, all together leave no more
-pub goes_no_more : (Lawful : NetParts → Entry → Type 0)
-    → ((a b : NetParts) (r : Rule) → WellFormed a → Lawful a (Applied r) → Applies r a b → literals_in b.nets ≤ literals_in a.nets)
-    → (a b : NetParts) (es : List Entry) → WellFormed a → Goes Lawful a es b → literals_in b.nets ≤ literals_in a.nets
-goes_no_more Lawful each a b [] formed g = let e : literals_in b.nets ≡ literals_in a.nets = ap (λ (n : NetParts). literals_in n.nets) g in omega (arith, e)
-goes_no_more Lawful each a b (Applied r ∷ es) formed g =
+pub goes_no_more : (free : Bool) (Lawful : NetParts → Entry → Type 0)
+    → ((a b : NetParts) (r : Rule) → WellFormed a → Lawful a (Applied r) → Applies free r a b → literals_in b.nets ≤ literals_in a.nets)
+    → (a b : NetParts) (es : List Entry) → WellFormed a → Goes free Lawful a es b → literals_in b.nets ≤ literals_in a.nets
+goes_no_more free Lawful each a b [] formed g = let e : literals_in b.nets ≡ literals_in a.nets = ap (λ (n : NetParts). literals_in n.nets) g in omega (arith, e)
+goes_no_more free Lawful each a b (Applied r ∷ es) formed g =
     let mid = g.1.0 in
     let here = each a mid r formed g.0 g.1.1.0 in
-    let rest = goes_no_more Lawful each mid b es (kept_formed r a mid formed g.1.1.0) g.1.1.1 in
+    let rest = goes_no_more free Lawful each mid b es (kept_formed free r a mid formed g.1.1.0) g.1.1.1 in
     omega (arith, here, rest)
-goes_no_more Lawful each a b (Noted n ∷ es) formed g = goes_no_more Lawful each a b es formed g.1
+goes_no_more free Lawful each a b (Noted n ∷ es) formed g = goes_no_more free Lawful each a b es formed g.1

@@ -2,3 +2,5 @@ pub mod Going
 pub mod Taken
 pub mod Commands
 pub mod Passed
+pub mod Coming
+pub mod Turns

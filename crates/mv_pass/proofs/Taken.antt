@@ -1,5 +1,5 @@
 -- What a journal took, one after the other: entries of any kind, and the steps of a command.
-use Rattle.std.proofs.Common.{◌≡◌, ◌∙◌, List, [], ◌∷◌, ◌++◌, Result, Ok, Err, refl, sym, ap, subst, arith}
+use Rattle.std.proofs.Common.{◌≡◌, ◌∙◌, Bool, List, [], ◌∷◌, ◌++◌, Result, Ok, Err, refl, sym, ap, subst, arith}
 use Rattle.mv_base.specs.declared.outside.Failed.{Failed}
 use Rattle.mv_base.specs.Outside.{Gained, GainedPart}
 use Rattle.mv_base.proofs.Gains.{Gained-none, Gained-then, GainedPart-then}
@@ -60,22 +60,22 @@ module _ {Are Come Both : List Entry → Type 0} (join : (xs ys : List Entry) �
 
 -- ---- the steps of a command
 
-module _ (Lawful : NetParts → Entry → Type 0) where
-  pub went_none : (a : NetParts) (j : Journaled) → Went Lawful a a j j
+module _ (free : Bool) (Lawful : NetParts → Entry → Type 0) where
+  pub went_none : (a : NetParts) (j : Journaled) → Went free Lawful a a j j
   went_none a j = Took-none j refl
 
   -- nothing came
-  pub went_still : (a b : NetParts) (j k : Journaled) → b ≡ a → k ≡ j → Went Lawful a b j k
+  pub went_still : (a b : NetParts) (j k : Journaled) → b ≡ a → k ≡ j → Went free Lawful a b j k
   went_still a b j k net journal =
-      subst (λ n. Went Lawful a n j k) (sym net) (subst (λ l. Went Lawful a a j l) (sym journal) (went_none a j))
+      subst (λ n. Went free Lawful a n j k) (sym net) (subst (λ l. Went free Lawful a a j l) (sym journal) (went_none a j))
 
-  pub went_then : (a b c : NetParts) (j k l : Journaled) → Went Lawful a b j k → Went Lawful b c k l → Went Lawful a c j l
-  went_then a b c j k l p q = Took-then (λ xs ys g h. Goes-append Lawful a b c xs ys g h) j k l p q
+  pub went_then : (a b c : NetParts) (j k l : Journaled) → Went free Lawful a b j k → Went free Lawful b c k l → Went free Lawful a c j l
+  went_then a b c j k l p q = Took-then (λ xs ys g h. Goes-append free Lawful a b c xs ys g h) j k l p q
 
-  pub went_part : (a b c : NetParts) (j k l : Journaled) → Went Lawful a b j k → WentPart Lawful b c k l → WentPart Lawful a c j l
-  went_part a b c j k l p q = TookPart-then (λ xs ys g h. Goes-append Lawful a b c xs ys g h) j k l p q
+  pub went_part : (a b c : NetParts) (j k l : Journaled) → Went free Lawful a b j k → WentPart free Lawful b c k l → WentPart free Lawful a c j l
+  went_part a b c j k l p q = TookPart-then (λ xs ys g h. Goes-append free Lawful a b c xs ys g h) j k l p q
 
-  pub went_rule : (a b : NetParts) (rule : Rule) (j k : Journaled) → Lawful a (Applied rule) → TookRule rule a b j k → Went Lawful a b j k
+  pub went_rule : (a b : NetParts) (rule : Rule) (j k : Journaled) → Lawful a (Applied rule) → TookRule free rule a b j k → Went free Lawful a b j k
   went_rule a b rule j k lawful t = record {
     entries = Applied rule ∷ [];
     are = (lawful, (b, (t.applies, refl)));
@@ -83,7 +83,7 @@ module _ (Lawful : NetParts → Entry → Type 0) where
     counted = t.counted;
   }
 
-  pub part_rule : (a b : NetParts) (rule : Rule) (j k : Journaled) → Lawful a (Applied rule) → TookRulePart rule a b j k → WentPart Lawful a b j k
+  pub part_rule : (a b : NetParts) (rule : Rule) (j k : Journaled) → Lawful a (Applied rule) → TookRulePart free rule a b j k → WentPart free Lawful a b j k
   part_rule a b rule j k lawful t = record {
     entries = Applied rule ∷ [];
     are = (lawful, (b, (t.applies, refl)));
@@ -91,10 +91,10 @@ module _ (Lawful : NetParts → Entry → Type 0) where
   }
 
   -- a note
-  pub went_note : (a : NetParts) (note : Note) (j k : Journaled) → Lawful a (Noted note) → Takes j k (Noted note) (Ok tt) → Went Lawful a a j k
+  pub went_note : (a : NetParts) (note : Note) (j k : Journaled) → Lawful a (Noted note) → Takes j k (Noted note) (Ok tt) → Went free Lawful a a j k
   went_note a note j k lawful t = Took-one j k (Noted note) (lawful, refl) t
 
-  pub part_note : (a : NetParts) (note : Note) (j k : Journaled) (f : Failed) → Lawful a (Noted note) → Takes j k (Noted note) (Err f) → WentPart Lawful a a j k
+  pub part_note : (a : NetParts) (note : Note) (j k : Journaled) (f : Failed) → Lawful a (Noted note) → Takes j k (Noted note) (Err f) → WentPart free Lawful a a j k
   part_note a note j k f lawful t = TookPart-one j k (Noted note) f (lawful, refl) t
 
 -- entries of one kind are of another

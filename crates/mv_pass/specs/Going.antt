@@ -1,17 +1,19 @@
 -- What a command does: rules and notes, one after the other, from its beginning to its end.
-use Rattle.std.specs.Prelude.{◌≡◌, ℕ, ◌<◌, ◌^◌, List, [], ◌∷◌, ◌++◌}
+use Rattle.std.specs.Prelude.{◌≡◌, ℕ, ◌<◌, ◌^◌, Bool, List, [], ◌∷◌, ◌++◌}
 use Rattle.mv_entry.specs.declared.note.Command.{Command}
 use Rattle.mv_entry.specs.declared.note.Note.TheVariants.{Begin, End}
 use Rattle.mv_entry.specs.Entries.{Entry, Applied, Noted}
 use Rattle.mv_net.specs.declared.parts.NetParts.{NetParts}
 use Rattle.mv_net.specs.Nets.{literals_in}
 use Rattle.mv_rules.specs.Applies.{Applies}
+use Rattle.mv_pass.specs.Courses.{Course}
 
 -- the entries lead from the old network to the new one: each is lawful in the network at its place, and each rule applies to it
-abbrev pub Goes : (NetParts → Entry → Type 0) → NetParts → List Entry → NetParts → Type 0
-Goes Lawful old [] new = new ≡ old
-Goes Lawful old (Applied rule ∷ es) new = Lawful old (Applied rule) × ((mid : NetParts) × (Applies rule old mid × Goes Lawful mid es new))
-Goes Lawful old (Noted note ∷ es) new = Lawful old (Noted note) × Goes Lawful old es new
+abbrev pub Goes : Bool → (NetParts → Entry → Type 0) → NetParts → List Entry → NetParts → Type 0
+Goes free Lawful old [] new = new ≡ old
+Goes free Lawful old (Applied rule ∷ es) new =
+    Lawful old (Applied rule) × ((mid : NetParts) × (Applies free rule old mid × Goes free Lawful mid es new))
+Goes free Lawful old (Noted note ∷ es) new = Lawful old (Noted note) × Goes free Lawful old es new
 
 -- the entries of a command that has begun and hasn't ended
 abbrev pub begun : Command → List Entry → List Entry
@@ -23,24 +25,23 @@ whole command steps literals = begun command steps ++ Noted (End literals) ∷ [
 
 -- a whole command: it begins, its steps are a course from the old network to the new one, where it may end with them, and it ends
 -- with that network's literals, which are a number of 128 bits
-pub record Does (Course : NetParts → List Entry → NetParts → Type 0) (Ends : List Entry → NetParts → Type 0) (command : Command)
+pub record Does (Steps : Course) (Ends : List Entry → NetParts → Type 0) (command : Command)
     (old : NetParts) (entries : List Entry) (new : NetParts) : Type 0 where
   pub steps : List Entry
-  pub course : Course old steps new
+  pub course : Steps old steps new
   pub ends : Ends steps new
   pub few : literals_in new.nets < 2 ^ 128
   pub entries_are : entries ≡ whole command steps (literals_in new.nets)
 
 -- a command that has begun, and has come some way of its course
-pub record HasBegun (Course : NetParts → List Entry → NetParts → Type 0) (command : Command)
-    (old : NetParts) (entries : List Entry) (new : NetParts) : Type 0 where
+pub record HasBegun (Steps : Course) (command : Command) (old : NetParts) (entries : List Entry) (new : NetParts) : Type 0 where
   pub steps : List Entry
-  pub course : Course old steps new
+  pub course : Steps old steps new
   pub entries_are : entries ≡ begun command steps
 
 -- a command that stops, with these entries: it hasn't begun, it has begun, or it is even whole
-pub data Begun (Course : NetParts → List Entry → NetParts → Type 0) (Ends : List Entry → NetParts → Type 0) (command : Command)
+pub data Begun (Steps : Course) (Ends : List Entry → NetParts → Type 0) (command : Command)
     (old : NetParts) (entries : List Entry) (new : NetParts) : Type 0 where
-  Before : entries ≡ [] → new ≡ old → Begun Course Ends command old entries new
-  Within : HasBegun Course command old entries new → Begun Course Ends command old entries new
-  Behind : Does Course Ends command old entries new → Begun Course Ends command old entries new
+  Before : entries ≡ [] → new ≡ old → Begun Steps Ends command old entries new
+  Within : HasBegun Steps command old entries new → Begun Steps Ends command old entries new
+  Behind : Does Steps Ends command old entries new → Begun Steps Ends command old entries new

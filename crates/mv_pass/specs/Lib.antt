@@ -1,3 +1,4 @@
+pub mod Courses
 pub mod Going
 pub mod Taking
 pub mod Passing

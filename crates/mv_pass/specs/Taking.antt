@@ -1,5 +1,5 @@
 -- What a journal takes of a command.
-use Rattle.std.specs.Prelude.{◌≡◌, ◌≤◌, List}
+use Rattle.std.specs.Prelude.{◌≡◌, ◌≤◌, Bool, List}
 use Rattle.mv_base.specs.Outside.{Gained, GainedPart}
 use Rattle.mv_entry.specs.declared.rule.Rule.{Rule}
 use Rattle.mv_entry.specs.Entries.{Entry, Applied, entry_text, print}
@@ -27,25 +27,25 @@ pub record GoesOn (old new : Journaled) : Type 0 where
   pub place : new.place ≡ old.place
 
 -- the rule applies to the network
-pub record CanApply (rule : Rule) (old : NetParts) : Type 0 where
+pub record CanApply (free : Bool) (rule : Rule) (old : NetParts) : Type 0 where
   pub new : NetParts
-  pub applies : Applies rule old new
+  pub applies : Applies free rule old new
 
 -- some steps of a command led from one network to the other, and the journal took them
-abbrev pub Went : (NetParts → Entry → Type 0) → NetParts → NetParts → Journaled → Journaled → Type 0
-Went Lawful old new journal journal' = Took (λ steps. Goes Lawful old steps new) journal journal'
+abbrev pub Went : Bool → (NetParts → Entry → Type 0) → NetParts → NetParts → Journaled → Journaled → Type 0
+Went free Lawful old new journal journal' = Took (λ steps. Goes free Lawful old steps new) journal journal'
 
 -- some steps of a command led from one network to the other, and the journal gained some first part of their text
-abbrev pub WentPart : (NetParts → Entry → Type 0) → NetParts → NetParts → Journaled → Journaled → Type 0
-WentPart Lawful old new journal journal' = TookPart (λ steps. Goes Lawful old steps new) journal journal'
+abbrev pub WentPart : Bool → (NetParts → Entry → Type 0) → NetParts → NetParts → Journaled → Journaled → Type 0
+WentPart free Lawful old new journal journal' = TookPart (λ steps. Goes free Lawful old steps new) journal journal'
 
 -- a rule applied, and the journal took it
-pub record TookRule (rule : Rule) (old new : NetParts) (journal journal' : Journaled) : Type 0 where
-  pub applies : Applies rule old new
+pub record TookRule (free : Bool) (rule : Rule) (old new : NetParts) (journal journal' : Journaled) : Type 0 where
+  pub applies : Applies free rule old new
   pub gained : Gained journal.written journal'.written (entry_text (Applied rule))
   pub counted : journal'.tally ≡ with_entry journal.tally (Applied rule)
 
 -- a rule applied, and the journal gained some first part of its text
-pub record TookRulePart (rule : Rule) (old new : NetParts) (journal journal' : Journaled) : Type 0 where
-  pub applies : Applies rule old new
+pub record TookRulePart (free : Bool) (rule : Rule) (old new : NetParts) (journal journal' : Journaled) : Type 0 where
+  pub applies : Applies free rule old new
   pub gained : GainedPart journal.written journal'.written (entry_text (Applied rule))

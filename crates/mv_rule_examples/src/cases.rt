@@ -48,6 +48,13 @@ wire y / wire y | NotSame=NotSame 3=3 Unread=Unread | .model b;.inputs a;.output
 .model k;.inputs a;.outputs z;.table a -> z;.default 1;1 0;.end;
 .model c;.inputs a;.outputs p q;.table a -> c;0 1;1 0;.table c -> p;0 0;1 1;.table c -> q;0 1;1 0;.end; | \
 collapse c | 4=4 | .model c;.inputs a;.outputs p q;.table a -> p;1 0;0 1;.table a -> q;1 1;0 0;.end;
+.model p;.inputs a;.outputs z;.table a -> x;0 1;1 0;.table x -> z;1 1;.end; | fill q 0 / fill z 0 / fill x 0 / \
+free fill q 0 / free fill a 0 / free fill z 2 / free fill z e / free fill x 0 / free fill z 0 / free fill z 1 | \
+NoNet=NoNet Strict=Strict Strict=Strict NoNet=NoNet NoNet=NoNet Strict=Form Strict=Form Strict=Total Strict=3 \
+Strict=Total | .model p;.inputs a;.outputs z;.table a -> x;0 1;1 0;.table x -> z;.default 0;1 1;.end;
+.model v;.inputs a;.outputs z w;.table -> c;-;.table c -> y;0 0;1 1;.table y -> z;1 1;.table a -> w;1 1;.end; | \
+free fill z 0 / free fill w 01 / free wire y | Strict=Varied Strict=4 4=4 | .model v;.inputs a;.outputs z \
+w;.table -> c;-;.table c -> y;0 0;1 1;.table c -> z;1 1;.table a -> w;.default -;1 1;.end;
 ";
 
 /// The network, the rules, and what is answered, of a case.

@@ -2,7 +2,7 @@
 use crate::rules::rule;
 use mv_base::MemorySink;
 use mv_net::Network;
-use mv_rules::{Rule, apply, literals_after};
+use mv_rules::{Rule, RuleFault, apply, apply_free, literals_after};
 use mv_sample::{network, said_of};
 use mv_write::write;
 use std::alloc::Global;
@@ -19,22 +19,28 @@ fn put_told(said: &mut String, alloc: Global, net: &Network, rule: &Rule) -> Res
     }
 }
 
-/// Applies the rule, and puts the literals that it leaves, or its fault.
-fn put_left(said: &mut String, alloc: Global, net: &mut Network, rule: &Rule) -> Result<(), Fail> {
-    if !rule.is_built() {
-        return Err(Fail::from("a rule that isn't built"));
-    }
-    match apply(alloc, net, rule, 1000) {
+/// Puts the literals that are left, or the fault.
+fn put_left(said: &mut String, net: &Network, left: Result<(), RuleFault>) -> Result<(), Fail> {
+    match left {
         Ok(()) => Ok(write!(said, "{}", net.literals())?),
         Err(fault) => Ok(write!(said, "{fault:?}")?),
     }
 }
 
-/// Puts what is told of the rule of a text, and what it leaves.
+/// Puts what is told of the rule of a text, and what it leaves. Behind the word `free` a rule may leave choices that weren't there.
 fn put_answer(said: &mut String, alloc: Global, net: &mut Network, text: &str) -> Result<(), Fail> {
-    let rule = rule(alloc, text)?;
+    let free = text.strip_prefix("free ");
+    let rule = rule(alloc, free.unwrap_or(text))?;
     put_told(said, alloc, net, &rule)?;
-    put_left(said, alloc, net, &rule)
+    if !rule.is_built() {
+        return Err(Fail::from("a rule that isn't built"));
+    }
+    let left = if free.is_some() {
+        apply_free(alloc, net, &rule, 1000)
+    } else {
+        apply(alloc, net, &rule, 1000)
+    };
+    put_left(said, net, left)
 }
 
 /// What the rules, with ` / ` between them, answer one after the other.

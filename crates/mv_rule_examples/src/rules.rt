@@ -1,5 +1,5 @@
-//! Rules from texts: `remove k`, `wire k`, `collapse k`, `add k BODY` and `divide k by BODY`, where a body is words such as
-//! `a=1&b=02:1`, which are its lines, and `else:0`, which is its default.
+//! Rules from texts: `remove k`, `wire k`, `collapse k`, `fill k 01`, `add k BODY` and `divide k by BODY`, where a body is words
+//! such as `a=1&b=02:1`, which are its lines, and `else:0`, which is its default.
 use mv_base::{Items, Name, PackedSet, Value, ValueSet};
 use mv_rules::{Body, BodyLine, BodyLit, Rule};
 use std::alloc::Global;
@@ -74,6 +74,13 @@ fn division(alloc: Global, net: &str, words: &str) -> Result<Rule, Fail> {
     Ok(Rule::Divide { net, by, body })
 }
 
+/// The rule that a net's table gets the values whose digits stand in the word as its default.
+fn filling(alloc: Global, net: &str, digits: &str) -> Result<Rule, Fail> {
+    let net = name(alloc, net)?;
+    let out = PackedSet::new(alloc, set(digits))?;
+    Ok(Rule::Fill { net, out })
+}
+
 /// The rule of a net alone.
 fn short_rule(alloc: Global, what: &str, net: &str) -> Result<Rule, Fail> {
     let net = name(alloc, net)?;
@@ -90,6 +97,7 @@ pub fn rule(alloc: Global, text: &str) -> Result<Rule, Fail> {
     let (what, rest) = text.split_once(' ').ok_or("no net")?;
     match rest.split_once(' ') {
         Some((net, words)) if what == "add" => addition(alloc, net, words),
+        Some((net, digits)) if what == "fill" => filling(alloc, net, digits),
         Some((net, words)) => division(alloc, net, words),
         None => short_rule(alloc, what, rest),
     }

@@ -136,7 +136,7 @@ module _ (net : NetParts) (inner : Inner) (formed : WellFormed net) (known : IsI
     reads = λ k r. reads_old m c k reader r;
   }
 
-  is_composite : (m : ℕ) (c : Cover) → IsReader net.nets n m c → JoinsTables net.nets inner.cover n c (composed counts inner c)
+  pub is_composite : (m : ℕ) (c : Cover) → IsReader net.nets n m c → JoinsTables net.nets inner.cover n c (composed counts inner c)
   is_composite m c reader = joins_from net.nets inner.cover n c (composed counts inner c) (unread m c reader) (composes counts inner c is (reader_over m c reader).cubes).each
 
   one_choice : IsUnshared net.nets n → AllowsOne inner.cover ⊎ HasOneReader net.nets n

@@ -97,7 +97,7 @@ divided_is_same old w by body new formed r =
 abbrev getting : NetId → Cover → Change
 getting n c = record { add = []; set = record { net = n; table = c } ∷ []; values = []; gone = [] }
 
-fits_getting : (net : NetParts) (n : NetId) (c : Cover) → IsTrue (is_held net.nets n.0) → Fits net (getting n c)
+pub fits_getting : (net : NetParts) (n : NetId) (c : Cover) → IsTrue (is_held net.nets n.0) → Fits net (getting n c)
 fits_getting net n c held = record {
   set = record { held = λ m h. there m h; once = refl };
   values = record { held = λ m h. absurd (false≢true h); once = refl };

@@ -19,3 +19,6 @@ pub mod Kept
 pub mod Replayed
 pub mod Spoken
 pub mod Built
+pub mod Filled
+pub mod Strict
+pub mod Staying

@@ -1,21 +1,37 @@
--- What a network means stays, whatever rule is applied.
-use Rattle.mv_base.specs.Meaning.{SameMeaning}
+-- Whatever rule is applied, the network may take the old one's place, and means the same where the rule leaves each choice as it was.
+use Rattle.std.proofs.Common.{◌≡◌, Bool, true, refl}
+use Rattle.std.proofs.lemmas.Bool.{false≢true}
+use Rattle.mv_base.proofs.Meanings.{Refines-from_same}
+use Rattle.mv_base.specs.Meaning.{Refines, SameMeaning}
 use Rattle.mv_entry.specs.declared.rule.Rule.{Rule}
-use Rattle.mv_entry.specs.declared.rule.Rule.TheVariants.{Remove, Add, Divide, Wire, Collapse}
+use Rattle.mv_entry.specs.declared.rule.Rule.TheVariants.{Remove, Add, Divide, Wire, Collapse, Fill}
 use Rattle.mv_net.specs.declared.parts.NetParts.{NetParts}
 use Rattle.mv_net.specs.Allowed.{of_net}
 use Rattle.mv_net.specs.Formed.{WellFormed}
-use Rattle.mv_rules.specs.Applies.{Applies}
+use Rattle.mv_rules.specs.Applies.{Applies, keeps_choices}
 use Rattle.mv_rules.proofs.Removed.{removed_means}
 use Rattle.mv_rules.proofs.Added.{added_is_same}
 use Rattle.mv_rules.proofs.Divided.{divided_is_same}
 use Rattle.mv_rules.proofs.Wired.{wired_is_same}
 use Rattle.mv_rules.proofs.Collapsed.{collapsed_means_same}
+use Rattle.mv_rules.proofs.Filled.{filled_refines}
 
-pub applied_means : (rule : Rule) (old new : NetParts) → WellFormed old → Applies rule old new → SameMeaning (of_net new) (of_net old)
-applied_means (Remove w) old new formed p = removed_means old w new formed p
-applied_means (Add w body) old new formed p = added_is_same old w body new formed p
-applied_means (Divide w by body) old new formed p = divided_is_same old w by body new formed p
-applied_means (Wire w) old new formed p = wired_is_same old w new formed p
-applied_means (Collapse w) old new formed p = collapsed_means_same old w new formed p
-applied_means _ old new formed p = absurd p
+pub applied_means : (free : Bool) (rule : Rule) (old new : NetParts) → WellFormed old → keeps_choices rule ≡ true → Applies free rule old new → SameMeaning (of_net new) (of_net old)
+applied_means free (Remove w) old new formed keeps p = removed_means old w new formed p
+applied_means free (Add w body) old new formed keeps p = added_is_same old w body new formed p
+applied_means free (Divide w by body) old new formed keeps p = divided_is_same old w by body new formed p
+applied_means free (Wire w) old new formed keeps p = wired_is_same old w new formed p
+applied_means free (Collapse w) old new formed keeps p = collapsed_means_same old w new formed p
+applied_means free _ old new formed keeps p = absurd (false≢true keeps)
+
+same_refines : (free : Bool) (rule : Rule) (old new : NetParts) → WellFormed old → keeps_choices rule ≡ true → Applies free rule old new → Refines free (of_net new) (of_net old)
+same_refines free rule old new formed keeps p = Refines-from_same free (of_net new) (of_net old) (applied_means free rule old new formed keeps p)
+
+pub applied_refines : (free : Bool) (rule : Rule) (old new : NetParts) → WellFormed old → Applies free rule old new → Refines free (of_net new) (of_net old)
+applied_refines free (Remove w) old new formed p = same_refines free (Remove w) old new formed refl p
+applied_refines free (Add w body) old new formed p = same_refines free (Add w body) old new formed refl p
+applied_refines free (Divide w by body) old new formed p = same_refines free (Divide w by body) old new formed refl p
+applied_refines free (Wire w) old new formed p = same_refines free (Wire w) old new formed refl p
+applied_refines free (Collapse w) old new formed p = same_refines free (Collapse w) old new formed refl p
+applied_refines free (Fill w out) old new formed p = filled_refines free old w out new formed p
+applied_refines free _ old new formed p = absurd p

@@ -1,5 +1,5 @@
 -- A rule has at most one answer: one network, or one fault, and never both.
-use Rattle.std.proofs.Common.{◌≡◌, ◌∙◌, ℕ, List, [], ◌∷◌, Option, Some, All, MatchBool, sym, ap, subst, arith}
+use Rattle.std.proofs.Common.{◌≡◌, ◌∙◌, ℕ, Bool, List, [], ◌∷◌, Option, Some, All, MatchBool, sym, ap, subst, arith}
 use Rattle.std.proofs.lemmas.List.Elements.{All-contains}
 use Rattle.std.proofs.lemmas.Option.{same_Some}
 use Rattle.mv_body.specs.Bodies.{cover_said}
@@ -9,7 +9,7 @@ use Rattle.mv_cover.specs.Literal.{Lit}
 use Rattle.mv_cover.specs.declared.line.Line.{Line}
 use Rattle.mv_entry.specs.declared.rule.Body.{Body}
 use Rattle.mv_entry.specs.declared.rule.Rule.{Rule}
-use Rattle.mv_entry.specs.declared.rule.Rule.TheVariants.{Remove, Add, Divide, Wire, Collapse}
+use Rattle.mv_entry.specs.declared.rule.Rule.TheVariants.{Remove, Add, Divide, Wire, Collapse, Fill}
 use Rattle.mv_entry.specs.declared.fault.RuleFault.{RuleFault}
 use Rattle.mv_meaning.specs.Rewriting.{rewritten, with_net_table}
 use Rattle.mv_net.specs.declared.parts.FlatNet.{FlatNet}
@@ -24,6 +24,7 @@ use Rattle.mv_rules.specs.Dividing.{Divides}
 use Rattle.mv_rules.specs.Completing.{IsLess, IsCompleted, with_zero}
 use Rattle.mv_rules.specs.Wiring.{Wires}
 use Rattle.mv_rules.specs.Collapsing.{Collapses, collapsed}
+use Rattle.mv_rules.specs.Filling.{Fills, with_default}
 use Rattle.mv_rules.proofs.Named.{one_named, one_tabled}
 use Rattle.mv_rules.proofs.Collapsed.{one_test, one_inner}
 use Rattle.mv_rules.proofs.Rows.{HasOneFault, passed_one, unless_one, with_one, FailsNever, passed_never, unless_never, with_never}
@@ -79,51 +80,64 @@ collapsed_one old w one other formed p q =
     let same = one_tabled old w p.number q.number formed p.net q.net in
     p.new_is ∙ (ap (λ i. collapsed old i) (one_inner old.nets p.composites.inner q.composites.inner (p.composites.of_net ∙ (same ∙ sym q.composites.of_net)) p.composites.known q.composites.known) ∙ sym q.new_is)
 
-pub one_network : (rule : Rule) (old one other : NetParts) → WellFormed old → Applies rule old one → Applies rule old other → one ≡ other
-one_network (Remove w) old one other formed p q = removed_one old w one other formed p q
-one_network (Add w body) old one other formed p q = p.new_is ∙ sym q.new_is
-one_network (Divide w by body) old one other formed p q = divided_one old w by body one other formed p q
-one_network (Wire w) old one other formed p q = wired_one old w one other formed p q
-one_network (Collapse w) old one other formed p q = collapsed_one old w one other formed p q
-one_network _ old one other formed p q = absurd p
+filled_one : (free : Bool) (old : NetParts) (w : List ℕ) (out : ℕ) (one other : NetParts) → WellFormed old → Fills free old w out one → Fills free old w out other → one ≡ other
+filled_one free old w out one other formed p q =
+    let same = one_tabled old w p.number q.number formed p.net q.net in
+    let tables = one_table (table_in (slot old.nets p.number)) p.table q.table p.table_is (ap (λ k. table_in (slot old.nets k)) same ∙ q.table_is) in
+    p.new_is ∙ (ap (λ c. with_nets old (with_net_table old.nets p.number (with_default c out))) tables
+    ∙ (ap (λ n. with_nets old (with_net_table old.nets n (with_default q.table out))) same ∙ sym q.new_is))
+
+pub one_network : (free : Bool) (rule : Rule) (old one other : NetParts) → WellFormed old → Applies free rule old one → Applies free rule old other → one ≡ other
+one_network free (Remove w) old one other formed p q = removed_one old w one other formed p q
+one_network free (Add w body) old one other formed p q = p.new_is ∙ sym q.new_is
+one_network free (Divide w by body) old one other formed p q = divided_one old w by body one other formed p q
+one_network free (Wire w) old one other formed p q = wired_one old w one other formed p q
+one_network free (Collapse w) old one other formed p q = collapsed_one old w one other formed p q
+one_network free (Fill w out) old one other formed p q = filled_one free old w out one other formed p q
+one_network free _ old one other formed p q = absurd p
 
 -- ---- faults
 
-row_one : (rule : Rule) (old : NetParts) → WellFormed old → HasOneFault (Fails rule old)
-row_one (Remove w) old formed =
+row_one : (free : Bool) (rule : Rule) (old : NetParts) → WellFormed old → HasOneFault (Fails free rule old)
+row_one free (Remove w) old formed =
     with_one _ _ (λ n m. one_tabled old w n m formed) (λ n. unless_one _ _ _ (unless_one _ _ _ (unless_one _ _ _ passed_one)))
-row_one (Add w body) old formed = unless_one _ _ _ (unless_one _ _ _ (unless_one _ _ _ (unless_one _ _ _ passed_one)))
-row_one (Divide w by body) old formed =
+row_one free (Add w body) old formed = unless_one _ _ _ (unless_one _ _ _ (unless_one _ _ _ (unless_one _ _ _ passed_one)))
+row_one free (Divide w by body) old formed =
     with_one _ _ (λ n m. one_tabled old w n m formed) (λ n.
     with_one _ _ (λ d e. one_named old by d e formed) (λ d.
     unless_one _ _ _ (unless_one _ _ _ (unless_one _ _ _ (unless_one _ _ _ (unless_one _ _ _ passed_one))))))
-row_one (Wire w) old formed = with_one _ _ (λ n m. one_tabled old w n m formed) (λ n. unless_one _ _ _ (unless_one _ _ _ passed_one))
-row_one (Collapse w) old formed =
+row_one free (Wire w) old formed = with_one _ _ (λ n m. one_tabled old w n m formed) (λ n. unless_one _ _ _ (unless_one _ _ _ passed_one))
+row_one free (Collapse w) old formed =
     with_one _ _ (λ n m. one_tabled old w n m formed) (λ n. unless_one _ _ _ (unless_one _ _ _ (unless_one _ _ _ (unless_one _ _ _ passed_one))))
-row_one _ old formed = record { one = λ f g p q. absurd p }
+row_one free (Fill w out) old formed =
+    with_one _ _ (λ n m. one_tabled old w n m formed) (λ n. unless_one _ _ _ (unless_one _ _ _ (unless_one _ _ _ (unless_one _ _ _ passed_one))))
+row_one free _ old formed = record { one = λ f g p q. absurd p }
 
-pub one_fault : (rule : Rule) (old : NetParts) (f g : RuleFault) → WellFormed old → Fails rule old f → Fails rule old g → f ≡ g
-one_fault rule old f g formed p q = (row_one rule old formed).one f g p q
+pub one_fault : (free : Bool) (rule : Rule) (old : NetParts) (f g : RuleFault) → WellFormed old → Fails free rule old f → Fails free rule old g → f ≡ g
+one_fault free rule old f g formed p q = (row_one free rule old formed).one f g p q
 
 -- ---- never both
 
-row_never : (rule : Rule) (old new : NetParts) → WellFormed old → Applies rule old new → FailsNever (Fails rule old)
-row_never (Remove w) old new formed p =
+row_never : (free : Bool) (rule : Rule) (old new : NetParts) → WellFormed old → Applies free rule old new → FailsNever (Fails free rule old)
+row_never free (Remove w) old new formed p =
     with_never _ _ p.number p.net (λ m. one_tabled old w p.number m formed p.net)
     (unless_never _ _ _ p.unseen (unless_never _ _ _ p.unread (unless_never _ _ _ p.total passed_never)))
-row_never (Add w body) old new formed p =
+row_never free (Add w body) old new formed p =
     unless_never _ _ _ p.known (unless_never _ _ _ p.form (unless_never _ _ _ p.fresh (unless_never _ _ _ p.room passed_never)))
-row_never (Divide w by body) old new formed p =
+row_never free (Divide w by body) old new formed p =
     with_never _ _ p.number p.net (λ m. one_tabled old w p.number m formed p.net)
     (with_never _ _ p.divisor p.divides (λ m. one_named old by p.divisor m formed p.divides)
     (unless_never _ _ _ p.known (unless_never _ _ _ p.form (unless_never _ _ _ p.two (unless_never _ _ _ p.order (unless_never _ _ _ p.same passed_never))))))
-row_never (Wire w) old new formed p =
+row_never free (Wire w) old new formed p =
     with_never _ _ p.number p.net (λ m. one_tabled old w p.number m formed p.net)
     (unless_never _ _ _ p.same (unless_never _ _ _ p.read passed_never))
-row_never (Collapse w) old new formed p =
+row_never free (Collapse w) old new formed p =
     with_never _ _ p.number p.net (λ m. one_tabled old w p.number m formed p.net)
     (unless_never _ _ _ p.unseen (unless_never _ _ _ p.read (unless_never _ _ _ p.unshared (unless_never _ _ _ p.composites passed_never))))
-row_never _ old new formed p = absurd p
+row_never free (Fill w out) old new formed p =
+    with_never _ _ p.number p.net (λ m. one_tabled old w p.number m formed p.net)
+    (unless_never _ _ _ p.asked (unless_never _ _ _ p.form (unless_never _ _ _ p.partial (unless_never _ _ _ p.plain passed_never))))
+row_never free _ old new formed p = absurd p
 
-pub not_both : (rule : Rule) (old new : NetParts) (f : RuleFault) → WellFormed old → Applies rule old new → Fails rule old f → ⊥
-not_both rule old new f formed p q = (row_never rule old new formed p).none f q
+pub not_both : (free : Bool) (rule : Rule) (old new : NetParts) (f : RuleFault) → WellFormed old → Applies free rule old new → Fails free rule old f → ⊥
+not_both free rule old new f formed p q = (row_never free rule old new formed p).none f q

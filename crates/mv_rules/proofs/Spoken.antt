@@ -15,7 +15,7 @@ use Rattle.mv_entry.specs.declared.rule.BodyLit.{BodyLit}
 use Rattle.mv_entry.specs.declared.rule.BodyLine.{BodyLine}
 use Rattle.mv_entry.specs.declared.rule.Body.{Body}
 use Rattle.mv_entry.specs.declared.rule.Rule.{Rule}
-use Rattle.mv_entry.specs.declared.rule.Rule.TheVariants.{Remove, Add, Divide, Wire, Collapse}
+use Rattle.mv_entry.specs.declared.rule.Rule.TheVariants.{Remove, Add, Divide, Wire, Collapse, Fill}
 use Rattle.mv_entry.proofs.Visible.{visible-net}
 use Rattle.mv_net.specs.declared.parts.FlatNet.{FlatNet}
 use Rattle.mv_net.specs.declared.parts.FlatLatch.{FlatLatch}
@@ -103,15 +103,16 @@ module _ (pass : List ℕ → Bool) (net : NetParts) (formed : WellFormed net) (
 
   -- ---- rules
 
-  pub rule_passes : (rule : Rule) (new : NetParts) → Applies rule net new → list_all pass (rule_names rule) ≡ true
-  rule_passes (Remove w) new p = and_from (pass w) true (named_passes p.number w p.net.named) refl
-  rule_passes (Add w body) new p = and_from (pass w) (list_all pass (body_names body)) (passes.fresh w p.fresh) (body_passes body p.known)
-  rule_passes (Divide w by body) new p =
+  pub rule_passes : (free : Bool) (rule : Rule) (new : NetParts) → Applies free rule net new → list_all pass (rule_names rule) ≡ true
+  rule_passes free (Remove w) new p = and_from (pass w) true (named_passes p.number w p.net.named) refl
+  rule_passes free (Add w body) new p = and_from (pass w) (list_all pass (body_names body)) (passes.fresh w p.fresh) (body_passes body p.known)
+  rule_passes free (Divide w by body) new p =
       and_from (pass w) _ (named_passes p.number w p.net.named)
       (and_from (pass by) (list_all pass (body_names body)) (named_passes p.divisor by p.divides) (body_passes body p.known))
-  rule_passes (Wire w) new p = and_from (pass w) true (named_passes p.number w p.net.named) refl
-  rule_passes (Collapse w) new p = and_from (pass w) true (named_passes p.number w p.net.named) refl
-  rule_passes _ new p = absurd p
+  rule_passes free (Wire w) new p = and_from (pass w) true (named_passes p.number w p.net.named) refl
+  rule_passes free (Collapse w) new p = and_from (pass w) true (named_passes p.number w p.net.named) refl
+  rule_passes free (Fill w out) new p = and_from (pass w) true (named_passes p.number w p.net.named) refl
+  rule_passes free _ new p = absurd p
 
 -- ---- names that can be seen
 
@@ -128,8 +129,8 @@ visible_passes nets = record {
   fresh = λ w new. visible-net w new.lawful;
 }
 
-pub applied_visible : (rule : Rule) (old new : NetParts) → WellFormed old → Applies rule old new → HasVisibleNames (Applied rule)
-applied_visible rule old new formed p = record { each = rule_passes is_visible_name old formed (visible_passes old.nets) rule new p }
+pub applied_visible : (free : Bool) (rule : Rule) (old new : NetParts) → WellFormed old → Applies free rule old new → HasVisibleNames (Applied rule)
+applied_visible free rule old new formed p = record { each = rule_passes is_visible_name old formed (visible_passes old.nets) free rule new p }
 
 -- the name of a held net can be seen
 pub held_visible : (net : NetParts) (n : ℕ) (w : List ℕ) → WellFormed net → HasName net.nets n w → is_visible_name w ≡ true

@@ -34,7 +34,7 @@ module _ (net : NetParts) (n m : ℕ) (formed : WellFormed net) (buffer : IsPlai
   reader_over : (r : ℕ) (c : Cover) → IsReader net.nets n r c → IsCoverOver (counts_of net.nets) (values_in (slot net.nets r)) c
   reader_over r c reader = over_counts net (values_in (slot net.nets r)) c formed (cover_at net r c formed reader.table)
 
-  cubes : (r : ℕ) (c : Cover) → IsReader net.nets n r c → All (λ (l : Line). IsCube l.cube) c.lines
+  pub cubes : (r : ℕ) (c : Cover) → IsReader net.nets n r c → All (λ (l : Line). IsCube l.cube) c.lines
   cubes r c reader = are_cubes (counts_of net.nets) c.lines (reader_over r c reader).cubes
 
   -- a rewritten table reads what the old one read, or the buffer's fanin

@@ -1,7 +1,7 @@
 -- When a rule applies to a network, what it leaves, and which of its checks fails first.
-use Rattle.std.specs.Prelude.{◌≡◌, ℕ}
+use Rattle.std.specs.Prelude.{◌≡◌, ℕ, Bool, true, false}
 use Rattle.mv_entry.specs.declared.rule.Rule.{Rule}
-use Rattle.mv_entry.specs.declared.rule.Rule.TheVariants.{Remove, Add, Divide, Wire, Collapse}
+use Rattle.mv_entry.specs.declared.rule.Rule.TheVariants.{Remove, Add, Divide, Wire, Collapse, Fill}
 use Rattle.mv_entry.specs.declared.fault.RuleFault.{RuleFault}
 use Rattle.mv_net.specs.declared.parts.NetParts.{NetParts}
 use Rattle.mv_net.specs.Nets.{literals_in}
@@ -10,28 +10,40 @@ use Rattle.mv_rules.specs.Adding.{Adds, FailsAdd}
 use Rattle.mv_rules.specs.Dividing.{Divides, FailsDivide}
 use Rattle.mv_rules.specs.Wiring.{Wires, FailsWire}
 use Rattle.mv_rules.specs.Collapsing.{Collapses, FailsCollapse}
+use Rattle.mv_rules.specs.Filling.{Fills, FailsFill}
 
--- every check of the rule holds in the old network, and the rule makes the new one of it. A rule that isn't built in this version
--- makes none
-abbrev pub Applies : Rule → NetParts → NetParts → Type 0
-Applies (Remove net) old new = Removes old net new
-Applies (Add net body) old new = Adds old net body new
-Applies (Divide net by body) old new = Divides old net by body new
-Applies (Wire net) old new = Wires old net new
-Applies (Collapse net) old new = Collapses old net new
-Applies _ old new = ⊥
+-- every check of the rule holds in the old network, and the rule makes the new one of it. Where free, values under which the network
+-- allows nothing may be given any meaning; only `fill` asks for it. A rule that isn't built in this version makes none
+abbrev pub Applies : Bool → Rule → NetParts → NetParts → Type 0
+Applies free (Remove net) old new = Removes old net new
+Applies free (Add net body) old new = Adds old net body new
+Applies free (Divide net by body) old new = Divides old net by body new
+Applies free (Wire net) old new = Wires old net new
+Applies free (Collapse net) old new = Collapses old net new
+Applies free (Fill net out) old new = Fills free old net out new
+Applies free _ old new = ⊥
 
 -- this is the fault of the first check of the rule that fails. A rule that isn't built has no checks
-abbrev pub Fails : Rule → NetParts → RuleFault → Type 0
-Fails (Remove net) old f = FailsRemove old net f
-Fails (Add net body) old f = FailsAdd old net body f
-Fails (Divide net by body) old f = FailsDivide old net by body f
-Fails (Wire net) old f = FailsWire old net f
-Fails (Collapse net) old f = FailsCollapse old net f
-Fails _ old f = ⊥
+abbrev pub Fails : Bool → Rule → NetParts → RuleFault → Type 0
+Fails free (Remove net) old f = FailsRemove old net f
+Fails free (Add net body) old f = FailsAdd old net body f
+Fails free (Divide net by body) old f = FailsDivide old net by body f
+Fails free (Wire net) old f = FailsWire old net f
+Fails free (Collapse net) old f = FailsCollapse old net f
+Fails free (Fill net out) old f = FailsFill free old net out f
+Fails free _ old f = ⊥
 
--- the rule applies, and leaves so many literals
+-- the rule leaves each choice as it was
+abbrev pub keeps_choices : Rule → Bool
+keeps_choices (Remove net) = true
+keeps_choices (Add net body) = true
+keeps_choices (Divide net by body) = true
+keeps_choices (Wire net) = true
+keeps_choices (Collapse net) = true
+keeps_choices _ = false
+
+-- the rule applies, also where nothing is free, and leaves so many literals
 pub record LeavesLiterals (rule : Rule) (old : NetParts) (literals : ℕ) : Type 0 where
   pub new : NetParts
-  pub applies : Applies rule old new
+  pub applies : Applies false rule old new
   pub counted : literals ≡ literals_in new.nets

@@ -10,4 +10,6 @@ pub mod Replaying
 pub mod Plans
 pub mod Orders
 pub mod Expanding
+pub mod Filling
 pub mod Completing
+pub mod Staying

@@ -1,65 +1,107 @@
-ghost use Rattle.std.specs.Prelude.{◌≡◌, ◌+◌, ℕ, true, Option, List};
+ghost use Rattle.std.specs.Prelude.{◌≡◌, ◌+◌, ℕ, Bool, true, false, Option, List};
 ghost use Rattle.std.specs.List.{list_all, sum_by};
 ghost use Rattle.mv_base.specs.declared.number.NetId.{NetId};
-ghost use Rattle.mv_base.specs.Meaning.{SameMeaning};
+ghost use Rattle.mv_base.specs.Meaning.{Refines, SameMeaning};
 ghost use Rattle.mv_composite.specs.declared.inner.Inner.{Inner};
 ghost use Rattle.mv_entry.specs.declared.rule.Rule.{Rule};
-ghost use Rattle.mv_entry.specs.declared.rule.Rule.TheVariants.{Collapse};
+ghost use Rattle.mv_entry.specs.declared.rule.Rule.TheVariants.{Collapse, Fill};
 ghost use Rattle.mv_entry.specs.declared.fault.RuleFault.{RuleFault};
 ghost use Rattle.mv_entry.specs.Entries.{Applied, HasVisibleNames, is_built};
 ghost use Rattle.mv_graph.specs.Nets.{IsAscending};
+ghost use Rattle.mv_meaning.specs.Rewriting.{SameWhereAllowed};
 ghost use Rattle.mv_net.specs.declared.parts.FlatNet.{FlatNet};
 ghost use Rattle.mv_net.specs.declared.parts.NetParts.{NetParts};
 ghost use Rattle.mv_net.specs.Allowed.{of_net};
 ghost use Rattle.mv_net.specs.Behind.{literals_at};
 ghost use Rattle.mv_net.specs.Formed.{WellFormed};
 ghost use Rattle.mv_net.specs.Nets.{literals_in, reads_in};
-ghost use Rattle.mv_rules.specs.Applies.{Applies, Fails, LeavesLiterals};
+ghost use Rattle.mv_rules.specs.Applies.{Applies, Fails, LeavesLiterals, keeps_choices};
 ghost use Rattle.mv_rules.specs.Checks.{IsTabled};
 ghost use Rattle.mv_rules.specs.Collapsing.{IsInnerOf, CanCollapse, Collapses, FailsCollapse, collapsed};
 ghost use Rattle.mv_rules.specs.Composites.{HasCompositeLiterals, HasWideComposite, composite_count};
 ghost use Rattle.mv_rules.specs.Replaying.{Replays};
+ghost use Rattle.mv_rules.specs.Staying.{AreTotal, AreBinary};
 
 /// A rule makes at most one network of a network.
 #[tactic(auto, using(crate::proofs::OneAnswer::one_network))]
 pub fn at_most_one_network()
-    ensures { (rule : Rule) (old one other : NetParts) → WellFormed old → Applies rule old one → Applies rule old other → one ≡ other }
+    ensures { (free : Bool) (rule : Rule) (old one other : NetParts) → WellFormed old → Applies free rule old one → Applies free rule old other
+        → one ≡ other }
 {}
 
 /// A rule fails with at most one fault.
 #[tactic(auto, using(crate::proofs::OneAnswer::one_fault))]
 pub fn at_most_one_fault()
-    ensures { (rule : Rule) (old : NetParts) (f g : RuleFault) → WellFormed old → Fails rule old f → Fails rule old g → f ≡ g }
+    ensures { (free : Bool) (rule : Rule) (old : NetParts) (f g : RuleFault) → WellFormed old → Fails free rule old f → Fails free rule old g
+        → f ≡ g }
 {}
 
 /// A rule that applies doesn't fail.
 #[tactic(auto, using(crate::proofs::OneAnswer::not_both))]
 pub fn never_both()
-    ensures { (rule : Rule) (old new : NetParts) (f : RuleFault) → WellFormed old → Applies rule old new → Fails rule old f → ⊥ }
+    ensures { (free : Bool) (rule : Rule) (old new : NetParts) (f : RuleFault) → WellFormed old → Applies free rule old new
+        → Fails free rule old f → ⊥ }
 {}
 
 /// A rule names nets that are there, or a lawful name for a new one: its names can be seen.
 #[tactic(auto, using(crate::proofs::Spoken::applied_visible))]
 pub fn names_are_visible()
-    ensures { (rule : Rule) (old new : NetParts) → WellFormed old → Applies rule old new → HasVisibleNames (Applied rule) }
+    ensures { (free : Bool) (rule : Rule) (old new : NetParts) → WellFormed old → Applies free rule old new → HasVisibleNames (Applied rule) }
 {}
 
 /// A rule that applies is built in this version, and so are rules that apply in turn.
 #[tactic(auto, using(crate::proofs::Built::applied_built, crate::proofs::Built::replayed_built))]
 pub fn only_built_apply()
-    ensures one { (rule : Rule) (old new : NetParts) → Applies rule old new → is_built rule ≡ true }
-    ensures all { (rules : List Rule) (old new : NetParts) → Replays rules old new → list_all is_built rules ≡ true }
+    ensures one { (free : Bool) (rule : Rule) (old new : NetParts) → Applies free rule old new → is_built rule ≡ true }
+    ensures all { (free : Bool) (rules : List Rule) (old new : NetParts) → Replays free rules old new → list_all is_built rules ≡ true }
 {}
 
-/// Rules that apply in turn leave at most one network, which is well formed, has the latches that were there, and means what the
-/// first one meant.
-#[tactic(auto, using(crate::proofs::Replayed::replayed_one, crate::proofs::Replayed::replayed_formed, crate::proofs::Replayed::replayed_latches, crate::proofs::Replayed::replayed_means,))]
+/// What applies where nothing is free leaves the same where others are free: a rule, and rules in turn.
+#[tactic(auto, using(crate::proofs::Strict::strict_applied, crate::proofs::Strict::strict_replayed))]
+pub fn strict_applies()
+    ensures one { (rule : Rule) (old new : NetParts) → Applies false rule old new → Applies true rule old new }
+    ensures all { (rules : List Rule) (old new : NetParts) → Replays false rules old new → Replays true rules old new }
+{}
+
+/// Rules that apply in turn leave at most one network, which is well formed, has the latches that were there, and may take the
+/// place of the first one.
+#[tactic(auto, using(crate::proofs::Replayed::replayed_one, crate::proofs::Replayed::replayed_formed, crate::proofs::Replayed::replayed_latches, crate::proofs::Replayed::replayed_refines,))]
 pub fn replay_laws()
-    ensures one { (rules : List Rule) (old one other : NetParts) → WellFormed old → Replays rules old one → Replays rules old other → one ≡ other }
-    ensures formed { (rules : List Rule) (old new : NetParts) → WellFormed old → Replays rules old new → WellFormed new }
-    ensures latches { (rules : List Rule) (old new : NetParts) → Replays rules old new → new.latches ≡ old.latches }
-    ensures means { (rules : List Rule) (old new : NetParts) → WellFormed old → Replays rules old new
+    ensures one { (free : Bool) (rules : List Rule) (old one other : NetParts) → WellFormed old → Replays free rules old one
+        → Replays free rules old other → one ≡ other }
+    ensures formed { (free : Bool) (rules : List Rule) (old new : NetParts) → WellFormed old → Replays free rules old new → WellFormed new }
+    ensures latches { (free : Bool) (rules : List Rule) (old new : NetParts) → Replays free rules old new → new.latches ≡ old.latches }
+    ensures refines { (free : Bool) (rules : List Rule) (old new : NetParts) → WellFormed old → Replays free rules old new
+        → Refines free (of_net new) (of_net old) }
+{}
+
+/// Rules that leave each choice as it was leave a network that means what the old one meant: one rule, and several in turn.
+#[tactic(auto, using(crate::proofs::Meanings::applied_means, crate::proofs::Replayed::replayed_means))]
+pub fn same_meaning()
+    ensures one { (free : Bool) (rule : Rule) (old new : NetParts) → WellFormed old → keeps_choices rule ≡ true → Applies free rule old new
         → SameMeaning (of_net new) (of_net old) }
+    ensures all { (free : Bool) (rules : List Rule) (old new : NetParts) → WellFormed old → list_all keeps_choices rules ≡ true
+        → Replays free rules old new → SameMeaning (of_net new) (of_net old) }
+{}
+
+/// What a filling leaves allows what the old network allowed, under all values where that allowed some choice.
+#[tactic(auto, using(crate::proofs::Filled::filled_means))]
+pub fn fill_keeps()
+    ensures { (free : Bool) (name : List ℕ) (out : ℕ) (old new : NetParts) → WellFormed old → Applies free (Fill name out) old new
+        → SameWhereAllowed (of_net new) (of_net old) }
+{}
+
+/// Where every table was total, every table is, and where no net had more than two values, none has: behind one rule, and behind
+/// several in turn.
+#[tactic(auto, using(crate::proofs::Staying::stays_total, crate::proofs::Staying::replays_total, crate::proofs::Staying::stays_binary, crate::proofs::Staying::replays_binary))]
+pub fn staying_laws()
+    ensures total { (free : Bool) (rule : Rule) (old new : NetParts) → WellFormed old → AreTotal old.nets → Applies free rule old new
+        → AreTotal new.nets }
+    ensures all_total { (free : Bool) (rules : List Rule) (old new : NetParts) → WellFormed old → AreTotal old.nets → Replays free rules old new
+        → AreTotal new.nets }
+    ensures binary { (free : Bool) (rule : Rule) (old new : NetParts) → AreBinary old.nets → Applies free rule old new → AreBinary new.nets }
+    ensures all_binary { (free : Bool) (rules : List Rule) (old new : NetParts) → AreBinary old.nets → Replays free rules old new
+        → AreBinary new.nets }
 {}
 
 /// What a net is asked for by its readers' composites is told by the network: two such of one net are the same. The literals of

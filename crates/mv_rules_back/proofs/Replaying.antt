@@ -1,5 +1,5 @@
 -- The rules that are read back from the text of entries.
-use Rattle.std.proofs.Common.{◌≡◌, ◌∙◌, ℕ, ◌+◌, List, [], ◌∷◌, length, map, All, refl, sym, ap, subst}
+use Rattle.std.proofs.Common.{◌≡◌, ◌∙◌, ℕ, ◌+◌, Bool, List, [], ◌∷◌, length, map, All, refl, sym, ap, subst}
 use Rattle.mv_lex.specs.Lines.{lines_of}
 use Rattle.mv_entry.specs.declared.rule.Rule.{Rule}
 use Rattle.mv_entry.specs.Entries.{Entry, Applied, Noted, rule_lines, rules_of, print}
@@ -29,5 +29,5 @@ print_lists es all = record {
   rules_are = ap rules_in (steps-back es all) ∙ rules_told 1 es;
 }
 
-pub replayed_from_print : (es : List Entry) (old new : NetParts) → All Printable es → Replays (rules_of es) old new → Replays (rules_in (steps_of (lines_of (print es)))) old new
-replayed_from_print es old new all p = subst (λ (rules : List Rule). Replays rules old new) (sym (print_lists es all).rules_are) p
+pub replayed_from_print : (free : Bool) (es : List Entry) (old new : NetParts) → All Printable es → Replays free (rules_of es) old new → Replays free (rules_in (steps_of (lines_of (print es)))) old new
+replayed_from_print free es old new all p = subst (λ (rules : List Rule). Replays free rules old new) (sym (print_lists es all).rules_are) p

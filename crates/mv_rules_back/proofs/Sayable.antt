@@ -1,5 +1,5 @@
 -- The sets of a rule that applies can be said: each is some of the values of a net.
-use Rattle.std.proofs.Common.{◌≡◌, ◌∙◌, ℕ, ◌≤◌, true, List, [], ◌∷◌, map, All, Option, Some, None, refl, sym, arith}
+use Rattle.std.proofs.Common.{◌≡◌, ◌∙◌, ℕ, ◌≤◌, Bool, true, List, [], ◌∷◌, map, All, Option, Some, None, refl, sym, arith}
 use Rattle.std.specs.List.{flat_map}
 use Rattle.std.specs.Option.{option_to_list}
 use Rattle.std.proofs.lemmas.Bool.{ltb-true}
@@ -13,7 +13,7 @@ use Rattle.mv_entry.specs.declared.rule.BodyLit.{BodyLit}
 use Rattle.mv_entry.specs.declared.rule.BodyLine.{BodyLine}
 use Rattle.mv_entry.specs.declared.rule.Body.{Body}
 use Rattle.mv_entry.specs.declared.rule.Rule.{Rule}
-use Rattle.mv_entry.specs.declared.rule.Rule.TheVariants.{Remove, Add, Divide, Wire, Collapse}
+use Rattle.mv_entry.specs.declared.rule.Rule.TheVariants.{Remove, Add, Divide, Wire, Collapse, Fill}
 use Rattle.mv_net.specs.declared.parts.NetParts.{NetParts}
 use Rattle.mv_net.specs.Formed.{IsLiteral, WellFormed}
 use Rattle.mv_net.specs.Nets.{slot, values_in}
@@ -53,19 +53,22 @@ module _ (net : NetParts) (formed : WellFormed net) where
         default None e = All-nil IsSayable
         default (Some set) e = All-cons IsSayable set [] (output values set few (tidy.cover.default set e)) (All-nil IsSayable)
 
-  pub rule_sayable : (rule : Rule) (new : NetParts) → Applies rule net new → All IsSayable (rule_sets rule)
-  rule_sayable (Remove w) new p = All-nil IsSayable
-  rule_sayable (Add w b) new p = body 2 (omega arith) b p.form.tidy
-  rule_sayable (Divide w by b) new p = body (values_in (slot net.nets p.number)) (values_few net p.number formed) b p.form
-  rule_sayable (Wire w) new p = All-nil IsSayable
-  rule_sayable (Collapse w) new p = All-nil IsSayable
-  rule_sayable _ new p = absurd p
+  pub rule_sayable : (free : Bool) (rule : Rule) (new : NetParts) → Applies free rule net new → All IsSayable (rule_sets rule)
+  rule_sayable free (Remove w) new p = All-nil IsSayable
+  rule_sayable free (Add w b) new p = body 2 (omega arith) b p.form.tidy
+  rule_sayable free (Divide w by b) new p = body (values_in (slot net.nets p.number)) (values_few net p.number formed) b p.form
+  rule_sayable free (Wire w) new p = All-nil IsSayable
+  rule_sayable free (Collapse w) new p = All-nil IsSayable
+  rule_sayable free (Fill w out) new p =
+      All-cons IsSayable out [] (output (values_in (slot net.nets p.number)) out (values_few net p.number formed) p.form.output) (All-nil IsSayable)
+  rule_sayable free _ new p = absurd p
 
   -- its numbers and codes too: the rules that are built have none
-  pub rule_formed : (rule : Rule) (new : NetParts) → Applies rule net new → is_sayable_form rule ≡ true
-  rule_formed (Remove w) new p = refl
-  rule_formed (Add w b) new p = refl
-  rule_formed (Divide w by b) new p = refl
-  rule_formed (Wire w) new p = refl
-  rule_formed (Collapse w) new p = refl
-  rule_formed _ new p = absurd p
+  pub rule_formed : (free : Bool) (rule : Rule) (new : NetParts) → Applies free rule net new → is_sayable_form rule ≡ true
+  rule_formed free (Remove w) new p = refl
+  rule_formed free (Add w b) new p = refl
+  rule_formed free (Divide w by b) new p = refl
+  rule_formed free (Wire w) new p = refl
+  rule_formed free (Collapse w) new p = refl
+  rule_formed free (Fill w out) new p = refl
+  rule_formed free _ new p = absurd p

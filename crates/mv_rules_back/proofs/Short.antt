@@ -1,5 +1,5 @@
 -- Names that aren't longer than a word may be: those of a design are such, and a rule that applies keeps them so.
-use Rattle.std.proofs.Common.{◌≡◌, ℕ, ◌+◌, ◌<◌, ◌≤◌, List, [], ◌∷◌, ◌++◌, length, Option, Some, None, All, map, sym, subst, set, arith, ⊎_elim}
+use Rattle.std.proofs.Common.{◌≡◌, ℕ, ◌+◌, ◌<◌, ◌≤◌, Bool, List, [], ◌∷◌, ◌++◌, length, Option, Some, None, All, map, sym, subst, set, arith, ⊎_elim}
 use Rattle.std.specs.Prelude.{IfSome}
 use Rattle.std.proofs.lemmas.Bool.{cases_eq, cases_lt}
 use Rattle.std.proofs.lemmas.List.{get_or_past}
@@ -8,7 +8,7 @@ use Rattle.mv_composite.specs.Composite.{composed}
 use Rattle.mv_composite.specs.Wired.{wired}
 use Rattle.mv_cover.specs.declared.cover.Cover.{Cover}
 use Rattle.mv_entry.specs.declared.rule.Rule.{Rule}
-use Rattle.mv_entry.specs.declared.rule.Rule.TheVariants.{Remove, Add, Divide, Wire, Collapse}
+use Rattle.mv_entry.specs.declared.rule.Rule.TheVariants.{Remove, Add, Divide, Wire, Collapse, Fill}
 use Rattle.mv_body.specs.Bodies.{cover_said}
 use Rattle.mv_meaning.specs.Rewriting.{given_table, with_net_table, rewritten, IsReformed}
 use Rattle.mv_meaning.proofs.Adding.{IsWritten-added}
@@ -21,6 +21,7 @@ use Rattle.mv_net.specs.Nets.{slot, name_in, values_in}
 use Rattle.mv_net.proofs.Patches.{IsWritten, IsWritten-gone}
 use Rattle.mv_rules.specs.Adding.{divisor_net}
 use Rattle.mv_rules.specs.Applies.{Applies}
+use Rattle.mv_rules.specs.Filling.{with_default}
 use Rattle.mv_rules.specs.Replaying.{Replays}
 use Rattle.mv_rules_back.specs.Names.{HasWordNames}
 
@@ -69,27 +70,32 @@ given_short c (Some f) short = short
 
 -- ---- rules
 
-pub words_kept : (rule : Rule) (old new : NetParts) → HasWordNames old.nets → Applies rule old new → HasWordNames new.nets
+pub words_kept : (free : Bool) (rule : Rule) (old new : NetParts) → HasWordNames old.nets → Applies free rule old new → HasWordNames new.nets
 unfolding with_nets
-words_kept (Remove w) old new names p =
+words_kept free (Remove w) old new names p =
     subst (λ (m : NetParts). HasWordNames m.nets) (sym p.new_is) (gone_short old.nets p.number names)
-words_kept (Add w body) old new names p =
+words_kept free (Add w body) old new names p =
     let came = Some (divisor_net w (cover_said old.nets body)) in
     subst (λ (m : NetParts). HasWordNames m.nets) (sym p.new_is)
     (written_short old.nets (length old.nets) came (old.nets ++ came ∷ []) (IsWritten-added old.nets came) p.fresh.short names)
-words_kept (Divide w by body) old new names p =
+words_kept free (Divide w by body) old new names p =
     let given = given_table p.table (slot old.nets p.number) in
     subst (λ (m : NetParts). HasWordNames m.nets) (sym p.new_is)
     (written_short old.nets p.number given (with_net_table old.nets p.number p.table) (IsWritten-given old.nets p.number p.table) (given_short p.table (slot old.nets p.number) (names.short p.number)) names)
-words_kept (Wire w) old new names p =
+words_kept free (Wire w) old new names p =
     subst (λ (m : NetParts). HasWordNames m.nets) (sym p.new_is) (rewritten_short (wired p.number p.same.source) p.number old.nets names)
-words_kept (Collapse w) old new names p =
+words_kept free (Collapse w) old new names p =
     let inner = p.composites.inner in
     let table = composed (map values_in old.nets) inner in
     subst (λ (m : NetParts). HasWordNames m.nets) (sym p.new_is)
     (gone_short (rewritten table inner.net.0 old.nets) inner.net.0 (rewritten_short table inner.net.0 old.nets names))
-words_kept _ old new names p = absurd p
+words_kept free (Fill w out) old new names p =
+    let table = with_default p.table out in
+    let given = given_table table (slot old.nets p.number) in
+    subst (λ (m : NetParts). HasWordNames m.nets) (sym p.new_is)
+    (written_short old.nets p.number given (with_net_table old.nets p.number table) (IsWritten-given old.nets p.number table) (given_short table (slot old.nets p.number) (names.short p.number)) names)
+words_kept free _ old new names p = absurd p
 
-pub replayed_words : (rules : List Rule) (old new : NetParts) → HasWordNames old.nets → Replays rules old new → HasWordNames new.nets
-replayed_words [] old new names p = subst (λ (m : NetParts). HasWordNames m.nets) (sym p) names
-replayed_words (r ∷ rs) old new names (mid, (applies, rest)) = replayed_words rs mid new (words_kept r old mid names applies) rest
+pub replayed_words : (free : Bool) (rules : List Rule) (old new : NetParts) → HasWordNames old.nets → Replays free rules old new → HasWordNames new.nets
+replayed_words free [] old new names p = subst (λ (m : NetParts). HasWordNames m.nets) (sym p) names
+replayed_words free (r ∷ rs) old new names (mid, (applies, rest)) = replayed_words free rs mid new (words_kept free r old mid names applies) rest

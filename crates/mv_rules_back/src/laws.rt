@@ -1,4 +1,4 @@
-ghost use Rattle.std.specs.Prelude.{◌+◌, ◌≤◌, Option, IfSome, List, length, map, All};
+ghost use Rattle.std.specs.Prelude.{◌+◌, ◌≤◌, Bool, Option, IfSome, List, length, map, All};
 ghost use Rattle.mv_base.specs.declared.limits.TheConstants.{MAX_FLAT_NAME_BYTES};
 ghost use Rattle.mv_lex.specs.Lines.{lines_of};
 ghost use Rattle.mv_entry.specs.declared.rule.Rule.{Rule};
@@ -20,21 +20,23 @@ ghost use Rattle.mv_rules_back.specs.Notes.{notes_of, IsPrintableNote};
 pub fn name_laws()
     ensures short { (nets : List (Option FlatNet))
         → All (λ (o : Option FlatNet). IfSome o (λ (f : FlatNet). length f.name ≤ MAX_FLAT_NAME_BYTES + 1)) nets → HasWordNames nets }
-    ensures kept { (rule : Rule) (old new : NetParts) → HasWordNames old.nets → Applies rule old new → HasWordNames new.nets }
-    ensures replayed { (rules : List Rule) (old new : NetParts) → HasWordNames old.nets → Replays rules old new → HasWordNames new.nets }
+    ensures kept { (free : Bool) (rule : Rule) (old new : NetParts) → HasWordNames old.nets → Applies free rule old new → HasWordNames new.nets }
+    ensures replayed { (free : Bool) (rules : List Rule) (old new : NetParts) → HasWordNames old.nets → Replays free rules old new
+        → HasWordNames new.nets }
 {}
 
 /// A rule that applies can be printed, and so can rules that apply in turn, with notes between them that can be printed.
 pub fn rule_laws()
-    ensures one { (rule : Rule) (old new : NetParts) → WellFormed old → HasWordNames old.nets → Applies rule old new → Printable (Applied rule) }
-    ensures all { (es : List Entry) (old new : NetParts) → WellFormed old → HasWordNames old.nets
-        → All IsPrintableNote (notes_of es) → Replays (rules_of es) old new → All Printable es }
+    ensures one { (free : Bool) (rule : Rule) (old new : NetParts) → WellFormed old → HasWordNames old.nets → Applies free rule old new
+        → Printable (Applied rule) }
+    ensures all { (free : Bool) (es : List Entry) (old new : NetParts) → WellFormed old → HasWordNames old.nets
+        → All IsPrintableNote (notes_of es) → Replays free (rules_of es) old new → All Printable es }
 {}
 
 /// The text of entries is read back as a certificate of the rules among them, which apply where these do and leave the same
 /// network.
 pub fn replay_laws()
     ensures lists { (es : List Entry) → All Printable es → Lists (lines_of (print es)) (rules_of es) }
-    ensures replays { (es : List Entry) (old new : NetParts) → All Printable es → Replays (rules_of es) old new
-        → Replays (map (λ (s : Step). s.rule) (steps_of (lines_of (print es)))) old new }
+    ensures replays { (free : Bool) (es : List Entry) (old new : NetParts) → All Printable es → Replays free (rules_of es) old new
+        → Replays free (map (λ (s : Step). s.rule) (steps_of (lines_of (print es)))) old new }
 {}

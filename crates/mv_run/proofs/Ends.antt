@@ -1,5 +1,5 @@
 -- A run for which no memory is there before its words are read ends so, whatever they ask for.
-use Rattle.std.proofs.Common.{ℕ, Option, Some, None, List, inr, refl}
+use Rattle.std.proofs.Common.{ℕ, Bool, Option, Some, None, List, inr, refl}
 use Rattle.mv_base.specs.Outside.{Stored, Written}
 use Rattle.mv_check.specs.Checked.{Checks}
 use Rattle.mv_opt.specs.Drawn.{drawn}
@@ -10,11 +10,11 @@ use Rattle.mv_command_line.specs.CommandLine.{Asked, opt, check, work}
 use Rattle.mv_run.specs.Doing.{EndsAsked}
 
 pub short_at_once : (asked : Option Asked) (files : Stored) (out notes notes' : Written)
-    → ((given : Inputs) → Optimises given files files out out notes notes' 6)
-    → ((net certificate : List ℕ) → Checks net certificate files files out out notes notes' 6)
+    → ((free : Bool) (given : Inputs) → Optimises free given files files out out notes notes' 6)
+    → ((free : Bool) (net certificate : List ℕ) → Checks free net certificate files files out out notes notes' 6)
     → TellsLine notes notes' memory_line
     → EndsAsked asked files files out out notes notes' 6
-short_at_once (Some (opt f)) files out notes notes' optimises checks told = optimises (named f.net f.other)
-short_at_once (Some (check f)) files out notes notes' optimises checks told = checks f.net f.other
-short_at_once (Some (work d)) files out notes notes' optimises checks told = optimises (drawn d.size d.seed d.script)
+short_at_once (Some (opt f)) files out notes notes' optimises checks told = optimises f.free (named f.net f.other)
+short_at_once (Some (check f)) files out notes notes' optimises checks told = checks f.free f.net f.other
+short_at_once (Some (work d)) files out notes notes' optimises checks told = optimises d.free (drawn d.size d.seed d.script)
 short_at_once None files out notes notes' optimises checks told = (inr (refl, told), refl)

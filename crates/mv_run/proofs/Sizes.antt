@@ -5,7 +5,7 @@ use Rattle.std.specs.Char.{is_ascii_digit}
 use Rattle.std.specs.List.{list_all}
 use Rattle.std.specs.Str.Parse.{digits_value}
 use Rattle.std.proofs.lemmas.Bool.{false≢true, leb-true}
-use Rattle.mv_command_line.specs.CommandLine.{Files, Draw, Parts, opt, check, work, number_of, size_of, seed_of, budget_given, draw_in, draw_asked, files_asked, parts_of, task_of}
+use Rattle.mv_command_line.specs.CommandLine.{Files, Draw, Parts, opt, check, work, number_of, size_of, seed_of, budget_given, free_given, of_both, draw_with, draw_in, draw_asked, files_asked, parts_of, task_of}
 
 -- of five tests that hold the last two hold
 last_two : (a b c d e : Bool) → (a && b && c && d && e) ≡ true → (d ≡ true) × (e ≡ true)
@@ -31,27 +31,26 @@ module _ (most least greatest : ℕ) (w : List ℕ) (n : ℕ) where
   number_bounds e = value_bounds (nat_lt 0 (length w) && nat_le (length w) most && list_all is_ascii_digit w && nat_le least (digits_value 10 w) && nat_le (digits_value 10 w) greatest) refl e
 
 -- the size is the number that the first word says
-drawn_size : (size seed : Option ℕ) (script : List ℕ) (budget : Option (Option ℕ)) (d : Draw)
-    → option_and_then (λ n. option_and_then (λ s. option_map (λ b. record { size = n; seed = s; script = script; budget = b }) budget) seed) size ≡ Some d
-    → size ≡ Some d.size
-drawn_size None seed script budget d e = absurd cc
-drawn_size (Some n) None script budget d e = absurd cc
-drawn_size (Some n) (Some s) script None d e = absurd cc
-drawn_size (Some n) (Some s) script (Some b) d e =
-    let P : Draw = record { size = n; seed = s; script = script; budget = b } in
-    let same : P ≡ d = cc in
+drawn_size : (size seed : Option ℕ) (script : List ℕ) (free : Option Bool) (budget : Option ℕ) (d : Draw)
+    → option_and_then (λ n. option_and_then (λ s. of_both (draw_with n s script) free budget) seed) size ≡ Some d → size ≡ Some d.size
+drawn_size None seed script free budget d e = absurd cc
+drawn_size (Some n) None script free budget d e = absurd cc
+drawn_size (Some n) (Some s) script None budget d e = absurd cc
+drawn_size (Some n) (Some s) script (Some f) None d e = absurd cc
+drawn_size (Some n) (Some s) script (Some f) (Some b) d e =
+    let same : draw_with n s script f b ≡ d = cc in
     ap (λ (x : Draw). Some x.size) same
 
-draw_bounds : (words : List (List ℕ)) (budget : Option (Option ℕ)) (d : Draw) → draw_in words budget ≡ Some d → (1 ≤ d.size) × (d.size ≤ 20000)
-draw_bounds [] budget d e = absurd cc
-draw_bounds (a ∷ []) budget d e = absurd cc
-draw_bounds (a ∷ b ∷ []) budget d e = absurd cc
-draw_bounds (a ∷ b ∷ c ∷ []) budget d e = number_bounds 5 1 20000 a d.size (drawn_size (size_of a) (seed_of b) c budget d e)
-draw_bounds (a ∷ b ∷ c ∷ f ∷ ws) budget d e = absurd cc
+draw_bounds : (words : List (List ℕ)) (free : Option Bool) (budget : Option ℕ) (d : Draw) → draw_in words free budget ≡ Some d → (1 ≤ d.size) × (d.size ≤ 20000)
+draw_bounds [] free budget d e = absurd cc
+draw_bounds (a ∷ []) free budget d e = absurd cc
+draw_bounds (a ∷ b ∷ []) free budget d e = absurd cc
+draw_bounds (a ∷ b ∷ c ∷ []) free budget d e = number_bounds 5 1 20000 a d.size (drawn_size (size_of a) (seed_of b) c free budget d e)
+draw_bounds (a ∷ b ∷ c ∷ f ∷ ws) free budget d e = absurd cc
 
 parts_bounds : (parts : Option Parts) (d : Draw) → option_and_then draw_asked parts ≡ Some d → (1 ≤ d.size) × (d.size ≤ 20000)
 parts_bounds None d e = absurd cc
-parts_bounds (Some p) d e = draw_bounds p.words (budget_given p.values) d e
+parts_bounds (Some p) d e = draw_bounds p.words (free_given p.frees) (budget_given p.values) d e
 
 -- where a network is to be drawn, the third of three tasks is asked for
 asked_third : (x y z : Bool) (o c : Option Files) (w : Option Draw) (d : Draw)

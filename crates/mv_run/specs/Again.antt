@@ -1,5 +1,5 @@
 -- A check of what an earlier run noted, and certificates that a check refuses.
-use Rattle.std.specs.Prelude.{◌≡◌, ◌⊎◌, ℕ, ◌≤◌, List, ◌++◌, Some, length}
+use Rattle.std.specs.Prelude.{◌≡◌, ◌⊎◌, ℕ, ◌≤◌, Bool, List, ◌++◌, Some, length}
 use Rattle.mv_base.specs.Outside.{Held, Stored, Written, Gained, file_named}
 use Rattle.mv_base.specs.declared.limits.TheConstants.{MAX_CERTIFICATE_BYTES}
 use Rattle.mv_entry.specs.declared.fault.RuleFault.{RuleFault}
@@ -32,15 +32,15 @@ pub record WriteSame (out out' again again' : Written) : Type 0 where
 
 -- the files hold a network file that is accepted and a certificate that is one, and behind some first rules of it, which apply in
 -- turn, beginning with the network, one doesn't
-pub record HoldsFailing (net certificate : List ℕ) (held : Held) : Type 0 where
+pub record HoldsFailing (free : Bool) (net certificate : List ℕ) (held : Held) : Type 0 where
   pub first : NetParts
   pub network : IsTaken (λ text. IsNetOfText text first) net held
   pub rules : IsTaken IsCertificate certificate held
   pub last : NetParts
   pub line : ℕ
   pub fault : RuleFault
-  pub fails : FailsAt (steps_in rules.content) first last line fault
+  pub fails : FailsAt free (steps_in rules.content) first last line fault
 
 -- the certificate is refused: its text, or a rule of it
-abbrev pub HoldsRefused : List ℕ → List ℕ → Held → Type 0
-HoldsRefused net certificate held = IsRefused IsCertificate certificate held ⊎ HoldsFailing net certificate held
+abbrev pub HoldsRefused : Bool → List ℕ → List ℕ → Held → Type 0
+HoldsRefused free net certificate held = IsRefused IsCertificate certificate held ⊎ HoldsFailing free net certificate held

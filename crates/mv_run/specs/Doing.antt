@@ -13,11 +13,11 @@ abbrev pub RefusesWords : Written → Written → ℕ → Type 0
 RefusesWords notes notes' status = ((status ≡ 1) × TellsLine notes notes' words_line) ⊎ ((status ≡ 6) × TellsLine notes notes' memory_line)
 
 -- how a run ends of which this is asked: that a script optimises the network of a file or one that is drawn, or that a certificate is
--- checked; where the words ask for none of these, they are refused, and nothing is read
+-- checked, on the terms that the words say; where the words ask for none of these, they are refused, and nothing is read
 abbrev pub EndsAsked : Option Asked → Stored → Stored → Written → Written → Written → Written → ℕ → Type 0
-EndsAsked (Some (opt f)) files files' out out' notes notes' status = Optimises (named f.net f.other) files files' out out' notes notes' status
-EndsAsked (Some (check f)) files files' out out' notes notes' status = Checks f.net f.other files files' out out' notes notes' status
-EndsAsked (Some (work d)) files files' out out' notes notes' status = Optimises (drawn d.size d.seed d.script) files files' out out' notes notes' status
+EndsAsked (Some (opt f)) files files' out out' notes notes' status = Optimises f.free (named f.net f.other) files files' out out' notes notes' status
+EndsAsked (Some (check f)) files files' out out' notes notes' status = Checks f.free f.net f.other files files' out out' notes notes' status
+EndsAsked (Some (work d)) files files' out out' notes notes' status = Optimises d.free (drawn d.size d.seed d.script) files files' out out' notes notes' status
 EndsAsked None files files' out out' notes notes' status = RefusesWords notes notes' status × (files' ≡ files)
 
 -- the files' count of starts behind a run of which this is asked, where its work is done: of two files each was begun once, or one

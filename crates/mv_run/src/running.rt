@@ -7,8 +7,9 @@ ghost use Rattle.mv_run.specs.Replacing.{IsReplaced, network_asked};
 
 use mv_base::{Files, Sink};
 use mv_check::check;
-use mv_command_line::{Task, WordsStop, read_words};
+use mv_command_line::{Options, Task, WordsStop, read_words};
 use mv_opt::{optimise, work};
+use mv_rules::Terms;
 use std::alloc::Global;
 
 /// Puts a line to the notes, as far as they take it.
@@ -21,10 +22,20 @@ fn tell<E: Sink>(line: &[u8], notes: &mut E)
     }
 }
 
+/// The terms that the options ask for.
+fn terms(options: Options) -> Terms
+    ensures free { result.free ≡ options.free }
+    ensures budget { result.budget ≡ options.budget }
+{
+    let Options { free, budget } = options;
+    Terms { free, budget }
+}
+
 /// Does what the words ask for. `opt NET SCRIPT` reads a script and a network file, runs the script on the network, and writes to
 /// `out` a network that may take the place of the one read; `check NET CERT` reads a certificate in place of the script, and applies
-/// its rules in turn; `work SIZE SEED SCRIPT` runs the script on a network that it draws, and writes a summary of the run. The option
-/// `--budget N` says how many nodes a diagram may have; nothing that is built makes one yet.
+/// its rules in turn; `work SIZE SEED SCRIPT` runs the script on a network that it draws, and writes a summary of the run. With the
+/// option `--free` what is written may give values under which the network allows nothing any meaning; without it nothing is allowed
+/// that wasn't. The option `--budget N` says how many nodes a diagram may have; nothing that is built makes one yet.
 ///
 /// The answer is the status that a process ends with: 0 where the work is done, 1 where the words are refused, 2 the network, 3 the
 /// script, 4 where a file couldn't be read, 5 where the output or the notes couldn't be written, 6 for want of memory, 7 where the
@@ -49,22 +60,28 @@ pub fn run<F: Files, O: Sink, E: Sink>(
     ensures known { result ≤ 7 }
 {
     match read_words(alloc, words) {
-        Ok(Task::Opt { net, script, .. }) => optimise(alloc, net, script, files, out, notes),
+        Ok(
+            Task::Opt {
+                net,
+                script,
+                options,
+            },
+        ) => { optimise(alloc, net, script, terms(options), files, out, notes) }
         Ok(
             Task::Check {
                 net,
                 certificate,
-                ..
+                options,
             },
-        ) => { check(alloc, net, certificate, files, out, notes) }
+        ) => { check(alloc, net, certificate, terms(options), files, out, notes) }
         Ok(
             Task::Work {
                 size,
                 seed,
                 script,
-                ..
+                options,
             },
-        ) => { work(alloc, size, seed, script, files, out, notes) }
+        ) => { work(alloc, size, seed, script, terms(options), files, out, notes) }
         Err(WordsStop::Refused) => {
             tell(b"# fault words\n", notes);
             1

@@ -8,7 +8,11 @@ pub fn is_command_built(command: &Command) -> bool
     ensures { result ≡ is_built command.now }
 {
     match command {
-        Command::Drop | Command::Sweep | Command::Eliminate | Command::Collapse(_) => true,
+        Command::Drop
+        | Command::Sweep
+        | Command::Eliminate
+        | Command::Collapse(_)
+        | Command::Fill => true,
         _ => false,
     }
 }

@@ -7,69 +7,56 @@ use Rattle.mv_script.specs.Commands.{all_commands}
 use Rattle.mv_entry.specs.declared.note.Command.{Command}
 use Rattle.mv_script.specs.Scripts.{Items, End, Do, Repeat, Better}
 use Rattle.mv_script_run.specs.Commands.{RunsCommand, StopsCommand}
-use Rattle.mv_script_run.specs.Runs.{Course, Nothing, InTurn, Rounds, Gains, GainsNot, RunsBetter, StopsRepeat, StopsBetter, Runs, RunsTo, StopsAt, Unbegun, Within, Later}
+use Rattle.mv_pass.proofs.Turns.{Implies, of_nothing, of_turn, of_rounds}
+use Rattle.mv_pass.specs.Courses.{Course, Rounds}
+use Rattle.mv_script_run.specs.Runs.{Gains, GainsNot, RunsBetter, StopsRepeat, StopsBetter, Runs, RunsTo, StopsAt, Unbegun, Within, Later}
 
--- a course of one kind is of another
-abbrev pub Implies : Course → Course → Type 0
-Implies First Second = (a : NetParts) (es : List Entry) (b : NetParts) → First a es b → Second a es b
-
-module _ (Holds : Course) (none : (a : NetParts) → Holds a [] a) (then : (a b c : NetParts) (xs ys : List Entry) → Holds a xs b → Holds b ys c → Holds a (xs ++ ys) c) where
-  of_nothing : Implies Nothing Holds
-  of_nothing a es b (empty, same) = subst (λ n. Holds a es n) (sym same) (subst (λ xs. Holds a xs a) (sym empty) (none a))
-
-  of_turn : (First Second : Course) → Implies First Holds → Implies Second Holds → Implies (InTurn First Second) Holds
-  of_turn First Second first second a es b t =
-      subst (λ xs. Holds a xs b) (sym t.entries_are) (then a t.mid b t.front t.rest (first a t.front t.mid t.first) (second t.mid t.rest b t.second))
-
-  of_rounds : (Round : Course) → Implies Round Holds → (n : ℕ) → Implies (Rounds n Round) Holds
-  of_rounds Round each zero = of_nothing
-  of_rounds Round each (suc n) = of_turn Round (Rounds n Round) each (of_rounds Round each n)
-
+module _ (free : Bool) (Holds : Course) (none : (a : NetParts) → Holds a [] a) (then : (a b c : NetParts) (xs ys : List Entry) → Holds a xs b → Holds b ys c → Holds a (xs ++ ys) c) where
   of_gains : (Round : Course) → Implies Round Holds → (n : ℕ) → Implies (Rounds n (Gains Round)) Holds
-  of_gains Round each n = of_rounds (Gains Round) (λ a es b g. each a es b g.0) n
+  of_gains Round each n = of_rounds Holds none then (Gains Round) (λ a es b g. each a es b g.0) n
 
   of_better : (Round : Course) → Implies Round Holds → Implies (RunsBetter Round) Holds
   of_better Round each a es b r =
-      of_turn (Rounds r.gained (Gains Round)) (GainsNot Round) (of_gains Round each r.gained) (λ a es b g. each a es b g.0) a es b r.rounds
+      of_turn Holds none then (Rounds r.gained (Gains Round)) (GainsNot Round) (of_gains Round each r.gained) (λ a es b g. each a es b g.0) a es b r.rounds
 
-  module _ (test : Command → Bool) (command : (c : Command) → test c ≡ true → Implies (RunsCommand c) Holds) where
-    pub of_items : (items : Items) → all_commands test items ≡ true → Implies (Runs items) Holds
-    of_items End all = of_nothing
+  module _ (test : Command → Bool) (command : (c : Command) → test c ≡ true → Implies (RunsCommand free c) Holds) where
+    pub of_items : (items : Items) → all_commands test items ≡ true → Implies (Runs free items) Holds
+    of_items End all = of_nothing Holds none then
     of_items (Do c rest) all =
         let both = and_parts (test c) (all_commands test rest) all in
-        of_turn (RunsCommand c) (Runs rest) (command c both.0) (of_items rest both.1)
+        of_turn Holds none then (RunsCommand free c) (Runs free rest) (command c both.0) (of_items rest both.1)
     of_items (Repeat times inside rest) all =
         let both = and_parts (all_commands test inside) (all_commands test rest) all in
-        of_turn (Rounds times (Runs inside)) (Runs rest) (of_rounds (Runs inside) (of_items inside both.0) times) (of_items rest both.1)
+        of_turn Holds none then (Rounds times (Runs free inside)) (Runs free rest) (of_rounds Holds none then (Runs free inside) (of_items inside both.0) times) (of_items rest both.1)
     of_items (Better inside rest) all =
         let both = and_parts (all_commands test inside) (all_commands test rest) all in
-        of_turn (RunsBetter (Runs inside)) (Runs rest) (of_better (Runs inside) (of_items inside both.0)) (of_items rest both.1)
+        of_turn Holds none then (RunsBetter (Runs free inside)) (Runs free rest) (of_better (Runs free inside) (of_items inside both.0)) (of_items rest both.1)
 
     of_stop : (Stops Whole Behind : Course) → Implies Stops Holds → Implies Whole Holds → Implies Behind Holds → Implies (StopsAt Stops Whole Behind) Holds
-    of_stop Stops Whole Behind stops whole behind a es b (Unbegun nothing) = of_nothing a es b nothing
+    of_stop Stops Whole Behind stops whole behind a es b (Unbegun nothing) = of_nothing Holds none then a es b nothing
     of_stop Stops Whole Behind stops whole behind a es b (Within p) = stops a es b p
-    of_stop Stops Whole Behind stops whole behind a es b (Later p) = of_turn Whole Behind whole behind a es b p
+    of_stop Stops Whole Behind stops whole behind a es b (Later p) = of_turn Holds none then Whole Behind whole behind a es b p
 
-    module _ (begun : (c : Command) → test c ≡ true → Implies (StopsCommand c) Holds) where
-      pub of_stopped : (items : Items) → all_commands test items ≡ true → Implies (RunsTo items) Holds
-      of_stopped End all = of_nothing
+    module _ (begun : (c : Command) → test c ≡ true → Implies (StopsCommand free c) Holds) where
+      pub of_stopped : (items : Items) → all_commands test items ≡ true → Implies (RunsTo free items) Holds
+      of_stopped End all = of_nothing Holds none then
       of_stopped (Do c rest) all =
           let both = and_parts (test c) (all_commands test rest) all in
-          of_stop (StopsCommand c) (RunsCommand c) (RunsTo rest) (begun c both.0) (command c both.0) (of_stopped rest both.1)
+          of_stop (StopsCommand free c) (RunsCommand free c) (RunsTo free rest) (begun c both.0) (command c both.0) (of_stopped rest both.1)
       of_stopped (Repeat times inside rest) all =
           let both = and_parts (all_commands test inside) (all_commands test rest) all in
           let whole = of_items inside both.0 in
           let stops = of_stopped inside both.0 in
-          of_stop (StopsRepeat times (Runs inside) (RunsTo inside)) (Rounds times (Runs inside)) (RunsTo rest)
-          (λ a es b p. of_turn (Rounds p.whole (Runs inside)) (RunsTo inside) (of_rounds (Runs inside) whole p.whole) stops a es b p.rounds)
-          (of_rounds (Runs inside) whole times) (of_stopped rest both.1)
+          of_stop (StopsRepeat times (Runs free inside) (RunsTo free inside)) (Rounds times (Runs free inside)) (RunsTo free rest)
+          (λ a es b p. of_turn Holds none then (Rounds p.whole (Runs free inside)) (RunsTo free inside) (of_rounds Holds none then (Runs free inside) whole p.whole) stops a es b p.rounds)
+          (of_rounds Holds none then (Runs free inside) whole times) (of_stopped rest both.1)
       of_stopped (Better inside rest) all =
           let both = and_parts (all_commands test inside) (all_commands test rest) all in
           let whole = of_items inside both.0 in
           let stops = of_stopped inside both.0 in
-          of_stop (StopsBetter (Runs inside) (RunsTo inside)) (RunsBetter (Runs inside)) (RunsTo rest)
-          (λ a es b p. of_turn (Rounds p.gained (Gains (Runs inside))) (RunsTo inside) (of_gains (Runs inside) whole p.gained) stops a es b p.rounds)
-          (of_better (Runs inside) whole) (of_stopped rest both.1)
+          of_stop (StopsBetter (Runs free inside) (RunsTo free inside)) (RunsBetter (Runs free inside)) (RunsTo free rest)
+          (λ a es b p. of_turn Holds none then (Rounds p.gained (Gains (Runs free inside))) (RunsTo free inside) (of_gains (Runs free inside) whole p.gained) stops a es b p.rounds)
+          (of_better (Runs free inside) whole) (of_stopped rest both.1)
 
 -- all commands are such as each one is
 pub any_commands : (items : Items) → all_commands (λ c. true) items ≡ true

@@ -3,6 +3,5 @@ pub mod Idle
 pub mod Rounds
 pub mod Toward
 pub mod Commands
-pub mod Coming
 pub mod Rules
 pub mod NoMore

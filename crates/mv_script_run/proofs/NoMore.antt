@@ -1,5 +1,5 @@
 -- No script ends with more literals than it began with.
-use Rattle.std.proofs.Common.{◌≡◌, ◌∙◌, ℕ, ◌≤◌, true, is_some, List, [], ◌∷◌, ◌++◌, Option, Some, None, refl, sym, ap, subst, arith}
+use Rattle.std.proofs.Common.{◌≡◌, ◌∙◌, ℕ, ◌≤◌, Bool, true, is_some, List, [], ◌∷◌, ◌++◌, Option, Some, None, refl, sym, ap, subst, arith}
 use Rattle.std.proofs.lemmas.Bool.{false≢true}
 use Rattle.mv_collapse.specs.Collapses.{IsCollapseStep}
 use Rattle.mv_collapse.specs.Eliminates.{IsEliminateStep}
@@ -15,6 +15,7 @@ use Rattle.mv_net.specs.Nets.{slot, name_in, table_in, literals_in}
 use Rattle.mv_net.specs.Plain.{IsPlainConstant}
 use Rattle.mv_locality.proofs.Fewer.{removes_no_more, wires_no_more, collapses_no_more}
 use Rattle.mv_locality.proofs.Steps.{names_itself}
+use Rattle.mv_pass.specs.Courses.{Course}
 use Rattle.mv_pass.proofs.Going.{goes_no_more}
 use Rattle.mv_rules.specs.Applies.{Applies}
 use Rattle.mv_rules.specs.Checks.{IsTabled}
@@ -22,11 +23,12 @@ use Rattle.mv_rules.specs.Collapsing.{Collapses}
 use Rattle.mv_rules.proofs.CompositeLiterals.{collapse_leaves}
 use Rattle.mv_rules.proofs.OneAnswer.{one_network}
 use Rattle.mv_rules.proofs.Replayed.{replayed_formed}
+use Rattle.mv_sweep.proofs.Filled.{fills_no_more}
 use Rattle.mv_sweep.specs.Drops.{IsDropStep}
 use Rattle.mv_sweep.specs.Sweeps.{IsSweepStep}
 use Rattle.mv_script.specs.Scripts.{Items}
 use Rattle.mv_script_run.specs.Commands.{CourseOf, RunsCommand}
-use Rattle.mv_script_run.specs.Runs.{Course, Runs}
+use Rattle.mv_script_run.specs.Runs.{Runs}
 use Rattle.mv_script_run.proofs.Inductions.{of_items, any_commands}
 use Rattle.mv_script_run.proofs.Rules.{does_replays}
 
@@ -45,13 +47,13 @@ named_number a b name n formed r tabled named = names_itself a name n r.number f
 
 -- ---- rules
 
-drop_no_more : (a b : NetParts) (r : Rule) → WellFormed a → IsDropStep a (Applied r) → Applies r a b → NoMore a b
-drop_no_more a b (Remove name) formed lawful p = removes_no_more a name b p
-drop_no_more a b (Add name body) formed lawful p = absurd lawful
-drop_no_more a b (Divide name by body) formed lawful p = absurd lawful
-drop_no_more a b (Wire name) formed lawful p = absurd lawful
-drop_no_more a b (CollapseNet name) formed lawful p = absurd lawful
-drop_no_more a b _ formed lawful p = absurd p
+drop_no_more : (free : Bool) (a b : NetParts) (r : Rule) → WellFormed a → IsDropStep a (Applied r) → Applies free r a b → NoMore a b
+drop_no_more free a b (Remove name) formed lawful p = removes_no_more a name b p
+drop_no_more free a b (Add name body) formed lawful p = absurd lawful
+drop_no_more free a b (Divide name by body) formed lawful p = absurd lawful
+drop_no_more free a b (Wire name) formed lawful p = absurd lawful
+drop_no_more free a b (CollapseNet name) formed lawful p = absurd lawful
+drop_no_more free a b _ formed lawful p = absurd lawful
 
 -- a constant has a table
 constant_tabled : (a : NetParts) (n v : ℕ) → IsPlainConstant a.nets n v → is_some (table_in (slot a.nets n)) ≡ true
@@ -60,58 +62,58 @@ constant_tabled a n v is = ap is_some is.table
 first_name : (w v : List ℕ) → w ∷ [] ≡ v ∷ [] → w ≡ v
 first_name w v e = cc
 
-sweep_no_more : (a b : NetParts) (r : Rule) → WellFormed a → IsSweepStep a (Applied r) → Applies r a b → NoMore a b
-sweep_no_more a b (Remove name) formed lawful p = removes_no_more a name b p
-sweep_no_more a b (Add name body) formed lawful p = absurd lawful.sweeps
-sweep_no_more a b (Divide name by body) formed lawful p = absurd lawful.sweeps
-sweep_no_more a b (Wire name) formed lawful p = wires_no_more a name b p
-sweep_no_more a b (CollapseNet name) formed lawful p =
+sweep_no_more : (free : Bool) (a b : NetParts) (r : Rule) → WellFormed a → IsSweepStep a (Applied r) → Applies free r a b → NoMore a b
+sweep_no_more free a b (Remove name) formed lawful p = removes_no_more a name b p
+sweep_no_more free a b (Add name body) formed lawful p = absurd lawful.sweeps
+sweep_no_more free a b (Divide name by body) formed lawful p = absurd lawful.sweeps
+sweep_no_more free a b (Wire name) formed lawful p = wires_no_more a name b p
+sweep_no_more free a b (CollapseNet name) formed lawful p =
     let n = lawful.number in
     let v = lawful.sweeps.constant.value in
     let constant = lawful.sweeps.constant.constant in
     let number = named_number a b name n formed p (constant_tabled a n v constant) (first_name name (name_in (slot a.nets n)) lawful.names) in
     collapses_no_more a name b v formed p (subst (λ m. IsPlainConstant a.nets m v) (sym number) constant)
-sweep_no_more a b _ formed lawful p = absurd p
+sweep_no_more free a b _ formed lawful p = absurd lawful.sweeps
 
-eliminate_no_more : (a b : NetParts) (r : Rule) → WellFormed a → IsEliminateStep a (Applied r) → Applies r a b → NoMore a b
-eliminate_no_more a b (Remove name) formed lawful p = absurd lawful
-eliminate_no_more a b (Add name body) formed lawful p = absurd lawful
-eliminate_no_more a b (Divide name by body) formed lawful p = absurd lawful
-eliminate_no_more a b (Wire name) formed lawful p = absurd lawful
-eliminate_no_more a b (CollapseNet name) formed lawful p =
+eliminate_no_more : (free : Bool) (a b : NetParts) (r : Rule) → WellFormed a → IsEliminateStep a (Applied r) → Applies free r a b → NoMore a b
+eliminate_no_more free a b (Remove name) formed lawful p = absurd lawful
+eliminate_no_more free a b (Add name body) formed lawful p = absurd lawful
+eliminate_no_more free a b (Divide name by body) formed lawful p = absurd lawful
+eliminate_no_more free a b (Wire name) formed lawful p = absurd lawful
+eliminate_no_more free a b (CollapseNet name) formed lawful p =
     let saving = lawful.first.saving in
     let inner = saving.composites.inner in
     let number = named_number a b name lawful.number formed p saving.tabled (sym lawful.named) in
     let tabled = subst (λ m. IsTabled a.nets name m) (number ∙ sym saving.composites.of_net) p.net in
     let same = collapse_leaves a b name inner formed tabled saving.composites.known p in
     subst (λ c. NoMore a c) (sym same) saving.no_more
-eliminate_no_more a b _ formed lawful p = absurd p
+eliminate_no_more free a b _ formed lawful p = absurd lawful
 
-collapse_no_more : (name : List ℕ) (a b : NetParts) (r : Rule) → WellFormed a → IsCollapseStep name a (Applied r) → Applies r a b → NoMore a b
-collapse_no_more name a b (Remove w) formed lawful p = absurd lawful
-collapse_no_more name a b (Add w body) formed lawful p = absurd lawful
-collapse_no_more name a b (Divide w by body) formed lawful p = absurd lawful
-collapse_no_more name a b (Wire w) formed lawful p = absurd lawful
-collapse_no_more name a b (CollapseNet w) formed (same, free) p =
-    let applies : Applies (CollapseNet w) a free.new = subst (λ v. Applies (CollapseNet v) a free.new) (sym same) free.applies in
-    subst (λ c. NoMore a c) (one_network (CollapseNet w) a free.new b formed applies p) free.no_more
-collapse_no_more name a b _ formed lawful p = absurd p
+collapse_no_more : (free : Bool) (name : List ℕ) (a b : NetParts) (r : Rule) → WellFormed a → IsCollapseStep name a (Applied r) → Applies free r a b → NoMore a b
+collapse_no_more free name a b (Remove w) formed lawful p = absurd lawful
+collapse_no_more free name a b (Add w body) formed lawful p = absurd lawful
+collapse_no_more free name a b (Divide w by body) formed lawful p = absurd lawful
+collapse_no_more free name a b (Wire w) formed lawful p = absurd lawful
+collapse_no_more free name a b (CollapseNet w) formed (same, fewer) p =
+    let applies : Collapses a w fewer.new = subst (λ v. Collapses a v fewer.new) (sym same) fewer.applies in
+    subst (λ c. NoMore a c) (one_network free (CollapseNet w) a fewer.new b formed applies p) fewer.no_more
+collapse_no_more free name a b _ formed lawful p = absurd lawful
 
 -- ---- commands
 
-course_no_more : (c : Command) (a b : NetParts) (steps : List Entry) → WellFormed a → CourseOf c a steps b → NoMore a b
-course_no_more Drop a b steps formed g = goes_no_more IsDropStep drop_no_more a b steps formed g
-course_no_more Sweep a b steps formed g = goes_no_more IsSweepStep sweep_no_more a b steps formed g
-course_no_more Eliminate a b steps formed e = goes_no_more IsEliminateStep eliminate_no_more a b e.collapses formed e.goes
-course_no_more (Collapse name) a b steps formed g = goes_no_more (IsCollapseStep name) (collapse_no_more name) a b steps formed g
-course_no_more Kernel a b steps formed g = absurd g
-course_no_more Cube a b steps formed g = absurd g
-course_no_more (Simplify down up) a b steps formed g = absurd g
-course_no_more Merge a b steps formed g = absurd g
-course_no_more Default a b steps formed g = absurd g
-course_no_more Determinize a b steps formed g = absurd g
-course_no_more Encode a b steps formed g = absurd g
-course_no_more Fill a b steps formed g = absurd g
+course_no_more : (free : Bool) (c : Command) (a b : NetParts) (steps : List Entry) → WellFormed a → CourseOf free c a steps b → NoMore a b
+course_no_more free Drop a b steps formed g = goes_no_more free IsDropStep (drop_no_more free) a b steps formed g
+course_no_more free Sweep a b steps formed g = goes_no_more free IsSweepStep (sweep_no_more free) a b steps formed g
+course_no_more free Eliminate a b steps formed e = goes_no_more free IsEliminateStep (eliminate_no_more free) a b e.collapses formed e.goes
+course_no_more free (Collapse name) a b steps formed g = goes_no_more free (IsCollapseStep name) (collapse_no_more free name) a b steps formed g
+course_no_more free Kernel a b steps formed g = absurd g
+course_no_more free Cube a b steps formed g = absurd g
+course_no_more free (Simplify down up) a b steps formed g = absurd g
+course_no_more free Merge a b steps formed g = absurd g
+course_no_more free Default a b steps formed g = absurd g
+course_no_more free Determinize a b steps formed g = absurd g
+course_no_more free Encode a b steps formed g = absurd g
+course_no_more free Fill a b steps formed g = fills_no_more free a b steps g
 
 -- ---- scripts
 
@@ -125,10 +127,10 @@ few_then a b c xs ys p q formed =
     let second = q first.0 in
     (second.0, omega (arith, first.1, second.1))
 
-command_few : (a b : NetParts) (c : Command) (es : List Entry) → RunsCommand c a es b → StaysFew a es b
-command_few a b c es r formed =
-    (replayed_formed (rules_of es) a b formed (does_replays c a b es r.does), course_no_more c a b r.does.steps formed r.does.course)
+command_few : (free : Bool) (a b : NetParts) (c : Command) (es : List Entry) → RunsCommand free c a es b → StaysFew a es b
+command_few free a b c es r formed =
+    (replayed_formed free (rules_of es) a b formed (does_replays free c a b es r.does), course_no_more free c a b r.does.steps formed r.does.course)
 
-pub runs_no_more : (items : Items) (a b : NetParts) (es : List Entry) → WellFormed a → Runs items a es b → literals_in b.nets ≤ literals_in a.nets
-runs_no_more items a b es formed r =
-    (of_items StaysFew (λ n formed'. (formed', omega arith)) few_then (λ c. true) (λ c h m fs n d. command_few m n c fs d) items (any_commands items) a es b r formed).1
+pub runs_no_more : (free : Bool) (items : Items) (a b : NetParts) (es : List Entry) → WellFormed a → Runs free items a es b → literals_in b.nets ≤ literals_in a.nets
+runs_no_more free items a b es formed r =
+    (of_items free StaysFew (λ n formed'. (formed', omega arith)) few_then (λ c. true) (λ c h m fs n d. command_few free m n c fs d) items (any_commands items) a es b r formed).1

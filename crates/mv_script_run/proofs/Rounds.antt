@@ -3,7 +3,8 @@ use Rattle.std.proofs.Common.{◌∙◌, ℕ, zero, suc, ◌+◌, ◌<◌, List,
 use Rattle.std.proofs.lemmas.List.{append-nil}
 use Rattle.mv_entry.specs.Entries.{Entry}
 use Rattle.mv_net.specs.declared.parts.NetParts.{NetParts}
-use Rattle.mv_script_run.specs.Runs.{Course, InTurn, Rounds, Gains, GainsNot, RunsBetter, StopsRepeat, StopsBetter}
+use Rattle.mv_pass.specs.Courses.{Course, InTurn, Rounds}
+use Rattle.mv_script_run.specs.Runs.{Gains, GainsNot, RunsBetter, StopsRepeat, StopsBetter}
 
 push : (Round : Course) (n : ℕ) (a b c : NetParts) (xs ys : List Entry) → Rounds n Round a xs b → Round b ys c → Rounds (suc n) Round a (xs ++ ys) c
 push Round zero a b c xs ys (none, same) round = record {

@@ -1,5 +1,5 @@
 -- The rules among the entries of scripts apply in turn.
-use Rattle.std.proofs.Common.{◌≡◌, ◌∙◌, ℕ, true, List, [], ◌∷◌, ◌++◌, map, refl, sym, ap, subst, ⊎_elim}
+use Rattle.std.proofs.Common.{◌≡◌, ◌∙◌, ℕ, Bool, true, List, [], ◌∷◌, ◌++◌, map, refl, sym, ap, subst, ⊎_elim}
 use Rattle.std.proofs.lemmas.List.{append-nil}
 use Rattle.mv_base.specs.declared.number.NetId.{NetId}
 use Rattle.mv_collapse.specs.Collapses.{IsCollapseStep}
@@ -9,15 +9,17 @@ use Rattle.mv_entry.specs.declared.note.Command.{Command}
 use Rattle.mv_entry.specs.declared.note.Command.TheVariants.{Drop, Sweep, Eliminate, Collapse, Kernel, Cube, Simplify, Merge, Default, Determinize, Encode, Fill}
 use Rattle.mv_entry.specs.Entries.{Entry, rules_of}
 use Rattle.mv_net.specs.declared.parts.NetParts.{NetParts}
+use Rattle.mv_pass.specs.Courses.{Course}
 use Rattle.mv_pass.specs.Going.{Before, Within, Behind}
 use Rattle.mv_pass.proofs.Going.{goes_replays, rules_of-append}
 use Rattle.mv_rules.specs.Replaying.{Replays}
 use Rattle.mv_rules.proofs.Replayed.{replayed_then}
 use Rattle.mv_script.specs.Scripts.{Items}
+use Rattle.mv_sweep.proofs.Filled.{fills_replays}
 use Rattle.mv_sweep.specs.Drops.{IsDropStep}
 use Rattle.mv_sweep.specs.Sweeps.{IsSweepStep}
 use Rattle.mv_script_run.specs.Commands.{CourseOf, DoesCommand, BegunCommand}
-use Rattle.mv_script_run.specs.Runs.{Course, Runs, RunsTo}
+use Rattle.mv_script_run.specs.Runs.{Runs, RunsTo}
 use Rattle.mv_script_run.proofs.Inductions.{of_items, of_stopped, any_commands}
 
 -- ---- the steps of a command
@@ -34,53 +36,53 @@ noted_ruleless net notes h =
     (λ (some : NoneSaves net × ((end : ℕ) × NotesWide net end notes)). ap rules_of some.1.1.notes_are ∙ wide_notes_ruleless net some.1.1.numbers)
     h.how
 
-eliminates_replays : (a b : NetParts) (steps : List Entry) → Eliminates a steps b → Replays (rules_of steps) a b
-eliminates_replays a b steps e =
+eliminates_replays : (free : Bool) (a b : NetParts) (steps : List Entry) → Eliminates free a steps b → Replays free (rules_of steps) a b
+eliminates_replays free a b steps e =
     let rules : rules_of steps ≡ rules_of e.collapses =
     ap rules_of e.steps_are ∙ (rules_of-append e.collapses e.notes ∙ (ap (λ rs. rules_of e.collapses ++ rs) (noted_ruleless b e.notes e.noted) ∙ append-nil (rules_of e.collapses))) in
-    subst (λ rs. Replays rs a b) (sym rules) (goes_replays IsEliminateStep a b e.collapses e.goes)
+    subst (λ rs. Replays free rs a b) (sym rules) (goes_replays free IsEliminateStep a b e.collapses e.goes)
 
 -- the rules among the steps of a command apply in turn
-pub course_replays : (c : Command) (a b : NetParts) (steps : List Entry) → CourseOf c a steps b → Replays (rules_of steps) a b
-course_replays Drop a b steps g = goes_replays IsDropStep a b steps g
-course_replays Sweep a b steps g = goes_replays IsSweepStep a b steps g
-course_replays Eliminate a b steps e = eliminates_replays a b steps e
-course_replays (Collapse name) a b steps g = goes_replays (IsCollapseStep name) a b steps g
-course_replays Kernel a b steps g = absurd g
-course_replays Cube a b steps g = absurd g
-course_replays (Simplify down up) a b steps g = absurd g
-course_replays Merge a b steps g = absurd g
-course_replays Default a b steps g = absurd g
-course_replays Determinize a b steps g = absurd g
-course_replays Encode a b steps g = absurd g
-course_replays Fill a b steps g = absurd g
+pub course_replays : (free : Bool) (c : Command) (a b : NetParts) (steps : List Entry) → CourseOf free c a steps b → Replays free (rules_of steps) a b
+course_replays free Drop a b steps g = goes_replays free IsDropStep a b steps g
+course_replays free Sweep a b steps g = goes_replays free IsSweepStep a b steps g
+course_replays free Eliminate a b steps e = eliminates_replays free a b steps e
+course_replays free (Collapse name) a b steps g = goes_replays free (IsCollapseStep name) a b steps g
+course_replays free Kernel a b steps g = absurd g
+course_replays free Cube a b steps g = absurd g
+course_replays free (Simplify down up) a b steps g = absurd g
+course_replays free Merge a b steps g = absurd g
+course_replays free Default a b steps g = absurd g
+course_replays free Determinize a b steps g = absurd g
+course_replays free Encode a b steps g = absurd g
+course_replays free Fill a b steps g = fills_replays free a b steps g
 
 -- ---- whole commands, and those that stop
 
-module _ (c : Command) (a b : NetParts) (es : List Entry) where
+module _ (free : Bool) (c : Command) (a b : NetParts) (es : List Entry) where
   -- the notes of a command's beginning and end are no rules
-  pub does_replays : DoesCommand c a es b → Replays (rules_of es) a b
+  pub does_replays : DoesCommand free c a es b → Replays free (rules_of es) a b
   does_replays d =
-      subst (λ rs. Replays rs a b) (sym (ap rules_of d.entries_are ∙ (rules_of-append d.steps _ ∙ append-nil (rules_of d.steps)))) (course_replays c a b d.steps d.course)
+      subst (λ rs. Replays free rs a b) (sym (ap rules_of d.entries_are ∙ (rules_of-append d.steps _ ∙ append-nil (rules_of d.steps)))) (course_replays free c a b d.steps d.course)
 
-  begun_replays : BegunCommand c a es b → Replays (rules_of es) a b
-  begun_replays (Before none same) = subst (λ xs. Replays (rules_of xs) a b) (sym none) same
-  begun_replays (Within p) = subst (λ rs. Replays rs a b) (sym (ap rules_of p.entries_are)) (course_replays c a b p.steps p.course)
+  begun_replays : BegunCommand free c a es b → Replays free (rules_of es) a b
+  begun_replays (Before none same) = subst (λ xs. Replays free (rules_of xs) a b) (sym none) same
+  begun_replays (Within p) = subst (λ rs. Replays free rs a b) (sym (ap rules_of p.entries_are)) (course_replays free c a b p.steps p.course)
   begun_replays (Behind d) = does_replays d
 
 -- ---- scripts
 
 -- the rules apply in turn
-abbrev ReplaysRules : Course
-ReplaysRules a es b = Replays (rules_of es) a b
+abbrev ReplaysRules : Bool → Course
+ReplaysRules free a es b = Replays free (rules_of es) a b
 
-then_replays : (a b c : NetParts) (xs ys : List Entry) → ReplaysRules a xs b → ReplaysRules b ys c → ReplaysRules a (xs ++ ys) c
-then_replays a b c xs ys p q = subst (λ rs. Replays rs a c) (sym (rules_of-append xs ys)) (replayed_then (rules_of xs) (rules_of ys) a b c p q)
+then_replays : (free : Bool) (a b c : NetParts) (xs ys : List Entry) → ReplaysRules free a xs b → ReplaysRules free b ys c → ReplaysRules free a (xs ++ ys) c
+then_replays free a b c xs ys p q = subst (λ rs. Replays free rs a c) (sym (rules_of-append xs ys)) (replayed_then free (rules_of xs) (rules_of ys) a b c p q)
 
-pub runs_replays : (items : Items) (a b : NetParts) (es : List Entry) → Runs items a es b → Replays (rules_of es) a b
-runs_replays items a b es r =
-    of_items ReplaysRules (λ n. refl) then_replays (λ c. true) (λ c h m fs n d. does_replays c m n fs d.does) items (any_commands items) a es b r
+pub runs_replays : (free : Bool) (items : Items) (a b : NetParts) (es : List Entry) → Runs free items a es b → Replays free (rules_of es) a b
+runs_replays free items a b es r =
+    of_items free (ReplaysRules free) (λ n. refl) (then_replays free) (λ c. true) (λ c h m fs n d. does_replays free c m n fs d.does) items (any_commands items) a es b r
 
-pub stops_replays : (items : Items) (a b : NetParts) (es : List Entry) → RunsTo items a es b → Replays (rules_of es) a b
-stops_replays items a b es r =
-    of_stopped ReplaysRules (λ n. refl) then_replays (λ c. true) (λ c h m fs n d. does_replays c m n fs d.does) (λ c h m fs n d. begun_replays c m n fs d.begun) items (any_commands items) a es b r
+pub stops_replays : (free : Bool) (items : Items) (a b : NetParts) (es : List Entry) → RunsTo free items a es b → Replays free (rules_of es) a b
+stops_replays free items a b es r =
+    of_stopped free (ReplaysRules free) (λ n. refl) (then_replays free) (λ c. true) (λ c h m fs n d. does_replays free c m n fs d.does) (λ c h m fs n d. begun_replays free c m n fs d.begun) items (any_commands items) a es b r

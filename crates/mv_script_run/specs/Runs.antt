@@ -1,34 +1,13 @@
 -- What a script does to a network: its items, one after the other, those with braces in rounds.
-use Rattle.std.specs.Prelude.{◌≡◌, ℕ, zero, suc, ◌<◌, ◌≤◌, List, [], ◌++◌}
+use Rattle.std.specs.Prelude.{ℕ, ◌<◌, ◌≤◌, Bool, List}
 use Rattle.mv_entry.specs.Entries.{Entry}
 use Rattle.mv_net.specs.declared.parts.NetParts.{NetParts}
 use Rattle.mv_net.specs.Nets.{literals_in}
+use Rattle.mv_pass.specs.Courses.{Course, Nothing, InTurn, Rounds}
 use Rattle.mv_script.specs.Scripts.{Items, End, Do, Repeat, Better}
 use Rattle.mv_script_run.specs.Commands.{RunsCommand, StopsCommand}
 
--- what some part of a script does: it leads from a network, with entries, to a network
-abbrev pub Course : Type 1
-Course = NetParts → List Entry → NetParts → Type 0
-
--- nothing: no entry comes, and the network stays
-abbrev pub Nothing : Course
-Nothing old entries new = (entries ≡ []) × (new ≡ old)
-
--- one and then another: some first entries are those of the first, which leads to a network in between, and the rest those of the other
-pub record InTurn (First Second : Course) (old : NetParts) (entries : List Entry) (new : NetParts) : Type 0 where
-  pub mid : NetParts
-  pub front : List Entry
-  pub rest : List Entry
-  pub first : First old front mid
-  pub second : Second mid rest new
-  pub entries_are : entries ≡ front ++ rest
-
 -- ---- rounds
-
--- so many rounds, one after the other
-abbrev pub Rounds : ℕ → Course → Course
-Rounds zero Round = Nothing
-Rounds (suc n) Round = InTurn Round (Rounds n Round)
 
 -- a round that ends with fewer literals than it began with
 abbrev pub Gains : Course → Course
@@ -58,11 +37,11 @@ pub record StopsBetter (Round Stops : Course) (old : NetParts) (entries : List E
 
 -- the items lead from the old network to the new one. Braces with no command inside take no round of their own: rounds of nothing
 -- leave no entry and the same network, and of `better` the first is the last
-abbrev pub Runs : Items → Course
-Runs End = Nothing
-Runs (Do command rest) = InTurn (RunsCommand command) (Runs rest)
-Runs (Repeat times inside rest) = InTurn (Rounds times (Runs inside)) (Runs rest)
-Runs (Better inside rest) = InTurn (RunsBetter (Runs inside)) (Runs rest)
+abbrev pub Runs : Bool → Items → Course
+Runs free End = Nothing
+Runs free (Do command rest) = InTurn (RunsCommand free command) (Runs free rest)
+Runs free (Repeat times inside rest) = InTurn (Rounds times (Runs free inside)) (Runs free rest)
+Runs free (Better inside rest) = InTurn (RunsBetter (Runs free inside)) (Runs free rest)
 
 -- an item isn't begun, or stops, or is whole and those behind it stop
 pub data StopsAt (Stops Whole Behind : Course) (old : NetParts) (entries : List Entry) (new : NetParts) : Type 0 where
@@ -71,8 +50,10 @@ pub data StopsAt (Stops Whole Behind : Course) (old : NetParts) (entries : List 
   Later : InTurn Whole Behind old entries new → StopsAt Stops Whole Behind old entries new
 
 -- the items stop: some first ones run whole, and the next one, if there is one, isn't begun or stops within
-abbrev pub RunsTo : Items → Course
-RunsTo End = Nothing
-RunsTo (Do command rest) = StopsAt (StopsCommand command) (RunsCommand command) (RunsTo rest)
-RunsTo (Repeat times inside rest) = StopsAt (StopsRepeat times (Runs inside) (RunsTo inside)) (Rounds times (Runs inside)) (RunsTo rest)
-RunsTo (Better inside rest) = StopsAt (StopsBetter (Runs inside) (RunsTo inside)) (RunsBetter (Runs inside)) (RunsTo rest)
+abbrev pub RunsTo : Bool → Items → Course
+RunsTo free End = Nothing
+RunsTo free (Do command rest) = StopsAt (StopsCommand free command) (RunsCommand free command) (RunsTo free rest)
+RunsTo free (Repeat times inside rest) =
+    StopsAt (StopsRepeat times (Runs free inside) (RunsTo free inside)) (Rounds times (Runs free inside)) (RunsTo free rest)
+RunsTo free (Better inside rest) =
+    StopsAt (StopsBetter (Runs free inside) (RunsTo free inside)) (RunsBetter (Runs free inside)) (RunsTo free rest)

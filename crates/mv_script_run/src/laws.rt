@@ -1,30 +1,31 @@
-ghost use Rattle.std.specs.Prelude.{◌≡◌, ◌≤◌, false, List, []};
+ghost use Rattle.std.specs.Prelude.{◌≡◌, ◌≤◌, Bool, false, List, []};
 ghost use Rattle.mv_entry.specs.Entries.{Entry, rules_of};
 ghost use Rattle.mv_net.specs.declared.parts.NetParts.{NetParts};
 ghost use Rattle.mv_net.specs.Formed.{WellFormed};
 ghost use Rattle.mv_net.specs.Nets.{literals_in};
-ghost use Rattle.mv_script_run.specs.Runs.{Nothing, Runs, RunsTo};
+ghost use Rattle.mv_pass.specs.Courses.{Nothing};
+ghost use Rattle.mv_script_run.specs.Runs.{Runs, RunsTo};
 ghost use Rattle.mv_rules.specs.Replaying.{Replays};
 ghost use Rattle.mv_script.specs.Commands.{has_command};
 ghost use Rattle.mv_script.specs.Scripts.{Items};
 
 /// The rules among the entries of a script apply in turn, where it ran and where it stopped.
 pub fn entries_replay()
-    ensures runs { (items : Items) (old new : NetParts) (entries : List Entry) → Runs items old entries new
-        → Replays (rules_of entries) old new }
-    ensures stops { (items : Items) (old new : NetParts) (entries : List Entry) → RunsTo items old entries new
-        → Replays (rules_of entries) old new }
+    ensures runs { (free : Bool) (items : Items) (old new : NetParts) (entries : List Entry) → Runs free items old entries new
+        → Replays free (rules_of entries) old new }
+    ensures stops { (free : Bool) (items : Items) (old new : NetParts) (entries : List Entry) → RunsTo free items old entries new
+        → Replays free (rules_of entries) old new }
 {}
 
 /// A script leaves no more literals than there were.
 pub fn no_more_literals()
-    ensures { (items : Items) (old new : NetParts) (entries : List Entry) → WellFormed old → Runs items old entries new
+    ensures { (free : Bool) (items : Items) (old new : NetParts) (entries : List Entry) → WellFormed old → Runs free items old entries new
         → literals_in new.nets ≤ literals_in old.nets }
 {}
 
 /// A script without a command does nothing, also in braces, and nothing else.
 pub fn idle_items()
-    ensures does { (items : Items) (net : NetParts) → has_command items ≡ false → Runs items net [] net }
-    ensures nothing { (items : Items) (old new : NetParts) (entries : List Entry) → has_command items ≡ false
-        → Runs items old entries new → Nothing old entries new }
+    ensures does { (free : Bool) (items : Items) (net : NetParts) → has_command items ≡ false → Runs free items net [] net }
+    ensures nothing { (free : Bool) (items : Items) (old new : NetParts) (entries : List Entry) → has_command items ≡ false
+        → Runs free items old entries new → Nothing old entries new }
 {}

@@ -127,11 +127,11 @@ encode b 1 c 0 01|Syntax 1
 encode b 2 c|Syntax 1
 encode b x c|Syntax 1
 encode b|Syntax 1
-fill b (0,1)|NotBuilt 1
+fill b (0,1)|1 fill b (0,1);
 fill b 1024|Syntax 1
 fill b|Syntax 1
 fill b 0 1|Syntax 1
-wire a;fill b 0;merge c 1|NotBuilt 2
+wire a;fill b 0;merge c 1|NotBuilt 3
 fill b 0;wire|Syntax 2
 x;narrow b|Syntax 1
 ";

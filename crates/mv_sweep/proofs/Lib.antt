@@ -1,3 +1,8 @@
 pub mod Search
 pub mod Stepping
 pub mod Swept
+pub mod FilledNets
+pub mod Visiting
+pub mod Filled
+pub mod Unfilled
+pub mod Marking

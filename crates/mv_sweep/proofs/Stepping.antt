@@ -1,5 +1,5 @@
 -- The least net that can go, by its name: the rule that removes it applies, and leaves the network without it.
-use Rattle.std.proofs.Common.{◌≡◌, ◌∙◌, ℕ, List, Option, is_some, refl, sym, ap}
+use Rattle.std.proofs.Common.{◌≡◌, ◌∙◌, ℕ, Bool, List, Option, is_some, refl, sym, ap}
 use Rattle.mv_cover.specs.declared.cover.Cover.{Cover}
 use Rattle.mv_entry.specs.declared.rule.Rule.TheVariants.{Remove}
 use Rattle.mv_entry.specs.Entries.{Applied}
@@ -29,11 +29,11 @@ removes net n name can named = record {
 }
 
 module _ (net : NetParts) (n : ℕ) (name : List ℕ) (first : IsLeastRemovable net n) (named : name ≡ name_in (slot net.nets n)) where
-  pub can_go : CanApply (Remove name) net
-  can_go = record { new = without net n; applies = removes net n name first.removable named }
+  pub can_go : (free : Bool) → CanApply free (Remove name) net
+  can_go free = record { new = without net n; applies = removes net n name first.removable named }
 
-  pub gone : (new : NetParts) → WellFormed net → Applies (Remove name) net new → new ≡ without net n
-  gone new formed applies = one_network (Remove name) net new (without net n) formed applies (removes net n name first.removable named)
+  pub gone : (free : Bool) (new : NetParts) → WellFormed net → Applies free (Remove name) net new → new ≡ without net n
+  gone free new formed applies = one_network free (Remove name) net new (without net n) formed applies (removes net n name first.removable named)
 
   pub is_step : IsDropStep net (Applied (Remove name))
   is_step = record { number = n; first = first; named = sym named }

@@ -1,5 +1,5 @@
 -- The rules of `sweep`: each applies to its net, what it leaves, and that nets far from it are swept where they were.
-use Rattle.std.proofs.Common.{◌≡◌, ◌∙◌, ℕ, ◌<◌, ◌≤◌, true, Option, Some, None, is_some, List, [], ◌∷◌, length, inl, refl, sym, ap, subst, arith}
+use Rattle.std.proofs.Common.{◌≡◌, ◌∙◌, ℕ, ◌<◌, ◌≤◌, Bool, true, Option, Some, None, is_some, List, [], ◌∷◌, length, inl, refl, sym, ap, subst, arith}
 use Rattle.std.proofs.lemmas.Bool.{false≢true}
 use Rattle.mv_agenda.specs.Agenda.{AllWait, AllWaitBut, NoneWaits, PutsNear, TakesLeast, WaitBelow}
 use Rattle.mv_agenda.specs.Near.{IsNear}
@@ -20,7 +20,7 @@ use Rattle.mv_net.specs.Index.{is_held}
 use Rattle.mv_net.specs.Nets.{slot, name_in, table_in}
 use Rattle.mv_net.proofs.Known.{is_held_below}
 use Rattle.mv_pass.specs.Taking.{CanApply}
-use Rattle.mv_rules.specs.Applies.{Applies}
+use Rattle.mv_rules.specs.Applies.{Applies, keeps_choices}
 use Rattle.mv_net.specs.Plain.{IsPlainBuffer, IsPlainConstant}
 use Rattle.mv_rules.specs.Checks.{IsTabled, IsUnseen, IsRead}
 use Rattle.mv_rules.specs.Collapsing.{CanCollapse, Collapses, collapsed}
@@ -74,12 +74,18 @@ way_held net n way is =
     let t = way_table net n way is in
     ap (λ (f : Option FlatNet). is_some f) (tabled_in (slot net.nets n) t.0 t.1).1
 
+-- each of these rules leaves what the network means
+pub way_keeps : (way : Way) (name : List ℕ) → keeps_choices (rule_for way name) ≡ true
+way_keeps Remove name = refl
+way_keeps Wire name = refl
+way_keeps Collapse name = refl
+
 -- ---- the rule applies
 
 module _ (net : NetParts) (n : ℕ) (name : List ℕ) (formed : WellFormed net) (named : name ≡ name_in (slot net.nets n)) where
-  pub way_applies : (way : Way) → IsWay net n way → CanApply (rule_for way name) net
-  way_applies Remove is = record { new = _; applies = removes net n name is named }
-  way_applies Wire is = record {
+  pub way_applies : (free : Bool) (way : Way) → IsWay net n way → CanApply free (rule_for way name) net
+  way_applies free Remove is = record { new = _; applies = removes net n name is named }
+  way_applies free Wire is = record {
     new = _;
     applies = record {
       number = n;
@@ -89,7 +95,7 @@ module _ (net : NetParts) (n : ℕ) (name : List ℕ) (formed : WellFormed net) 
       new_is = refl;
     };
   }
-  way_applies Collapse is = record {
+  way_applies free Collapse is = record {
     new = collapsed net is.composites.inner;
     applies = record {
       number = n;
@@ -113,8 +119,8 @@ module _ (net : NetParts) (n : ℕ) (name : List ℕ) (formed : WellFormed net) 
   unfolding with_nets
   still_with nets new e = e ∙ ap (λ (p : NetParts). with_nets net p.nets) (sym e)
 
-  pub way_leaves : (way : Way) → IsWay net n way → (new : NetParts) → WellFormed new → Applies (rule_for way name) net new → StepsAround net new n
-  way_leaves Remove is new formed' r =
+  pub way_leaves : (free : Bool) (way : Way) → IsWay net n way → (new : NetParts) → WellFormed new → Applies free (rule_for way name) net new → StepsAround net new n
+  way_leaves free Remove is new formed' r =
       let same = names_itself net name n r.number formed r.net (way_held net n Remove is) named in
       record {
         around = subst (StaysAround net.nets new.nets) same (removes_around net name new r);
@@ -123,7 +129,7 @@ module _ (net : NetParts) (n : ℕ) (name : List ℕ) (formed : WellFormed net) 
         right = λ kept behind. right_removed net new name kept n behind r same;
         fewer = removes_fewer net name new r;
       }
-  way_leaves Wire is new formed' r =
+  way_leaves free Wire is new formed' r =
       let same = names_itself net name n r.number formed r.net (way_held net n Wire is) named in
       record {
         around = subst (StaysAround net.nets new.nets) same (wires_around net name new formed r);
@@ -132,7 +138,7 @@ module _ (net : NetParts) (n : ℕ) (name : List ℕ) (formed : WellFormed net) 
         right = λ kept behind. right_wired net new name kept n behind r same;
         fewer = wires_fewer net name new formed r;
       }
-  way_leaves Collapse is new formed' r =
+  way_leaves free Collapse is new formed' r =
       let same = names_itself net name n r.number formed r.net (way_held net n Collapse is) named in
       record {
         around = subst (StaysAround net.nets new.nets) same (collapses_around net name new formed r);

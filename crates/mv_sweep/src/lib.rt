@@ -1,14 +1,15 @@
-//! The commands `drop` and `sweep`: nets go that nobody sees or reads and whose table allows something everywhere; and with `sweep` the
-//! readers of buffers read their fanins, and constants go into their readers.
+//! The commands `drop`, `sweep` and `fill`. With the first two, nets go that nobody sees or reads and whose table allows something
+//! everywhere; and with `sweep` the readers of buffers read their fanins, and constants go into their readers. With `fill`, tables that
+//! allow nothing somewhere get a default.
 #![tactic(auto)]
 
+mod filling;
 mod sweeping;
 mod unread;
+mod varied;
 mod way;
 
+pub use filling::fill;
 pub use mv_pass::Stop;
 pub use sweeping::sweep;
 pub use unread::remove_unread;
-
-/// The budget of diagram nodes: no rule of these commands makes a diagram.
-const NO_BUDGET: u32 = 0;

@@ -1,10 +1,10 @@
-ghost use Rattle.std.specs.Prelude.{◌≡◌, Err, IfOk, OnOk, MatchOption};
+ghost use Rattle.std.specs.Prelude.{◌≡◌, false, Err, IfOk, OnOk, MatchOption};
 ghost use Rattle.mv_agenda.specs.Agenda.{AllWait};
-ghost use Rattle.mv_base.specs.Meaning.{SameMeaning};
+ghost use Rattle.mv_base.specs.Meaning.{Refines, SameMeaning};
 ghost use Rattle.mv_base.specs.Outside.{Rose};
 ghost use Rattle.mv_entry.specs.declared.note.Command.TheVariants.{Sweep as sweep_command};
 ghost use Rattle.mv_net.specs.Allowed.{of_net};
-ghost use Rattle.mv_pass.specs.Going.{Goes};
+ghost use Rattle.mv_pass.specs.Going.{Begun, Does, Goes};
 ghost use Rattle.mv_pass.specs.Passing.{Passes};
 ghost use Rattle.mv_pass.specs.Taking.{GoesOn, Went, WentPart};
 ghost use Rattle.mv_gain.specs.Kept.{AreRight};
@@ -12,14 +12,15 @@ ghost use Rattle.mv_sweep.specs.Sweeps.{IsSwept, IsSweepStep, EndsSweep};
 ghost use Rattle.mv_sweep.specs.Ways as spec;
 ghost use Rattle.mv_sweep.specs.Ways.{CanSweep, IsNext, IsLeastWay, StepsAround};
 
+use crate::Stop;
 use crate::way::{Way, way_of};
-use crate::{NO_BUDGET, Stop};
 use mv_agenda::{Agenda, put_near};
 use mv_base::{Memory, Name, NetId};
 use mv_entry::{Command, Journal, Note, Rule};
 use mv_gain::KeptComposites;
 use mv_net::Network;
 use mv_pass::{few_literals, take};
+use mv_rules::Terms;
 use std::alloc::Global;
 
 /// A net, and the rule that `sweep` applies to it.
@@ -69,15 +70,16 @@ fn step<J: Journal>(
     alloc: Global,
     net: &mut Network,
     found: &Found,
+    terms: Terms,
     journal: &mut J,
 ) -> Result<(), Stop>
     requires { IsLeastWay net.old found.now.n.0 found.now.way }
-    ensures ok { OnOk result (Went IsSweepStep net.old net.new (J.state journal.old) (J.state journal.new)) }
+    ensures ok { OnOk result (Went terms.free IsSweepStep net.old net.new (J.state journal.old) (J.state journal.new)) }
     ensures around { OnOk result (StepsAround net.old net.new found.now.n.0) }
     ensures memory { result ≡ Err Stop.Memory
-        → Went IsSweepStep net.old net.new (J.state journal.old) (J.state journal.new) }
+        → Went terms.free IsSweepStep net.old net.new (J.state journal.old) (J.state journal.new) }
     ensures note { result ≡ Err Stop.Note
-        → WentPart IsSweepStep net.old net.new (J.state journal.old) (J.state journal.new) }
+        → WentPart terms.free IsSweepStep net.old net.new (J.state journal.old) (J.state journal.new) }
     ensures cause { result ≡ Err Stop.Note → Rose (J.state journal.old).written.faults (J.state journal.new).written.faults }
     ensures means { SameMeaning (of_net net.new) (of_net net.old) }
     ensures goes_on { GoesOn (J.state journal.old) (J.state journal.new) }
@@ -88,7 +90,7 @@ fn step<J: Journal>(
         Err(_memory) => return Err(Stop::Memory),
     };
     let rule = rule_for(found.way, name);
-    match take(alloc, net, &rule, NO_BUDGET, journal) {
+    match take(alloc, net, &rule, terms, journal) {
         Ok(()) => {
             net.well_formed();
             Ok(())
@@ -99,13 +101,18 @@ fn step<J: Journal>(
 
 /// Applies the rule for the least net to which one applies, until there is none. A net that was looked at waits again once
 /// something near it changes, so that the least that waits and has a rule is the least of all.
-fn sweep_each<J: Journal>(alloc: Global, net: &mut Network, journal: &mut J) -> Result<(), Stop>
-    ensures ok { OnOk result (Went IsSweepStep net.old net.new (J.state journal.old) (J.state journal.new)) }
+fn sweep_each<J: Journal>(
+    alloc: Global,
+    net: &mut Network,
+    terms: Terms,
+    journal: &mut J,
+) -> Result<(), Stop>
+    ensures ok { OnOk result (Went terms.free IsSweepStep net.old net.new (J.state journal.old) (J.state journal.new)) }
     ensures swept { OnOk result (IsSwept net.new) }
     ensures memory { result ≡ Err Stop.Memory
-        → Went IsSweepStep net.old net.new (J.state journal.old) (J.state journal.new) }
+        → Went terms.free IsSweepStep net.old net.new (J.state journal.old) (J.state journal.new) }
     ensures note { result ≡ Err Stop.Note
-        → WentPart IsSweepStep net.old net.new (J.state journal.old) (J.state journal.new) }
+        → WentPart terms.free IsSweepStep net.old net.new (J.state journal.old) (J.state journal.new) }
     ensures cause { result ≡ Err Stop.Note → Rose (J.state journal.old).written.faults (J.state journal.new).written.faults }
     ensures means { SameMeaning (of_net net.new) (of_net net.old) }
     ensures goes_on { GoesOn (J.state journal.old) (J.state journal.new) }
@@ -132,7 +139,7 @@ fn sweep_each<J: Journal>(alloc: Global, net: &mut Network, journal: &mut J) -> 
             Ok(()) => {}
             Err(_memory) => return Err(Stop::Memory),
         }
-        match step(alloc, net, &found, journal) {
+        match step(alloc, net, &found, terms, journal) {
             Ok(()) => {}
             Err(stop) => return Err(stop),
         }
@@ -142,14 +149,21 @@ fn sweep_each<J: Journal>(alloc: Global, net: &mut Network, journal: &mut J) -> 
 /// The command `sweep`: at the least-numbered net to which one applies, takes away a net that nobody sees or reads and whose table is
 /// total, has the readers of a plain buffer read its fanin, or puts a plain constant into its readers, until there is none; and notes
 /// the beginning, each rule and the end. What the network means stays, also where the command stops.
-pub fn sweep<J: Journal>(alloc: Global, net: &mut Network, journal: &mut J) -> Result<(), Stop>
-    ensures passes { Passes (Goes IsSweepStep) EndsSweep sweep_command net.old net.new (J.state journal.old) (J.state journal.new) result }
+pub fn sweep<J: Journal>(
+    alloc: Global,
+    net: &mut Network,
+    journal: &mut J,
+    terms: Terms,
+) -> Result<(), Stop>
+    ensures passes { Passes terms.free (Does (Goes terms.free IsSweepStep) EndsSweep sweep_command)
+        (Begun (Goes terms.free IsSweepStep) EndsSweep sweep_command) net.old net.new (J.state journal.old) (J.state journal.new) result }
+    ensures refines { Refines false (of_net net.new) (of_net net.old) }
 {
     match journal.note(&Note::Begin(Command::Sweep)) {
         Ok(()) => {}
         Err(_failed) => return Err(Stop::Note),
     }
-    match sweep_each(alloc, net, journal) {
+    match sweep_each(alloc, net, terms, journal) {
         Ok(()) => {}
         Err(stop) => return Err(stop),
     }

@@ -1,23 +1,24 @@
-ghost use Rattle.std.specs.Prelude.{◌≡◌, Err, IfOk, OnOk, MatchBool, MatchOption};
+ghost use Rattle.std.specs.Prelude.{◌≡◌, false, Err, IfOk, OnOk, MatchBool, MatchOption};
 ghost use Rattle.mv_agenda.specs.Agenda.{AllWait};
-ghost use Rattle.mv_base.specs.Meaning.{SameMeaning};
+ghost use Rattle.mv_base.specs.Meaning.{Refines, SameMeaning};
 ghost use Rattle.mv_base.specs.Outside.{Rose};
 ghost use Rattle.mv_entry.specs.declared.note.Command.TheVariants.{Drop as drop};
 ghost use Rattle.mv_net.specs.Allowed.{of_net};
 ghost use Rattle.mv_net.specs.Changes.{without};
 ghost use Rattle.mv_net.specs.Total.{IsRemovable};
-ghost use Rattle.mv_pass.specs.Going.{Goes};
+ghost use Rattle.mv_pass.specs.Going.{Begun, Does, Goes};
 ghost use Rattle.mv_pass.specs.Passing.{Passes};
 ghost use Rattle.mv_pass.specs.Taking.{GoesOn, Went, WentPart};
 ghost use Rattle.mv_sweep.specs.Drops.{IsDropStep, IsLeastRemovable, NoneLeft, EndsDrop};
 ghost use Rattle.mv_sweep.specs.Search.{IsNextRemovable};
 
-use crate::{NO_BUDGET, Stop};
+use crate::Stop;
 use mv_agenda::Agenda;
 use mv_base::{Memory, Name, NetId};
 use mv_entry::{Command, Journal, Note, Rule};
 use mv_net::Network;
 use mv_pass::{few_literals, take};
+use mv_rules::Terms;
 use std::alloc::Global;
 
 /// Whether the net of this number can go.
@@ -58,14 +59,20 @@ fn next_removable(
 }
 
 /// Takes away the net, which is the least that can go, and notes it.
-fn step<J: Journal>(alloc: Global, net: &mut Network, n: NetId, journal: &mut J) -> Result<(), Stop>
+fn step<J: Journal>(
+    alloc: Global,
+    net: &mut Network,
+    n: NetId,
+    terms: Terms,
+    journal: &mut J,
+) -> Result<(), Stop>
     requires { IsLeastRemovable net.old n.0 }
-    ensures ok { OnOk result (Went IsDropStep net.old net.new (J.state journal.old) (J.state journal.new)) }
+    ensures ok { OnOk result (Went terms.free IsDropStep net.old net.new (J.state journal.old) (J.state journal.new)) }
     ensures gone { OnOk result (net.new ≡ without net.old n.0) }
     ensures memory { result ≡ Err Stop.Memory
-        → Went IsDropStep net.old net.new (J.state journal.old) (J.state journal.new) }
+        → Went terms.free IsDropStep net.old net.new (J.state journal.old) (J.state journal.new) }
     ensures note { result ≡ Err Stop.Note
-        → WentPart IsDropStep net.old net.new (J.state journal.old) (J.state journal.new) }
+        → WentPart terms.free IsDropStep net.old net.new (J.state journal.old) (J.state journal.new) }
     ensures cause { result ≡ Err Stop.Note → Rose (J.state journal.old).written.faults (J.state journal.new).written.faults }
     ensures means { SameMeaning (of_net net.new) (of_net net.old) }
     ensures goes_on { GoesOn (J.state journal.old) (J.state journal.new) }
@@ -75,7 +82,7 @@ fn step<J: Journal>(alloc: Global, net: &mut Network, n: NetId, journal: &mut J)
         Ok(name) => name,
         Err(_memory) => return Err(Stop::Memory),
     };
-    match take(alloc, net, &Rule::Remove { net: name }, NO_BUDGET, journal) {
+    match take(alloc, net, &Rule::Remove { net: name }, terms, journal) {
         Ok(()) => Ok(()),
         Err(stop) => Err(stop),
     }
@@ -83,13 +90,18 @@ fn step<J: Journal>(alloc: Global, net: &mut Network, n: NetId, journal: &mut J)
 
 /// Takes away the least net that can go, until there is none. Where a net goes only those that it read can have come to be such, so
 /// they wait again, and the least that waits and can go is the least of all.
-fn remove_each<J: Journal>(alloc: Global, net: &mut Network, journal: &mut J) -> Result<(), Stop>
-    ensures ok { OnOk result (Went IsDropStep net.old net.new (J.state journal.old) (J.state journal.new)) }
+fn remove_each<J: Journal>(
+    alloc: Global,
+    net: &mut Network,
+    terms: Terms,
+    journal: &mut J,
+) -> Result<(), Stop>
+    ensures ok { OnOk result (Went terms.free IsDropStep net.old net.new (J.state journal.old) (J.state journal.new)) }
     ensures none_left { OnOk result (NoneLeft net.new) }
     ensures memory { result ≡ Err Stop.Memory
-        → Went IsDropStep net.old net.new (J.state journal.old) (J.state journal.new) }
+        → Went terms.free IsDropStep net.old net.new (J.state journal.old) (J.state journal.new) }
     ensures note { result ≡ Err Stop.Note
-        → WentPart IsDropStep net.old net.new (J.state journal.old) (J.state journal.new) }
+        → WentPart terms.free IsDropStep net.old net.new (J.state journal.old) (J.state journal.new) }
     ensures cause { result ≡ Err Stop.Note → Rose (J.state journal.old).written.faults (J.state journal.new).written.faults }
     ensures means { SameMeaning (of_net net.new) (of_net net.old) }
     ensures goes_on { GoesOn (J.state journal.old) (J.state journal.new) }
@@ -108,7 +120,7 @@ fn remove_each<J: Journal>(alloc: Global, net: &mut Network, journal: &mut J) ->
             Ok(()) => {}
             Err(_memory) => return Err(Stop::Memory),
         }
-        match step(alloc, net, n, journal) {
+        match step(alloc, net, n, terms, journal) {
             Ok(()) => {}
             Err(stop) => return Err(stop),
         }
@@ -121,14 +133,17 @@ pub fn remove_unread<J: Journal>(
     alloc: Global,
     net: &mut Network,
     journal: &mut J,
+    terms: Terms,
 ) -> Result<(), Stop>
-    ensures passes { Passes (Goes IsDropStep) EndsDrop drop net.old net.new (J.state journal.old) (J.state journal.new) result }
+    ensures passes { Passes terms.free (Does (Goes terms.free IsDropStep) EndsDrop drop) (Begun (Goes terms.free IsDropStep) EndsDrop drop)
+        net.old net.new (J.state journal.old) (J.state journal.new) result }
+    ensures refines { Refines false (of_net net.new) (of_net net.old) }
 {
     match journal.note(&Note::Begin(Command::Drop)) {
         Ok(()) => {}
         Err(_failed) => return Err(Stop::Note),
     }
-    match remove_each(alloc, net, journal) {
+    match remove_each(alloc, net, terms, journal) {
         Ok(()) => {}
         Err(stop) => return Err(stop),
     }

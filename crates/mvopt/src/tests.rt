@@ -4,6 +4,7 @@ mod checks;
 mod commands;
 mod examples;
 mod faults;
+mod freely;
 mod instances;
 mod joints;
 mod limits;
@@ -76,11 +77,12 @@ impl Fault {
     }
 }
 
-/// What a run is given: its words, the network in the file `n`, the script or the certificate in the file `s`, and the call that
-/// fails.
+/// What a run is given: its words, and `--free` behind them or not, the network in the file `n`, the script or the certificate in the
+/// file `s`, and the call that fails.
 #[derive(Clone, Copy)]
 struct Given<'a> {
     words: &'a str,
+    free: bool,
     net: &'a [u8],
     script: &'a [u8],
     fault: Fault,
@@ -121,6 +123,7 @@ struct Ended {
 fn opt<'a>(net: &'a [u8], script: &'a [u8]) -> Given<'a> {
     Given {
         words: "opt n s",
+        free: false,
         net,
         script,
         fault: Fault::Never,
@@ -173,6 +176,15 @@ fn words_of(alloc: Global, text: &str) -> Result<Vec<String>, Fail> {
     Ok(words)
 }
 
+/// The words of a run, with `--free` behind them if it is given.
+fn all_words(alloc: Global, given: Given) -> Result<Vec<String>, Fail> {
+    let mut words = words_of(alloc, given.words)?;
+    if given.free {
+        words.push(String::from_str(alloc, "--free")?)?;
+    }
+    Ok(words)
+}
+
 /// Adds a file with this name and content.
 fn add_file(
     alloc: Global,
@@ -195,7 +207,7 @@ fn files_of(alloc: Global, given: Given) -> Result<MemoryFiles, Fail> {
 
 /// The run.
 fn run_on(alloc: Global, given: Given) -> Result<Ended, Fail> {
-    let words = words_of(alloc, given.words)?;
+    let words = all_words(alloc, given)?;
     let mut files = files_of(alloc, given)?;
     let mut out = MemorySink::new(alloc, ROOM, given.fault.of_out(alloc)?)?;
     let mut notes = MemorySink::new(alloc, ROOM, given.fault.of_notes(alloc)?)?;

@@ -39,10 +39,26 @@ fn feed_of(form: Form) -> u8 {
 
 /// Each case ends as it says. Lines that begin with two dashes say what the next cases show.
 pub fn all_end(rt: &impl Abort, alloc: Global, form: Form, cases: &str) -> Result<(), Fail> {
+    cases_end(rt, alloc, form, false, cases)
+}
+
+/// The same, where each run has the option `--free`.
+pub fn all_end_freely(rt: &impl Abort, alloc: Global, form: Form, cases: &str) -> Result<(), Fail> {
+    cases_end(rt, alloc, form, true, cases)
+}
+
+/// Each case ends as it says, with the option or without.
+fn cases_end(
+    rt: &impl Abort,
+    alloc: Global,
+    form: Form,
+    free: bool,
+    cases: &str,
+) -> Result<(), Fail> {
     for case in cases.split('\n') {
         if !case.is_empty() && !case.starts_with("--") {
             let parts = parts_of(alloc, feed_of(form), case)?;
-            case_ends(rt, alloc, form, parts.as_slice())?;
+            case_ends(rt, alloc, form, free, parts.as_slice())?;
         }
     }
     Ok(())
@@ -58,12 +74,20 @@ pub fn parts_of(alloc: Global, feed: u8, case: &str) -> Result<Vec<Vec<u8>>, Fai
 }
 
 /// The case ends as it says.
-fn case_ends(rt: &impl Abort, alloc: Global, form: Form, parts: &[Vec<u8>]) -> Result<(), Fail> {
+fn case_ends(
+    rt: &impl Abort,
+    alloc: Global,
+    form: Form,
+    free: bool,
+    parts: &[Vec<u8>],
+) -> Result<(), Fail> {
     if let Some((given, end)) = run_of(form, parts) {
-        return is_done(rt, alloc, form, given, end);
+        return is_done(rt, alloc, form, Given { free, ..given }, end);
     }
     match refusal_of(form, parts) {
-        Some((given, status, fault)) => is_refused(rt, alloc, given, status, fault),
+        Some((given, status, fault)) => {
+            is_refused(rt, alloc, Given { free, ..given }, status, fault)
+        }
         None => Err(Fail::from("a case of another form")),
     }
 }
@@ -99,15 +123,20 @@ fn refusal_of<'a>(form: Form<'a>, parts: &'a [Vec<u8>]) -> Option<(Given<'a>, u8
 fn is_done(rt: &impl Abort, alloc: Global, form: Form, given: Given, end: End) -> Result<(), Fail> {
     ends(rt, alloc, given, end)?;
     match form {
-        Form::Written(_) | Form::Run => checks_back(rt, alloc, given.net, given.script),
+        Form::Written(_) | Form::Run => checks_back(rt, alloc, given),
         _ => Ok(()),
     }
 }
 
 /// What a run notes is a certificate, by which a check writes the same.
-fn checks_back(rt: &impl Abort, alloc: Global, net: &[u8], script: &[u8]) -> Result<(), Fail> {
-    let first = run_on(alloc, opt(net, script))?;
-    let again = run_on(alloc, checked(net, first.notes.bytes()))?;
+fn checks_back(rt: &impl Abort, alloc: Global, given: Given) -> Result<(), Fail> {
+    let (net, script, free) = (given.net, given.script, given.free);
+    let first = run_on(alloc, given)?;
+    let check = Given {
+        free,
+        ..checked(net, first.notes.bytes())
+    };
+    let again = run_on(alloc, check)?;
     assert_eq!(rt; again.status, 0, "{script:?} on {net:?}");
     assert_eq!(rt;
         again.out.bytes(),

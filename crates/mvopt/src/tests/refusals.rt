@@ -21,6 +21,14 @@ opt n s --budget 999
 opt n s --budget 12345678
 opt n s --budget=4000001
 opt --budget 1000 n s --budget=1000
+opt --free n s --free
+opt n s --free=x
+opt n s --free=
+opt n s --freely
+opt n s --budget --free
+check --free n --free s
+work 1 1 s --free=1
+--free opt n s
 opt n -- s --budget=1000
 check
 check n s x
@@ -92,7 +100,7 @@ repeat 10 { repeat 1000 { drop } } ; drop | 6 TooMany 37
 drop; repeat 101 { better { repeat 99 { drop } drop } } | 6 TooMany 6
 kernel | 8 NotBuilt
 drop; simplify 08 1 | 8 NotBuilt
-fill | 8 NotBuilt
+default | 8 NotBuilt
 sweep; eliminate; better { simplify 1 1; kernel; cube } | 8 NotBuilt
 ";
 

@@ -1,6 +1,6 @@
 -- One step more applied, or it is the first that doesn't.
 use Rattle.std.proofs.Common.{sym, ap, subst}
-use Rattle.mv_base.proofs.Meanings.{SameMeaning-then}
+use Rattle.mv_base.proofs.Meanings.{Refines-then}
 use Rattle.mv_net.specs.declared.parts.NetParts.{NetParts}
 use Rattle.mv_step.specs.declared.step.Step.{Step}
 use Rattle.mv_cert.specs.Replay.{EndsEarly}
@@ -11,17 +11,17 @@ pub loop-step-preserved : goal.loop-step-preserved
 loop-step-preserved c =
     let applies = rw c.step-item.is at c.in-Ok.ensures.applies in
     record {
-      ran = more c.args.steps.now c.loop-step.step-index c.args.net.now c.loop-step.net c.loop-step.invariant.ran c.step-item.result c.apply.new.net c.loop-step-test.true applies;
-      means = SameMeaning-then _ _ _ c.in-Ok.ensures.means c.loop-step.invariant.means;
+      ran = more c.args.terms.free c.args.steps.now c.loop-step.step-index c.args.net.now c.loop-step.net c.loop-step.invariant.ran c.step-item.result c.apply_on.new.net c.loop-step-test.true applies;
+      refines = Refines-then c.args.terms.free _ _ _ c.in-Ok.ensures.refines c.loop-step.invariant.refines;
     }
 
 pub returns-in-Err-clause-stops : goal.returns-in-Err-clause-stops
 returns-in-Err-clause-stops c =
-    let P : NetParts → Type 0 = λ n. EndsEarly c.args.steps.now c.args.net.now n c.refusal.result in
+    let P : NetParts → Type 0 = λ n. EndsEarly c.args.terms.free c.args.steps.now c.args.net.now n c.refusal.result in
     let fails = rw c.step-item.is at c.in-Err.ensures.fails in
     subst P (sym c.in-Err.ensures.err)
-    (stops_here c.args.steps.now c.loop-step.step-index c.args.net.now c.loop-step.net c.loop-step.invariant.ran c.step-item.result _ _ _ c.loop-step-test.true (ap (λ (s : Step). s.line) c.step-item.is) fails c.refusal.ensures.memory c.refusal.ensures.rule)
+    (stops_here c.args.terms.free c.args.steps.now c.loop-step.step-index c.args.net.now c.loop-step.net c.loop-step.invariant.ran c.step-item.result _ _ _ c.loop-step-test.true (ap (λ (s : Step). s.line) c.step-item.is) fails c.refusal.ensures.memory c.refusal.ensures.rule)
 
-pub apply-requires : goal.apply-requires
-apply-requires c =
+pub apply_on-requires : goal.apply_on-requires
+apply_on-requires c =
     rw c.step-item.is (step_built c.args.steps.now c.loop-step.step-index c.step-item.result c.requires c.loop-step-test.true)

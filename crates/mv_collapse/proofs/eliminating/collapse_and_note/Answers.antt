@@ -5,22 +5,22 @@ use Rattle.mv_collapse.proofs.Eliminated.{eliminates, eliminates_part, eliminate
 use Rattle.mv_collapse.proofs.eliminating.collapse_and_note.Goals as goal
 
 pub returns-in-Err-clause-memory : goal.returns-in-Err-clause-memory
-returns-in-Err-clause-memory g c = λ e. eliminates _ _ _ _ (went_none IsEliminateStep _ _)
+returns-in-Err-clause-memory g c = λ e. eliminates c.args.terms.free _ _ _ _ (went_none c.args.terms.free IsEliminateStep _ _)
 
 pub returns-in-Err-collapse_each-clause-memory : goal.returns-in-Err-collapse_each-clause-memory
-returns-in-Err-collapse_each-clause-memory g c = λ e. eliminates _ _ _ _ (c.in-Err-collapse_each.ensures.memory e)
+returns-in-Err-collapse_each-clause-memory g c = λ e. eliminates c.args.terms.free _ _ _ _ (c.in-Err-collapse_each.ensures.memory e)
 
 pub returns-in-Err-collapse_each-clause-note : goal.returns-in-Err-collapse_each-clause-note
-returns-in-Err-collapse_each-clause-note g c = λ e. eliminates_part _ _ _ _ (c.in-Err-collapse_each.ensures.note e)
+returns-in-Err-collapse_each-clause-note g c = λ e. eliminates_part c.args.terms.free _ _ _ _ (c.in-Err-collapse_each.ensures.note e)
 
 pub returns-in-Ok-note_wide-clause-ok : goal.returns-in-Ok-note_wide-clause-ok
 returns-in-Ok-note_wide-clause-ok g c =
-    eliminated _ _ _ _ _ c.in-Ok-collapse_each.ensures.ok c.in-Ok-collapse_each.ensures.none_saves c.in-Ok-note_wide.ensures.ok
+    eliminated c.args.terms.free _ _ _ _ _ c.in-Ok-collapse_each.ensures.ok c.in-Ok-collapse_each.ensures.none_saves c.in-Ok-note_wide.ensures.ok
 
 pub returns-clause-memory : goal.returns-clause-memory
 returns-clause-memory g c =
-    λ e. eliminates_noted _ _ _ _ _ c.in-Ok-collapse_each.ensures.ok c.in-Ok-collapse_each.ensures.none_saves (c.in-Err-note_wide.ensures.memory e)
+    λ e. eliminates_noted c.args.terms.free _ _ _ _ _ c.in-Ok-collapse_each.ensures.ok c.in-Ok-collapse_each.ensures.none_saves (c.in-Err-note_wide.ensures.memory e)
 
 pub returns-clause-note : goal.returns-clause-note
 returns-clause-note g c =
-    λ e. eliminates_cut _ _ _ _ _ c.in-Ok-collapse_each.ensures.ok c.in-Ok-collapse_each.ensures.none_saves (c.in-Err-note_wide.ensures.note e)
+    λ e. eliminates_cut c.args.terms.free _ _ _ _ _ c.in-Ok-collapse_each.ensures.ok c.in-Ok-collapse_each.ensures.none_saves (c.in-Err-note_wide.ensures.note e)

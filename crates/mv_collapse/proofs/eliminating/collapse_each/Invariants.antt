@@ -11,7 +11,7 @@ use Rattle.mv_collapse.proofs.eliminating.collapse_each.Given as goal
 
 abbrev pub invariant-collapsing : goal.invariant-collapsing
 invariant-collapsing g l = record {
-  went : Went IsEliminateStep l.fn.net l.net (g.J.Journal.state l.fn.journal) (g.J.Journal.state l.journal);
+  went : Went l.terms.free IsEliminateStep l.fn.net l.net (g.J.Journal.state l.fn.journal) (g.J.Journal.state l.journal);
   wait : AllWait (IsSaving l.net) l.agenda;
   right : AreRight l.net.nets l.kept;
   means : SameMeaning (of_net l.net) (of_net l.fn.net);

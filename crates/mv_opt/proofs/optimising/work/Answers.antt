@@ -5,9 +5,9 @@ use Rattle.mv_opt.proofs.optimising.work.Goals as goal
 
 pub returns-in-Err : goal.returns-in-Err
 returns-in-Err g c =
-    early _ _ _ _ _ _ c.in-Err.stop _ c.status.ensures c.in-Err.ensures.ended (λ f e. c.in-Err.ensures.faulty f (ap Err e)) c.in-Err.ensures.refused c.refuse.ensures
+    early _ _ _ _ _ _ _ c.in-Err.stop _ c.status.ensures c.in-Err.ensures.ended (λ f e. c.in-Err.ensures.faulty f (ap Err e)) c.in-Err.ensures.refused c.refuse.ensures
 
 pub returns-in-Ok : goal.returns-in-Ok
 returns-in-Ok g c =
     let given = c.in-Ok.ensures in
-    run_ends _ _ _ _ _ given.made given.taken given.items given.starts _ _ _ _ _ c.finish_run.ensures
+    run_ends _ _ _ _ _ _ given.made given.taken given.items given.starts _ _ _ _ _ c.finish_run.ensures

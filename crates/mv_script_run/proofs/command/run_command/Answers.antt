@@ -7,4 +7,4 @@ pub run_built-requires : goal.run_built-requires
 run_built-requires g c = built_lawful c.args.command.now c.requires.named c.requires.built
 
 pub returns : goal.returns
-returns g c = command_passes c.args.command.now _ _ _ _ _ c.requires.built c.run_built.ensures
+returns g c = command_passes c.args.terms.free c.args.command.now _ _ _ _ _ c.requires.built c.run_built.ensures

@@ -11,7 +11,7 @@ use Rattle.mv_sweep.proofs.sweeping.sweep_each.Given as goal
 
 abbrev pub invariant-sweeping : goal.invariant-sweeping
 invariant-sweeping g l = record {
-  went : Went IsSweepStep l.fn.net l.net (g.J.Journal.state l.fn.journal) (g.J.Journal.state l.journal);
+  went : Went l.terms.free IsSweepStep l.fn.net l.net (g.J.Journal.state l.fn.journal) (g.J.Journal.state l.journal);
   wait : AllWait (CanSweep l.net) l.agenda;
   right : AreRight l.net.nets l.kept;
   means : SameMeaning (of_net l.net) (of_net l.fn.net);

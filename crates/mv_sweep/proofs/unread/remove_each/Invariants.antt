@@ -10,7 +10,7 @@ use Rattle.mv_sweep.proofs.unread.remove_each.Given as goal
 
 abbrev pub invariant-removing : goal.invariant-removing
 invariant-removing g l = record {
-  went : Went IsDropStep l.fn.net l.net (g.J.Journal.state l.fn.journal) (g.J.Journal.state l.journal);
+  went : Went l.terms.free IsDropStep l.fn.net l.net (g.J.Journal.state l.fn.journal) (g.J.Journal.state l.journal);
   wait : AllWait (IsRemovable l.net) l.agenda;
   means : SameMeaning (of_net l.net) (of_net l.fn.net);
   goes_on : GoesOn (g.J.Journal.state l.fn.journal) (g.J.Journal.state l.journal);

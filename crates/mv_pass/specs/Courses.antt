@@ -1,0 +1,31 @@
+-- Courses: what some part of a run does, from a network to a network, with the entries that come of it.
+use Rattle.std.specs.Prelude.{◌≡◌, ℕ, zero, suc, List, [], ◌++◌}
+use Rattle.mv_entry.specs.Entries.{Entry}
+use Rattle.mv_net.specs.declared.parts.NetParts.{NetParts}
+
+-- what some part of a run does: it leads from a network, with entries, to a network
+abbrev pub Course : Type 1
+Course = NetParts → List Entry → NetParts → Type 0
+
+-- nothing: no entry comes, and the network stays
+abbrev pub Nothing : Course
+Nothing old entries new = (entries ≡ []) × (new ≡ old)
+
+-- one and then another: some first entries are those of the first, which leads to a network in between, and the rest those of the other
+pub record InTurn (First Second : Course) (old : NetParts) (entries : List Entry) (new : NetParts) : Type 0 where
+  pub mid : NetParts
+  pub front : List Entry
+  pub rest : List Entry
+  pub first : First old front mid
+  pub second : Second mid rest new
+  pub entries_are : entries ≡ front ++ rest
+
+-- so many rounds, one after the other
+abbrev pub Rounds : ℕ → Course → Course
+Rounds zero Round = Nothing
+Rounds (suc n) Round = InTurn Round (Rounds n Round)
+
+-- a visit of each number below this, ascending
+abbrev pub Visits : (ℕ → Course) → ℕ → Course
+Visits Visit zero = Nothing
+Visits Visit (suc n) = InTurn (Visits Visit n) (Visit n)
