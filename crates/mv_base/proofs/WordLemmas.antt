@@ -1,17 +1,16 @@
 -- Numbers in words of 128 bits: what is done word by word is done to the number.
-use Rattle.std.proofs.Common.{◌≡◌, ◌≢◌, ℕ, zero, suc, ◌+◌, ◌-◌, ◌*◌, ◌/◌, ◌%◌, ◌^◌, ◌<◌, ◌≤◌, List, [], ◌∷◌, length, get_or, refl, sym, ◌∙◌, ap, arith, lit<, zero-mul, mod-lt, Bool, true, false, ◌&&◌, eqb, ltb, ⊎_elim}
+use Rattle.std.proofs.Common.{◌≡◌, ◌≢◌, ℕ, zero, suc, ◌+◌, ◌-◌, ◌*◌, ◌/◌, ◌%◌, ◌^◌, ◌<◌, ◌≤◌, List, [], ◌∷◌, length, get_or, refl, sym, ◌∙◌, ap, arith, lit<, mod-lt, Bool, true, ◌&&◌, ⊎_elim}
 use Rattle.std.specs.Prelude.{bit_and, bit_or, bit_xor, count_ones, ◌==◌}
 use Rattle.std.specs.Int.{bit_at}
 use Rattle.std.specs.Int.Count.{ones-ones}
-use Rattle.std.proofs.Common.{Ordering, Less, Equal, Greater}
+use Rattle.std.proofs.Common.{Ordering, Equal}
 use Rattle.std.specs.Ordering.{nat_cmp, ordering_then}
-use Rattle.std.specs.Cmp.{nat_cmp_is}
 use Rattle.std.proofs.Math.Nat.{mod-one, div-one, suc_inj, mod-eq_of_lt, pow-le-pow_right}
-use Rattle.std.proofs.lemmas.Bool.{cases_order, cases_eq, cases_lt}
-use Rattle.std.proofs.lemmas.Bool.Decides.{nat_tests, eqb_tells}
-use Rattle.std.proofs.lemmas.Nat.{shr-shr, shr_high, mod_low, mod-pow-add, and_block, or_block, xor_block, ones_cat, pow_pos, and_le_l, and_le_r, or_lt, xor_lt, div-add-mod', shr_split, pow-add, pow_below}
-use Rattle.std.proofs.lemmas.Nat.Bits.{bit_at_cat_low, bit_at_above, bit_at-zero, bit_at-suc, bit_at_lowest, bit_at-lt, same_from_bits_below, bit_at-pow_same, bit_at-pow_other, bit_at_ones, bit_at_ones_above}
-use Rattle.mv_base.specs.Set.{has, meet, join, minus}
+use Rattle.std.proofs.lemmas.Bool.{cases_eq, cases_lt}
+use Rattle.std.proofs.lemmas.Bool.Decides.{nat_tests}
+use Rattle.std.proofs.lemmas.Nat.{shr-shr, mod-pow-add, and_block, or_block, xor_block, ones_cat, pow_pos, and_le_l, or_lt, xor_lt, div-add-mod', shr_split, pow-add, pow_below}
+use Rattle.std.proofs.lemmas.Nat.Bits.{bit_at_cat_low, bit_at-zero, same_from_bits_below, bit_at-pow_same, bit_at-pow_other, bit_at_ones, bit_at_ones_above}
+use Rattle.mv_base.specs.Set.{has}
 use Rattle.mv_base.specs.Words.{number, AreWords, word_of}
 use Rattle.mv_base.specs.SetInside.{word_of-number}
 use Rattle.mv_base.proofs.Sets.{IsLeast, IsLeast-from_bits}

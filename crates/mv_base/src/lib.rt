@@ -34,6 +34,6 @@ pub use name::{Name, same_bytes};
 pub use name_set::NameSet;
 pub use number::{NetId, Value};
 pub use outside::{Failed, Files, Sink};
-pub use packed_set::PackedSet;
+pub use packed_set::{PackedSet, has_bit};
 pub use pieces::put_both;
 pub use value_set::{ValueSet, set_laws};

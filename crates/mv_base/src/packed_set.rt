@@ -1,8 +1,8 @@
-ghost use Rattle.std.specs.Prelude.{◌≡◌, ℕ, IsTrue, ◌↔◌, ◌==◌, not, IfOk, IfSome, IsNone, nat_lt, true, false, ◌^◌};
+ghost use Rattle.std.specs.Prelude.{◌≡◌, ◌<◌, ◌≤◌, ℕ, IsTrue, ◌↔◌, ◌==◌, not, IfOk, IfSome, IsNone, nat_lt, true, false, ◌^◌};
 ghost use Rattle.mv_base.specs.Set as set;
 ghost use Rattle.mv_base.specs.Packed.{members_of};
 
-use crate::{Memory, Value, ValueSet};
+use crate::{MAX_VALUES, Memory, Value, ValueSet};
 use std::alloc::Global;
 use std::cmp::Ordering;
 use std::hash::{Hash, Hasher};
@@ -51,6 +51,44 @@ impl PackedSet {
         Ok(PackedSet { form })
     }
 
+    /// The set of this value alone, to be kept.
+    #[tactic(auto, unfolding(crate::specs::Set::one))]
+    pub fn one(alloc: Global, value: Value) -> Result<PackedSet, Memory>
+        requires { value.0 < MAX_VALUES }
+        ensures { IfOk result (λ kept. kept ≡ set.one value.0) }
+    {
+        if value.0 < 64 {
+            return Ok(PackedSet {
+                form: Form::Few(1 << value.0),
+            });
+        }
+        PackedSet::new(alloc, ValueSet::one(value))
+    }
+
+    /// The set of the `count` values below `count`, to be kept.
+    pub fn full(alloc: Global, count: u16) -> Result<PackedSet, Memory>
+        requires { count ≤ MAX_VALUES }
+        ensures { IfOk result (λ kept. kept ≡ set.full count) }
+    {
+        match full_bits(count) {
+            Some(bits) => Ok(PackedSet {
+                form: Form::Few(bits),
+            }),
+            None => PackedSet::new(alloc, ValueSet::full(count)),
+        }
+    }
+
+    /// Whether these are the `count` values below `count`.
+    pub fn is_full(&self, count: u16) -> bool
+        requires { count ≤ MAX_VALUES }
+        ensures { result ≡ (self.now == set.full count) }
+    {
+        if let (Form::Few(bits), Some(all)) = (&self.form, full_bits(count)) {
+            return *bits == all;
+        }
+        self.get() == ValueSet::full(count)
+    }
+
     /// The set.
     pub fn get(&self) -> ValueSet
         ensures { result ≡ self.now }
@@ -62,7 +100,7 @@ impl PackedSet {
     }
 
     /// The bits of the set, or None where a member isn't below 64.
-    fn bits(&self) -> Option<u64>
+    pub fn bits(&self) -> Option<u64>
         ensures some { IfSome result (λ bits. (self.now ≡ bits) × (nat_lt bits (2 ^ 64) ≡ true)) }
         ensures none { IsNone result → nat_lt self.now (2 ^ 64) ≡ false }
     {
@@ -133,7 +171,28 @@ impl PackedSet {
     pub fn has(&self, value: Value) -> bool
         ensures { result ≡ set.has self.now value.0 }
     {
-        self.get().has(value)
+        match &self.form {
+            Form::Few(bits) => has_bit(*bits, value),
+            Form::Many(wide) => wide.as_ref().has(value),
+        }
+    }
+}
+
+/// Whether the bit of the value is set.
+pub fn has_bit(bits: u64, value: Value) -> bool
+    ensures { result ≡ set.has bits value.0 }
+{
+    value.0 < 64 && (bits >> value.0) & 1 == 1
+}
+
+/// The bits of the set of the values below a number, or None where it has more than 64.
+fn full_bits(count: u16) -> Option<u64>
+    ensures { IfSome result (λ bits. bits ≡ set.full count) }
+{
+    match count {
+        0..64 => Some((1 << count) - 1),
+        64 => Some(u64::MAX),
+        _ => None,
     }
 }
 

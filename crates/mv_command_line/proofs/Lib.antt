@@ -1,4 +1,3 @@
-pub mod Digits
 pub mod Commands
 pub mod Looks
 pub mod Finds

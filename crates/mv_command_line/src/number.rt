@@ -1,26 +1,10 @@
-ghost use Rattle.std.specs.Prelude.{◌≡◌, ◌≤◌, Some, None, length, IfSome, if◌then◌else◌};
-ghost use Rattle.std.specs.Char.{is_ascii_digit};
-ghost use Rattle.std.specs.List.{list_all};
-ghost use Rattle.std.specs.Str.Parse.{digits_value};
+ghost use Rattle.std.specs.Prelude.{◌≡◌, ◌≤◌, IfSome};
 ghost use Rattle.mv_command_line.specs.CommandLine.{number_of, budget_of, size_of, seed_of};
+
+use mv_lex::decimal;
 
 /// The most digits that a number of a command line may have.
 const MAX_DIGITS: usize = 20;
-
-/// The number that some digits say, or None where another byte stands among them.
-fn number(digits: &[u8]) -> Option<u128>
-    requires { length digits.now ≤ MAX_DIGITS }
-    ensures { result ≡ (if list_all is_ascii_digit digits.now then Some (digits_value 10 digits.now) else None) }
-{
-    let mut number = 0;
-    for byte in digits {
-        if !byte.is_ascii_digit() {
-            return None;
-        }
-        number = number * 10 + u128::from(*byte - b'0');
-    }
-    Some(number)
-}
 
 /// The number that the word says, if it has at most so many digits and lies between these two.
 #[tactic(auto, unfolding(crate::specs::CommandLine::number_of))]
@@ -32,7 +16,7 @@ fn number_of(word: &[u8], most: usize, least: u128, greatest: u128) -> Option<u1
     if word.is_empty() || word.len() > most {
         return None;
     }
-    let number = number(word)?;
+    let number = decimal(word)?;
     if number < least || number > greatest {
         return None;
     }

@@ -1,5 +1,5 @@
 -- Cofactors of cubes: they match as the cubes do where the net has the value, and they are smaller.
-use Rattle.std.proofs.Common.{◌≡◌, ◌∙◌, ℕ, ◌+◌, ◌≤◌, ◌<◌, Bool, true, false, ◌&&◌, ◌||◌, List, [], ◌∷◌, length, nat_eq, nat_lt, inl, inr, refl, sym, ap, arith, get_or, cond, MatchBool, subst, zero, suc, Result, Ok, Err, IfOk}
+use Rattle.std.proofs.Common.{◌≡◌, ◌∙◌, ℕ, ◌+◌, ◌≤◌, ◌<◌, Bool, true, false, ◌&&◌, ◌||◌, List, [], ◌∷◌, length, nat_eq, nat_lt, inl, inr, refl, sym, ap, arith, get_or, MatchBool, subst, zero, suc, Result, Ok, Err, IfOk}
 use Rattle.std.specs.List.{list_all, list_any}
 use Rattle.std.proofs.lemmas.Bool.{cases_Bool, false≢true, and_parts, or_left, or_right, ltb-true, eq-eqb, ne_eqb}
 use Rattle.std.specs.Cmp.{unsigned_Decides}

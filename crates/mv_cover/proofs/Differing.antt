@@ -1,5 +1,5 @@
 -- The first of each of the lines differ.
-use Rattle.std.proofs.Common.{◌≡◌, true, false, not, ◌&&◌, filter, List, [], ◌∷◌, Bool, refl, sym, ◌∙◌, inl, inr}
+use Rattle.std.proofs.Common.{◌≡◌, true, false, not, filter, List, [], ◌∷◌, Bool, refl, sym, ◌∙◌, inl, inr}
 use Rattle.std.specs.List.{list_any}
 use Rattle.std.proofs.lemmas.Bool.{cases_Bool, false≢true, not-true, and_parts, and_from, or_parts, not_from_false, false_from_ne_true}
 use Rattle.mv_cover.specs.Absorb.{firsts}

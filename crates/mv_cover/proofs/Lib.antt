@@ -1,4 +1,3 @@
-pub mod Bits
 pub mod Walking
 pub mod Meeting
 pub mod Single

@@ -1,5 +1,5 @@
 -- Literals.
-use Rattle.std.specs.Prelude.{◌≡◌, ℕ, refl}
+use Rattle.std.specs.Prelude.{ℕ, refl}
 use Rattle.std.specs.Coded.{Coded, code_by, coded×, coded_ℕ}
 use Rattle.mv_base.specs.declared.number.NetId.{NetId}
 

@@ -1,7 +1,7 @@
 ghost use Rattle.std.specs.Prelude.{◌≡◌, ◌^◌, ◌++◌, ◌↔◌, true, false, not, nat_eq, nat_lt, IfOk, OnOk, IfSome, IsNone, IsTrue};
 ghost use Rattle.mv_base.specs.Set.{has, empty, meet, Within};
 
-use mv_base::{Memory, NetId, Value, ValueSet};
+use mv_base::{Memory, NetId, PackedSet, Value, ValueSet, has_bit};
 use smallvec::SmallVec;
 use std::alloc::Global;
 use std::hash::{Hash, Hasher};
@@ -60,6 +60,19 @@ impl Lit {
         Ok(Lit { form })
     }
 
+    /// The literal of this net and this set.
+    pub fn of(alloc: Global, net: NetId, set: &PackedSet) -> Result<Lit, Memory>
+        ensures net { IfOk result (λ l. l.net ≡ net) }
+        ensures set { IfOk result (λ l. l.set ≡ set.now) }
+    {
+        match set.bits() {
+            Some(bits) => Ok(Lit {
+                form: Form::Few { net, bits },
+            }),
+            None => Lit::new(alloc, net, set.get()),
+        }
+    }
+
     /// The net.
     pub fn net(&self) -> NetId
         ensures value { result ≡ self.now.net }
@@ -82,7 +95,7 @@ impl Lit {
     }
 
     /// The bits of the set, or None where a value isn't below 64.
-    fn bits(&self) -> Option<u64>
+    pub fn bits(&self) -> Option<u64>
         ensures some { IfSome result (λ bits. (self.now.set ≡ bits) × (nat_lt bits (2 ^ 64) ≡ true)) }
         ensures none { IsNone result → nat_lt self.now.set (2 ^ 64) ≡ false }
     {
@@ -222,13 +235,6 @@ impl Hash for Lit {
             None => self.set().hash(state),
         }
     }
-}
-
-/// Whether the bit of the value is set.
-fn has_bit(bits: u64, value: Value) -> bool
-    ensures { result ≡ has bits value.0 }
-{
-    value.0 < 64 && (bits >> value.0) & 1 == 1
 }
 
 /// Appends copies of these literals.

@@ -16,5 +16,5 @@ mod tables;
 mod values;
 
 pub use flat::{flatten, flatten_owned};
-pub use laws::at_most_one_network;
+pub use laws::{at_most_one_network, refused_rightly};
 pub use mv_fault::FlatFault;

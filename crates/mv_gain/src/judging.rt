@@ -3,7 +3,6 @@ ghost use Rattle.std.specs.List.{sum_by};
 ghost use Rattle.mv_net.specs.Behind.{literals_at};
 ghost use Rattle.mv_net.specs.Index.{is_held};
 ghost use Rattle.mv_net.specs.Nets.{slot, table_in, reads_in};
-ghost use Rattle.mv_rules.specs.Collapsing.{IsUnshared};
 ghost use Rattle.mv_gain.specs.Judging.{CanGo, IsMade, IsAsked, IsFilled, IsMost, IsOver, IsEnough, IsWeighed};
 ghost use Rattle.mv_gain.specs.Kept.{IsPair, AreRight, IsJudged};
 ghost use Rattle.mv_gain.specs.Pairs.{KeepsMore, HasComing};
@@ -13,7 +12,7 @@ use crate::kept::KeptComposites;
 use crate::row::{Pair, Row};
 use mv_base::{Memory, NetId};
 use mv_net::Network;
-use mv_rules::{CoverStop, Inner, composite_literals, inner_of};
+use mv_rules::{CoverStop, Inner, composite_literals, inner_of, is_unshared};
 use std::alloc::Global;
 
 /// The literals of the readers of a net are counted before their composites are worked out where there are no more readers than this:
@@ -345,17 +344,6 @@ fn is_tabled(net: &Network, n: NetId) -> bool
         return false;
     }
     net.table(n).is_some()
-}
-
-/// Whether the choice of the net's value is made once: its table is plainly deterministic, or one net alone reads it.
-fn is_unshared(net: &Network, n: NetId) -> bool
-    requires { IsTrue (is_held net.now.nets n.0) }
-    ensures { MatchBool result (IsUnshared net.now.nets n.0) (IsUnshared net.now.nets n.0 → ⊥) }
-{
-    if net.readers(n).len() > 1 {
-        return net.is_plainly_deterministic(n);
-    }
-    true
 }
 
 /// The literals of the table of the net of this number, and 0 where there is none.

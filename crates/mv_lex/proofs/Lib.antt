@@ -7,3 +7,4 @@ pub mod After
 pub mod Facts
 pub mod Letters
 pub mod Table
+pub mod Digits

@@ -6,9 +6,11 @@ mod fault;
 mod laws;
 mod lexer;
 mod lines;
+mod number;
 mod parts;
 
 pub use fault::LexFault;
 pub use laws::fault_laws;
 pub use lexer::Lexer;
 pub use lines::{LexLine, Lines};
+pub use number::decimal;

@@ -23,3 +23,4 @@ pub mod Decimals
 pub mod MadeNames
 pub mod Literals
 pub mod Plainness
+pub mod LawfulMade

@@ -1,4 +1,5 @@
-ghost use Rattle.std.specs.Prelude.{◌≡◌, true, IfOk, MatchOption};
+ghost use Rattle.std.specs.Prelude.{◌≡◌, ◌≤◌, true, length, IfOk, MatchOption};
+ghost use Rattle.mv_base.specs.Names.{is_net_name};
 ghost use Rattle.mv_net.specs.Fresh.{is_taken, IsFreeName, IsFreshName};
 
 use crate::Network;
@@ -7,10 +8,12 @@ use mv_base::{Memory, Name};
 use std::alloc::Global;
 
 impl Network {
-    /// `_m` and a decimal number: of the positive numbers whose name no net has, the one behind `skip` smaller ones. Up to
-    /// which number nets have all such names is kept, and the numbers behind it are looked up one by one.
+    /// `_m` and a decimal number: of the positive numbers whose name no net has, the one behind `skip` smaller ones. It is a
+    /// lawful name, and no longer than a certificate's words. Up to which number nets have all such names is kept, and the numbers behind it are looked up one by one.
     pub fn fresh_name(&self, skip: u32) -> Result<Name, Memory>
-        ensures { IfOk result (λ name. IsFreshName self.now.nets skip name) }
+        ensures fresh { IfOk result (λ name. IsFreshName self.now.nets skip name) }
+        ensures lawful { IfOk result (λ name. is_net_name name ≡ true) }
+        ensures short { IfOk result (λ name. length name ≤ 1024) }
     {
         self.few();
         let alloc = self.parts().nets.allocator();

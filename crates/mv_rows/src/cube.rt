@@ -5,7 +5,7 @@ ghost use Rattle.mv_rows.specs.Cubes.{IsFrame, FitRow, IsRowCube, HasNoPoint};
 ghost use Rattle.mv_rows.specs.Meeting.{opened, ended, closed, continued, literals_of, all_possible, ArePossible};
 
 use crate::column::{Column, Frame, Placed};
-use mv_base::{Memory, PackedSet, ValueSet};
+use mv_base::{Memory, PackedSet};
 use mv_cover::{Cube, Lit};
 use smallvec::SmallVec;
 use std::alloc::Global;
@@ -33,12 +33,26 @@ fn cube(alloc: Global, order: &[Placed], sets: &[PackedSet]) -> Result<Option<Cu
     ensures { IfOk result (λ found. MatchOption found (all_possible (literals_of sets.now order.now) ≡ false)
         (λ cube. ArePossible (literals_of sets.now order.now) cube)) }
 {
-    let mut lits = SmallVec::new(alloc);
+    let mut lits = SmallVec::with_capacity(alloc, narrowing(order, sets))?;
     put_literals(&mut lits, order, sets)?;
     if !possible(lits.as_slice()) {
         return Ok(None);
     }
     Ok(Some(Cube::of(lits)))
+}
+
+/// How many columns leave a value out, for which the literals need room.
+fn narrowing(order: &[Placed], sets: &[PackedSet]) -> usize
+    requires places { All (λ p. p.place < length sets.now) order.now }
+    requires counts { All (λ p. p.column.count ≤ MAX_VALUES) order.now }
+{
+    let mut columns: usize = 0;
+    for placed in order {
+        if !sets[placed.place].is_full(placed.column.count) {
+            columns = columns.saturating_add(1);
+        }
+    }
+    columns
 }
 
 /// Whether no literal has the empty set.
@@ -49,10 +63,10 @@ fn possible(lits: &[Lit]) -> bool
 }
 
 /// A net whose columns are being met, and what they leave it so far.
-#[derive(Clone, Copy)]
+#[derive(Drop)]
 struct Group {
     column: Column,
-    set: ValueSet,
+    set: PackedSet,
 }
 
 /// Adds a literal for each net whose columns leave a value out, by ascending net, where there is none so far.
@@ -65,39 +79,37 @@ fn put_literals(lits: &mut Lits, order: &[Placed], sets: &[PackedSet]) -> Result
     let Some(first) = order.first() else {
         return Ok(());
     };
-    let mut group = opened(&first.column);
+    let alloc = *lits.allocator();
+    let mut group = opened(alloc, &first.column)?;
     for placed in order {
         put_ended(lits, &group, &placed.column)?;
-        group = continued(&group, &placed.column, sets[placed.place].get());
+        go_on(&mut group, alloc, &placed.column, &sets[placed.place])?;
     }
     put_closed(lits, &group)
 }
 
 /// The column's net with all of its values.
-fn opened(column: &Column) -> Group
+fn opened(alloc: Global, column: &Column) -> Result<Group, Memory>
     requires { column.now.count ≤ MAX_VALUES }
-    ensures { result ≡ opened column.now }
+    ensures { IfOk result (λ group. group ≡ opened column.now) }
 {
-    Group {
+    Ok(Group {
         column: *column,
-        set: ValueSet::full(column.count),
-    }
+        set: PackedSet::full(alloc, column.count)?,
+    })
 }
 
-/// The net with one more set, or the column's net if it is another one.
-fn continued(group: &Group, column: &Column, set: ValueSet) -> Group
-    ensures { result ≡ continued group.now column.now set }
+/// Meets the net with one more set, or goes on to the column's net if it is another one.
+fn go_on(group: &mut Group, alloc: Global, column: &Column, set: &PackedSet) -> Result<(), Memory>
+    ensures { OnOk result (group.new ≡ continued group.old column.now set.now) }
 {
     if column.net == group.column.net {
-        return Group {
-            column: group.column,
-            set: group.set.meet(set),
-        };
+        group.set = group.set.meet(alloc, set)?;
+    } else {
+        group.column = *column;
+        group.set = set.copy()?;
     }
-    Group {
-        column: *column,
-        set,
-    }
+    Ok(())
 }
 
 /// Adds the literal of the net, if the column is of another net.
@@ -116,10 +128,10 @@ fn put_closed(lits: &mut Lits, group: &Group) -> Result<(), Memory>
     requires { group.now.column.count ≤ MAX_VALUES }
     ensures { OnOk result (lits.new.items ≡ lits.old.items ++ closed group.now) }
 {
-    if group.set == ValueSet::full(group.column.count) {
+    if group.set.is_full(group.column.count) {
         return Ok(());
     }
     let alloc = *lits.allocator();
-    lits.push(Lit::new(alloc, group.column.net, group.set)?)?;
+    lits.push(Lit::of(alloc, group.column.net, &group.set)?)?;
     Ok(())
 }

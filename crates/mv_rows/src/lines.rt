@@ -5,7 +5,7 @@ ghost use Rattle.mv_rows.specs.Cubes.{IsFrame, FitRow};
 ghost use Rattle.mv_rows.specs.Lines.{AddsLines, OneLine, EachValue, EntryLines, FitEntry, narrowed, count_at};
 
 use crate::column::Frame;
-use mv_base::{Memory, PackedSet, Value, ValueSet};
+use mv_base::{Memory, PackedSet, Value};
 use mv_cover::Line;
 use mv_design::{Entry, copy_sets};
 use std::alloc::Global;
@@ -110,17 +110,12 @@ fn put_value(
     ensures lines { OnOk result (AddsLines (OneLine frame.now.columns (narrowed sets.now place value.0) (one value.0)) lines.old.items lines.new.items) }
     ensures err { OnErr result (lines.new.items ≡ lines.old.items) }
 {
-    let set = sets[place].get().meet(ValueSet::one(value));
-    if set == ValueSet::empty() {
+    let alone = PackedSet::one(alloc, value)?;
+    let set = sets[place].meet(alloc, &alone)?;
+    if set.is_empty() {
         return Ok(());
     }
     let mut narrowed = copy_sets(alloc, sets)?;
-    narrowed.replace(place, PackedSet::new(alloc, set)?);
-    put_line(
-        lines,
-        alloc,
-        frame,
-        narrowed.as_slice(),
-        PackedSet::new(alloc, ValueSet::one(value))?,
-    )
+    narrowed.replace(place, set);
+    put_line(lines, alloc, frame, narrowed.as_slice(), alone)
 }

@@ -13,7 +13,7 @@ ghost use Rattle.mv_rows.specs.Marked.{is_marked};
 
 use crate::column::{Column, Frame};
 use indexmap::IndexSet;
-use mv_base::{Items, Memory, NetId, PackedSet, Value, ValueSet};
+use mv_base::{Items, Memory, NetId, PackedSet, Value};
 use mv_cover::{Cover, Line};
 use mv_design::{Entry, FileTable, Row};
 use std::alloc::Global;
@@ -66,7 +66,7 @@ fn made(
         return without_mark(alloc, lines, None);
     };
     match plain(entry, lines.as_slice()) {
-        Some(out) => without_mark(alloc, lines, Some(out)),
+        Some(out) => without_mark(alloc, lines, Some(out.copy()?)),
         None => with_mark(alloc, columns, lines, entry, mark),
     }
 }
@@ -126,8 +126,8 @@ fn some_line_is_bare(lines: &[Line]) -> bool
 }
 
 /// The default that a cover can have beside the lines.
-fn plain(entry: &Entry, lines: &[Line]) -> Option<ValueSet>
-    ensures { result ≡ plain_default entry.now lines.now }
+fn plain<'a>(entry: &'a Entry, lines: &[Line]) -> Option<&'a PackedSet>
+    ensures { option_copied result ≡ plain_default entry.now lines.now }
 {
     let Entry::Set(out) = entry else {
         return None;
@@ -135,7 +135,7 @@ fn plain(entry: &Entry, lines: &[Line]) -> Option<ValueSet>
     if some_output_is_empty(lines) {
         return None;
     }
-    Some(out.get())
+    Some(out)
 }
 
 /// Whether some line has no output.
@@ -149,12 +149,15 @@ fn some_output_is_empty(lines: &[Line]) -> bool
 fn without_mark(
     alloc: Global,
     lines: Vec<Line>,
-    default: Option<ValueSet>,
+    default: Option<PackedSet>,
 ) -> Result<FlatTable, Memory>
     ensures { IfOk result (λ flat. flat ≡ unmarked lines.items default) }
 {
     Ok(FlatTable {
-        cover: Cover::new(alloc, kept(alloc, lines)?, default)?,
+        cover: Cover {
+            lines: kept(alloc, lines)?,
+            default,
+        },
         mark: None,
     })
 }
@@ -191,12 +194,12 @@ fn marks(alloc: Global, lines: &[Line]) -> Result<Cover, Memory>
     for line in lines {
         marked.insert(Line {
             cube: line.cube.copy()?,
-            out: PackedSet::new(alloc, ValueSet::one(Value(0)))?,
+            out: PackedSet::one(alloc, Value(0))?,
         })?;
     }
     Ok(Cover {
         lines: listed(alloc, marked)?,
-        default: Some(PackedSet::new(alloc, ValueSet::one(Value(1)))?),
+        default: Some(PackedSet::one(alloc, Value(1))?),
     })
 }
 
@@ -229,9 +232,9 @@ fn default_sets(alloc: Global, columns: &[Column]) -> Result<Vec<PackedSet>, Mem
 {
     let mut sets = Vec::new(alloc);
     for column in columns {
-        sets.push(PackedSet::new(alloc, ValueSet::full(column.count))?)?;
+        sets.push(PackedSet::full(alloc, column.count)?)?;
     }
-    sets.push(PackedSet::new(alloc, ValueSet::one(Value(1)))?)?;
+    sets.push(PackedSet::one(alloc, Value(1))?)?;
     Ok(sets)
 }
 

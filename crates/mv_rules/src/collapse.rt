@@ -60,7 +60,7 @@ fn check_collapse(net: &Network, n: NetId) -> Result<(), RuleFault>
 }
 
 /// Whether the choice of the net's value is made once: its table is plainly deterministic, or one net alone reads it.
-fn is_unshared(net: &Network, n: NetId) -> bool
+pub fn is_unshared(net: &Network, n: NetId) -> bool
     requires { IsTrue (is_held net.now.nets n.0) }
     ensures { MatchBool result (IsUnshared net.now.nets n.0) (IsUnshared net.now.nets n.0 → ⊥) }
 {

@@ -17,7 +17,7 @@ mod terms;
 mod wire;
 
 pub use applying::{apply, apply_free, apply_on, literals_after};
-pub use collapse::inner_of;
+pub use collapse::{inner_of, is_unshared};
 pub use composites::composite_literals;
 pub use laws::{
     at_most_one_fault, at_most_one_network, collapse_laws, composite_laws, fill_keeps,

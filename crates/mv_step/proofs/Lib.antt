@@ -1,4 +1,3 @@
-pub mod Digits
 pub mod Unions
 pub mod Bracketed
 pub mod Refusals

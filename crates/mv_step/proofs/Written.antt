@@ -24,7 +24,7 @@ use Rattle.mv_entry.specs.Entries.{bit_byte, code_word, members_below, members, 
 use Rattle.mv_step.specs.Sets.{is_number, number_below, number_said, value_said, with_value, values_said, is_comma, is_in_brackets, set_said}
 use Rattle.mv_step.specs.Lines.{with_lit, with_out, line_said, is_bit, is_code, are_codes, code_of}
 use Rattle.mv_step.specs.Printed.{IsSayable, is_sayable_number, is_sayable_code}
-use Rattle.mv_step.proofs.Digits.{numerals}
+use Rattle.mv_lex.proofs.Digits.{numerals}
 use Rattle.mv_step.proofs.Bracketed.{set-bracketed, set-word}
 
 -- ---- values

@@ -65,7 +65,7 @@ fn entry_set(
     ensures ok { IfOk result (λ set. word_set values.now word.now ≡ Ok set) }
 {
     match word_set(alloc, values, word) {
-        Ok(set) => Ok(PackedSet::new(alloc, set)?),
+        Ok(set) => Ok(set),
         Err(EntryFault::Unknown(word)) => Err(ParseFault::UnknownValue { line: number, word }),
         Err(EntryFault::Equal(name)) => Err(ParseFault::BadEqual { line: number, name }),
         Err(EntryFault::Memory) => Err(ParseFault::Memory),

@@ -7,7 +7,7 @@ ghost use Rattle.mv_word.specs.declared.fault.EntryFault.{EntryFault};
 use crate::EntryFault;
 use crate::list::{list, place};
 use crate::names::is_text;
-use mv_base::{Name, Value, ValueSet};
+use mv_base::{Memory, Name, PackedSet, Value, ValueSet};
 use std::alloc::Global;
 
 /// The set of values that a word says of a column, whose net has the values with these names, in declared order: `-` says
@@ -15,7 +15,7 @@ use std::alloc::Global;
 /// each `!` in front turns the set to the values that it lacks.
 /// Unknown has the word, or the item in its brackets, that says nothing, and Equal the name behind `=`.
 #[tactic(auto, using(crate::proofs::Turns::turning))]
-pub fn word_set(alloc: Global, values: &[Name], word: &[u8]) -> Result<ValueSet, EntryFault>
+pub fn word_set(alloc: Global, values: &[Name], word: &[u8]) -> Result<PackedSet, EntryFault>
     requires { length values.now ≤ most_values }
     ensures ok { IfOk result (λ set. said values.now word.now ≡ Ok set) }
     ensures fault { IfErr result (λ f. (f ≡ EntryFault.Memory) ⊎ (said values.now word.now ≡ Err f)) }
@@ -23,7 +23,7 @@ pub fn word_set(alloc: Global, values: &[Name], word: &[u8]) -> Result<ValueSet,
     let bangs = bangs_in(word);
     let (_bangs, rest) = word.split_at(bangs);
     match base(alloc, values, word, rest) {
-        Ok(set) => Ok(turned(set, values.len(), bangs)),
+        Ok(set) => Ok(turned(alloc, set, values.len(), bangs)?),
         Err(fault) => Err(fault),
     }
 }
@@ -42,8 +42,19 @@ fn bangs_in(word: &[u8]) -> usize
     word.len()
 }
 
-/// The set turned so many times to the values that it lacks, of so many values.
-fn turned(set: ValueSet, count: usize, times: usize) -> ValueSet
+/// The set turned so many times to the values that it lacks, of so many values. Most are not turned at all.
+fn turned(alloc: Global, set: PackedSet, count: usize, times: usize) -> Result<PackedSet, Memory>
+    requires { count ≤ most_values }
+    ensures { IfOk result (λ left. opposites count times (Ok set) ≡ Ok left) }
+{
+    if times == 0 {
+        return Ok(set);
+    }
+    PackedSet::new(alloc, opposite(set.get(), count, times))
+}
+
+/// The set turned so many times.
+fn opposite(set: ValueSet, count: usize, times: usize) -> ValueSet
     requires { count ≤ most_values }
     ensures { opposites count times (Ok set) ≡ Ok result }
 {
@@ -56,7 +67,7 @@ fn turned(set: ValueSet, count: usize, times: usize) -> ValueSet
 }
 
 /// What the word says without the `!` in front, which `rest` has left out.
-fn base(alloc: Global, values: &[Name], word: &[u8], rest: &[u8]) -> Result<ValueSet, EntryFault>
+fn base(alloc: Global, values: &[Name], word: &[u8], rest: &[u8]) -> Result<PackedSet, EntryFault>
     requires { length values.now ≤ most_values }
     ensures ok { IfOk result (λ set. base_of values.now word.now rest.now ≡ Ok set) }
     ensures fault { IfErr result (λ f. (f ≡ EntryFault.Memory) ⊎ (base_of values.now word.now rest.now ≡ Err f)) }
@@ -64,7 +75,8 @@ fn base(alloc: Global, values: &[Name], word: &[u8], rest: &[u8]) -> Result<Valu
     match rest {
         [] => Err(EntryFault::Unknown(Name::new(alloc, word)?)),
         [first, inside @ ..] if is_opening(*first) => {
-            list(alloc, values, &inside[..inside.len().saturating_sub(1)])
+            let set = list(alloc, values, &inside[..inside.len().saturating_sub(1)])?;
+            Ok(PackedSet::new(alloc, set)?)
         }
         [first, name @ ..] if *first == b'=' => Err(EntryFault::Equal(Name::new(alloc, name)?)),
         _ => plain(alloc, values, word, rest),
@@ -80,16 +92,16 @@ fn is_opening(b: u8) -> bool
 
 /// What a word outside brackets says.
 #[tactic(auto, unfolding(crate::specs::Entries::plain_of))]
-fn plain(alloc: Global, values: &[Name], word: &[u8], rest: &[u8]) -> Result<ValueSet, EntryFault>
+fn plain(alloc: Global, values: &[Name], word: &[u8], rest: &[u8]) -> Result<PackedSet, EntryFault>
     requires { length values.now ≤ most_values }
     ensures ok { IfOk result (λ set. plain_of values.now word.now rest.now ≡ Ok set) }
     ensures fault { IfErr result (λ f. (f ≡ EntryFault.Memory) ⊎ (plain_of values.now word.now rest.now ≡ Err f)) }
 {
     if is_text(rest, b"-") {
-        return Ok(ValueSet::full(values.len() as u16));
+        return Ok(PackedSet::full(alloc, values.len() as u16)?);
     }
     match place(values, rest) {
-        Some(at) => Ok(ValueSet::one(Value(at as u16))),
+        Some(at) => Ok(PackedSet::one(alloc, Value(at as u16))?),
         None => Err(EntryFault::Unknown(Name::new(alloc, word)?)),
     }
 }

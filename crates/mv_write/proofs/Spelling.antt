@@ -1,11 +1,14 @@
 -- The entries of sets, piece by piece as they are written.
-use Rattle.std.proofs.Common.{◌≡◌, ◌∙◌, ℕ, ◌<◌, ◌≤◌, true, false, nat_eq, IsTrue, is_some, Option, Some, None, List, [], ◌∷◌, ◌++◌, length, codes, decimal, refl, sym, ap, subst, append_assoc, arith}
+use Rattle.std.proofs.Common.{◌≡◌, ◌∙◌, ℕ, zero, suc, ◌+◌, ◌<◌, ◌≤◌, Bool, true, false, not, ◌&&◌, nat_eq, IsTrue, is_some, Option, Some, None, List, [], ◌∷◌, ◌++◌, length, codes, decimal, refl, sym, ap, subst, append_assoc, arith}
 use Rattle.std.specs.List.{flat_map}
-use Rattle.std.proofs.lemmas.Bool.{false≢true}
+use Rattle.std.proofs.lemmas.Bool.{false≢true, false_from_ne_true, eqb-true, eq-eqb}
+use Rattle.std.proofs.lemmas.Bool.Decides.{Decides-ltb}
+use Rattle.std.proofs.lemmas.Fmt.{decimal_digit}
 use Rattle.std.proofs.lemmas.List.FromFn.{length-map-range_with_len, get_or-map-range_with_len}
 use Rattle.mv_base.specs.Set.{has, empty, one, full, minus, Within, IsSet}
 use Rattle.mv_base.specs.declared.limits.TheConstants.{MAX_VALUES}
-use Rattle.mv_base.proofs.Sets.{IsLeast, least_of}
+use Rattle.mv_base.proofs.Sets.{has-empty, has-one, has-full, has-minus, same_set, IsLeast, least_of}
+use Rattle.mv_cover.specs.Lines.{IsOutput}
 use Rattle.mv_net.specs.declared.parts.FlatNet.{FlatNet}
 use Rattle.mv_net.specs.declared.parts.NetParts.{NetParts}
 use Rattle.mv_net.specs.Nets.{slot, values_in, spelled_values, spelled_in}
@@ -93,6 +96,41 @@ pub entry-one : (count : ℕ) (names : List (List ℕ)) (set v others : ℕ) →
 entry-one count names set v others p part none =
     let values = spelled_values count names in
     entry-parted count names set v others p part ∙ ap (λ ws. one_or_list (named names v ∷ ws)) (ap (names_in_set values) none ∙ names-empty values)
+
+no_both : (x : Bool) → (x && not x) ≡ false
+no_both true = refl
+no_both false = refl
+
+-- the set of one value
+alone-parted : (count : ℕ) (names : List (List ℕ)) (v : ℕ) → AreValues count names → Within (one v) (full count) → IsParted count names (one v) v empty
+alone-parted count names v a within = record {
+  values = a;
+  within = within;
+  least = record { member = has-one v v ∙ eq-eqb v v refl; least = λ u h. let e = eqb-true u v (sym (has-one v u) ∙ h) in omega arith };
+  rest = same_set empty (minus (one v) (one v)) (λ u. has-empty u ∙ sym (has-minus (one v) (one v) u ∙ no_both (has (one v) u)));
+}
+
+-- of a net of more values it isn't the full set
+alone-part : (count v : ℕ) → 1 < count → nat_eq (one v) (full count) ≡ false
+alone-part count v more =
+    false_from_ne_true _ (λ y.
+    let same : one v ≡ full count = eqb-true (one v) (full count) y in
+    let is : (u : ℕ) → u < 2 → u ≡ v = λ u low. eqb-true u v (sym (has-one v u) ∙ (ap (λ s. has s u) same ∙ (has-full count u ∙ (Decides-ltb u count).1 (omega arith)))) in
+    let zero_is = is 0 (omega arith) in
+    let one_is = is 1 (omega arith) in
+    absurd (omega arith))
+
+-- a value below ten, alone, of a net of more values that have no names
+pub entry-digit : (count v : ℕ) → AreValues count [] → IsOutput count (one v) → (count ≡ 1 → ⊥) → v < 10 → entry_word (spelled_values count []) (one v) ≡ (48 + v) ∷ []
+entry-digit count v a set more low =
+    let p = alone-parted count [] v a set.within in
+    let small = member-below (one v) v count set.within p.least.member in
+    entry-one count [] (one v) v empty p (alone-part count v (by count small more)) refl ∙ decimal_digit v low
+  where
+    by : (k : ℕ) → v < k → (k ≡ 1 → ⊥) → 1 < k
+    by zero small more = absurd (omega arith)
+    by (suc zero) small more = absurd (more refl)
+    by (suc (suc k)) small more = omega arith
 
 several : (w : List ℕ) (ws : List (List ℕ)) → (ws ≡ [] → ⊥) → one_or_list (w ∷ ws) ≡ codes "(" ++ (w ++ (flat_map with_comma ws ++ codes ")"))
 several w [] some = absurd (some refl)

@@ -10,7 +10,8 @@ ghost use Rattle.mv_write.specs.Walk.{AreValues, named};
 
 use crate::page::Page;
 use itoa::Buffer;
-use mv_base::{Failed, Name, NetId, Sink, Value, ValueSet};
+use mv_base::{Failed, Name, NetId, PackedSet, Sink, Value, ValueSet};
+use mv_cover::Lit;
 use mv_net::Network;
 
 /// Appends the name of a value: that in the list, or its number where the list is empty.
@@ -78,25 +79,65 @@ fn put_set<K: Sink>(
     page.put(b")", out)
 }
 
-/// The entry of a set of a net's values where it is one byte, as most are: that of all values, or the number of one.
-fn short_entry(count: u16, names: &[Name], set: ValueSet) -> Option<u8>
-    requires values { AreValues count names.now }
-    requires set { IsOutput count set }
-    ensures { IfSome result (λ byte. entry_word (spelled_values count names.now) set ≡ byte ∷ []) }
+/// The entry of a set of values below 64 where it is the number of one, and one byte, as most are.
+fn digit(net: &Network, n: NetId, bits: u64) -> Option<u8>
+    requires held { IsTrue (is_held net.now.nets n.0) }
+    requires set { IsOutput (values_in (slot net.now.nets n.0)) bits }
+    ensures { IfSome result (λ byte. entry_word (spelled_in (slot net.now.nets n.0)) bits ≡ byte ∷ []) }
 {
-    if set == ValueSet::full(count) {
-        return Some(b'-');
+    net.well_formed();
+    let value = bits.trailing_zeros();
+    if value > 9 || bits != 1 << value || net.values(n) == 1 || !net.value_names(n).is_empty() {
+        return None;
     }
-    let first = set.least().unwrap();
-    let others = set.minus(ValueSet::one(first));
-    if names.is_empty() && first.0 < 10 && others == ValueSet::empty() {
-        return Some(b'0' + first.0 as u8);
-    }
-    None
+    Some(b'0' + value as u8)
 }
 
 /// Appends the entry of a set of values of this net, with this byte behind it.
 pub fn put_entry<K: Sink>(
+    net: &Network,
+    n: NetId,
+    set: &PackedSet,
+    behind: u8,
+    page: &mut Page,
+    out: &mut K,
+) -> Result<(), Failed>
+    requires held { IsTrue (is_held net.now.nets n.0) }
+    requires set { IsOutput (values_in (slot net.now.nets n.0)) set.now }
+    ensures { AddsPiece (paged (K.state out.old) page.old) (paged (K.state out.new) page.new)
+        (entry_word (spelled_in (slot net.now.nets n.0)) set.now ++ behind ∷ []) result }
+{
+    if let Some(bits) = set.bits() {
+        if let Some(byte) = digit(net, n, bits) {
+            return page.put(&[byte, behind], out);
+        }
+    }
+    put_any(net, n, set.get(), behind, page, out)
+}
+
+/// Appends the entry of a literal's set at its net, with a space behind it.
+pub fn put_literal<K: Sink>(
+    net: &Network,
+    n: NetId,
+    literal: &Lit,
+    page: &mut Page,
+    out: &mut K,
+) -> Result<(), Failed>
+    requires held { IsTrue (is_held net.now.nets n.0) }
+    requires set { IsOutput (values_in (slot net.now.nets n.0)) literal.now.set }
+    ensures { AddsPiece (paged (K.state out.old) page.old) (paged (K.state out.new) page.new)
+        (entry_word (spelled_in (slot net.now.nets n.0)) literal.now.set ++ 32 ∷ []) result }
+{
+    if let Some(bits) = literal.bits() {
+        if let Some(byte) = digit(net, n, bits) {
+            return page.put(&[byte, b' '], out);
+        }
+    }
+    put_any(net, n, literal.set(), b' ', page, out)
+}
+
+/// Appends the entry of a set of values of this net, however long it is, with this byte behind it.
+fn put_any<K: Sink>(
     net: &Network,
     n: NetId,
     set: ValueSet,
@@ -110,11 +151,6 @@ pub fn put_entry<K: Sink>(
         (entry_word (spelled_in (slot net.now.nets n.0)) set ++ behind ∷ []) result }
 {
     net.well_formed();
-    let count = net.values(n);
-    let names = net.value_names(n);
-    if let Some(byte) = short_entry(count, names, set) {
-        return page.put(&[byte, behind], out);
-    }
-    put_set(count, names, set, page, out)?;
+    put_set(net.values(n), net.value_names(n), set, page, out)?;
     page.put(&[behind], out)
 }

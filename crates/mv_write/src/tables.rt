@@ -32,7 +32,7 @@ fn put_default<K: Sink>(
     match default {
         Some(set) => {
             page.put(b".default ", out)?;
-            put_entry(net, n, set.get(), b'\n', page, out)
+            put_entry(net, n, set, b'\n', page, out)
         }
         None => Ok(()),
     }

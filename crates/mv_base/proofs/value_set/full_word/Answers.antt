@@ -1,4 +1,4 @@
-use Rattle.std.proofs.Common.{◌≡◌, ◌-◌, ◌*◌, sym, ◌∙◌, ap, arith}
+use Rattle.std.proofs.Common.{◌-◌, ◌*◌, sym, ◌∙◌, ap, arith}
 use Rattle.std.proofs.lemmas.Nat.{one_shl}
 use Rattle.mv_base.proofs.WordLemmas.{word_of-ones, word_of-ones_above, word_of-ones_below}
 use Rattle.mv_base.proofs.value_set.full_word.Goals as goal

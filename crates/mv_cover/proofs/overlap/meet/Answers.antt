@@ -1,5 +1,5 @@
 -- The walk leaves out what no literal of the other cube meets.
-use Rattle.std.proofs.Common.{◌≡◌, Bool, true, false, ◌||◌, refl, ◌∙◌, sym, arith}
+use Rattle.std.proofs.Common.{◌≡◌, Bool, true, false, ◌||◌, refl, sym, arith}
 use Rattle.mv_cover.specs.Overlap.{cubes_meet}
 use Rattle.mv_cover.proofs.Walking.{walked_none}
 use Rattle.mv_cover.proofs.Meeting.{walked_first, walked_second, walked_both, walked_all_first, walked_all_second}

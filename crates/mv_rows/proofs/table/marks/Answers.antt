@@ -11,4 +11,4 @@ pub returns : goal.returns
 returns c =
     let lines = c.args.lines.now in
     let keys = c.loop-line.invariant ∙ (ap (λ ls. insert_all line_eq [] (map mark_line ls)) (take_all c.loop-line.line-index lines c.loop-line-test.false) ∙ inserted_firsts (map mark_line lines)) in
-    rw (c.in_ok-listed.ensures ∙ keys, c.in_ok-new-2.ensures ∙ c.one-2.ensures) refl
+    rw (c.in_ok-listed.ensures ∙ keys, c.in_ok-one-2.ensures) refl

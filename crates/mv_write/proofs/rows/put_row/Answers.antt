@@ -18,4 +18,4 @@ returns g c =
     let nets = c.args.net.now.nets in
     let values = spelled_in (slot nets c.args.n.0) in
     let text = row-text nets values c.args.line.now c.args.fanins.now c.lits.result.now c.lits.ensures.lits c.lits.ensures.formed c.requires.fanins in
-    last adds (next adds (start adds _ _) text c.in_ok-put_entries.ensures) (rw c.get.ensures at c.put_entry.ensures)
+    last adds (next adds (start adds _ _) text c.in_ok-put_entries.ensures) c.put_entry.ensures

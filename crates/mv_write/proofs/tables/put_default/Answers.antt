@@ -14,4 +14,4 @@ returns-in_err-put-in-Some g c =
 pub returns-in_ok-put-in-Some : goal.returns-in_ok-put-in-Some
 returns-in_ok-put-in-Some g c =
     let values = spelled_in (slot c.args.net.now.nets c.args.n.0) in
-    last adds (next adds (start adds _ _) (default-text values c.args.default.now c.in-Some.set c.in-Some.is) c.in_ok-put-in-Some.ensures) (rw c.get.ensures at c.put_entry.ensures)
+    last adds (next adds (start adds _ _) (default-text values c.args.default.now c.in-Some.set c.in-Some.is) c.in_ok-put-in-Some.ensures) c.put_entry.ensures

@@ -1,5 +1,4 @@
-use Rattle.std.proofs.Common.{arith, ap}
-use Rattle.std.specs.Prelude.{count_ones}
+use Rattle.std.proofs.Common.{arith}
 use Rattle.mv_base.specs.SetInside.{words}
 use Rattle.mv_base.proofs.WordLemmas.{ones-words}
 use Rattle.mv_base.proofs.value_set.ValueSet.count.Goals as goal

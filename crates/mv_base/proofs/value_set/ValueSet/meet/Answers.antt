@@ -1,8 +1,8 @@
 use Rattle.std.proofs.Common.{refl}
-use Rattle.std.specs.Prelude.{bit_and, bit_or}
+use Rattle.std.specs.Prelude.{bit_and}
 use Rattle.mv_base.specs.Set.{meet}
 use Rattle.mv_base.specs.SetInside.{words}
-use Rattle.mv_base.proofs.WordLemmas.{number-zip_words, AreWords-zip_words, meet_by_words, leave}
+use Rattle.mv_base.proofs.WordLemmas.{number-zip_words, AreWords-zip_words, meet_by_words}
 use Rattle.mv_base.proofs.value_set.ValueSet.meet.Goals as goal
 
 pub invariant_of-result : goal.invariant_of-result

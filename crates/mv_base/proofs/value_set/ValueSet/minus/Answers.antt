@@ -1,5 +1,4 @@
 use Rattle.std.proofs.Common.{refl}
-use Rattle.std.specs.Prelude.{bit_and, bit_or}
 use Rattle.mv_base.specs.Set.{minus}
 use Rattle.mv_base.specs.SetInside.{words}
 use Rattle.mv_base.proofs.WordLemmas.{number-zip_words, AreWords-zip_words, minus_by_words, leave}

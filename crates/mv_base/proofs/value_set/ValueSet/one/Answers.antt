@@ -1,6 +1,5 @@
-use Rattle.std.proofs.Common.{◌≡◌, ◌<◌, ◌≤◌, ◌^◌, ◌-◌, arith, lit<}
-use Rattle.std.proofs.lemmas.Nat.{pow_below, pow_pos}
-use Rattle.std.proofs.Math.Nat.{pow-le-pow_right}
+use Rattle.std.proofs.Common.{◌^◌}
+use Rattle.std.proofs.lemmas.Nat.{pow_below}
 use Rattle.mv_base.specs.Set.{one}
 use Rattle.mv_base.proofs.WordLemmas.{number_of_words}
 use Rattle.mv_base.proofs.value_set.ValueSet.one.Goals as goal

@@ -4,6 +4,7 @@ use Rattle.std.specs.List.{range_with_len}
 use Rattle.std.proofs.lemmas.Option.{MatchOption-at_some}
 use Rattle.mv_net.specs.Fresh.{is_taken, IsFreeName, AreMade}
 use Rattle.mv_net.proofs.FreshNames.{passed_free, passed_taken, none_free, never_ends, at_none}
+use Rattle.mv_net.proofs.LawfulMade.{made_lawful, made_short}
 use Rattle.mv_net.proofs.network.Network.fresh_name.Goals.{in-Some+else-left-eq0+in-Shared-1, in-Some+else-left-eq0+in-Inline-1, in_default}
 use Rattle.mv_net.proofs.network.Network.fresh_name.Goals as goal
 
@@ -27,3 +28,15 @@ loop-number-preserved c =
 pub unreachable-requires : goal.unreachable-requires
 unreachable-requires c =
     never_ends c.args.self.now.nets c.args.skip c.loop-number.left c.loop-number.number c.few.ensures (omega (arith, c.ranges.skip.fits)) (omega (arith, c.loop-number.auto.number-end)) c.loop-number-test.false c.loop-number.invariant
+
+pub returns-then-left-eq0-clause-lawful : goal.returns-then-left-eq0-clause-lawful
+returns-then-left-eq0-clause-lawful c =
+    let number = c.loop-number.number in
+    let free = MatchOption-at_some _ (IsFreeName c.args.self.now.nets number) c.in-Some.name c.in-Some.is c.in_ok-name.ensures in
+    rw free.is (made_lawful number (omega (arith, c.loop-number.auto.number-end, c.loop-number-test.true)))
+
+pub returns-then-left-eq0-clause-short : goal.returns-then-left-eq0-clause-short
+returns-then-left-eq0-clause-short c =
+    let number = c.loop-number.number in
+    let free = MatchOption-at_some _ (IsFreeName c.args.self.now.nets number) c.in-Some.name c.in-Some.is c.in_ok-name.ensures in
+    rw free.is (made_short number (omega (arith, c.loop-number.auto.number-end, c.loop-number-test.true)))

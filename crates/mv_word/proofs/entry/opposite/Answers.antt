@@ -1,7 +1,7 @@
 -- All turns are made.
 use Rattle.std.proofs.Common.{◌≡◌, ℕ, Ok, subst, arith}
 use Rattle.mv_word.specs.Entries.{opposites}
-use Rattle.mv_word.proofs.entry.turned.Goals as goal
+use Rattle.mv_word.proofs.entry.opposite.Goals as goal
 
 pub returns : goal.returns
 returns c =

@@ -1,7 +1,7 @@
 -- One digit more.
 use Rattle.std.proofs.Common.{◌<◌, ◌^◌, sym, arith, refl}
-use Rattle.mv_command_line.proofs.Digits.{few, next_digit}
-use Rattle.mv_command_line.proofs.number.number.Goals as goal
+use Rattle.mv_lex.proofs.Digits.{few, next_digit}
+use Rattle.mv_lex.proofs.number.decimal.Goals as goal
 
 pub overflow_mul-number : goal.overflow_mul-number
 overflow_mul-number c =

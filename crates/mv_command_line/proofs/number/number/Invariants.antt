@@ -1,5 +1,0 @@
-use Rattle.mv_command_line.proofs.Digits.{IsRead}
-use Rattle.mv_command_line.proofs.number.number.Given as goal
-
-abbrev pub invariant-loop-byte : goal.invariant-loop-byte
-invariant-loop-byte l = IsRead l.digits l.byte-index l.number
