@@ -1,6 +1,8 @@
 # The toolchain's command is `rt`; README.md says where it comes from, and how long a first build takes.
 PROGRAM = crates/mvopt/out/mvopt
 EXAMPLE = register
+PREFIX = /usr/local
+DESTDIR =
 
 # The crates that the program stands on, each behind those under it, and the program last.
 CRATES := $(shell awk -F '[: ]+' '!/^(#|$$)/ { uses[$$1] = $$0 } \
@@ -16,7 +18,7 @@ CRATES := $(shell awk -F '[: ]+' '!/^(#|$$)/ { uses[$$1] = $$0 } \
 SHELL = /bin/bash
 .SHELLFLAGS = -euc
 .ONESHELL:
-.PHONY: demo look test
+.PHONY: demo docs install look pictures test uninstall
 
 # Runs the proved program on each example, compares what it writes with what stands beside the example, and checks the notes.
 demo: $(PROGRAM)
@@ -50,5 +52,28 @@ $(PROGRAM): $(shell find crates -name out -prune -o -type f -print)
 		(cd crates/$$crate && if [ $$crate = mvopt ]; then rt run -- opt data/inv data/empty; else rt lib; fi) > $$log 2>&1 || { cat $$log; exit 1; }
 	done
 
-test:
+# The gate, and the documents.
+test: docs
 	@.ci/run
+
+# Compares the documents with the tree: what they name is there, links lead somewhere, sentences are short.
+docs:
+	@tools/docs
+
+# Draws what the examples become, and the register as it is read. It needs Graphviz.
+pictures:
+	@set -o pipefail
+	for net in examples/*.out; do
+		name=$$(basename $$net .out)
+		tools/picture $$net | dot -Tsvg > examples/pictures/$$name.svg
+	done
+	tools/picture examples/register.mv | dot -Tsvg > examples/pictures/register-read.svg
+
+# Places the program, its manual page, the examples and the completion for bash below PREFIX.
+install:
+	@[ -x $(PROGRAM) ] || { echo "no program yet: make demo proves and builds it"; exit 1; }
+	tools/install $(PROGRAM) "$(DESTDIR)$(PREFIX)"
+
+# Removes exactly what `make install` placed.
+uninstall:
+	@tools/install --remove "$(DESTDIR)$(PREFIX)"
