@@ -1,9 +1,11 @@
 -- The collapses of `eliminate`, and its notes behind them.
-use Rattle.std.proofs.Common.{◌≡◌, ◌∙◌, ℕ, ◌<◌, ◌≤◌, Bool, true, Option, is_some, List, [], ◌++◌, length, inl, inr, refl, sym, ap, subst, arith}
+use Rattle.std.proofs.Common.{◌≡◌, ◌∙◌, ℕ, ◌<◌, ◌≤◌, Bool, true, Option, is_some, List, [], ◌++◌, length, inl, inr, Ok, Err, refl, sym, ap, subst, arith}
 use Rattle.std.proofs.lemmas.List.{append-nil}
 use Rattle.mv_agenda.specs.Agenda.{AllWait, AllWaitBut, NoneWaits, PutsNear, TakesLeast, WaitBelow}
 use Rattle.mv_agenda.specs.Near.{IsNear}
 use Rattle.mv_agenda.proofs.Looking.{all_at_first, all_but_taken, all_with_near, all_without_taken, least_of_all, none_at_end}
+use Rattle.mv_base.specs.Outside.{Rose}
+use Rattle.mv_base.proofs.OutsideLemmas.{Rose-earlier}
 use Rattle.mv_entry.specs.declared.rule.Rule.TheVariants.{Collapse}
 use Rattle.mv_entry.specs.Entries.{Entry, Applied}
 use Rattle.mv_entry.specs.Tallies.{Journaled}
@@ -20,15 +22,18 @@ use Rattle.mv_net.specs.Formed.{WellFormed}
 use Rattle.mv_net.specs.Index.{is_held}
 use Rattle.mv_net.specs.Nets.{slot, name_in, table_in}
 use Rattle.mv_net.proofs.Known.{is_held_below}
-use Rattle.mv_pass.specs.Going.{Goes}
-use Rattle.mv_pass.specs.Taking.{CanApply, Took, TookPart, Went, WentPart}
-use Rattle.mv_pass.proofs.Taken.{Took-as, TookPart-as, Took-then, TookPart-then}
+use Rattle.mv_pass.specs.declared.stop.Stop.{Stop}
+use Rattle.mv_pass.specs.declared.stop.Stop.TheVariants.{Note, Memory}
+use Rattle.mv_pass.specs.Passing.{Passes}
+use Rattle.mv_pass.specs.Taking.{CanApply, Took, TookPart, GoesOn}
+use Rattle.mv_pass.proofs.Stepped.{Is}
+use Rattle.mv_pass.proofs.Taken.{Took-then, TookPart-then, GoesOn-then}
 use Rattle.mv_rules.specs.Applies.{Applies}
 use Rattle.mv_rules.specs.Checks.{IsTabled}
 use Rattle.mv_rules.specs.Collapsing.{collapsed}
 use Rattle.mv_gain.specs.Savings.{IsSaving, IsLeastSaving, NoneSaves}
 use Rattle.mv_gain.proofs.Going.{named_itself}
-use Rattle.mv_collapse.specs.Eliminates.{Eliminates, EndsEliminate, IsEliminateStep, NotesWide}
+use Rattle.mv_collapse.specs.Eliminates.{CollapsesSome, CollapsesAll, Eliminates, EliminatesAll, IsEliminateStep, NotesWide}
 use Rattle.mv_collapse.specs.Eliminating.{IsNextSaving, NotesFirst, WentInto}
 
 -- ---- the net that is found
@@ -126,34 +131,48 @@ all_wait_behind old new n before agenda formed others put w =
 pub not_begun : (free : Bool) (net : NetParts) → Eliminates free net [] net
 not_begun free net = record { collapses = []; notes = []; steps_are = refl; goes = refl; noted = record { how = inl refl } }
 
+-- all steps are some
+pub all_some : (free : Bool) (old new : NetParts) (es : List Entry) → EliminatesAll free old es new → Eliminates free old es new
+all_some free old new es p = record {
+  collapses = p.collapses;
+  notes = p.notes;
+  steps_are = p.steps_are;
+  goes = p.goes.steps;
+  noted = record { how = inr (p.goes.left, (length new.nets, p.noted)) };
+}
+
 module _ (free : Bool) (old new : NetParts) where
-  only_collapses : (es : List Entry) → Goes free IsEliminateStep old es new → Eliminates free old es new
+  pub only_collapses : (es : List Entry) → CollapsesSome free old es new → Eliminates free old es new
   only_collapses es g =
       record { collapses = es; notes = []; steps_are = sym (append-nil es); goes = g; noted = record { how = inl refl } }
 
-  with_notes : NoneSaves new → (xs ys : List Entry) → Goes free IsEliminateStep old xs new → NotesFirst new ys → Eliminates free old (xs ++ ys) new
-  with_notes none xs ys g p =
-      record { collapses = xs; notes = ys; steps_are = refl; goes = g; noted = record { how = inr (none, (p.end, p.noted)) } }
+  with_notes : (xs ys : List Entry) → CollapsesAll free old xs new → NotesFirst new ys → Eliminates free old (xs ++ ys) new
+  with_notes xs ys g p =
+      record { collapses = xs; notes = ys; steps_are = refl; goes = g.steps; noted = record { how = inr (g.left, (p.end, p.noted)) } }
 
-  with_all : NoneSaves new → (xs ys : List Entry) → Goes free IsEliminateStep old xs new → NotesWide new (length new.nets) ys → Eliminates free old (xs ++ ys) new × EndsEliminate (xs ++ ys) new
-  with_all none xs ys g p = (
-    with_notes none xs ys g (record { end = length new.nets; noted = p }),
-    record { collapses = xs; notes = ys; steps_are = refl; none_saves = none; noted = p },
-  )
+  with_all : (xs ys : List Entry) → CollapsesAll free old xs new → NotesWide new (length new.nets) ys → EliminatesAll free old (xs ++ ys) new
+  with_all xs ys g p = record { collapses = xs; notes = ys; steps_are = refl; goes = g; noted = p }
 
-  module _ (j k : Journaled) where
-    pub eliminates : Went free IsEliminateStep old new j k → Took (λ steps. Eliminates free old steps new) j k
-    eliminates = Took-as j k only_collapses
+  module _ (j k l : Journaled) (p : Passes free (CollapsesAll free) (CollapsesSome free) old new j k (Ok tt)) (on : GoesOn k l) where
+    -- all nets that are too wide are noted
+    pub eliminated : Took (NotesWide new (length new.nets)) k l → Passes free (EliminatesAll free) (Eliminates free) old new j l (Ok tt)
+    eliminated notes = record {
+      ok = Took-then with_all j k l p.ok notes;
+      memory = λ e. let bad : Is (Ok tt) Memory = e in absurd cc;
+      note = λ e. let bad : Is (Ok tt) Note = e in absurd cc;
+      cause = λ e. let bad : Is (Ok tt) Note = e in absurd cc;
+      refines = p.refines;
+      goes_on = GoesOn-then j k l p.goes_on on;
+    }
 
-    pub eliminates_part : WentPart free IsEliminateStep old new j k → TookPart (λ steps. Eliminates free old steps new) j k
-    eliminates_part = TookPart-as j k only_collapses
-
-    module _ (l : Journaled) (went : Went free IsEliminateStep old new j k) (none : NoneSaves new) where
-      pub eliminated : Took (NotesWide new (length new.nets)) k l → Took (λ steps. Eliminates free old steps new × EndsEliminate steps new) j l
-      eliminated notes = Took-then (with_all none) j k l went notes
-
-      pub eliminates_noted : Took (NotesFirst new) k l → Took (λ steps. Eliminates free old steps new) j l
-      eliminates_noted notes = Took-then (with_notes none) j k l went notes
-
-      pub eliminates_cut : TookPart (NotesFirst new) k l → TookPart (λ steps. Eliminates free old steps new) j l
-      eliminates_cut notes = TookPart-then (with_notes none) j k l went notes
+    -- it stopped at the notes
+    pub noting_stopped : (stop : Stop) → (Is (Err stop) Memory → Took (NotesFirst new) k l) → (Is (Err stop) Note → TookPart (NotesFirst new) k l)
+        → (Is (Err stop) Note → Rose k.written.faults l.written.faults) → Passes free (EliminatesAll free) (Eliminates free) old new j l (Err stop)
+    noting_stopped stop took part rose = record {
+      ok = tt;
+      memory = λ e. Took-then with_notes j k l p.ok (took e);
+      note = λ e. TookPart-then with_notes j k l p.ok (part e);
+      cause = λ e. Rose-earlier j.written.faults k.written.faults l.written.faults p.goes_on.later (rose e);
+      refines = p.refines;
+      goes_on = GoesOn-then j k l p.goes_on on;
+    }

@@ -1,3 +1,3 @@
 mod Reasons
 mod WideNotes
-mod Eliminated
+pub mod Eliminated

@@ -1,5 +1,5 @@
 -- The one step of `collapse NET`: a check of the rule that fails has its note, and a step is all.
-use Rattle.std.proofs.Common.{◌≡◌, ◌⊎◌, ⊎_elim, ◌<◌, ◌≤◌, ℕ, Bool, false, List, [], ◌∷◌, inl, inr, Result, Ok, refl, sym, ap, subst, arith}
+use Rattle.std.proofs.Common.{◌≡◌, ◌⊎◌, ⊎_elim, ◌<◌, ◌≤◌, ℕ, Bool, false, List, [], ◌∷◌, inl, inr, Result, refl, sym, ap, subst, arith}
 use Rattle.std.specs.Prelude.{MatchOption}
 use Rattle.mv_entry.specs.declared.fault.RuleFault.{RuleFault}
 use Rattle.mv_entry.specs.declared.fault.RuleFault.TheVariants.{Memory as out_of_memory}
@@ -12,16 +12,13 @@ use Rattle.mv_entry.specs.declared.rule.Rule.{Rule}
 use Rattle.mv_entry.specs.declared.rule.Rule.TheVariants.{Collapse}
 use Rattle.mv_entry.specs.Entries.{Applied, Noted}
 use Rattle.mv_entry.specs.Tallies.{Journaled, Takes}
-use Rattle.mv_entry.proofs.Printing.{print-one}
-use Rattle.mv_base.specs.Outside.{Gained}
 use Rattle.mv_net.specs.declared.parts.NetParts.{NetParts}
 use Rattle.mv_net.specs.Nets.{literals_in}
-use Rattle.mv_pass.specs.Taking.{CanApply, TookRule}
-use Rattle.mv_pass.proofs.Taken.{Took-one}
+use Rattle.mv_pass.specs.Taking.{CanApply}
 use Rattle.mv_rules.specs.Applies.{Applies, Fails, LeavesLiterals}
 use Rattle.mv_rules.specs.Collapsing.{FailsCollapse}
-use Rattle.mv_collapse.specs.Collapses.{CollapsesFreely, StaysFor}
-use Rattle.mv_collapse.specs.Reasons.{why_for, TookAll}
+use Rattle.mv_collapse.specs.Collapses.{CollapsesFreely, StaysFor, CollapsesNet, Collapsed, Remains}
+use Rattle.mv_collapse.specs.Reasons.{why_for}
 
 -- ---- the reason
 
@@ -57,19 +54,12 @@ can_apply free net name rule is f = record { new = f.new; applies = subst (λ r.
 -- ---- the step
 
 -- the rule
-pub took_rule : (free : Bool) (name : List ℕ) (rule : Rule) (a b : NetParts) (j k : Journaled) → rule ≡ Collapse name → CollapsesFreely a name → TookRule free rule a b j k → TookAll free name a b j k
-took_rule free name rule a b j k is f t =
-    let u = subst (λ r. TookRule free r a b j k) is t in
-    record {
-      entries = Applied (Collapse name) ∷ [];
-      are = (((refl, f), (b, (u.applies, refl))), tt);
-      gained = subst (λ z. Gained j.written k.written z) (sym (print-one (Applied (Collapse name)))) u.gained;
-      counted = u.counted;
-    }
+pub collapsed_so : (free : Bool) (name : List ℕ) (rule : Rule) (a b : NetParts) → rule ≡ Collapse name → CollapsesFreely a name → Applies free rule a b → CollapsesNet free name a (Applied rule ∷ []) b
+collapsed_so free name rule a b is f applies = Collapsed f (subst (λ r. Applies free r a b) is applies) (ap (λ r. Applied r ∷ []) is)
 
 -- the note
-pub took_note : (free : Bool) (name own : List ℕ) (why : Why) (a : NetParts) (j k : Journaled) → own ≡ name → StaysFor a name why → Takes j k (Noted (Dropped why own)) (Ok tt) → TookAll free name a a j k
-took_note free name own why a j k is stays t = Took-one j k (Noted (Dropped why own)) (((is, stays), refl), tt) t
+pub remains_so : (free : Bool) (name own : List ℕ) (why : Why) (a : NetParts) → own ≡ name → StaysFor a name why → CollapsesNet free name a (Noted (Dropped why own) ∷ []) a
+remains_so free name own why a is stays = Remains why stays (ap (λ w. Noted (Dropped why w) ∷ []) is) refl
 
 -- a copy of the name serves as well as the name
 pub is_rule : (own name : List ℕ) → own ≡ name → Collapse own ≡ Collapse name

@@ -1,5 +1,5 @@
 -- What the command `collapse NET` does to a network.
-use Rattle.std.specs.Prelude.{◌≡◌, ℕ, ◌<◌, ◌≤◌, List, [], ◌∷◌}
+use Rattle.std.specs.Prelude.{◌≡◌, ℕ, ◌<◌, ◌≤◌, Bool, List, [], ◌∷◌}
 use Rattle.mv_entry.specs.declared.rule.Rule.TheVariants.{Collapse}
 use Rattle.mv_entry.specs.declared.fault.RuleFault.TheVariants.{NoNet, Visible, Unread as unread_net, Shared as shared_net, Wide}
 use Rattle.mv_entry.specs.declared.note.Note.TheVariants.{Dropped}
@@ -8,7 +8,7 @@ use Rattle.mv_entry.specs.declared.note.Why.TheVariants.{Literals, Lines, Shared
 use Rattle.mv_entry.specs.Entries.{Entry, Applied, Noted}
 use Rattle.mv_net.specs.declared.parts.NetParts.{NetParts}
 use Rattle.mv_net.specs.Nets.{literals_in}
-use Rattle.mv_rules.specs.Applies.{LeavesLiterals}
+use Rattle.mv_rules.specs.Applies.{Applies, LeavesLiterals}
 use Rattle.mv_rules.specs.Collapsing.{Collapses, FailsCollapse}
 
 -- the net with this name can go into its readers, and the literals are no more then
@@ -34,14 +34,7 @@ StaysFor net name Lines = FailsCollapse net name Wide
 StaysFor net name (Literals before after) = RaisesLiterals net name before after
 StaysFor net name _ = ⊥
 
--- the step of `collapse NET`: the rule, or a note why the net stays
-abbrev pub IsCollapseStep : List ℕ → NetParts → Entry → Type 0
-IsCollapseStep name net (Applied (Collapse net_name)) = (net_name ≡ name) × CollapsesFreely net name
-IsCollapseStep name net (Noted (Dropped why net_name)) = (net_name ≡ name) × StaysFor net name why
-IsCollapseStep name net _ = ⊥
-
--- `collapse NET` ends behind one step
-abbrev pub EndsCollapse : List Entry → NetParts → Type 0
-EndsCollapse [] net = ⊥
-EndsCollapse (step ∷ []) net = Unit {0}
-EndsCollapse (step ∷ second ∷ steps) net = ⊥
+-- `collapse NET` is one step: the net goes into its readers, with no more literals then, or it is noted why it stays
+pub data CollapsesNet (free : Bool) (name : List ℕ) (old : NetParts) (entries : List Entry) (new : NetParts) : Type 0 where
+  Collapsed : CollapsesFreely old name → Applies free (Collapse name) old new → entries ≡ Applied (Collapse name) ∷ [] → CollapsesNet free name old entries new
+  Remains : (why : Why) → StaysFor old name why → entries ≡ Noted (Dropped why name) ∷ [] → new ≡ old → CollapsesNet free name old entries new

@@ -8,6 +8,7 @@ use Rattle.mv_entry.specs.Entries.{Entry, Applied, Noted}
 use Rattle.mv_graph.specs.Nets.{ids_ascend, has_id}
 use Rattle.mv_net.specs.declared.parts.NetParts.{NetParts}
 use Rattle.mv_net.specs.Nets.{slot, name_in}
+use Rattle.mv_pass.specs.Courses.{Course, Until}
 use Rattle.mv_pass.specs.Going.{Goes}
 use Rattle.mv_gain.specs.Savings.{NoneSaves, IsLeastSaving, IsWideNet}
 
@@ -21,6 +22,14 @@ pub record IsLeastNamed (net : NetParts) (name : List ℕ) : Type 0 where
 abbrev pub IsEliminateStep : NetParts → Entry → Type 0
 IsEliminateStep net (Applied (Collapse name)) = IsLeastNamed net name
 IsEliminateStep net _ = ⊥
+
+-- some collapses of `eliminate`
+abbrev pub CollapsesSome : Bool → Course
+CollapsesSome free = Goes free IsEliminateStep
+
+-- all of them: collapses until no net saves
+abbrev pub CollapsesAll : Bool → Course
+CollapsesAll free = Until (CollapsesSome free) NoneSaves
 
 -- the note of a net with a composite that is too wide
 abbrev pub wide_note : NetParts → NetId → Entry
@@ -38,18 +47,18 @@ pub record NotesWide (net : NetParts) (end : ℕ) (notes : List Entry) : Type 0 
 pub record HasNoted (net : NetParts) (notes : List Entry) : Type 0 where
   pub how : (notes ≡ []) ⊎ (NoneSaves net × ((end : ℕ) × NotesWide net end notes))
 
--- the course of `eliminate`: collapses, and then notes
+-- some of `eliminate`: collapses, and then notes
 pub record Eliminates (free : Bool) (old : NetParts) (steps : List Entry) (new : NetParts) : Type 0 where
   pub collapses : List Entry
   pub notes : List Entry
   pub steps_are : steps ≡ collapses ++ notes
-  pub goes : Goes free IsEliminateStep old collapses new
+  pub goes : CollapsesSome free old collapses new
   pub noted : HasNoted new notes
 
--- `eliminate` ends where no net saves any more, and the notes are those of all nets that are too wide
-pub record EndsEliminate (steps : List Entry) (net : NetParts) : Type 0 where
+-- all of `eliminate`: collapses until no net saves, and then the notes of all nets that are too wide
+pub record EliminatesAll (free : Bool) (old : NetParts) (steps : List Entry) (new : NetParts) : Type 0 where
   pub collapses : List Entry
   pub notes : List Entry
   pub steps_are : steps ≡ collapses ++ notes
-  pub none_saves : NoneSaves net
-  pub noted : NotesWide net (length net.nets) notes
+  pub goes : CollapsesAll free old collapses new
+  pub noted : NotesWide new (length new.nets) notes

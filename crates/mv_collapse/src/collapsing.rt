@@ -1,20 +1,19 @@
-ghost use Rattle.std.specs.Prelude.{◌≡◌, true, false, Err, IfOk, OnOk, MatchOption};
+ghost use Rattle.std.specs.Prelude.{◌≡◌, true, false, IfOk, MatchOption};
 ghost use Rattle.mv_base.specs.Meaning.{Refines, SameMeaning};
-ghost use Rattle.mv_base.specs.Outside.{Rose};
-ghost use Rattle.mv_collapse.specs.Collapses.{CollapsesFreely, StaysFor, IsCollapseStep, EndsCollapse};
-ghost use Rattle.mv_collapse.specs.Reasons.{why_for, TookAll};
+ghost use Rattle.mv_collapse.specs.Collapses.{CollapsesFreely, CollapsesNet, StaysFor};
+ghost use Rattle.mv_collapse.specs.Reasons.{why_for};
 ghost use Rattle.mv_entry.specs.declared.note.Command.TheVariants.{Collapse as collapse_command};
 ghost use Rattle.mv_entry.specs.Entries.{is_visible_name};
 ghost use Rattle.mv_net.specs.Allowed.{of_net};
-ghost use Rattle.mv_pass.specs.Going.{Begun, Does, Goes};
+ghost use Rattle.mv_pass.specs.Courses.{Perhaps};
+ghost use Rattle.mv_pass.specs.Going.{Begun, Does};
 ghost use Rattle.mv_pass.specs.Passing.{Passes};
-ghost use Rattle.mv_pass.specs.Taking.{GoesOn, Went, WentPart};
 
 use crate::Stop;
 use mv_base::{Memory, Name};
 use mv_entry::{Command, Journal, Note, Rule, RuleFault, Why};
 use mv_net::Network;
-use mv_pass::{few_literals, take};
+use mv_pass::{end, take};
 use mv_rules::{Terms, literals_after};
 use std::alloc::Global;
 
@@ -73,12 +72,8 @@ fn note_reason<J: Journal>(
 ) -> Result<(), Stop>
     requires visible { is_visible_name name.now ≡ true }
     requires stays { StaysFor net.now name.now why }
-    ensures ok { OnOk result (TookAll terms.free name.now net.now net.now (J.state journal.old) (J.state journal.new)) }
-    ensures memory { result ≡ Err Stop.Memory → J.state journal.new ≡ J.state journal.old }
-    ensures note { result ≡ Err Stop.Note
-        → WentPart terms.free (IsCollapseStep name.now) net.now net.now (J.state journal.old) (J.state journal.new) }
-    ensures cause { result ≡ Err Stop.Note → Rose (J.state journal.old).written.faults (J.state journal.new).written.faults }
-    ensures goes_on { GoesOn (J.state journal.old) (J.state journal.new) }
+    ensures { Passes terms.free (CollapsesNet terms.free name.now) (Perhaps (CollapsesNet terms.free name.now)) net.now net.now
+        (J.state journal.old) (J.state journal.new) result }
 {
     let own = match name.copy() {
         Ok(own) => own,
@@ -99,14 +94,9 @@ fn step<J: Journal>(
     journal: &mut J,
 ) -> Result<(), Stop>
     requires { is_visible_name name.now ≡ true }
-    ensures ok { OnOk result (TookAll terms.free name.now net.old net.new (J.state journal.old) (J.state journal.new)) }
-    ensures memory { result ≡ Err Stop.Memory
-        → Went terms.free (IsCollapseStep name.now) net.old net.new (J.state journal.old) (J.state journal.new) }
-    ensures note { result ≡ Err Stop.Note
-        → WentPart terms.free (IsCollapseStep name.now) net.old net.new (J.state journal.old) (J.state journal.new) }
-    ensures cause { result ≡ Err Stop.Note → Rose (J.state journal.old).written.faults (J.state journal.new).written.faults }
+    ensures passes { Passes terms.free (CollapsesNet terms.free name.now) (Perhaps (CollapsesNet terms.free name.now)) net.old net.new
+        (J.state journal.old) (J.state journal.new) result }
     ensures means { SameMeaning (of_net net.new) (of_net net.old) }
-    ensures goes_on { GoesOn (J.state journal.old) (J.state journal.new) }
 {
     let own = match name.copy() {
         Ok(own) => own,
@@ -126,7 +116,7 @@ fn step<J: Journal>(
 /// The command `collapse NET`: the net goes into its readers, where the literals are no more then; else it is noted why it stays: the
 /// first of that there is no such net with a table, that it is seen, that it isn't read, that several nets read it and it may have one of
 /// several values, that a composite is too wide, and that the literals would rise. What the network means stays, also where the command
-/// stops.
+/// stops; it has one step, or none where it stops.
 pub fn collapse<J: Journal>(
     alloc: Global,
     net: &mut Network,
@@ -135,8 +125,8 @@ pub fn collapse<J: Journal>(
     terms: Terms,
 ) -> Result<(), Stop>
     requires { is_visible_name name.now ≡ true }
-    ensures passes { Passes terms.free (Does (Goes terms.free (IsCollapseStep name.now)) EndsCollapse (collapse_command name.now))
-        (Begun (Goes terms.free (IsCollapseStep name.now)) EndsCollapse (collapse_command name.now))
+    ensures passes { Passes terms.free (Does (CollapsesNet terms.free name.now) (collapse_command name.now))
+        (Begun (CollapsesNet terms.free name.now) (Perhaps (CollapsesNet terms.free name.now)) (collapse_command name.now))
         net.old net.new (J.state journal.old) (J.state journal.new) result }
     ensures refines { Refines false (of_net net.new) (of_net net.old) }
 {
@@ -149,12 +139,7 @@ pub fn collapse<J: Journal>(
         Err(_failed) => return Err(Stop::Note),
     }
     match step(alloc, net, name, terms, journal) {
-        Ok(()) => {}
-        Err(stop) => return Err(stop),
-    }
-    few_literals(net);
-    match journal.note(&Note::End(net.literals())) {
-        Ok(()) => Ok(()),
-        Err(_failed) => Err(Stop::Note),
+        Ok(()) => end(net, journal),
+        Err(stop) => Err(stop),
     }
 }

@@ -1,14 +1,12 @@
-ghost use Rattle.std.specs.Prelude.{◌≡◌, false, Err, IfOk, OnOk, MatchOption};
+ghost use Rattle.std.specs.Prelude.{false, IfOk, OnOk, MatchOption};
 ghost use Rattle.mv_agenda.specs.Agenda.{AllWait};
 ghost use Rattle.mv_base.specs.Meaning.{Refines, SameMeaning};
-ghost use Rattle.mv_base.specs.Outside.{Rose};
-ghost use Rattle.mv_collapse.specs.Eliminates.{Eliminates, EndsEliminate, IsEliminateStep};
+ghost use Rattle.mv_collapse.specs.Eliminates.{CollapsesAll, CollapsesSome, Eliminates, EliminatesAll};
 ghost use Rattle.mv_collapse.specs.Eliminating.{IsNextSaving, WentInto};
 ghost use Rattle.mv_entry.specs.declared.note.Command.TheVariants.{Eliminate as eliminate_command};
 ghost use Rattle.mv_net.specs.Allowed.{of_net};
 ghost use Rattle.mv_pass.specs.Going.{Begun, Does};
 ghost use Rattle.mv_pass.specs.Passing.{Passes};
-ghost use Rattle.mv_pass.specs.Taking.{GoesOn, Took, TookPart, Went, WentPart};
 ghost use Rattle.mv_gain.specs.Kept.{AreRight};
 ghost use Rattle.mv_gain.specs.Savings.{IsSaving, IsLeastSaving, NoneSaves};
 
@@ -19,7 +17,7 @@ use mv_base::{Memory, Name, NetId};
 use mv_entry::{Command, Journal, Note, Rule};
 use mv_gain::KeptComposites;
 use mv_net::Network;
-use mv_pass::{few_literals, take};
+use mv_pass::{end, take};
 use mv_rules::Terms;
 use std::alloc::Global;
 
@@ -57,15 +55,10 @@ fn step<J: Journal>(
     journal: &mut J,
 ) -> Result<(), Stop>
     requires { IsLeastSaving net.old n.0 }
-    ensures ok { OnOk result (Went terms.free IsEliminateStep net.old net.new (J.state journal.old) (J.state journal.new)) }
+    ensures passes { Passes terms.free (CollapsesSome terms.free) (CollapsesSome terms.free) net.old net.new
+        (J.state journal.old) (J.state journal.new) result }
     ensures into { OnOk result (WentInto net.old net.new n.0) }
-    ensures memory { result ≡ Err Stop.Memory
-        → Went terms.free IsEliminateStep net.old net.new (J.state journal.old) (J.state journal.new) }
-    ensures note { result ≡ Err Stop.Note
-        → WentPart terms.free IsEliminateStep net.old net.new (J.state journal.old) (J.state journal.new) }
-    ensures cause { result ≡ Err Stop.Note → Rose (J.state journal.old).written.faults (J.state journal.new).written.faults }
     ensures means { SameMeaning (of_net net.new) (of_net net.old) }
-    ensures goes_on { GoesOn (J.state journal.old) (J.state journal.new) }
 {
     net.well_formed();
     let name = match Name::new(alloc, net.name(n)) {
@@ -92,16 +85,10 @@ fn collapse_each<J: Journal>(
     journal: &mut J,
 ) -> Result<(), Stop>
     requires { AreRight net.old.nets kept.old }
-    ensures ok { OnOk result (Went terms.free IsEliminateStep net.old net.new (J.state journal.old) (J.state journal.new)) }
-    ensures none_saves { OnOk result (NoneSaves net.new) }
+    ensures passes { Passes terms.free (CollapsesAll terms.free) (CollapsesSome terms.free) net.old net.new
+        (J.state journal.old) (J.state journal.new) result }
     ensures right { OnOk result (AreRight net.new.nets kept.new) }
-    ensures memory { result ≡ Err Stop.Memory
-        → Went terms.free IsEliminateStep net.old net.new (J.state journal.old) (J.state journal.new) }
-    ensures note { result ≡ Err Stop.Note
-        → WentPart terms.free IsEliminateStep net.old net.new (J.state journal.old) (J.state journal.new) }
-    ensures cause { result ≡ Err Stop.Note → Rose (J.state journal.old).written.faults (J.state journal.new).written.faults }
     ensures means { SameMeaning (of_net net.new) (of_net net.old) }
-    ensures goes_on { GoesOn (J.state journal.old) (J.state journal.new) }
 {
     let mut agenda = match Agenda::of_all(alloc, net.next_number()) {
         Ok(agenda) => agenda,
@@ -136,15 +123,9 @@ fn collapse_and_note<J: Journal>(
     terms: Terms,
     journal: &mut J,
 ) -> Result<(), Stop>
-    ensures ok { OnOk result (Took (λ steps. Eliminates terms.free net.old steps net.new × EndsEliminate steps net.new)
-        (J.state journal.old) (J.state journal.new)) }
-    ensures memory { result ≡ Err Stop.Memory
-        → Took (λ steps. Eliminates terms.free net.old steps net.new) (J.state journal.old) (J.state journal.new) }
-    ensures note { result ≡ Err Stop.Note
-        → TookPart (λ steps. Eliminates terms.free net.old steps net.new) (J.state journal.old) (J.state journal.new) }
-    ensures cause { result ≡ Err Stop.Note → Rose (J.state journal.old).written.faults (J.state journal.new).written.faults }
+    ensures passes { Passes terms.free (EliminatesAll terms.free) (Eliminates terms.free) net.old net.new
+        (J.state journal.old) (J.state journal.new) result }
     ensures means { SameMeaning (of_net net.new) (of_net net.old) }
-    ensures goes_on { GoesOn (J.state journal.old) (J.state journal.new) }
 {
     let mut kept = match KeptComposites::none(alloc, net.next_number()) {
         Ok(kept) => kept,
@@ -169,8 +150,9 @@ pub fn eliminate<J: Journal>(
     journal: &mut J,
     terms: Terms,
 ) -> Result<(), Stop>
-    ensures passes { Passes terms.free (Does (Eliminates terms.free) EndsEliminate eliminate_command)
-        (Begun (Eliminates terms.free) EndsEliminate eliminate_command) net.old net.new (J.state journal.old) (J.state journal.new) result }
+    ensures passes { Passes terms.free (Does (EliminatesAll terms.free) eliminate_command)
+        (Begun (EliminatesAll terms.free) (Eliminates terms.free) eliminate_command) net.old net.new
+        (J.state journal.old) (J.state journal.new) result }
     ensures refines { Refines false (of_net net.new) (of_net net.old) }
 {
     match journal.note(&Note::Begin(Command::Eliminate)) {
@@ -178,12 +160,7 @@ pub fn eliminate<J: Journal>(
         Err(_failed) => return Err(Stop::Note),
     }
     match collapse_and_note(alloc, net, terms, journal) {
-        Ok(()) => {}
-        Err(stop) => return Err(stop),
-    }
-    few_literals(net);
-    match journal.note(&Note::End(net.literals())) {
-        Ok(()) => Ok(()),
-        Err(_failed) => Err(Stop::Note),
+        Ok(()) => end(net, journal),
+        Err(stop) => Err(stop),
     }
 }

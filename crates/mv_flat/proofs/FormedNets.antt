@@ -1,6 +1,5 @@
 -- Each net of a model's network is well formed by itself.
 use Rattle.std.proofs.Common.{◌≡◌, ℕ, ◌<◌, ◌≤◌, true, false, List, length, Option, Some, None, is_some, refl, sym, ◌∙◌, ap, subst, arith, ⊎_elim}
-use Rattle.std.specs.Prelude.{◌^◌, codes}
 use Rattle.std.proofs.lemmas.Bool.{false≢true, cases_lt}
 use Rattle.std.proofs.lemmas.Option.{none-some, same_Some}
 use Rattle.mv_base.specs.Names.{among, is_net_name}
@@ -16,10 +15,10 @@ use Rattle.mv_net.specs.declared.parts.Kind.TheVariants.{Input, Latch, Table, Re
 use Rattle.mv_net.specs.Nets.{slot}
 use Rattle.mv_net.specs.Formed.{has_table, IsCover, IsNet}
 use Rattle.mv_flat.specs.Places.{net_places}
-use Rattle.mv_flat.specs.Numbers.{made_name, mark_at, choice_at}
+use Rattle.mv_flat.specs.Numbers.{mark_at, choice_at}
 use Rattle.mv_flat.specs.Built.{file_net, kind_of}
 use Rattle.mv_flat.specs.Covers.{MadeNet}
-use Rattle.mv_decl.proofs.Decimals.{numbered-net_name}
+use Rattle.mv_net.proofs.LawfulMade.{made_lawful}
 use Rattle.mv_flat.proofs.Lawful.{open_of, kind_open, open_lawful, plain_lawful, kind_has_table}
 use Rattle.mv_flat.proofs.Slots.{StandsMade}
 use Rattle.mv_flat.proofs.Places.{IsModelNet, table_of, open_slot, OpenPlace, OutputPlace, MarkPlace, ChoicePlace, TablePlace, place_at, no_slot}
@@ -80,9 +79,6 @@ output_formed m net is n p =
 
 -- ---- nets that are made
 
-lawful_made : (n : ℕ) → n < 2 ^ 32 → is_net_name (made_name n) ≡ true
-lawful_made n small = numbered-net_name (codes "_m") n (omega arith) refl
-
 -- a net that is made is well formed where it has some values, but not too many, and a cover for these
 made_formed : (nets : List (Option FlatNet)) (n : ℕ) (made : MadeNet) → StandsMade nets n made → 0 < made.values → made.values ≤ MAX_VALUES
     → IsCover nets made.values made.cover → IsFormed nets (slot nets n)
@@ -95,7 +91,7 @@ made_formed nets n made stands some few cover =
       some = some;
       few = few;
       named = record { lawful = refl; differ = refl; each = λ some. absurd (let none : 0 < 0 = some in omega arith); spelled = λ h. refl };
-      name = λ plain. ap is_net_name stands.fresh.is ∙ lawful_made stands.fresh.number stands.fresh.small;
+      name = λ plain. ap is_net_name stands.fresh.is ∙ made_lawful stands.fresh.number (let small = stands.fresh.small in omega arith);
       table = refl;
       cover = λ d e. subst Q (same_Some made.cover d e) cover;
     }))

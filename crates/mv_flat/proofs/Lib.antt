@@ -47,3 +47,4 @@ pub mod Told
 pub mod Designs
 pub mod OneNetwork
 pub mod Refusals
+pub mod Passing

@@ -1,15 +1,15 @@
 -- Names of made nets: different numbers give different names, and the least number whose name is free is found.
-use Rattle.std.proofs.Common.{◌≡◌, ℕ, zero, suc, ◌+◌, ◌-◌, ◌<◌, ◌≤◌, ◌^◌, true, false, ◌||◌, List, [], ◌∷◌, ◌++◌, length, drop, map, Option, Some, None, is_some, is_none, refl, sym, ◌∙◌, ap, subst, arith, ⊎_elim}
+use Rattle.std.proofs.Common.{◌≡◌, ℕ, zero, suc, ◌+◌, ◌-◌, ◌<◌, ◌≤◌, ◌^◌, true, false, ◌||◌, List, [], ◌∷◌, ◌++◌, length, map, Option, Some, None, is_some, is_none, refl, sym, ◌∙◌, ap, subst, arith, ⊎_elim}
 use Rattle.std.specs.List.{range_with_len}
 use Rattle.std.proofs.Math.Bool.{or-false}
 use Rattle.std.proofs.lemmas.Bool.{false≢true, cases_lt, or_from, or_cases, or_left, false_from_ne_true}
-use Rattle.std.proofs.lemmas.Fmt.{decimal_injective}
 use Rattle.std.proofs.lemmas.List.{append-nil, append_assoc, length-append}
 use Rattle.std.proofs.lemmas.List.FromFn.{length-map-range_with_len}
 use Rattle.mv_base.specs.Names.{same_word, among, place_of, AreApart}
 use Rattle.mv_base.proofs.NameLemmas.{same_word_is, same_word_refl, among-append, is_some-place_of}
 use Rattle.mv_cover.specs.declared.cover.Cover.{Cover}
 use Rattle.mv_net.specs.declared.parts.FlatNet.{FlatNet}
+use Rattle.mv_net.proofs.FreshNames.{made_injective}
 use Rattle.mv_acyclic.proofs.Distinct.{apart_length}
 use Rattle.mv_acyclic.proofs.Soundness.{in_left, in_right}
 use Rattle.mv_flat.specs.Numbers.{made_name}
@@ -18,9 +18,6 @@ use Rattle.mv_flat.specs.Built.{fresh_net, IsFreshName, AreMade}
 use Rattle.mv_flat.specs.Marks.{IsLast, IsNext, AddsMade, AddsMark}
 
 -- ---- different numbers
-
-made_injective : (m n : ℕ) → m < 2 ^ 64 → n < 2 ^ 64 → made_name m ≡ made_name n → m ≡ n
-made_injective m n l k e = decimal_injective m n l k (ap (drop 2) e)
 
 pub made_differ : (m n : ℕ) → m < 2 ^ 64 → n < 2 ^ 64 → (m ≡ n → ⊥) → same_word (made_name m) (made_name n) ≡ false
 made_differ m n l k apart = false_from_ne_true _ (λ y. apart (made_injective m n l k (same_word_is _ _ y)))

@@ -29,7 +29,7 @@ use Rattle.mv_flat.specs.Numbers.{columns_at, mark_at, choice_at}
 use Rattle.mv_flat.specs.Places.{net_places}
 use Rattle.mv_flat.specs.declared.size.Size.{Size}
 use Rattle.mv_flat.specs.Size.{gives_reset, size_faults, size_of, AreCovers, PassesNone, FitsLimits, IsPastLimit}
-use Rattle.mv_flat.specs.Sized.{IsWithinSize, with_lines, with_net, with_nets, with_covers, AreSized, TellsWide, TellsLimit}
+use Rattle.mv_flat.specs.Sized.{IsWithinSize, with_lines, with_net, with_nets, with_covers, AreSized, TellsLimit}
 
 -- ---- sums
 
@@ -293,7 +293,7 @@ past_limit nets m names i size t covers f are sized low is made told =
     }
 
 -- the next table is too wide
-past_wide : (nets : ℕ) (m : FileModel) (names : List (List ℕ)) (i : ℕ) (size : Size) (t : FileTable) (f : FlatFault) → names ≡ net_places m
+pub past_wide : (nets : ℕ) (m : FileModel) (names : List (List ℕ)) (i : ℕ) (size : Size) (t : FileTable) (f : FlatFault) → names ≡ net_places m
     → AreSized nets m names i size → i < length m.tables → t ≡ get_or m.tables i t → IsTooWide (columns_at m.decls names t) t (mark_at names t) f
     → IsPastLimit nets m f
 past_wide nets m names i size t f are sized low is wide =
@@ -312,11 +312,6 @@ past_wide nets m names i size t f are sized low is wide =
 pub limit_told : (nets : ℕ) (m : FileModel) (f : FlatFault) → IsPastLimit nets m f → TellsLimit nets m f
 limit_told nets m Memory h = tt
 limit_told nets m _ h = h
-
-pub wide_told : (nets : ℕ) (m : FileModel) (names : List (List ℕ)) (i : ℕ) (size : Size) (t : FileTable) (f : FlatFault) → names ≡ net_places m
-    → AreSized nets m names i size → i < length m.tables → t ≡ get_or m.tables i t → TellsWide (columns_at m.decls names t) names t f → TellsLimit nets m f
-wide_told nets m names i size t Memory are sized low is told = tt
-wide_told nets m names i size t _ are sized low is told = past_wide nets m names i size t _ are sized low is told
 
 pub memory_told : (nets : ℕ) (m : FileModel) (f : FlatFault) → f ≡ Memory → TellsLimit nets m f
 memory_told nets m f e = let P : FlatFault → Type 0 = TellsLimit nets m in subst P (sym e) tt

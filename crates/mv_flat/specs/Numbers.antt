@@ -1,5 +1,5 @@
 -- The columns of a model's tables by their numbers. The number of a net is its place among the names by number.
-use Rattle.std.specs.Prelude.{ℕ, Bool, List, [], ◌∷◌, ◌++◌, length, map, decimal, unwrap_or, nat_eq, codes, if◌then◌else◌}
+use Rattle.std.specs.Prelude.{ℕ, Bool, List, [], ◌∷◌, length, map, decimal, unwrap_or, nat_eq, if◌then◌else◌}
 use Rattle.std.specs.List.{range_with_len}
 use Rattle.std.specs.Cmp.Lexicographic.{pointwise}
 use Rattle.mv_base.specs.Names.{place_of}
@@ -10,6 +10,8 @@ use Rattle.mv_rows.specs.declared.column.Column.{Column}
 use Rattle.mv_design.specs.Nets.{output_of}
 use Rattle.mv_design.specs.Values.{count_of}
 use Rattle.mv_acyclic.specs.Numbers.{net_in}
+-- the name of a made net: `_m` and a number
+pub use Rattle.mv_net.specs.Fresh.{made_name}
 
 -- a column's net, and how many values it has
 abbrev pub column_of : List Decl → List (List ℕ) → List ℕ → Column
@@ -44,7 +46,3 @@ are_numbers values = pointwise (pointwise nat_eq) values (map decimal (range_wit
 -- the names of a net's values as a network keeps them: none where they are the numbers from 0
 abbrev pub kept_names : List (List ℕ) → List (List ℕ)
 kept_names values = if are_numbers values then [] else values
-
--- the name of a made net: `_m` and a number
-abbrev pub made_name : ℕ → List ℕ
-made_name n = codes "_m" ++ decimal n

@@ -1,5 +1,5 @@
 -- The size of a network, table by table. For private functions.
-use Rattle.std.specs.Prelude.{◌≡◌, ℕ, ◌+◌, ◌≤◌, cond, List, [], ◌∷◌, length, take}
+use Rattle.std.specs.Prelude.{◌≡◌, ◌⊎◌, ℕ, ◌+◌, ◌≤◌, cond, Some, List, [], ◌∷◌, length, take}
 use Rattle.mv_base.specs.declared.limits.TheConstants.{MAX_FLAT_NETS, MAX_FLAT_LINES, MAX_FLAT_LITERALS}
 use Rattle.mv_cover.specs.Covers.{literal_count}
 use Rattle.mv_design.specs.declared.design.FileModel.{FileModel}
@@ -9,9 +9,12 @@ use Rattle.mv_fault.specs.declared.flat.FlatFault.TheVariants.{Memory}
 use Rattle.mv_rows.specs.declared.column.Column.{Column}
 use Rattle.mv_flat.specs.declared.covers.TableCovers.{TableCovers}
 use Rattle.mv_cover.specs.declared.line.Line.{Line}
-use Rattle.mv_flat.specs.Covers.{MadeNet, made_of, lines_of, IsTooWide}
-use Rattle.mv_flat.specs.Numbers.{mark_at}
-use Rattle.mv_flat.specs.Size.{gives_reset, size_of, AreCovers, IsPastLimit}
+use Rattle.mv_fault.specs.Tells.{first}
+use Rattle.mv_rows.specs.declared.table.FlatTable.{FlatTable}
+use Rattle.mv_flat.specs.declared.covers.TableCovers.TheVariants.{Single}
+use Rattle.mv_flat.specs.Covers.{MadeNet, made_of, lines_of, IsMadeTable, IsTooWide}
+use Rattle.mv_flat.specs.Numbers.{mark_at, choice_at}
+use Rattle.mv_flat.specs.Size.{gives_reset, size_of, size_faults, AreCovers, IsPastLimit}
 use Rattle.mv_flat.specs.declared.size.Size.{Size}
 
 -- a size that passes no limit
@@ -52,6 +55,22 @@ pub record AreSized (nets : ℕ) (m : FileModel) (names : List (List ℕ)) (i : 
 abbrev pub TellsWide : List Column → List (List ℕ) → FileTable → FlatFault → Type 0
 TellsWide columns names t Memory = Unit {0}
 TellsWide columns names t f = IsTooWide columns t (mark_at names t) f
+
+-- with these covers of one more table a limit is passed, and this is the first that is
+pub record PassesSize (columns : List Column) (names : List (List ℕ)) (t : FileTable) (s : Size) (f : FlatFault) : Type 0 where
+  pub covers : TableCovers
+  pub made : IsMadeTable columns t (mark_at names t) (choice_at names t) covers
+  pub told : first (size_faults (with_covers s t covers)) ≡ Some f
+
+-- want of memory, a table that is too wide, or the limit that is passed with it
+abbrev pub TellsCovers : List Column → List (List ℕ) → FileTable → Size → FlatFault → Type 0
+TellsCovers columns names t s Memory = Unit {0}
+TellsCovers columns names t s f = IsTooWide columns t (mark_at names t) f ⊎ PassesSize columns names t s f
+
+-- want of memory, or the first limit that is passed with these covers of one output
+abbrev pub TellsPast : Size → FileTable → FlatTable → FlatFault → Type 0
+TellsPast s t flat Memory = Unit {0}
+TellsPast s t flat f = first (size_faults (with_covers s t (Single flat))) ≡ Some f
 
 -- want of memory, or the limit that the network passes
 abbrev pub TellsLimit : ℕ → FileModel → FlatFault → Type 0

@@ -1,23 +1,28 @@
 //! The covers of a table: of its outputs, and of the nets that are made for it.
-ghost use Rattle.std.specs.Prelude.{◌≡◌, ◌≤◌, true, length, IfErr, IfOk};
+ghost use Rattle.std.specs.Prelude.{◌≡◌, ◌+◌, ◌<◌, ◌≤◌, true, length, is_some, IfErr, IfOk};
 ghost use Rattle.mv_base.specs.Names.{among};
-ghost use Rattle.mv_base.specs.declared.limits.TheConstants.{MAX_NETS};
+ghost use Rattle.mv_base.specs.declared.limits.TheConstants.{MAX_FLAT_LINES, MAX_NETS};
 ghost use Rattle.mv_design.specs.Nets.{output_of};
-ghost use Rattle.mv_rows.specs.Flat.{IsMade};
+ghost use Rattle.mv_rows.specs.declared.table.FlatTable.{FlatTable};
+ghost use Rattle.mv_rows.specs.Cubes.{AreColumns};
+ghost use Rattle.mv_rows.specs.Flat.{IsMade, IsTable};
+ghost use Rattle.mv_rows.specs.Many.{StopsAt};
+ghost use Rattle.mv_rows.specs.Marked.{is_marked};
 ghost use Rattle.mv_flat.specs.Covers.{IsMadeTable};
 ghost use Rattle.mv_flat.specs.Gathered.{IsMarkNumber, number_or_past};
 ghost use Rattle.mv_flat.specs.Numbers.{choice_at, choice_name, mark_at};
 ghost use Rattle.mv_flat.specs.Placed.{AreColumnsOf};
 ghost use Rattle.mv_flat.specs.Places.{is_joint};
-ghost use Rattle.mv_flat.specs.Sized.{TellsWide};
+ghost use Rattle.mv_flat.specs.Sized.{IsWithinSize, TellsCovers, TellsPast, TellsWide};
 
 use crate::mark::{choice_name, is_joint, is_plain, mark_name};
+use crate::size::Size;
 use mv_acyclic::Numbers;
 use mv_base::{MAX_JOINT_ROWS, Memory, Name, NetId};
 use mv_design::FileTable;
 use mv_fault::FlatFault;
 use mv_joint::{JointStop, JointTable, joint_table};
-use mv_rows::{Column, FlatTable, flat_table};
+use mv_rows::{Column, FlatTable, RowStop, flat_table_within, is_marked};
 use std::alloc::Global;
 
 /// The covers of a table: those of its output and its mark, where it has one output; else those of its outputs, its choice net
@@ -28,41 +33,94 @@ pub enum TableCovers {
     Joint(JointTable),
 }
 
-/// The covers of a table over its columns. The fault is that it has too many distinct rows of outputs.
-#[tactic(auto, using(crate::proofs::CoverNeeds::own_single))]
+/// The covers of a table over its columns, in a network of this size. The fault is that it has too many distinct rows of outputs,
+/// or the first limit that the network passes with it: the lines of a table of one output are counted while they are made.
+#[tactic(auto, using(crate::proofs::CoverNeeds::own_single, crate::proofs::Passing::wide_covers))]
 pub fn covers(
     alloc: Global,
     columns: &[Column],
     names: &Numbers,
     table: &FileTable,
+    size: Size,
 ) -> Result<TableCovers, FlatFault>
     requires columns { AreColumnsOf names.now table.now columns.now }
     requires few { length names.now ≤ MAX_NETS }
     requires chosen { is_joint table.now ≡ true → among (choice_name (output_of table.now)) names.now ≡ true }
+    requires within { IsWithinSize size }
     ensures made { IfOk result (λ covers. IsMadeTable columns.now table.now (mark_at names.now table.now) (choice_at names.now table.now) covers) }
-    ensures wide { IfErr result (TellsWide columns.now names.now table.now) }
+    ensures stop { IfErr result (TellsCovers columns.now names.now table.now size) }
 {
     if is_joint(table) {
-        return joint_covers(alloc, columns, names, table);
+        return match joint_covers(alloc, columns, names, table) {
+            Ok(covers) => Ok(covers),
+            Err(fault) => Err(fault),
+        };
     }
-    Ok(TableCovers::Single(single_covers(alloc, columns, names, table)?))
+    match sized_covers(alloc, columns, names, table, size) {
+        Ok(flat) => Ok(TableCovers::Single(flat)),
+        Err(fault) => Err(fault),
+    }
 }
 
-/// The covers of the output of a table and of its mark.
-#[tactic(auto, using(crate::proofs::Unmarked::own_made))]
-pub fn single_covers(
+/// The covers of the output of a table and of its mark, in a network of this size.
+#[tactic(auto, using(crate::proofs::Passing::many_told))]
+fn sized_covers(
     alloc: Global,
     columns: &[Column],
     names: &Numbers,
     table: &FileTable,
-) -> Result<FlatTable, Memory>
+    size: Size,
+) -> Result<FlatTable, FlatFault>
     requires columns { AreColumnsOf names.now table.now columns.now }
     requires single { length table.now.outputs ≡ 1 }
     requires few { length names.now ≤ MAX_NETS }
-    ensures { IfOk result (λ flat. IsMade columns.now table.now (mark_at names.now table.now) flat) }
+    requires within { IsWithinSize size }
+    ensures made { IfOk result (λ flat. IsMade columns.now table.now (mark_at names.now table.now) flat) }
+    ensures stop { IfErr result (TellsCovers columns.now names.now table.now size) }
+{
+    match single_covers(alloc, columns, names, table, size.lines_left()) {
+        Ok(flat) => Ok(flat),
+        Err(RowStop::Many) => Err(past(alloc, columns, table, size)),
+        Err(RowStop::Memory) => Err(FlatFault::Memory),
+    }
+}
+
+/// The first limit that is passed with a table of one output whose cover has more lines than there may be.
+#[tactic(auto, using(crate::proofs::Passing::past_holds))]
+fn past(alloc: Global, columns: &[Column], table: &FileTable, size: Size) -> FlatFault
+    requires columns { AreColumns columns.now }
+    requires table { IsTable columns.now table.now }
+    requires some { 0 < length table.now.outputs }
+    requires within { IsWithinSize size }
+    ensures { (flat : FlatTable) → is_some flat.mark ≡ is_marked columns.now table.now → MAX_FLAT_LINES < size.lines + length flat.cover.lines
+        → TellsPast size table.now flat result }
+{
+    match is_marked(alloc, columns, table) {
+        Ok(marked) => size.past(table, marked),
+        Err(_memory) => FlatFault::Memory,
+    }
+}
+
+/// The covers of the output of a table and of its mark, unless the output's has more lines than `most`.
+#[tactic(auto, using(crate::proofs::Unmarked::own_made, crate::proofs::Passing::own_stops))]
+fn single_covers(
+    alloc: Global,
+    columns: &[Column],
+    names: &Numbers,
+    table: &FileTable,
+    most: usize,
+) -> Result<FlatTable, RowStop>
+    requires columns { AreColumnsOf names.now table.now columns.now }
+    requires single { length table.now.outputs ≡ 1 }
+    requires few { length names.now ≤ MAX_NETS }
+    ensures made { IfOk result (λ flat. IsMade columns.now table.now (mark_at names.now table.now) flat) }
+    ensures stop { IfErr result (λ stop. StopsAt columns.now table.now (mark_at names.now table.now) most stop) }
 {
     let mark = mark_of(alloc, names, table)?;
-    flat_table(alloc, columns, table, mark)
+    match flat_table_within(alloc, columns, table, mark, most) {
+        Ok(flat) => Ok(flat),
+        Err(stop) => Err(stop),
+    }
 }
 
 /// The number of the table's mark. A table without one has a number past all others, and so may one have that is known to get none

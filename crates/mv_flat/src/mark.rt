@@ -10,13 +10,13 @@ ghost use Rattle.mv_flat.specs.Placed.{IsPlacedTable};
 ghost use Rattle.mv_flat.specs.Gathered.{can_stand, has_all, is_plain, some_has_all, some_silent};
 
 use crate::columns::declared_columns;
-use crate::covers::single_covers;
 use crate::values::count_of;
 use mv_acyclic::Numbers;
 use mv_base::{Items, Memory, Name, PackedSet, ValueSet};
 use mv_decl::Declared;
 use mv_design::{Entry, FileTable, Row};
 use mv_joint::is_joint_marked;
+use mv_rows::is_marked;
 use std::alloc::Global;
 
 /// The name by which the mark of the table with this first output stands among the nets.
@@ -44,9 +44,8 @@ pub fn is_joint(table: &FileTable) -> bool
     table.outputs.len() > 1
 }
 
-/// Whether the table gets a mark. For most tables a look at the rows tells it; of the others with one output the covers are made
-/// over nets that have numbers already.
-#[tactic(auto, using(crate::proofs::HasMark::mark_is))]
+/// Whether the table gets a mark. For most tables a look at the rows tells it, for the others a look at their cubes over nets that
+/// have numbers already.
 pub fn has_mark(
     alloc: Global,
     decls: &Declared,
@@ -66,8 +65,7 @@ pub fn has_mark(
         return Ok(told);
     }
     let columns = declared_columns(alloc, decls, names, table)?;
-    let flat = single_covers(alloc, columns.as_slice(), names, table)?;
-    Ok(flat.mark.is_some())
+    is_marked(alloc, columns.as_slice(), table)
 }
 
 /// Whether the table of one output gets a mark, where a look at its rows tells it: not without a default, nor beside a set where

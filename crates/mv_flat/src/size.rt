@@ -1,9 +1,11 @@
 //! How large a network is while the covers of its tables are made, and the limits on that.
-ghost use Rattle.std.specs.Prelude.{◌≡◌, ◌+◌, ◌<◌, ◌≤◌, ◌^◌, [], length, cond, Some, IfErr, IfOk};
+ghost use Rattle.std.specs.Prelude.{◌≡◌, ◌+◌, ◌<◌, ◌≤◌, ◌^◌, [], length, cond, Some, is_some, IfErr, IfOk};
 ghost use Rattle.std.specs.List.{flat_map};
-ghost use Rattle.mv_base.specs.declared.limits.TheConstants.{MAX_FLAT_NETS, MAX_NETS};
+ghost use Rattle.mv_base.specs.declared.limits.TheConstants.{MAX_FLAT_LINES, MAX_FLAT_NETS, MAX_NETS};
 ghost use Rattle.mv_cover.specs.declared.cover.Cover.{Cover};
 ghost use Rattle.mv_fault.specs.Tells.{first};
+ghost use Rattle.mv_rows.specs.declared.table.FlatTable.{FlatTable};
+ghost use Rattle.mv_flat.specs.declared.covers.TableCovers.TheVariants.{Single};
 ghost use Rattle.mv_flat.specs.Covers.{made_mark, outputs_of};
 ghost use Rattle.mv_flat.specs.Size.{gives_reset, has_stop, size_faults, size_of};
 ghost use Rattle.mv_flat.specs.Sized.{IsWithinSize, with_covers, with_lines, with_net, with_nets};
@@ -35,6 +37,45 @@ impl Size {
             lines: 0,
             literals: 0,
         }
+    }
+
+    /// How many lines more there may be.
+    pub fn lines_left(self) -> usize
+        requires { self.lines ≤ MAX_FLAT_LINES }
+        ensures { self.lines + result ≡ MAX_FLAT_LINES }
+    {
+        (MAX_FLAT_LINES as u128 - self.lines) as usize
+    }
+
+    /// The first limit that is passed with a table of one output whose cover has more lines than there may be, where it is told
+    /// whether the table gets a mark.
+    #[tactic(auto, using(crate::proofs::Passing::past_nets, crate::proofs::Passing::past_lines))]
+    pub fn past(self, table: &FileTable, marked: bool) -> FlatFault
+        requires within { IsWithinSize self }
+        requires some { 0 < length table.now.outputs }
+        ensures { (flat : FlatTable) → is_some flat.mark ≡ marked → MAX_FLAT_LINES < self.lines + length flat.cover.lines
+            → first (size_faults (with_covers self table.now (Single flat))) ≡ Some result }
+    {
+        if self.nets_with(table, marked) > MAX_FLAT_NETS {
+            return FlatFault::Limit {
+                which: Which::Nets,
+                number: MAX_FLAT_NETS + 1,
+            };
+        }
+        FlatFault::Limit {
+            which: Which::FlatLines,
+            number: MAX_FLAT_LINES + 1,
+        }
+    }
+
+    /// How many nets there are with a table of one output, where it is told whether the table gets a mark.
+    fn nets_with(self, table: &FileTable, marked: bool) -> u64
+        requires nets { self.nets ≤ MAX_FLAT_NETS }
+        requires some { 0 < length table.now.outputs }
+        ensures { result ≡ self.nets + cond (gives_reset table.now) 1 0 + cond marked 1 0 }
+    {
+        let size = self.with_reset(table);
+        if marked { size.nets + 1 } else { size.nets }
     }
 
     /// The size with the covers of one more table, or the first limit that is passed then. It takes no memory.

@@ -56,7 +56,7 @@ pub fn nets(
     let mut last = 0;
     for table in tables.into_vec() {
         let columns = columns(alloc, names, counts, &table)?;
-        let covers = match covers(alloc, columns.as_slice(), names, &table) {
+        let covers = match covers(alloc, columns.as_slice(), names, &table, size) {
             Ok(covers) => covers,
             Err(fault) => return Err(fault),
         };

@@ -1,5 +1,4 @@
 pub mod Splits
-pub mod Possible
 pub mod Fitting
 pub mod Unmarked
 pub mod Tables

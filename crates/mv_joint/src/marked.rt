@@ -132,7 +132,7 @@ fn is_single(columns: &[Column], entry: &Entry) -> bool
 }
 
 /// Whether a row with these sets matches everything.
-#[tactic(auto, using(crate::proofs::Possible::bare_from_cube))]
+#[tactic(auto, using(mv_rows::proofs::Possible::bare_from_cube))]
 fn is_bare(alloc: Global, frame: &Frame, sets: &[PackedSet]) -> Result<bool, Memory>
     requires frame { IsFrame frame.now }
     requires sets { FitRow frame.now.columns sets.now }

@@ -65,7 +65,7 @@ fn bare_row(alloc: Global, ins: &[PackedSet], outputs: usize) -> Result<PlainRow
 }
 
 /// Whether a row with these sets matches something.
-#[tactic(auto, using(crate::proofs::Possible::possible_from_cube))]
+#[tactic(auto, using(mv_rows::proofs::Possible::possible_from_cube))]
 pub fn is_possible(alloc: Global, frame: &Frame, ins: &[PackedSet]) -> Result<bool, Memory>
     requires frame { IsFrame frame.now }
     requires sets { FitRow frame.now.columns ins.now }

@@ -1,10 +1,10 @@
 -- The order of cubes is total, lists that ascend are told by their members, and cubes ascend.
 use Rattle.std.proofs.Common.{◌≡◌, ◌∙◌, ℕ, ◌-◌, ◌≤◌, true, drop, List, [], ◌∷◌, length, All, Contains, inl, inr, refl, sym, ap, subst, arith, nat_lt}
-use Rattle.std.specs.Ordering.{nat_cmp, ordering_reverse, eq_by_cmp}
+use Rattle.std.specs.Ordering.{nat_cmp, ordering_reverse, eq_by_cmp, is_eq}
 use Rattle.std.specs.declared.cmp.Ordering.{Ordering}
 use Rattle.std.specs.declared.cmp.Ordering.TheVariants.{Less, Equal, Greater}
 use Rattle.std.specs.Cmp.{IsTotalOrder, both_tied, unsigned_ties}
-use Rattle.std.specs.Cmp.Lexicographic.{lists_total, lists_ties}
+use Rattle.std.specs.Cmp.Lexicographic.{lists_total, lists_ties, slice_cmp, pointwise, pointwise_decides}
 use Rattle.std.specs.List.Sorted.{IsStrictlySortedBy, IsSorted, IsPermutation}
 use Rattle.std.specs.List.Retain.{IsFiltered, DiffersFromLast}
 use Rattle.std.proofs.lemmas.Bool.{and_parts, lt-ltb, le-ltb, eq-eqb}
@@ -21,7 +21,7 @@ use Rattle.mv_cover.specs.Cubes.{nets_ascend}
 use Rattle.mv_cover.specs.Equal.{lit_eq, cube_eq}
 use Rattle.mv_cover.specs.Keys.{cube_eq-Decides, cube_eq-equiv}
 use Rattle.mv_kernels.specs.Symbols.{SameCubes}
-use Rattle.mv_kernels.specs.Order.{lit_cmp, cube_cmp, Ascend}
+use Rattle.mv_kernels.specs.Order.{lit_cmp, cube_cmp, cubes_cmp, Ascend, IsOrder}
 use Rattle.mv_kernels.proofs.Lists.{Contains-none, Contains-first, Contains-behind, Contains-cons_cases, All-Contains}
 
 -- ---- the orders
@@ -31,6 +31,9 @@ lit_total = then_total (on_total (λ (l : Lit). l.net.0) nat_cmp_total) (on_tota
 
 pub cube_total : IsTotalOrder cube_cmp
 cube_total = lists_total lit_total
+
+pub cubes_total : IsTotalOrder cubes_cmp
+cubes_total = lists_total cube_total
 
 -- ---- lists that ascend
 
@@ -104,6 +107,19 @@ lit_ties a b = both_tied _ _ (nat_cmp a.net.0 b.net.0) (nat_cmp a.set b.set) (un
 cube_ties : (a b : List Lit) → cube_eq a b ≡ eq_by_cmp cube_cmp a b
 cube_ties = lists_ties lit_cmp lit_ties
 
+-- equal lists of cubes tie
+cubes_ties : (a b : List (List Lit)) → pointwise cube_eq a b ≡ eq_by_cmp cubes_cmp a b
+cubes_ties = lists_ties cube_cmp cube_ties
+
+pub cube_order : IsOrder cube_cmp
+cube_order = record { total = cube_total; same = λ a b e. (cube_eq-Decides a b).0 (cube_ties a b ∙ ap is_eq e) }
+
+pub cubes_order : IsOrder cubes_cmp
+cubes_order = record {
+  total = cubes_total;
+  same = λ a b e. (pointwise_decides cube_eq-Decides a b).0 (cubes_ties a b ∙ ap is_eq e);
+}
+
 -- sorted cubes ascend when equal neighbours are gone
 pub ascend-dedup : (sorted left : List (List Lit)) → IsSorted cube_cmp sorted → IsFiltered (DiffersFromLast cube_eq) [] sorted left → Ascend left
 ascend-dedup sorted left up gone =
@@ -124,13 +140,13 @@ same-dedup cubes sorted left moved gone =
           (Contains-dedup cube_eq-equiv (λ x y e. (cube_eq-Decides x y).0 e) sorted q (Contains-permutation cubes sorted q moved h)));
     }
 
--- ---- comparing two cubes literal by literal
+-- ---- comparing two lists place by place
 
 -- where the first has ended, the lengths decide
-pub cmp-ended : (a b : List Lit) (i : ℕ) → length a ≤ i → i ≤ length b → i ≤ length a → cube_cmp (drop i a) (drop i b) ≡ nat_cmp (length a) (length b)
-cmp-ended a b i past within upto = by (drop i a) (drop i b) (length-drop i a) (length-drop i b)
+pub cmp-ended : {K : Type 0} (R : K → K → Ordering) (a b : List K) (i : ℕ) → length a ≤ i → i ≤ length b → i ≤ length a → slice_cmp R (drop i a) (drop i b) ≡ nat_cmp (length a) (length b)
+cmp-ended {K = K} R a b i past within upto = by (drop i a) (drop i b) (length-drop i a) (length-drop i b)
   where
-    by : (x y : List Lit) → length x ≡ length a - i → length y ≡ length b - i → cube_cmp x y ≡ nat_cmp (length a) (length b)
+    by : (x y : List K) → length x ≡ length a - i → length y ≡ length b - i → slice_cmp R x y ≡ nat_cmp (length a) (length b)
     by [] [] ex ey = rw (le-ltb (length a) (length b) (omega arith), eq-eqb (length a) (length b) (omega arith)) refl
     by [] (m ∷ ms) ex ey = rw (lt-ltb (length a) (length b) (omega arith)) refl
     by (l ∷ ls) y ex ey = absurd (omega arith)

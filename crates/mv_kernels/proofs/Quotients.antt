@@ -132,11 +132,15 @@ ascend-filter p (l ∷ ls) h =
     cond_both (p l) (l ∷ filter p ls) (filter p ls) (λ (ms : List Lit). nets_ascend ms ≡ true)
     (λ _. ascend-cons l (filter p ls) (list_all-filter p (λ (m : Lit). nat_lt l.net.0 m.net.0) ls (above_tail l.net.0 l ls h (omega arith))) rest) (λ _. rest)
 
-pub IsCube-cube_quotient : (c q : List Lit) → IsCube q → IsCube (cube_quotient c q)
-IsCube-cube_quotient c q h = record {
-  ascending = ascend-filter (λ (l : Lit). not (has_symbol c l)) q h.ascending;
-  possible = list_all-filter (λ (l : Lit). not (has_symbol c l)) (λ (l : Lit). not (nat_eq l.set empty)) q h.possible;
+-- some of a cube's literals are a cube
+pub IsCube-filter : (p : Lit → Bool) (q : List Lit) → IsCube q → IsCube (filter p q)
+IsCube-filter p q h = record {
+  ascending = ascend-filter p q h.ascending;
+  possible = list_all-filter p (λ (l : Lit). not (nat_eq l.set empty)) q h.possible;
 }
+
+pub IsCube-cube_quotient : (c q : List Lit) → IsCube q → IsCube (cube_quotient c q)
+IsCube-cube_quotient c q h = IsCube-filter (λ (l : Lit). not (has_symbol c l)) q h
 
 -- ---- quotients
 

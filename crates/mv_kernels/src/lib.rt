@@ -9,5 +9,7 @@ mod symbols;
 mod walk;
 
 pub use kernel::Kernel;
+pub use order::{compare_cubes, compare_lists, in_order, order_laws};
 pub use stop::KernelStop;
+pub use symbols::{cube_quotient, has_each};
 pub use walk::kernels;

@@ -6,8 +6,9 @@ use Rattle.std.proofs.lemmas.List.Elements.{All-nil, All-cons, All-append}
 use Rattle.mv_base.specs.declared.limits.TheConstants.{MAX_CERTIFICATE_BYTES}
 use Rattle.mv_base.specs.declared.number.NetId.{NetId}
 use Rattle.mv_cert.specs.Certificates.{Certifies}
-use Rattle.mv_collapse.specs.Collapses.{IsCollapseStep}
+use Rattle.mv_collapse.specs.Collapses.{CollapsesNet, Collapsed, Remains}
 use Rattle.mv_collapse.specs.Eliminates.{IsEliminateStep, Eliminates, HasNoted, NotesWide, wide_note}
+use Rattle.mv_collapse.proofs.Eliminated.{all_some}
 use Rattle.mv_gain.specs.Savings.{NoneSaves}
 use Rattle.mv_entry.specs.declared.note.Command.{Command}
 use Rattle.mv_entry.specs.declared.note.Command.TheVariants.{Drop, Sweep, Eliminate, Collapse, Kernel, Cube, Simplify, Merge, Default, Determinize, Encode, Fill}
@@ -32,10 +33,10 @@ use Rattle.mv_rules.specs.Replaying.{Replays}
 use Rattle.mv_rules.proofs.Kept.{kept_formed}
 use Rattle.mv_rules.proofs.Replayed.{replayed_formed}
 use Rattle.mv_rules.proofs.Spoken.{held_visible}
-use Rattle.mv_script_run.specs.Commands.{CourseOf, DoesCommand, RunsCommand}
+use Rattle.mv_script_run.specs.Commands.{WholeOf, DoesCommand, RunsCommand}
 use Rattle.mv_script_run.specs.Runs.{Runs}
 use Rattle.mv_script_run.proofs.Inductions.{of_items}
-use Rattle.mv_script_run.proofs.Rules.{course_replays, does_replays, runs_replays}
+use Rattle.mv_script_run.proofs.Rules.{whole_replays, does_replays, runs_replays}
 use Rattle.mv_script.specs.Commands.{IsCommand, is_named, are_named}
 use Rattle.mv_script.specs.Scripts.{Items}
 use Rattle.mv_script.proofs.Commands.{built_lawful}
@@ -95,11 +96,10 @@ eliminates_seen free a b steps formed e =
     subst AreSeen (sym e.steps_are)
     (seen_append e.collapses e.notes (goes_seen free IsEliminateStep (λ net note never. absurd never) a b e.collapses e.goes) (noted_seen b e.notes formed e.noted))
 
-collapse_note_seen : (name : List ℕ) → is_visible_name name ≡ true → (net : NetParts) (note : Note) → IsCollapseStep name net (Noted note) → IsSeenNote note
-collapse_note_seen name h net (Begin command) never = absurd never
-collapse_note_seen name h net (Dropped why w) stays = visible-one (Noted (Dropped why w)) w refl (subst (λ v. is_visible_name v ≡ true) (sym stays.0) h)
-collapse_note_seen name h net (End literals) never = absurd never
-collapse_note_seen name h net (Done before after) never = absurd never
+collapses_seen : (free : Bool) (name : List ℕ) → is_visible_name name ≡ true → (a b : NetParts) (steps : List Entry) → CollapsesNet free name a steps b → AreSeen steps
+collapses_seen free name h a b steps (Collapsed f applies is) = subst AreSeen (sym is) (All-nil IsSeenNote)
+collapses_seen free name h a b steps (Remains why stays is same) =
+    subst AreSeen (sym is) (All-cons IsSeenNote (Dropped why name) [] (visible-one (Noted (Dropped why name)) name refl h) (All-nil IsSeenNote))
 
 -- where a network is well formed, the notes can be seen, and the network that is left is well formed
 abbrev StaysSeen : Course
@@ -124,20 +124,19 @@ fills_seen : (free : Bool) (a b : NetParts) (steps : List Entry) → WellFormed 
 fills_seen free a b steps formed t =
     (of_visits StaysSeen (λ n formed'. (formed', All-nil IsSeenNote)) seen_then (FillsNet free) (visit_seen free) t.end a steps b t.visits formed).1
 
-course_seen : (free : Bool) (c : Command) (a b : NetParts) (steps : List Entry) → IsCommand c → WellFormed a → WellFormed b → CourseOf free c a steps b → AreSeen steps
-course_seen free Drop a b steps is formed formed' g = goes_seen free IsDropStep (λ net note never. absurd never) a b steps g
-course_seen free Sweep a b steps is formed formed' g = goes_seen free IsSweepStep (λ net note never. absurd never) a b steps g
-course_seen free Eliminate a b steps is formed formed' e = eliminates_seen free a b steps formed' e
-course_seen free (Collapse name) a b steps is formed formed' g =
-    goes_seen free (IsCollapseStep name) (collapse_note_seen name (and_parts (is_visible_name name) true is.names.each).0) a b steps g
-course_seen free Kernel a b steps is formed formed' g = absurd g
-course_seen free Cube a b steps is formed formed' g = absurd g
-course_seen free (Simplify down up) a b steps is formed formed' g = absurd g
-course_seen free Merge a b steps is formed formed' g = absurd g
-course_seen free Default a b steps is formed formed' g = absurd g
-course_seen free Determinize a b steps is formed formed' g = absurd g
-course_seen free Encode a b steps is formed formed' g = absurd g
-course_seen free Fill a b steps is formed formed' g = fills_seen free a b steps formed g
+whole_seen : (free : Bool) (c : Command) (a b : NetParts) (steps : List Entry) → IsCommand c → WellFormed a → WellFormed b → WholeOf free c a steps b → AreSeen steps
+whole_seen free Drop a b steps is formed formed' g = goes_seen free IsDropStep (λ net note never. absurd never) a b steps g.steps
+whole_seen free Sweep a b steps is formed formed' g = goes_seen free IsSweepStep (λ net note never. absurd never) a b steps g.steps
+whole_seen free Eliminate a b steps is formed formed' e = eliminates_seen free a b steps formed' (all_some free a b steps e)
+whole_seen free (Collapse name) a b steps is formed formed' g = collapses_seen free name (and_parts (is_visible_name name) true is.names.each).0 a b steps g
+whole_seen free Kernel a b steps is formed formed' g = absurd g
+whole_seen free Cube a b steps is formed formed' g = absurd g
+whole_seen free (Simplify down up) a b steps is formed formed' g = absurd g
+whole_seen free Merge a b steps is formed formed' g = absurd g
+whole_seen free Default a b steps is formed formed' g = absurd g
+whole_seen free Determinize a b steps is formed formed' g = absurd g
+whole_seen free Encode a b steps is formed formed' g = absurd g
+whole_seen free Fill a b steps is formed formed' g = fills_seen free a b steps formed g.tables
 
 -- ---- the notes of commands
 
@@ -146,9 +145,9 @@ numbers_seen note none = All-cons IsSeenNote note [] (visible-none (Noted note) 
 
 does_seen : (free : Bool) (c : Command) (a b : NetParts) (es : List Entry) → IsCommand c → WellFormed a → DoesCommand free c a es b → AreSeen es
 does_seen free c a b es is formed d =
-    let formed' = replayed_formed free (rules_of d.steps) a b formed (course_replays free c a b d.steps d.course) in
+    let formed' = replayed_formed free (rules_of d.steps) a b formed (whole_replays free c a b d.steps d.course) in
     let end = End (literals_in b.nets) in
-    let rest = seen_append d.steps (Noted end ∷ []) (course_seen free c a b d.steps is formed formed' d.course) (numbers_seen end refl) in
+    let rest = seen_append d.steps (Noted end ∷ []) (whole_seen free c a b d.steps is formed formed' d.course) (numbers_seen end refl) in
     subst AreSeen (sym d.entries_are) (All-cons IsSeenNote (Begin c) (notes_of (d.steps ++ Noted end ∷ [])) is.names rest)
 
 -- ---- the notes of scripts

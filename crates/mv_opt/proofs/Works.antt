@@ -64,7 +64,7 @@ module _ (free : Bool) (output : Output) (items : Items) (first net : NetParts) 
         runs = ran.runs;
         noted = Gained-then notes mid notes' _ _ ran.gained (subst P (same_line first net before same) line);
         certified = certified free items first net ran.entries named formed names ran.runs;
-        no_more = runs_no_more free items first net ran.entries formed ran.runs;
+        no_more = λ frugal. runs_no_more free items first net ran.entries frugal formed ran.runs;
         gained = subst Q same_output text;
         back = back;
         refines = refines;

@@ -1,11 +1,13 @@
 -- How a run ends that is asked to optimise a network by a script: one that it reads from a file, or one that it draws itself.
-use Rattle.std.specs.Prelude.{◌≡◌, ◌⊎◌, ℕ, ◌≤◌, Bool, IfSome, List}
+use Rattle.std.specs.Prelude.{◌≡◌, ◌⊎◌, ℕ, ◌≤◌, Bool, true, IfSome, List}
 use Rattle.mv_base.specs.Meaning.{Refines}
 use Rattle.mv_base.specs.Outside.{Stored, Written, Gained, Rose}
 use Rattle.mv_entry.specs.Entries.{Entry}
 use Rattle.mv_net.specs.declared.parts.NetParts.{NetParts}
 use Rattle.mv_net.specs.Nets.{literals_in}
+use Rattle.mv_script_run.specs.Commands.{leaves_no_more}
 use Rattle.mv_script_run.specs.Runs.{Runs}
+use Rattle.mv_script.specs.Commands.{all_commands}
 use Rattle.mv_script.specs.Scripts.{Items}
 use Rattle.mv_files.specs.FileReading.{BeganOne}
 use Rattle.mv_task.specs.Begun.{BeginsFiles}
@@ -31,8 +33,8 @@ pub record Told (free : Bool) (script : List ℕ) (files : Stored) (first net : 
   pub runs : Runs free items first entries net
   pub noted : Gained notes notes' (all_notes entries first net)
   pub certified : IsCertificateOf free entries first net
-  -- it ends with no more literals than it began with
-  pub no_more : literals_in net.nets ≤ literals_in first.nets
+  -- without `determinize` and `encode` it ends with no more literals than it began with
+  pub no_more : all_commands leaves_no_more items ≡ true → literals_in net.nets ≤ literals_in first.nets
 
 -- the network that was left takes the place of the first one. That of a file was written, and reads back so
 abbrev pub Replaces : Bool → Source → Stored → Stored → NetParts → NetParts → Written → Written → Type 0

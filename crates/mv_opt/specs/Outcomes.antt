@@ -1,5 +1,5 @@
 -- How the work on a network ends: the script, then the done line, then the output.
-use Rattle.std.specs.Prelude.{◌≡◌, ◌⊎◌, ℕ, ◌≤◌, Bool, IfSome, List, [], ◌++◌}
+use Rattle.std.specs.Prelude.{◌≡◌, ◌⊎◌, ℕ, ◌≤◌, Bool, true, IfSome, List, [], ◌++◌}
 use Rattle.mv_base.specs.Meaning.{Refines}
 use Rattle.mv_base.specs.Outside.{Stored, Written, Gained, GainedPart, Rose}
 use Rattle.mv_net.specs.declared.parts.NetParts.{NetParts}
@@ -9,7 +9,9 @@ use Rattle.mv_entry.specs.Entries.{Entry, print}
 use Rattle.mv_text_back.specs.Back.{ReadsBack}
 use Rattle.mv_entry.specs.declared.journal.Tally.{Tally}
 use Rattle.mv_entry.specs.Tallies.{with_entries}
+use Rattle.mv_script_run.specs.Commands.{leaves_no_more}
 use Rattle.mv_script_run.specs.Runs.{Runs, RunsTo}
+use Rattle.mv_script.specs.Commands.{all_commands}
 use Rattle.mv_script.specs.Scripts.{Items}
 use Rattle.mv_task.specs.Begun.{BeganAll}
 use Rattle.mv_task.specs.Inputs.{Inputs}
@@ -44,15 +46,15 @@ pub record IsNoteCut (free : Bool) (items : Items) (old new : NetParts) (notes n
   pub stops : RunsTo free items old entries new
   pub gained : GainedPart notes notes' (print entries)
 
--- the work is done: the network that was left may take the place of the first, has no more literals, and its text reads back; and
--- the output was written
+-- the work is done: the network that was left may take the place of the first, has no more literals where no command may leave more,
+-- and its text reads back; and the output was written
 pub record HasWorked (free : Bool) (output : Output) (items : Items) (first : NetParts) (out out' notes notes' : Written) : Type 0 where
   pub entries : List Entry
   pub net : NetParts
   pub runs : Runs free items first entries net
   pub noted : Gained notes notes' (all_notes entries first net)
   pub certified : IsCertificateOf free entries first net
-  pub no_more : literals_in net.nets ≤ literals_in first.nets
+  pub no_more : all_commands leaves_no_more items ≡ true → literals_in net.nets ≤ literals_in first.nets
   pub gained : Gained out out' (output_of output first entries net)
   pub back : ReadsBack net
   pub refines : Refines free (of_net net) (of_net first)

@@ -8,10 +8,12 @@ use Rattle.mv_entry.specs.Tallies.{Journaled}
 use Rattle.mv_net.specs.declared.parts.NetParts.{NetParts}
 use Rattle.mv_net.specs.Allowed.{of_net}
 use Rattle.mv_pass.specs.declared.stop.Stop.{Stop}
+use Rattle.mv_pass.specs.declared.stop.Stop.TheVariants.{Note, Memory}
 use Rattle.mv_pass.specs.Courses.{Course}
 use Rattle.mv_pass.specs.Taking.{Took, GoesOn}
 use Rattle.mv_pass.proofs.Taken.{Took-none, Took-as, Took-then, TookPart-then, GoesOn-none, GoesOn-then}
 use Rattle.mv_pass.specs.Passing.{Passes}
+use Rattle.mv_pass.proofs.Stepped.{Is}
 
 -- such a course came from the one network to the other, and the journal took its entries
 pub record Came (free : Bool) (Reached : Course) (start here : NetParts) (journal journal' : Journaled) : Type 0 where
@@ -56,6 +58,17 @@ came_whole free Whole Stops start here j k came = record {
   memory = λ e. absurd cc;
   note = λ e. absurd cc;
   cause = λ e. absurd cc;
+  refines = came.refines;
+  goes_on = came.goes_on;
+}
+
+-- it stopped between two parts, for want of memory
+pub came_stuck : (free : Bool) (Whole Stops : Course) (start here : NetParts) (j k : Journaled) → Came free Stops start here j k → Passes free Whole Stops start here j k (Err Memory)
+came_stuck free Whole Stops start here j k came = record {
+  ok = tt;
+  memory = λ e. came.took;
+  note = λ e. let bad : Is (Err Memory) Note = e in absurd cc;
+  cause = λ e. let bad : Is (Err Memory) Note = e in absurd cc;
   refines = came.refines;
   goes_on = came.goes_on;
 }

@@ -4,3 +4,5 @@ pub mod Commands
 pub mod Passed
 pub mod Coming
 pub mod Turns
+pub mod Stepped
+pub mod Greedy

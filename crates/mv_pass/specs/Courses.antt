@@ -20,6 +20,16 @@ pub record InTurn (First Second : Course) (old : NetParts) (entries : List Entry
   pub second : Second mid rest new
   pub entries_are : entries ≡ front ++ rest
 
+-- nothing yet, or this course: how something stops of which one entry comes at most
+pub data Perhaps (Whole : Course) (old : NetParts) (entries : List Entry) (new : NetParts) : Type 0 where
+  Still : Nothing old entries new → Perhaps Whole old entries new
+  Through : Whole old entries new → Perhaps Whole old entries new
+
+-- such steps, up to a network of which this holds
+pub record Until (Steps : Course) (Left : NetParts → Type 0) (old : NetParts) (entries : List Entry) (new : NetParts) : Type 0 where
+  pub steps : Steps old entries new
+  pub left : Left new
+
 -- so many rounds, one after the other
 abbrev pub Rounds : ℕ → Course → Course
 Rounds zero Round = Nothing

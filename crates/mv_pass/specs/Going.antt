@@ -23,25 +23,22 @@ begun command steps = Noted (Begin command) ∷ steps
 abbrev pub whole : Command → List Entry → ℕ → List Entry
 whole command steps literals = begun command steps ++ Noted (End literals) ∷ []
 
--- a whole command: it begins, its steps are a course from the old network to the new one, where it may end with them, and it ends
--- with that network's literals, which are a number of 128 bits
-pub record Does (Steps : Course) (Ends : List Entry → NetParts → Type 0) (command : Command)
-    (old : NetParts) (entries : List Entry) (new : NetParts) : Type 0 where
+-- a whole command: it begins, its steps are this course from the old network to the new one, and it ends with that network's
+-- literals, which are a number of 128 bits
+pub record Does (Steps : Course) (command : Command) (old : NetParts) (entries : List Entry) (new : NetParts) : Type 0 where
   pub steps : List Entry
   pub course : Steps old steps new
-  pub ends : Ends steps new
   pub few : literals_in new.nets < 2 ^ 128
   pub entries_are : entries ≡ whole command steps (literals_in new.nets)
 
--- a command that has begun, and has come some way of its course
-pub record HasBegun (Steps : Course) (command : Command) (old : NetParts) (entries : List Entry) (new : NetParts) : Type 0 where
+-- a command that has begun, and has come as far as this course
+pub record HasBegun (Part : Course) (command : Command) (old : NetParts) (entries : List Entry) (new : NetParts) : Type 0 where
   pub steps : List Entry
-  pub course : Steps old steps new
+  pub course : Part old steps new
   pub entries_are : entries ≡ begun command steps
 
--- a command that stops, with these entries: it hasn't begun, it has begun, or it is even whole
-pub data Begun (Steps : Course) (Ends : List Entry → NetParts → Type 0) (command : Command)
-    (old : NetParts) (entries : List Entry) (new : NetParts) : Type 0 where
-  Before : entries ≡ [] → new ≡ old → Begun Steps Ends command old entries new
-  Within : HasBegun Steps command old entries new → Begun Steps Ends command old entries new
-  Behind : Does Steps Ends command old entries new → Begun Steps Ends command old entries new
+-- a command that stops, with these entries: it hasn't begun, it has begun and come a part of its way, or it is even whole
+pub data Begun (Steps Part : Course) (command : Command) (old : NetParts) (entries : List Entry) (new : NetParts) : Type 0 where
+  Before : entries ≡ [] → new ≡ old → Begun Steps Part command old entries new
+  Within : HasBegun Part command old entries new → Begun Steps Part command old entries new
+  Behind : Does Steps command old entries new → Begun Steps Part command old entries new

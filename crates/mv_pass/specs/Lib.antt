@@ -2,3 +2,4 @@ pub mod Courses
 pub mod Going
 pub mod Taking
 pub mod Passing
+pub mod Ending

@@ -1,4 +1,4 @@
--- How a part of a run answers: a command, or some of a script.
+-- How a part of a run answers: a step, a command, or some of a script.
 use Rattle.std.specs.Prelude.{◌≡◌, Bool, Result, Err, OnOk}
 use Rattle.mv_base.specs.Meaning.{Refines}
 use Rattle.mv_base.specs.Outside.{Rose}

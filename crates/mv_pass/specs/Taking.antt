@@ -6,7 +6,6 @@ use Rattle.mv_entry.specs.Entries.{Entry, Applied, entry_text, print}
 use Rattle.mv_entry.specs.Tallies.{Journaled, with_entry, with_entries}
 use Rattle.mv_net.specs.declared.parts.NetParts.{NetParts}
 use Rattle.mv_rules.specs.Applies.{Applies}
-use Rattle.mv_pass.specs.Going.{Goes}
 
 -- a journal took such entries: it gained their text, and counted them
 pub record Took (Are : List Entry → Type 0) (old new : Journaled) : Type 0 where
@@ -30,14 +29,6 @@ pub record GoesOn (old new : Journaled) : Type 0 where
 pub record CanApply (free : Bool) (rule : Rule) (old : NetParts) : Type 0 where
   pub new : NetParts
   pub applies : Applies free rule old new
-
--- some steps of a command led from one network to the other, and the journal took them
-abbrev pub Went : Bool → (NetParts → Entry → Type 0) → NetParts → NetParts → Journaled → Journaled → Type 0
-Went free Lawful old new journal journal' = Took (λ steps. Goes free Lawful old steps new) journal journal'
-
--- some steps of a command led from one network to the other, and the journal gained some first part of their text
-abbrev pub WentPart : Bool → (NetParts → Entry → Type 0) → NetParts → NetParts → Journaled → Journaled → Type 0
-WentPart free Lawful old new journal journal' = TookPart (λ steps. Goes free Lawful old steps new) journal journal'
 
 -- a rule applied, and the journal took it
 pub record TookRule (free : Bool) (rule : Rule) (old new : NetParts) (journal journal' : Journaled) : Type 0 where

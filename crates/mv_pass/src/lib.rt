@@ -2,10 +2,11 @@
 //! of a command to its end, or to where it stops.
 #![tactic(auto)]
 
+mod ending;
 mod laws;
 mod stop;
 mod taking;
 
-pub use laws::few_literals;
+pub use ending::end;
 pub use stop::Stop;
 pub use taking::take;

@@ -11,3 +11,8 @@ pub mod OneTable
 pub mod Matching
 pub mod Marked
 pub mod Renumbered
+pub mod Possible
+pub mod Bare
+pub mod Alike
+pub mod LineSets
+pub mod Existing

@@ -3,8 +3,13 @@
 
 mod column;
 mod cube;
+mod line_set;
 mod lines;
+mod looks;
+mod stop;
 mod table;
 
 pub use column::{Column, Frame, Placed};
-pub use table::{FlatTable, flat_table};
+pub use looks::is_marked;
+pub use stop::RowStop;
+pub use table::{FlatTable, flat_table, flat_table_within};

@@ -1,17 +1,21 @@
-ghost use Rattle.std.specs.Prelude.{◌≡◌, List, ◌++◌, ◌∷◌, [], true, false, length, nat_eq, map, option_copied, Some, None, IfOk, OnOk, All};
+ghost use Rattle.std.specs.Prelude.{◌≡◌, List, ◌++◌, ◌∷◌, [], true, false, length, nat_eq, map, option_copied, Some, None, IfErr, IfOk, OnOk, All};
 ghost use Rattle.std.specs.List.{list_any};
 ghost use Rattle.mv_base.specs.Set.{empty};
-ghost use Rattle.mv_cover.specs.Absorb.{some_bare};
+ghost use Rattle.mv_cover.specs.Absorb.{firsts, some_bare};
 ghost use Rattle.mv_cover.specs.Equal.{line_eq};
 ghost use Rattle.mv_design.specs.declared.table.Entry.{Entry};
 ghost use Rattle.mv_rows.specs.Cubes.{AreColumns, IsFrame, FitRow};
 ghost use Rattle.mv_rows.specs.Lines.{AddsLines, EntryLines, FitEntry};
 ghost use Rattle.mv_rows.specs.Flat.{only_entry, IsRow, IsTable, IsDefault, RowsLines, kept, insert_kept, says_nothing, default_left};
-ghost use Rattle.mv_rows.specs.Flat.{plain_default, mark_cover, with_mark, marked_sets, unmarked, IsMarked, IsMade};
+ghost use Rattle.mv_rows.specs.Flat.{plain_default, mark_cover, with_mark, marked_sets, unmarked, IsMarked, FlatOf, IsMade};
 ghost use Rattle.mv_rows.specs.Covers.{IsFlatTable};
+ghost use Rattle.mv_rows.specs.Many.{StopsAt};
+ghost use Rattle.mv_rows.specs.Once.{AreDistinct, AreLinesOf, IsListed, StopsLines};
 ghost use Rattle.mv_rows.specs.Marked.{is_marked};
 
 use crate::column::{Column, Frame};
+use crate::line_set::LineSet;
+use crate::stop::RowStop;
 use indexmap::IndexSet;
 use mv_base::{Items, Memory, NetId, PackedSet, Value};
 use mv_cover::{Cover, Line};
@@ -44,35 +48,119 @@ pub fn flat_table(
     ensures lines { IfOk result (λ flat. IsMade columns.now table.now mark flat) }
     ensures relation { IfOk result (λ flat. IsFlatTable columns.now table.now mark flat) }
 {
-    made(alloc, columns, table, mark)
+    match made(alloc, columns, table, mark, usize::MAX) {
+        Ok(flat) => Ok(flat),
+        Err(_stop) => Err(Memory),
+    }
+}
+
+/// The same, where the lines are counted while they are made: none behind the first with which more than `most` distinct ones
+/// have an output.
+#[tactic(auto, using(crate::proofs::Flat::IsFlatTable_made))]
+pub fn flat_table_within(
+    alloc: Global,
+    columns: &[Column],
+    table: &FileTable,
+    mark: NetId,
+    most: usize,
+) -> Result<FlatTable, RowStop>
+    requires columns { AreColumns columns.now }
+    requires with_mark { AreColumns (with_mark columns.now mark) }
+    requires unread { is_marked columns.now table.now ≡ true → list_any (λ c. nat_eq c.net.0 mark.0) columns.now ≡ false }
+    requires table { IsTable columns.now table.now }
+    ensures lines { IfOk result (λ flat. IsMade columns.now table.now mark flat) }
+    ensures relation { IfOk result (λ flat. IsFlatTable columns.now table.now mark flat) }
+    ensures stop { IfErr result (λ stop. StopsAt columns.now table.now mark most stop) }
+{
+    made(alloc, columns, table, mark, most)
 }
 
 /// The covers of a table with these columns and one output, line by line. `mark` is the net of the mark, should one be
 /// needed.
+#[tactic(auto, using(crate::proofs::Alike::table_made, crate::proofs::Existing::table_stops))]
 fn made(
     alloc: Global,
     columns: &[Column],
     table: &FileTable,
     mark: NetId,
-) -> Result<FlatTable, Memory>
+    most: usize,
+) -> Result<FlatTable, RowStop>
     requires columns { AreColumns columns.now }
     requires with_mark { AreColumns (with_mark columns.now mark) }
     requires table { IsTable columns.now table.now }
-    ensures { IfOk result (λ flat. IsMade columns.now table.now mark flat) }
+    ensures lines { IfOk result (λ flat. IsMade columns.now table.now mark flat) }
+    ensures stop { IfErr result (λ stop. StopsAt columns.now table.now mark most stop) }
 {
     let frame = Frame::new(alloc, columns)?;
-    let lines = row_lines(alloc, &frame, table.rows.as_slice())?;
-    let Some(entry) = left(&table.default, lines.as_slice()) else {
+    let lines = match row_lines(alloc, &frame, table.rows.as_slice(), most) {
+        Ok(lines) => lines,
+        Err(stop) => return Err(stop),
+    };
+    Ok(covered(alloc, columns, &table.default, mark, lines)?)
+}
+
+/// The covers of a table with these lines and this default.
+fn covered(
+    alloc: Global,
+    columns: &[Column],
+    default: &Option<Items<Entry>>,
+    mark: NetId,
+    lines: RowLines,
+) -> Result<FlatTable, Memory>
+    requires with_mark { AreColumns (with_mark columns.now mark) }
+    requires default { (entries : List Entry) → default.now ≡ Some entries → IsDefault columns.now entries }
+    requires lines { IsListed lines }
+    ensures { IfOk result (λ flat. FlatOf columns.now mark lines.list.items (default_left default.now lines.list.items) flat) }
+{
+    let Some(entry) = left(default, lines.list.as_slice()) else {
         return without_mark(alloc, lines, None);
     };
-    match plain(entry, lines.as_slice()) {
+    match plain(entry, lines.list.as_slice()) {
         Some(out) => without_mark(alloc, lines, Some(out.copy()?)),
-        None => with_mark(alloc, columns, lines, entry, mark),
+        None => with_mark(alloc, columns, lines.list, entry, mark),
     }
 }
 
-/// The lines of the rows, row after row. Their outputs may be empty.
-fn row_lines(alloc: Global, frame: &Frame, rows: &[Row]) -> Result<Vec<Line>, Memory>
+/// Lines of rows, and whether each is known to be equal to none before it.
+#[derive(Drop)]
+pub struct RowLines {
+    pub list: Vec<Line>,
+    pub distinct: bool,
+}
+
+/// Of so many rows or fewer the lines are put one behind the other, with no index.
+const FEW_ROWS: usize = 8;
+
+/// The lines of the rows, row after row, at most one of each. Their outputs may be empty. There are none where more than `most`
+/// distinct ones have an output, unless the rows are few.
+#[tactic(auto, using(crate::proofs::Alike::lines_few, crate::proofs::Alike::lines_distinct, crate::proofs::Alike::listed_distinct))]
+fn row_lines(alloc: Global, frame: &Frame, rows: &[Row], most: usize) -> Result<RowLines, RowStop>
+    requires frame { IsFrame frame.now }
+    requires rows { All (IsRow frame.now.columns) rows.now }
+    ensures lines { IfOk result (λ lines. AreLinesOf frame.now.columns rows.now lines.list.items) }
+    ensures listed { IfOk result (λ lines. IsListed lines) }
+    ensures stop { IfErr result (λ stop. StopsLines frame.now.columns rows.now most stop) }
+{
+    if rows.len() <= FEW_ROWS {
+        let list = few_lines(alloc, frame, rows)?;
+        return Ok(RowLines {
+            list,
+            distinct: false,
+        });
+    }
+    let set = match distinct_lines(alloc, frame, rows, most) {
+        Ok(set) => set,
+        Err(stop) => return Err(stop),
+    };
+    let list = collected(alloc, set.lines)?;
+    Ok(RowLines {
+        list,
+        distinct: true,
+    })
+}
+
+/// The lines of few rows, row after row.
+fn few_lines(alloc: Global, frame: &Frame, rows: &[Row]) -> Result<Vec<Line>, Memory>
     requires frame { IsFrame frame.now }
     requires rows { All (IsRow frame.now.columns) rows.now }
     ensures { IfOk result (λ lines. RowsLines frame.now.columns rows.now lines.items) }
@@ -82,6 +170,40 @@ fn row_lines(alloc: Global, frame: &Frame, rows: &[Row]) -> Result<Vec<Line>, Me
         let entry = only(&row.outs);
         frame.put_row(&mut lines, alloc, row.ins.as_slice(), entry)?;
     }
+    Ok(lines)
+}
+
+/// The distinct lines of the rows.
+fn distinct_lines(
+    alloc: Global,
+    frame: &Frame,
+    rows: &[Row],
+    most: usize,
+) -> Result<LineSet, RowStop>
+    requires frame { IsFrame frame.now }
+    requires rows { All (IsRow frame.now.columns) rows.now }
+    ensures lines { IfOk result (λ set. AreDistinct frame.now.columns rows.now most set) }
+    ensures stop { IfErr result (λ stop. StopsLines frame.now.columns rows.now most stop) }
+{
+    let mut set = LineSet::new(alloc, most);
+    for row in rows {
+        let here = one_row(alloc, frame, row)?;
+        match set.put_all(here) {
+            Ok(()) => {}
+            Err(stop) => return Err(stop),
+        }
+    }
+    Ok(set)
+}
+
+/// The lines of one row.
+fn one_row(alloc: Global, frame: &Frame, row: &Row) -> Result<Vec<Line>, Memory>
+    requires frame { IsFrame frame.now }
+    requires row { IsRow frame.now.columns row.now }
+    ensures { IfOk result (λ lines. EntryLines frame.now.columns row.now.ins (only_entry row.now.outs) lines.items) }
+{
+    let mut lines = Vec::new(alloc);
+    frame.put_row(&mut lines, alloc, row.ins.as_slice(), only(&row.outs))?;
     Ok(lines)
 }
 
@@ -148,16 +270,19 @@ fn some_output_is_empty(lines: &[Line]) -> bool
 /// The table with these lines and this default.
 fn without_mark(
     alloc: Global,
-    lines: Vec<Line>,
+    lines: RowLines,
     default: Option<PackedSet>,
 ) -> Result<FlatTable, Memory>
-    ensures { IfOk result (λ flat. flat ≡ unmarked lines.items default) }
+    requires { IsListed lines }
+    ensures { IfOk result (λ flat. flat ≡ unmarked lines.list.items default) }
 {
+    let lines = if lines.distinct {
+        kept_of_distinct(alloc, lines.list)?
+    } else {
+        kept(alloc, lines.list)?
+    };
     Ok(FlatTable {
-        cover: Cover {
-            lines: kept(alloc, lines)?,
-            default,
-        },
+        cover: Cover { lines, default },
         mark: None,
     })
 }
@@ -252,6 +377,21 @@ fn kept(alloc: Global, lines: Vec<Line>) -> Result<Items<Line>, Memory>
     }
 }
 
+/// The same for lines none of which is equal to an earlier one.
+#[tactic(auto, using(crate::proofs::Alike::kept_distinct))]
+fn kept_of_distinct(alloc: Global, lines: Vec<Line>) -> Result<Items<Line>, Memory>
+    requires { firsts lines.items ≡ lines.items }
+    ensures { IfOk result (λ list. list ≡ kept lines.items) }
+{
+    let mut said = Vec::with_capacity(alloc, lines.len())?;
+    for line in lines {
+        if !line.out.is_empty() {
+            said.push(line)?;
+        }
+    }
+    Ok(Items::of(said))
+}
+
 /// The same for few lines.
 #[tactic(auto, using(mv_cover::proofs::Absorbing::inserted_firsts))]
 fn kept_of_few(alloc: Global, lines: Vec<Line>) -> Result<Items<Line>, Memory>
@@ -310,5 +450,12 @@ fn put_kept(distinct: &mut IndexSet<Line>, line: Line) -> Result<(), Memory>
 fn listed(alloc: Global, lines: IndexSet<Line>) -> Result<Items<Line>, Memory>
     ensures { IfOk result (λ list. list ≡ lines.keys) }
 {
-    Ok(Items::of(lines.into_iter().collect(alloc)?))
+    Ok(Items::of(collected(alloc, lines)?))
+}
+
+/// The lines of a set in a vector, in order.
+fn collected(alloc: Global, lines: IndexSet<Line>) -> Result<Vec<Line>, Memory>
+    ensures { IfOk result (λ list. list.items ≡ lines.keys) }
+{
+    Ok(lines.into_iter().collect(alloc)?)
 }

@@ -1,7 +1,7 @@
--- No script ends with more literals than it began with.
+-- No script without `determinize` and `encode` ends with more literals than it began with.
 use Rattle.std.proofs.Common.{◌≡◌, ◌∙◌, ℕ, ◌≤◌, Bool, true, is_some, List, [], ◌∷◌, ◌++◌, Option, Some, None, refl, sym, ap, subst, arith}
 use Rattle.std.proofs.lemmas.Bool.{false≢true}
-use Rattle.mv_collapse.specs.Collapses.{IsCollapseStep}
+use Rattle.mv_collapse.specs.Collapses.{CollapsesNet, Collapsed, Remains}
 use Rattle.mv_collapse.specs.Eliminates.{IsEliminateStep}
 use Rattle.mv_entry.specs.declared.note.Command.{Command}
 use Rattle.mv_entry.specs.declared.note.Command.TheVariants.{Drop, Sweep, Eliminate, Collapse, Kernel, Cube, Simplify, Merge, Default, Determinize, Encode, Fill}
@@ -26,10 +26,11 @@ use Rattle.mv_rules.proofs.Replayed.{replayed_formed}
 use Rattle.mv_sweep.proofs.Filled.{fills_no_more}
 use Rattle.mv_sweep.specs.Drops.{IsDropStep}
 use Rattle.mv_sweep.specs.Sweeps.{IsSweepStep}
+use Rattle.mv_script.specs.Commands.{all_commands}
 use Rattle.mv_script.specs.Scripts.{Items}
-use Rattle.mv_script_run.specs.Commands.{CourseOf, RunsCommand}
+use Rattle.mv_script_run.specs.Commands.{WholeOf, DoesCommand, RunsCommand, leaves_no_more}
 use Rattle.mv_script_run.specs.Runs.{Runs}
-use Rattle.mv_script_run.proofs.Inductions.{of_items, any_commands}
+use Rattle.mv_script_run.proofs.Inductions.{of_items}
 use Rattle.mv_script_run.proofs.Rules.{does_replays}
 
 -- a network has at most as many literals as another
@@ -89,31 +90,29 @@ eliminate_no_more free a b (CollapseNet name) formed lawful p =
     subst (λ c. NoMore a c) (sym same) saving.no_more
 eliminate_no_more free a b _ formed lawful p = absurd lawful
 
-collapse_no_more : (free : Bool) (name : List ℕ) (a b : NetParts) (r : Rule) → WellFormed a → IsCollapseStep name a (Applied r) → Applies free r a b → NoMore a b
-collapse_no_more free name a b (Remove w) formed lawful p = absurd lawful
-collapse_no_more free name a b (Add w body) formed lawful p = absurd lawful
-collapse_no_more free name a b (Divide w by body) formed lawful p = absurd lawful
-collapse_no_more free name a b (Wire w) formed lawful p = absurd lawful
-collapse_no_more free name a b (CollapseNet w) formed (same, fewer) p =
-    let applies : Collapses a w fewer.new = subst (λ v. Collapses a v fewer.new) (sym same) fewer.applies in
-    subst (λ c. NoMore a c) (one_network free (CollapseNet w) a fewer.new b formed applies p) fewer.no_more
-collapse_no_more free name a b _ formed lawful p = absurd lawful
+collapse_no_more : (free : Bool) (name : List ℕ) (a b : NetParts) (steps : List Entry) → WellFormed a → CollapsesNet free name a steps b → NoMore a b
+collapse_no_more free name a b steps formed (Collapsed f applies is) = subst (λ c. NoMore a c) (one_network free (CollapseNet name) a f.new b formed f.applies applies) f.no_more
+collapse_no_more free name a b steps formed (Remains why stays is same) =
+    let e : literals_in b.nets ≡ literals_in a.nets = ap (λ (n : NetParts). literals_in n.nets) same in omega (arith, e)
 
 -- ---- commands
 
-course_no_more : (free : Bool) (c : Command) (a b : NetParts) (steps : List Entry) → WellFormed a → CourseOf free c a steps b → NoMore a b
-course_no_more free Drop a b steps formed g = goes_no_more free IsDropStep (drop_no_more free) a b steps formed g
-course_no_more free Sweep a b steps formed g = goes_no_more free IsSweepStep (sweep_no_more free) a b steps formed g
-course_no_more free Eliminate a b steps formed e = goes_no_more free IsEliminateStep (eliminate_no_more free) a b e.collapses formed e.goes
-course_no_more free (Collapse name) a b steps formed g = goes_no_more free (IsCollapseStep name) (collapse_no_more free name) a b steps formed g
-course_no_more free Kernel a b steps formed g = absurd g
-course_no_more free Cube a b steps formed g = absurd g
-course_no_more free (Simplify down up) a b steps formed g = absurd g
-course_no_more free Merge a b steps formed g = absurd g
-course_no_more free Default a b steps formed g = absurd g
-course_no_more free Determinize a b steps formed g = absurd g
-course_no_more free Encode a b steps formed g = absurd g
-course_no_more free Fill a b steps formed g = fills_no_more free a b steps g
+whole_no_more : (free : Bool) (c : Command) (a b : NetParts) (steps : List Entry) → leaves_no_more c ≡ true → WellFormed a → WholeOf free c a steps b → NoMore a b
+whole_no_more free Drop a b steps frugal formed g = goes_no_more free IsDropStep (drop_no_more free) a b steps formed g.steps
+whole_no_more free Sweep a b steps frugal formed g = goes_no_more free IsSweepStep (sweep_no_more free) a b steps formed g.steps
+whole_no_more free Eliminate a b steps frugal formed e = goes_no_more free IsEliminateStep (eliminate_no_more free) a b e.collapses formed e.goes.steps
+whole_no_more free (Collapse name) a b steps frugal formed g = collapse_no_more free name a b steps formed g
+whole_no_more free Kernel a b steps frugal formed g = absurd g
+whole_no_more free Cube a b steps frugal formed g = absurd g
+whole_no_more free (Simplify down up) a b steps frugal formed g = absurd g
+whole_no_more free Merge a b steps frugal formed g = absurd g
+whole_no_more free Default a b steps frugal formed g = absurd g
+whole_no_more free Determinize a b steps frugal formed g = absurd (false≢true frugal)
+whole_no_more free Encode a b steps frugal formed g = absurd (false≢true frugal)
+whole_no_more free Fill a b steps frugal formed g = fills_no_more free a b steps g.tables
+
+pub does_no_more : (free : Bool) (c : Command) (a b : NetParts) (es : List Entry) → leaves_no_more c ≡ true → WellFormed a → DoesCommand free c a es b → literals_in b.nets ≤ literals_in a.nets
+does_no_more free c a b es frugal formed d = whole_no_more free c a b d.steps frugal formed d.course
 
 -- ---- scripts
 
@@ -127,10 +126,10 @@ few_then a b c xs ys p q formed =
     let second = q first.0 in
     (second.0, omega (arith, first.1, second.1))
 
-command_few : (free : Bool) (a b : NetParts) (c : Command) (es : List Entry) → RunsCommand free c a es b → StaysFew a es b
-command_few free a b c es r formed =
-    (replayed_formed free (rules_of es) a b formed (does_replays free c a b es r.does), course_no_more free c a b r.does.steps formed r.does.course)
+command_few : (free : Bool) (c : Command) → leaves_no_more c ≡ true → (a : NetParts) (es : List Entry) (b : NetParts) → RunsCommand free c a es b → StaysFew a es b
+command_few free c frugal a es b r formed =
+    (replayed_formed free (rules_of es) a b formed (does_replays free c a b es r.does), does_no_more free c a b es frugal formed r.does)
 
-pub runs_no_more : (free : Bool) (items : Items) (a b : NetParts) (es : List Entry) → WellFormed a → Runs free items a es b → literals_in b.nets ≤ literals_in a.nets
-runs_no_more free items a b es formed r =
-    (of_items free StaysFew (λ n formed'. (formed', omega arith)) few_then (λ c. true) (λ c h m fs n d. command_few free m n c fs d) items (any_commands items) a es b r formed).1
+pub runs_no_more : (free : Bool) (items : Items) (a b : NetParts) (es : List Entry) → all_commands leaves_no_more items ≡ true → WellFormed a → Runs free items a es b → literals_in b.nets ≤ literals_in a.nets
+runs_no_more free items a b es frugal formed r =
+    (of_items free StaysFew (λ n formed'. (formed', omega arith)) few_then leaves_no_more (command_few free) items frugal a es b r formed).1

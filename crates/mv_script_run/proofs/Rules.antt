@@ -2,14 +2,15 @@
 use Rattle.std.proofs.Common.{◌≡◌, ◌∙◌, ℕ, Bool, true, List, [], ◌∷◌, ◌++◌, map, refl, sym, ap, subst, ⊎_elim}
 use Rattle.std.proofs.lemmas.List.{append-nil}
 use Rattle.mv_base.specs.declared.number.NetId.{NetId}
-use Rattle.mv_collapse.specs.Collapses.{IsCollapseStep}
+use Rattle.mv_collapse.specs.Collapses.{CollapsesNet, Collapsed, Remains}
 use Rattle.mv_collapse.specs.Eliminates.{IsEliminateStep, Eliminates, HasNoted, NotesWide, wide_note}
+use Rattle.mv_collapse.proofs.Eliminated.{all_some}
 use Rattle.mv_gain.specs.Savings.{NoneSaves}
 use Rattle.mv_entry.specs.declared.note.Command.{Command}
 use Rattle.mv_entry.specs.declared.note.Command.TheVariants.{Drop, Sweep, Eliminate, Collapse, Kernel, Cube, Simplify, Merge, Default, Determinize, Encode, Fill}
 use Rattle.mv_entry.specs.Entries.{Entry, rules_of}
 use Rattle.mv_net.specs.declared.parts.NetParts.{NetParts}
-use Rattle.mv_pass.specs.Courses.{Course}
+use Rattle.mv_pass.specs.Courses.{Course, Perhaps, Still, Through}
 use Rattle.mv_pass.specs.Going.{Before, Within, Behind}
 use Rattle.mv_pass.proofs.Going.{goes_replays, rules_of-append}
 use Rattle.mv_rules.specs.Replaying.{Replays}
@@ -18,7 +19,7 @@ use Rattle.mv_script.specs.Scripts.{Items}
 use Rattle.mv_sweep.proofs.Filled.{fills_replays}
 use Rattle.mv_sweep.specs.Drops.{IsDropStep}
 use Rattle.mv_sweep.specs.Sweeps.{IsSweepStep}
-use Rattle.mv_script_run.specs.Commands.{CourseOf, DoesCommand, BegunCommand}
+use Rattle.mv_script_run.specs.Commands.{WholeOf, PartOf, DoesCommand, BegunCommand}
 use Rattle.mv_script_run.specs.Runs.{Runs, RunsTo}
 use Rattle.mv_script_run.proofs.Inductions.{of_items, of_stopped, any_commands}
 
@@ -42,20 +43,47 @@ eliminates_replays free a b steps e =
     ap rules_of e.steps_are ∙ (rules_of-append e.collapses e.notes ∙ (ap (λ rs. rules_of e.collapses ++ rs) (noted_ruleless b e.notes e.noted) ∙ append-nil (rules_of e.collapses))) in
     subst (λ rs. Replays free rs a b) (sym rules) (goes_replays free IsEliminateStep a b e.collapses e.goes)
 
--- the rules among the steps of a command apply in turn
-pub course_replays : (free : Bool) (c : Command) (a b : NetParts) (steps : List Entry) → CourseOf free c a steps b → Replays free (rules_of steps) a b
-course_replays free Drop a b steps g = goes_replays free IsDropStep a b steps g
-course_replays free Sweep a b steps g = goes_replays free IsSweepStep a b steps g
-course_replays free Eliminate a b steps e = eliminates_replays free a b steps e
-course_replays free (Collapse name) a b steps g = goes_replays free (IsCollapseStep name) a b steps g
-course_replays free Kernel a b steps g = absurd g
-course_replays free Cube a b steps g = absurd g
-course_replays free (Simplify down up) a b steps g = absurd g
-course_replays free Merge a b steps g = absurd g
-course_replays free Default a b steps g = absurd g
-course_replays free Determinize a b steps g = absurd g
-course_replays free Encode a b steps g = absurd g
-course_replays free Fill a b steps g = fills_replays free a b steps g
+-- the one step of `collapse NET`
+collapses_replays : (free : Bool) (name : List ℕ) (a b : NetParts) (steps : List Entry) → CollapsesNet free name a steps b → Replays free (rules_of steps) a b
+collapses_replays free name a b steps (Collapsed f applies is) = subst (λ es. Replays free (rules_of es) a b) (sym is) (b, (applies, refl))
+collapses_replays free name a b steps (Remains why stays is same) = subst (λ es. Replays free (rules_of es) a b) (sym is) same
+
+collapse_replays : (free : Bool) (name : List ℕ) (a b : NetParts) (steps : List Entry) → Perhaps (CollapsesNet free name) a steps b → Replays free (rules_of steps) a b
+collapse_replays free name a b steps (Still still) = subst (λ es. Replays free (rules_of es) a b) (sym still.0) still.1
+collapse_replays free name a b steps (Through c) = collapses_replays free name a b steps c
+
+-- the rules among the steps of a command that has come a part of its way apply in turn
+part_replays : (free : Bool) (c : Command) (a b : NetParts) (steps : List Entry) → PartOf free c a steps b → Replays free (rules_of steps) a b
+part_replays free Drop a b steps g = goes_replays free IsDropStep a b steps g
+part_replays free Sweep a b steps g = goes_replays free IsSweepStep a b steps g
+part_replays free Eliminate a b steps e = eliminates_replays free a b steps e
+part_replays free (Collapse name) a b steps g = collapse_replays free name a b steps g
+part_replays free Kernel a b steps g = absurd g
+part_replays free Cube a b steps g = absurd g
+part_replays free (Simplify down up) a b steps g = absurd g
+part_replays free Merge a b steps g = absurd g
+part_replays free Default a b steps g = absurd g
+part_replays free Determinize a b steps g = absurd g
+part_replays free Encode a b steps g = absurd g
+part_replays free Fill a b steps g = fills_replays free a b steps g
+
+-- the whole way is a part of it too
+whole_part : (free : Bool) (c : Command) (a b : NetParts) (steps : List Entry) → WholeOf free c a steps b → PartOf free c a steps b
+whole_part free Drop a b steps g = g.steps
+whole_part free Sweep a b steps g = g.steps
+whole_part free Eliminate a b steps e = all_some free a b steps e
+whole_part free (Collapse name) a b steps g = Through g
+whole_part free Kernel a b steps g = absurd g
+whole_part free Cube a b steps g = absurd g
+whole_part free (Simplify down up) a b steps g = absurd g
+whole_part free Merge a b steps g = absurd g
+whole_part free Default a b steps g = absurd g
+whole_part free Determinize a b steps g = absurd g
+whole_part free Encode a b steps g = absurd g
+whole_part free Fill a b steps g = g.tables
+
+pub whole_replays : (free : Bool) (c : Command) (a b : NetParts) (steps : List Entry) → WholeOf free c a steps b → Replays free (rules_of steps) a b
+whole_replays free c a b steps g = part_replays free c a b steps (whole_part free c a b steps g)
 
 -- ---- whole commands, and those that stop
 
@@ -63,11 +91,11 @@ module _ (free : Bool) (c : Command) (a b : NetParts) (es : List Entry) where
   -- the notes of a command's beginning and end are no rules
   pub does_replays : DoesCommand free c a es b → Replays free (rules_of es) a b
   does_replays d =
-      subst (λ rs. Replays free rs a b) (sym (ap rules_of d.entries_are ∙ (rules_of-append d.steps _ ∙ append-nil (rules_of d.steps)))) (course_replays free c a b d.steps d.course)
+      subst (λ rs. Replays free rs a b) (sym (ap rules_of d.entries_are ∙ (rules_of-append d.steps _ ∙ append-nil (rules_of d.steps)))) (whole_replays free c a b d.steps d.course)
 
   begun_replays : BegunCommand free c a es b → Replays free (rules_of es) a b
   begun_replays (Before none same) = subst (λ xs. Replays free (rules_of xs) a b) (sym none) same
-  begun_replays (Within p) = subst (λ rs. Replays free rs a b) (sym (ap rules_of p.entries_are)) (course_replays free c a b p.steps p.course)
+  begun_replays (Within p) = subst (λ rs. Replays free rs a b) (sym (ap rules_of p.entries_are)) (part_replays free c a b p.steps p.course)
   begun_replays (Behind d) = does_replays d
 
 -- ---- scripts

@@ -1,5 +1,5 @@
 -- The course of `fill`: what a visit leaves, one visit more, and where all nets were visited.
-use Rattle.std.proofs.Common.{◌≡◌, ◌∙◌, ℕ, zero, suc, ◌+◌, ◌<◌, ◌≤◌, Bool, true, false, List, [], ◌∷◌, ◌++◌, length, Option, Some, None, is_some, Err, refl, sym, ap, subst, ⊎_elim, arith}
+use Rattle.std.proofs.Common.{◌≡◌, ◌∙◌, ℕ, zero, suc, ◌+◌, ◌<◌, ◌≤◌, Bool, true, false, List, [], ◌∷◌, ◌++◌, length, Option, Some, None, is_some, refl, sym, ap, subst, ⊎_elim, arith}
 use Rattle.std.specs.Prelude.{Contains}
 use Rattle.std.proofs.lemmas.Bool.{cases_lt, false≢true}
 use Rattle.std.proofs.lemmas.List.{append-nil, get_or_past}
@@ -21,14 +21,7 @@ use Rattle.mv_net.specs.Nets.{slot, name_in, table_in, table_literals, literals_
 use Rattle.mv_net.specs.Total.{IsTotalNet}
 use Rattle.mv_net.proofs.Tallied.{literals-set}
 use Rattle.mv_net.proofs.Totals.{default_total}
-use Rattle.mv_base.proofs.Meanings.{Refines-refl}
-use Rattle.mv_entry.specs.Tallies.{Journaled}
-use Rattle.mv_net.specs.Allowed.{of_net}
-use Rattle.mv_pass.specs.declared.stop.Stop.TheVariants.{Note, Memory}
-use Rattle.mv_pass.specs.Courses.{Course, Nothing, Visits}
-use Rattle.mv_pass.specs.Passing.{Passes}
-use Rattle.mv_pass.specs.Taking.{Took}
-use Rattle.mv_pass.proofs.Taken.{Took-as, Took-none, GoesOn-none}
+use Rattle.mv_pass.specs.Courses.{Course, Nothing, Perhaps, Still, Through, Visits}
 use Rattle.mv_pass.proofs.Going.{rules_of-append}
 use Rattle.mv_pass.proofs.Turns.{of_visits, of_nothing, visits_more}
 use Rattle.mv_rules.specs.Applies.{Applies}
@@ -36,9 +29,8 @@ use Rattle.mv_rules.specs.Filling.{Fills, with_default}
 use Rattle.mv_rules.specs.Replaying.{Replays}
 use Rattle.mv_rules.proofs.Kept.{kept_formed}
 use Rattle.mv_rules.proofs.Replayed.{replayed_then}
-use Rattle.mv_sweep.specs.Fills.{IsUnfilled, StaysFor, note_of, rule_of, FillsNet, LetBe, Stays, Filled, FillsTables, IsNoted, EndsFill}
-use Rattle.mv_sweep.specs.Filling.{KeepsPlain, Perhaps, Still, Through, HasFilled, FillsAll}
-use Rattle.mv_sweep.proofs.Visiting.{Is}
+use Rattle.mv_sweep.specs.Fills.{IsUnfilled, StaysFor, note_of, rule_of, FillsNet, LetBe, Stays, Filled, FillsTables, FillsAll, IsNoted}
+use Rattle.mv_sweep.specs.Filling.{KeepsPlain, HasFilled}
 use Rattle.mv_sweep.proofs.FilledNets.{count-one, bare, here, there, long, keeps, unfilled_before}
 
 -- a note of a net with this name
@@ -152,33 +144,16 @@ past_full nets n past u = false≢true (ap (λ f. is_some (table_in f)) (sym (ge
 pub filled_all : (free : Bool) (end : ℕ) (start new : NetParts) (es : List Entry) → end ≡ length start.nets → HasFilled free end start es new → FillsAll free start es new
 filled_all free end start new es all p = record {
   tables = record { end = end; within = omega (arith, all); visits = p.visits };
-  ends = record {
-    each = λ n u.
-        ⊎_elim
-        (λ (low : n < end). p.noted n low u)
-        (λ (past : end ≤ n). absurd (past_full new.nets n (omega (arith, all, p.long)) u))
-        (cases_lt n end);
-  };
+  noted = λ n u.
+      ⊎_elim
+      (λ (low : n < end). p.noted n low u)
+      (λ (past : end ≤ n). absurd (past_full new.nets n (omega (arith, all, p.long)) u))
+      (cases_lt n end);
 }
 
 -- no step is some way of the course
 pub not_begun : (free : Bool) (net : NetParts) → FillsTables free net [] net
 not_begun free net = record { end = 0; within = omega arith; visits = (refl, refl) }
-
--- the journal took all steps
-pub took_both : (free : Bool) (a b : NetParts) (j k : Journaled) → Took (λ es. FillsAll free a es b) j k → Took (λ es. FillsTables free a es b × EndsFill es b) j k
-took_both free a b j k t = Took-as j k (λ es p. (p.tables, p.ends)) t
-
--- stopped before the first visit, for want of memory
-pub not_marked : (free : Bool) (a : NetParts) (j : Journaled) → Passes free (FillsAll free) (FillsTables free) a a j j (Err Memory)
-not_marked free a j = record {
-  ok = tt;
-  memory = λ e. Took-none j (not_begun free a);
-  note = λ e. let bad : Is (Err Memory) Note = e in absurd cc;
-  cause = λ e. let bad : Is (Err Memory) Note = e in absurd cc;
-  refines = Refines-refl free (of_net a);
-  goes_on = GoesOn-none j;
-}
 
 -- ---- its rules
 

@@ -2,7 +2,7 @@ pub mod Search
 pub mod Stepping
 pub mod Swept
 pub mod FilledNets
-pub mod Visiting
 pub mod Filled
 pub mod Unfilled
 pub mod Marking
+pub mod Strict

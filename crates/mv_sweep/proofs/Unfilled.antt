@@ -26,13 +26,13 @@ use Rattle.mv_net.proofs.Plainness.{one_has, one_same}
 use Rattle.mv_pass.specs.declared.stop.Stop.{Stop}
 use Rattle.mv_pass.specs.declared.stop.Stop.TheVariants.{Note, Memory}
 use Rattle.mv_pass.specs.Taking.{CanApply, TookRulePart}
+use Rattle.mv_pass.proofs.Stepped.{Is}
 use Rattle.mv_rules.specs.Applies.{Applies}
 use Rattle.mv_rules.specs.Filling.{ArePlainAbove, with_default}
 use Rattle.mv_rules.proofs.Spoken.{held_visible}
 use Rattle.mv_sweep.specs.Fills.{IsUnfilled, StaysFor, note_of, rule_of, FillsNet, Stays, Filled}
 use Rattle.mv_sweep.specs.Filling.{HasMarks, IsVariedMark, KeepsPlain}
 use Rattle.mv_sweep.proofs.Filled.{tabled_held, rule_keeps}
-use Rattle.mv_sweep.proofs.Visiting.{Is}
 
 -- ---- which nets are such
 

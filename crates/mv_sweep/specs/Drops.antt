@@ -1,10 +1,12 @@
 -- What the command `drop` does to a network.
-use Rattle.std.specs.Prelude.{◌≡◌, ℕ, ◌<◌, List}
+use Rattle.std.specs.Prelude.{◌≡◌, ℕ, ◌<◌, Bool, List}
 use Rattle.mv_entry.specs.declared.rule.Rule.TheVariants.{Remove}
 use Rattle.mv_entry.specs.Entries.{Entry, Applied}
 use Rattle.mv_net.specs.declared.parts.NetParts.{NetParts}
 use Rattle.mv_net.specs.Nets.{slot, name_in}
 use Rattle.mv_net.specs.Total.{IsRemovable}
+use Rattle.mv_pass.specs.Courses.{Course, Until}
+use Rattle.mv_pass.specs.Going.{Goes}
 
 -- no net can go
 pub record NoneLeft (net : NetParts) : Type 0 where
@@ -30,6 +32,10 @@ abbrev pub IsDropStep : NetParts → Entry → Type 0
 IsDropStep net (Applied (Remove name)) = IsLeastNamed net name
 IsDropStep net _ = ⊥
 
--- `drop` ends where no net can go
-abbrev pub EndsDrop : List Entry → NetParts → Type 0
-EndsDrop steps net = NoneLeft net
+-- some steps of `drop`
+abbrev pub DropsSome : Bool → Course
+DropsSome free = Goes free IsDropStep
+
+-- all of `drop`: steps until no net can go
+abbrev pub DropsAll : Bool → Course
+DropsAll free = Until (DropsSome free) NoneLeft

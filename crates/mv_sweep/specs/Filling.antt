@@ -9,9 +9,9 @@ use Rattle.mv_net.specs.declared.parts.NetParts.{NetParts}
 use Rattle.mv_net.specs.Index.{is_held}
 use Rattle.mv_net.specs.Nets.{slot, table_in}
 use Rattle.mv_net.specs.Plain.{IsPlainNet}
-use Rattle.mv_pass.specs.Courses.{Course, Nothing, Visits}
+use Rattle.mv_pass.specs.Courses.{Visits}
 use Rattle.mv_rules.specs.Filling.{ArePlainAbove}
-use Rattle.mv_sweep.specs.Fills.{FillsNet, FillsTables, EndsFill, IsUnfilled, IsNoted}
+use Rattle.mv_sweep.specs.Fills.{FillsNet, IsUnfilled, IsNoted}
 
 -- the net's table, if it has one, is plainly deterministic
 abbrev pub IsPlainTable : List (Option FlatNet) → ℕ → Type 0
@@ -41,18 +41,8 @@ pub record KeepsPlain (old new : List (Option FlatNet)) : Type 0 where
   pub down : (n : ℕ) → ArePlainAbove new n → ArePlainAbove old n
   pub up : (n : ℕ) → ArePlainAbove old n → ArePlainAbove new n
 
--- nothing, or this course
-pub data Perhaps (Whole : Course) (old : NetParts) (entries : List Entry) (new : NetParts) : Type 0 where
-  Still : Nothing old entries new → Perhaps Whole old entries new
-  Through : Whole old entries new → Perhaps Whole old entries new
-
 -- the nets below this number are visited, and each of them whose table allows nothing somewhere is noted
 pub record HasFilled (free : Bool) (end : ℕ) (old : NetParts) (steps : List Entry) (new : NetParts) : Type 0 where
   pub visits : Visits (FillsNet free) end old steps new
   pub long : length new.nets ≡ length old.nets
   pub noted : (n : ℕ) → n < end → IsUnfilled new.nets n → IsNoted new n steps
-
--- all steps of `fill`
-pub record FillsAll (free : Bool) (old : NetParts) (steps : List Entry) (new : NetParts) : Type 0 where
-  pub tables : FillsTables free old steps new
-  pub ends : EndsFill steps new

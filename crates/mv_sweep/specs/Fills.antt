@@ -40,7 +40,7 @@ pub data FillsNet (free : Bool) (n : ℕ) (old : NetParts) (entries : List Entry
   Stays : (why : Why) → IsUnfilled old.nets n → StaysFor free old n why → entries ≡ note_of old n why ∷ [] → new ≡ old → FillsNet free n old entries new
   Filled : IsUnfilled old.nets n → Applies free (rule_of old n) old new → entries ≡ Applied (rule_of old n) ∷ [] → FillsNet free n old entries new
 
--- the first so many nets are visited, each in turn
+-- some of `fill`: the first so many nets are visited, each in turn
 pub record FillsTables (free : Bool) (old : NetParts) (steps : List Entry) (new : NetParts) : Type 0 where
   pub end : ℕ
   pub within : end ≤ length old.nets
@@ -51,6 +51,7 @@ pub record IsNoted (net : NetParts) (n : ℕ) (steps : List Entry) : Type 0 wher
   pub why : Why
   pub noted : Contains steps (note_of net n why)
 
--- `fill` ends where each table but those that are noted allows something everywhere
-pub record EndsFill (steps : List Entry) (net : NetParts) : Type 0 where
-  pub each : (n : ℕ) → IsUnfilled net.nets n → IsNoted net n steps
+-- all of `fill`: nets are visited, after which each table but those that are noted allows something everywhere
+pub record FillsAll (free : Bool) (old : NetParts) (steps : List Entry) (new : NetParts) : Type 0 where
+  pub tables : FillsTables free old steps new
+  pub noted : (n : ℕ) → IsUnfilled new.nets n → IsNoted new n steps

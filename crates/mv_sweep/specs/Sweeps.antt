@@ -1,5 +1,5 @@
 -- What the command `sweep` does to a network.
-use Rattle.std.specs.Prelude.{◌≡◌, ℕ, ◌<◌, Option, List, [], ◌∷◌}
+use Rattle.std.specs.Prelude.{◌≡◌, ℕ, ◌<◌, Bool, Option, List, [], ◌∷◌}
 use Rattle.mv_entry.specs.declared.rule.Rule.{Rule}
 use Rattle.mv_entry.specs.declared.rule.Rule.TheVariants.{Remove, Wire, Collapse}
 use Rattle.mv_entry.specs.Entries.{Entry, Applied, rule_names}
@@ -8,6 +8,8 @@ use Rattle.mv_net.specs.declared.parts.NetParts.{NetParts}
 use Rattle.mv_net.specs.Nets.{slot, name_in}
 use Rattle.mv_net.specs.Plain.{IsPlainConstant}
 use Rattle.mv_net.specs.Total.{IsRemovable}
+use Rattle.mv_pass.specs.Courses.{Course, Until}
+use Rattle.mv_pass.specs.Going.{Goes}
 use Rattle.mv_rules.specs.Checks.{IsUnseen, IsRead}
 use Rattle.mv_rules.specs.Collapsing.{HasComposites}
 use Rattle.mv_rules.specs.Wiring.{IsBuffer}
@@ -60,6 +62,10 @@ abbrev pub IsSweepStep : NetParts → Entry → Type 0
 IsSweepStep net (Applied rule) = SweepsLeast net rule
 IsSweepStep net _ = ⊥
 
--- `sweep` ends where no rule applies
-abbrev pub EndsSweep : List Entry → NetParts → Type 0
-EndsSweep steps net = IsSwept net
+-- some steps of `sweep`
+abbrev pub SweepsSome : Bool → Course
+SweepsSome free = Goes free IsSweepStep
+
+-- all of `sweep`: steps until no rule applies
+abbrev pub SweepsAll : Bool → Course
+SweepsAll free = Until (SweepsSome free) IsSwept

@@ -1,18 +1,19 @@
 ghost use Rattle.std.specs.Prelude.{◌≡◌, true, IsTrue, IfOk, MatchBool};
 ghost use Rattle.mv_entry.specs.declared.note.Command.TheVariants.{Fill as fill_command};
+ghost use Rattle.mv_pass.specs.Courses.{Perhaps};
 ghost use Rattle.mv_pass.specs.Going.{Begun, Does};
 ghost use Rattle.mv_pass.specs.Passing.{Passes};
 ghost use Rattle.mv_net.specs.Index.{is_held};
 ghost use Rattle.mv_rules.specs.Filling.{ArePlainAbove};
-ghost use Rattle.mv_sweep.specs.Fills.{EndsFill, FillsNet, FillsTables, IsUnfilled, StaysFor, rule_of};
-ghost use Rattle.mv_sweep.specs.Filling.{FillsAll, HasMarks, KeepsPlain, Perhaps};
+ghost use Rattle.mv_sweep.specs.Fills.{FillsAll, FillsNet, FillsTables, IsUnfilled, StaysFor, rule_of};
+ghost use Rattle.mv_sweep.specs.Filling.{HasMarks, KeepsPlain};
 
 use crate::Stop;
 use crate::varied::{has_mark, varied_above};
 use mv_base::{Memory, Name, NetId, PackedSet, Value, ValueSet};
 use mv_entry::{Command, Journal, Note, Rule, Why};
 use mv_net::Network;
-use mv_pass::{few_literals, take};
+use mv_pass::{end, take};
 use mv_rules::Terms;
 use std::alloc::Global;
 
@@ -175,20 +176,16 @@ pub fn fill<J: Journal>(
     journal: &mut J,
     terms: Terms,
 ) -> Result<(), Stop>
-    ensures passes { Passes terms.free (Does (FillsTables terms.free) EndsFill fill_command)
-        (Begun (FillsTables terms.free) EndsFill fill_command) net.old net.new (J.state journal.old) (J.state journal.new) result }
+    ensures passes { Passes terms.free (Does (FillsAll terms.free) fill_command)
+        (Begun (FillsAll terms.free) (FillsTables terms.free) fill_command) net.old net.new
+        (J.state journal.old) (J.state journal.new) result }
 {
     match journal.note(&Note::Begin(Command::Fill)) {
         Ok(()) => {}
         Err(_failed) => return Err(Stop::Note),
     }
     match fill_tables(alloc, net, terms, journal) {
-        Ok(()) => {}
-        Err(stop) => return Err(stop),
-    }
-    few_literals(net);
-    match journal.note(&Note::End(net.literals())) {
-        Ok(()) => Ok(()),
-        Err(_failed) => Err(Stop::Note),
+        Ok(()) => end(net, journal),
+        Err(stop) => Err(stop),
     }
 }

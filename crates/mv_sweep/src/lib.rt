@@ -4,12 +4,14 @@
 #![tactic(auto)]
 
 mod filling;
+mod laws;
 mod sweeping;
 mod unread;
 mod varied;
 mod way;
 
 pub use filling::fill;
+pub use laws::strict_laws;
 pub use mv_pass::Stop;
 pub use sweeping::sweep;
 pub use unread::remove_unread;

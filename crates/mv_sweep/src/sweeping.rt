@@ -1,14 +1,12 @@
-ghost use Rattle.std.specs.Prelude.{◌≡◌, false, Err, IfOk, OnOk, MatchOption};
+ghost use Rattle.std.specs.Prelude.{◌≡◌, false, IfOk, OnOk, MatchOption};
 ghost use Rattle.mv_agenda.specs.Agenda.{AllWait};
 ghost use Rattle.mv_base.specs.Meaning.{Refines, SameMeaning};
-ghost use Rattle.mv_base.specs.Outside.{Rose};
 ghost use Rattle.mv_entry.specs.declared.note.Command.TheVariants.{Sweep as sweep_command};
 ghost use Rattle.mv_net.specs.Allowed.{of_net};
-ghost use Rattle.mv_pass.specs.Going.{Begun, Does, Goes};
+ghost use Rattle.mv_pass.specs.Going.{Begun, Does};
 ghost use Rattle.mv_pass.specs.Passing.{Passes};
-ghost use Rattle.mv_pass.specs.Taking.{GoesOn, Went, WentPart};
 ghost use Rattle.mv_gain.specs.Kept.{AreRight};
-ghost use Rattle.mv_sweep.specs.Sweeps.{IsSwept, IsSweepStep, EndsSweep};
+ghost use Rattle.mv_sweep.specs.Sweeps.{IsSwept, SweepsAll, SweepsSome};
 ghost use Rattle.mv_sweep.specs.Ways as spec;
 ghost use Rattle.mv_sweep.specs.Ways.{CanSweep, IsNext, IsLeastWay, StepsAround};
 
@@ -19,7 +17,7 @@ use mv_base::{Memory, Name, NetId};
 use mv_entry::{Command, Journal, Note, Rule};
 use mv_gain::KeptComposites;
 use mv_net::Network;
-use mv_pass::{few_literals, take};
+use mv_pass::{end, take};
 use mv_rules::Terms;
 use std::alloc::Global;
 
@@ -74,15 +72,10 @@ fn step<J: Journal>(
     journal: &mut J,
 ) -> Result<(), Stop>
     requires { IsLeastWay net.old found.now.n.0 found.now.way }
-    ensures ok { OnOk result (Went terms.free IsSweepStep net.old net.new (J.state journal.old) (J.state journal.new)) }
+    ensures passes { Passes terms.free (SweepsSome terms.free) (SweepsSome terms.free) net.old net.new
+        (J.state journal.old) (J.state journal.new) result }
     ensures around { OnOk result (StepsAround net.old net.new found.now.n.0) }
-    ensures memory { result ≡ Err Stop.Memory
-        → Went terms.free IsSweepStep net.old net.new (J.state journal.old) (J.state journal.new) }
-    ensures note { result ≡ Err Stop.Note
-        → WentPart terms.free IsSweepStep net.old net.new (J.state journal.old) (J.state journal.new) }
-    ensures cause { result ≡ Err Stop.Note → Rose (J.state journal.old).written.faults (J.state journal.new).written.faults }
     ensures means { SameMeaning (of_net net.new) (of_net net.old) }
-    ensures goes_on { GoesOn (J.state journal.old) (J.state journal.new) }
 {
     net.well_formed();
     let name = match Name::new(alloc, net.name(found.n)) {
@@ -107,15 +100,9 @@ fn sweep_each<J: Journal>(
     terms: Terms,
     journal: &mut J,
 ) -> Result<(), Stop>
-    ensures ok { OnOk result (Went terms.free IsSweepStep net.old net.new (J.state journal.old) (J.state journal.new)) }
-    ensures swept { OnOk result (IsSwept net.new) }
-    ensures memory { result ≡ Err Stop.Memory
-        → Went terms.free IsSweepStep net.old net.new (J.state journal.old) (J.state journal.new) }
-    ensures note { result ≡ Err Stop.Note
-        → WentPart terms.free IsSweepStep net.old net.new (J.state journal.old) (J.state journal.new) }
-    ensures cause { result ≡ Err Stop.Note → Rose (J.state journal.old).written.faults (J.state journal.new).written.faults }
+    ensures passes { Passes terms.free (SweepsAll terms.free) (SweepsSome terms.free) net.old net.new
+        (J.state journal.old) (J.state journal.new) result }
     ensures means { SameMeaning (of_net net.new) (of_net net.old) }
-    ensures goes_on { GoesOn (J.state journal.old) (J.state journal.new) }
 {
     let mut agenda = match Agenda::of_all(alloc, net.next_number()) {
         Ok(agenda) => agenda,
@@ -155,8 +142,9 @@ pub fn sweep<J: Journal>(
     journal: &mut J,
     terms: Terms,
 ) -> Result<(), Stop>
-    ensures passes { Passes terms.free (Does (Goes terms.free IsSweepStep) EndsSweep sweep_command)
-        (Begun (Goes terms.free IsSweepStep) EndsSweep sweep_command) net.old net.new (J.state journal.old) (J.state journal.new) result }
+    ensures passes { Passes terms.free (Does (SweepsAll terms.free) sweep_command)
+        (Begun (SweepsAll terms.free) (SweepsSome terms.free) sweep_command) net.old net.new
+        (J.state journal.old) (J.state journal.new) result }
     ensures refines { Refines false (of_net net.new) (of_net net.old) }
 {
     match journal.note(&Note::Begin(Command::Sweep)) {
@@ -164,12 +152,7 @@ pub fn sweep<J: Journal>(
         Err(_failed) => return Err(Stop::Note),
     }
     match sweep_each(alloc, net, terms, journal) {
-        Ok(()) => {}
-        Err(stop) => return Err(stop),
-    }
-    few_literals(net);
-    match journal.note(&Note::End(net.literals())) {
-        Ok(()) => Ok(()),
-        Err(_failed) => Err(Stop::Note),
+        Ok(()) => end(net, journal),
+        Err(stop) => Err(stop),
     }
 }

@@ -1,15 +1,13 @@
-ghost use Rattle.std.specs.Prelude.{◌≡◌, false, Err, IfOk, OnOk, MatchBool, MatchOption};
+ghost use Rattle.std.specs.Prelude.{◌≡◌, false, IfOk, OnOk, MatchBool, MatchOption};
 ghost use Rattle.mv_agenda.specs.Agenda.{AllWait};
 ghost use Rattle.mv_base.specs.Meaning.{Refines, SameMeaning};
-ghost use Rattle.mv_base.specs.Outside.{Rose};
 ghost use Rattle.mv_entry.specs.declared.note.Command.TheVariants.{Drop as drop};
 ghost use Rattle.mv_net.specs.Allowed.{of_net};
 ghost use Rattle.mv_net.specs.Changes.{without};
 ghost use Rattle.mv_net.specs.Total.{IsRemovable};
-ghost use Rattle.mv_pass.specs.Going.{Begun, Does, Goes};
+ghost use Rattle.mv_pass.specs.Going.{Begun, Does};
 ghost use Rattle.mv_pass.specs.Passing.{Passes};
-ghost use Rattle.mv_pass.specs.Taking.{GoesOn, Went, WentPart};
-ghost use Rattle.mv_sweep.specs.Drops.{IsDropStep, IsLeastRemovable, NoneLeft, EndsDrop};
+ghost use Rattle.mv_sweep.specs.Drops.{DropsAll, DropsSome, IsLeastRemovable, NoneLeft};
 ghost use Rattle.mv_sweep.specs.Search.{IsNextRemovable};
 
 use crate::Stop;
@@ -17,7 +15,7 @@ use mv_agenda::Agenda;
 use mv_base::{Memory, Name, NetId};
 use mv_entry::{Command, Journal, Note, Rule};
 use mv_net::Network;
-use mv_pass::{few_literals, take};
+use mv_pass::{end, take};
 use mv_rules::Terms;
 use std::alloc::Global;
 
@@ -67,15 +65,10 @@ fn step<J: Journal>(
     journal: &mut J,
 ) -> Result<(), Stop>
     requires { IsLeastRemovable net.old n.0 }
-    ensures ok { OnOk result (Went terms.free IsDropStep net.old net.new (J.state journal.old) (J.state journal.new)) }
+    ensures passes { Passes terms.free (DropsSome terms.free) (DropsSome terms.free) net.old net.new
+        (J.state journal.old) (J.state journal.new) result }
     ensures gone { OnOk result (net.new ≡ without net.old n.0) }
-    ensures memory { result ≡ Err Stop.Memory
-        → Went terms.free IsDropStep net.old net.new (J.state journal.old) (J.state journal.new) }
-    ensures note { result ≡ Err Stop.Note
-        → WentPart terms.free IsDropStep net.old net.new (J.state journal.old) (J.state journal.new) }
-    ensures cause { result ≡ Err Stop.Note → Rose (J.state journal.old).written.faults (J.state journal.new).written.faults }
     ensures means { SameMeaning (of_net net.new) (of_net net.old) }
-    ensures goes_on { GoesOn (J.state journal.old) (J.state journal.new) }
 {
     net.well_formed();
     let name = match Name::new(alloc, net.name(n)) {
@@ -96,15 +89,9 @@ fn remove_each<J: Journal>(
     terms: Terms,
     journal: &mut J,
 ) -> Result<(), Stop>
-    ensures ok { OnOk result (Went terms.free IsDropStep net.old net.new (J.state journal.old) (J.state journal.new)) }
-    ensures none_left { OnOk result (NoneLeft net.new) }
-    ensures memory { result ≡ Err Stop.Memory
-        → Went terms.free IsDropStep net.old net.new (J.state journal.old) (J.state journal.new) }
-    ensures note { result ≡ Err Stop.Note
-        → WentPart terms.free IsDropStep net.old net.new (J.state journal.old) (J.state journal.new) }
-    ensures cause { result ≡ Err Stop.Note → Rose (J.state journal.old).written.faults (J.state journal.new).written.faults }
+    ensures passes { Passes terms.free (DropsAll terms.free) (DropsSome terms.free) net.old net.new
+        (J.state journal.old) (J.state journal.new) result }
     ensures means { SameMeaning (of_net net.new) (of_net net.old) }
-    ensures goes_on { GoesOn (J.state journal.old) (J.state journal.new) }
 {
     let mut agenda = match Agenda::of_all(alloc, net.next_number()) {
         Ok(agenda) => agenda,
@@ -135,7 +122,7 @@ pub fn remove_unread<J: Journal>(
     journal: &mut J,
     terms: Terms,
 ) -> Result<(), Stop>
-    ensures passes { Passes terms.free (Does (Goes terms.free IsDropStep) EndsDrop drop) (Begun (Goes terms.free IsDropStep) EndsDrop drop)
+    ensures passes { Passes terms.free (Does (DropsAll terms.free) drop) (Begun (DropsAll terms.free) (DropsSome terms.free) drop)
         net.old net.new (J.state journal.old) (J.state journal.new) result }
     ensures refines { Refines false (of_net net.new) (of_net net.old) }
 {
@@ -144,12 +131,7 @@ pub fn remove_unread<J: Journal>(
         Err(_failed) => return Err(Stop::Note),
     }
     match remove_each(alloc, net, terms, journal) {
-        Ok(()) => {}
-        Err(stop) => return Err(stop),
-    }
-    few_literals(net);
-    match journal.note(&Note::End(net.literals())) {
-        Ok(()) => Ok(()),
-        Err(_failed) => Err(Stop::Note),
+        Ok(()) => end(net, journal),
+        Err(stop) => Err(stop),
     }
 }

@@ -1,13 +1,20 @@
 -- The note is the one step.
-use Rattle.mv_pass.proofs.Taken.{part_note}
-use Rattle.mv_collapse.specs.Collapses.{IsCollapseStep}
-use Rattle.mv_collapse.proofs.Reasons.{took_note}
+use Rattle.std.proofs.Common.{refl}
+use Rattle.mv_pass.specs.Courses.{Perhaps, Still, Through}
+use Rattle.mv_pass.proofs.Stepped.{stuck, told, cut}
+use Rattle.mv_collapse.specs.Collapses.{CollapsesNet}
+use Rattle.mv_collapse.proofs.Reasons.{remains_so}
 use Rattle.mv_collapse.proofs.collapsing.note_reason.Goals as goal
 
-pub returns-in-Ok-note-clause-ok : goal.returns-in-Ok-note-clause-ok
-returns-in-Ok-note-clause-ok g c =
-    took_note c.args.terms.free c.args.name.now _ c.args.why c.args.net.now _ _ c.in-Ok.ensures c.requires.stays c.in-Ok-note.ensures
+pub returns-in-Err : goal.returns-in-Err
+returns-in-Err g c = stuck c.args.terms.free (CollapsesNet c.args.terms.free c.args.name.now) (Perhaps (CollapsesNet c.args.terms.free c.args.name.now)) c.args.net.now _ (Still (refl, refl))
 
-pub returns-clause-note : goal.returns-clause-note
-returns-clause-note g c =
-    λ _. part_note c.args.terms.free (IsCollapseStep c.args.name.now) c.args.net.now _ _ _ _ (c.in-Ok.ensures, c.requires.stays) c.in-Err-note.ensures
+pub returns-in-Ok-note : goal.returns-in-Ok-note
+returns-in-Ok-note g c =
+    told c.args.terms.free (CollapsesNet c.args.terms.free c.args.name.now) (Perhaps (CollapsesNet c.args.terms.free c.args.name.now)) c.args.net.now _ _ _
+    (remains_so c.args.terms.free c.args.name.now _ c.args.why c.args.net.now c.in-Ok.ensures c.requires.stays) c.in-Ok-note.ensures
+
+pub returns : goal.returns
+returns g c =
+    cut c.args.terms.free (CollapsesNet c.args.terms.free c.args.name.now) (Perhaps (CollapsesNet c.args.terms.free c.args.name.now)) c.args.net.now _ _ _ _
+    (Through (remains_so c.args.terms.free c.args.name.now _ c.args.why c.args.net.now c.in-Ok.ensures c.requires.stays)) c.in-Err-note.ensures

@@ -1,26 +1,23 @@
--- The covers that are made have a mark exactly where the table gets one, and a joint table gets one by the numbers of its columns'
--- nets as by any others.
-use Rattle.std.proofs.Common.{◌≡◌, Bool, List, sym, ◌∙◌, ap, subst}
+-- A table gets a mark by the numbers of its columns' nets as by any others.
+use Rattle.std.proofs.Common.{◌≡◌, Bool, sym, ◌∙◌, ap, subst}
 use Rattle.std.specs.Prelude.{IfOk}
-use Rattle.mv_rows.specs.declared.column.Column.{Column}
-use Rattle.mv_rows.specs.Flat.{IsMade}
+use Rattle.mv_rows.specs.Marked.{is_marked}
 use Rattle.mv_joint.specs.Plain.{is_joint_marked}
-use Rattle.mv_flat.specs.Numbers.{mark_at}
-use Rattle.mv_flat.proofs.HasMark.{mark_is, joint_marked_by}
+use Rattle.mv_flat.proofs.HasMark.{marked_by, joint_marked_by}
 use Rattle.mv_flat.proofs.Singles.{single_output}
-use Rattle.mv_flat.proofs.Unmarked.{own_columns, own_file}
+use Rattle.mv_flat.proofs.Unmarked.{own_columns, own_file, own_table}
 use Rattle.mv_flat.proofs.mark.has_mark.Goals as goal
 
-pub single_covers-requires-clause-columns : goal.single_covers-requires-clause-columns
-single_covers-requires-clause-columns c = record {
-  decls = c.args.decls.now;
-  proper = c.requires.proper;
-  placed = c.requires.placed;
-  are = c.as_slice-2.ensures.value ∙ c.in_ok-columns-2.ensures;
-}
+pub is_marked-requires-clause-columns : goal.is_marked-requires-clause-columns
+is_marked-requires-clause-columns c =
+    own_columns c.args.names.now c.args.table.now _
+    (record { decls = c.args.decls.now; proper = c.requires.proper; placed = c.requires.placed; are = c.as_slice-2.ensures.value ∙ c.in_ok-columns-2.ensures })
 
-pub single_covers-requires-clause-single : goal.single_covers-requires-clause-single
-single_covers-requires-clause-single c = single_output c.args.table.now (sym c.is_joint.ensures ∙ c.if-is_joint.false) c.requires.placed.fits.some
+pub is_marked-requires-clause-table : goal.is_marked-requires-clause-table
+is_marked-requires-clause-table c =
+    own_table c.args.names.now c.args.table.now _
+    (record { decls = c.args.decls.now; proper = c.requires.proper; placed = c.requires.placed; are = c.as_slice-2.ensures.value ∙ c.in_ok-columns-2.ensures })
+    (single_output c.args.table.now (sym c.is_joint.ensures ∙ c.if-is_joint.false) c.requires.placed.fits.some)
 
 pub is_joint_marked-requires-clause-columns : goal.is_joint_marked-requires-clause-columns
 is_joint_marked-requires-clause-columns c =
@@ -41,7 +38,7 @@ returns-then-is_joint c =
 
 pub returns : goal.returns
 returns c =
-    let P : List Column → Type 0 = λ cs. IsMade cs c.args.table.now (mark_at c.args.names.now c.args.table.now) c.in_ok-flat.flat in
-    c.is_some.ensures
-    ∙ mark_is c.args.decls.now c.args.names.now c.args.table.now _ c.requires.proper c.requires.placed
-    (sym c.is_joint.ensures ∙ c.if-is_joint.false) (subst P (c.as_slice-2.ensures.value ∙ c.in_ok-columns-2.ensures) c.in_ok-flat.ensures)
+    let P : Bool → Type 0 = λ y. IfOk c.is_marked.result (λ b. b ≡ y) in
+    let own = ap (λ cs. is_marked cs c.args.table.now) (c.as_slice-2.ensures.value ∙ c.in_ok-columns-2.ensures) in
+    let single = sym c.is_joint.ensures ∙ c.if-is_joint.false in
+    subst P (own ∙ marked_by c.args.decls.now c.args.names.now c.args.table.now c.requires.placed single) c.is_marked.ensures

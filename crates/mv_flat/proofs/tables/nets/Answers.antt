@@ -12,9 +12,10 @@ use Rattle.mv_flat.specs.Built.{open_nets}
 use Rattle.mv_flat.specs.Covers.{IsMadeTable}
 use Rattle.mv_flat.specs.Numbers.{choice_at, columns_at, mark_at}
 use Rattle.mv_flat.specs.Marks.{AddsNets, TableNets}
-use Rattle.mv_flat.specs.Sized.{AreSized, TellsWide}
+use Rattle.mv_flat.specs.Sized.{AreSized, TellsCovers}
 use Rattle.mv_flat.proofs.Behinds.{TablesMade, choice_at_table, outputs_few, table_at, tables_more, tables_last, tables_room}
-use Rattle.mv_flat.proofs.Sizes.{HasCovers, outputs_covered, sized_more, sized_last, past_limit, limit_told, wide_told}
+use Rattle.mv_flat.proofs.Sizes.{HasCovers, outputs_covered, sized_more, sized_last, past_limit, limit_told}
+use Rattle.mv_flat.proofs.Passing.{covers_told}
 use Rattle.mv_flat.proofs.tables.nets.Goals as goal
 use Rattle.mv_flat.proofs.tables.nets.Goals.{In-Some, In-None, In-Ok, In_ok-put_table}
 
@@ -72,10 +73,10 @@ covered c =
 pub returns-in-Err-clause-fault : goal.returns-in-Err-clause-fault
 returns-in-Err-clause-fault c =
     let at = next (goal.at.returns-in-Err-clause-fault c).In-Some in
-    let P : List Column → Type 0 = λ cs. TellsWide cs c.args.names.now c.in-Some.table c.in-Err.fault in
-    wide_told c.args.file_nets c.args.model c.args.names.now (length c.loop-table.yielded) c.loop-table.size c.in-Some.table c.in-Err.fault
+    let P : List Column → Type 0 = λ cs. TellsCovers cs c.args.names.now c.in-Some.table c.loop-table.size c.in-Err.fault in
+    covers_told c.args.file_nets c.args.model c.args.names.now (length c.loop-table.yielded) c.loop-table.size c.in-Some.table c.in-Err.fault
     c.requires.placed.are c.loop-table.invariant.sized at.low at.is
-    (subst P (c.as_slice-in-loop-table.ensures.value ∙ c.in_ok-columns.ensures c.args.model.decls c.requires.counts) c.in-Err.ensures.wide)
+    (subst P (c.as_slice-in-loop-table.ensures.value ∙ c.in_ok-columns.ensures c.args.model.decls c.requires.counts) c.in-Err.ensures.stop)
 
 pub with-requires-clause-some : goal.with-requires-clause-some
 with-requires-clause-some c =

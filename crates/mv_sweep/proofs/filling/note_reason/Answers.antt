@@ -1,8 +1,9 @@
 -- The note has the name of the net.
 use Rattle.std.proofs.Common.{◌∙◌, refl}
+use Rattle.mv_pass.specs.Courses.{Perhaps, Still, Through}
+use Rattle.mv_pass.proofs.Stepped.{stuck, told, cut}
 use Rattle.mv_sweep.specs.Fills.{FillsNet}
 use Rattle.mv_sweep.proofs.Unfilled.{unfilled_held, note_visible, stays_so}
-use Rattle.mv_sweep.proofs.Visiting.{visit_stuck, visit_told, visit_cut}
 use Rattle.mv_sweep.proofs.filling.note_reason.Goals as goal
 
 pub name-requires : goal.name-requires
@@ -12,14 +13,14 @@ pub note-requires : goal.note-requires
 note-requires g c = note_visible c.args.net.now c.args.n.0 c.args.why _ c.well_formed-2.ensures c.requires.unfilled (c.in-Ok.ensures ∙ c.name.ensures)
 
 pub returns-in-Err : goal.returns-in-Err
-returns-in-Err g c = visit_stuck c.args.terms.free (FillsNet c.args.terms.free c.args.n.0) c.args.net.now _
+returns-in-Err g c = stuck c.args.terms.free (FillsNet c.args.terms.free c.args.n.0) (Perhaps (FillsNet c.args.terms.free c.args.n.0)) c.args.net.now _ (Still (refl, refl))
 
 pub returns-in-Ok-note : goal.returns-in-Ok-note
 returns-in-Ok-note g c =
-    visit_told c.args.terms.free (FillsNet c.args.terms.free c.args.n.0) c.args.net.now _ _ _
+    told c.args.terms.free (FillsNet c.args.terms.free c.args.n.0) (Perhaps (FillsNet c.args.terms.free c.args.n.0)) c.args.net.now _ _ _
     (stays_so c.args.terms.free c.args.net.now c.args.n.0 c.args.why _ c.requires.unfilled c.requires.stays (c.in-Ok.ensures ∙ c.name.ensures)) c.in-Ok-note.ensures
 
 pub returns : goal.returns
 returns g c =
-    visit_cut c.args.terms.free (FillsNet c.args.terms.free c.args.n.0) c.args.net.now _ _ _
-    (stays_so c.args.terms.free c.args.net.now c.args.n.0 c.args.why _ c.requires.unfilled c.requires.stays (c.in-Ok.ensures ∙ c.name.ensures)) _ c.in-Err-note.ensures
+    cut c.args.terms.free (FillsNet c.args.terms.free c.args.n.0) (Perhaps (FillsNet c.args.terms.free c.args.n.0)) c.args.net.now _ _ _ _
+    (Through (stays_so c.args.terms.free c.args.net.now c.args.n.0 c.args.why _ c.requires.unfilled c.requires.stays (c.in-Ok.ensures ∙ c.name.ensures))) c.in-Err-note.ensures

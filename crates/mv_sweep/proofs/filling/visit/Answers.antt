@@ -1,21 +1,22 @@
 -- A net whose table allows something everywhere is let be; another is noted where nothing is free or a varied table is above it.
 use Rattle.std.proofs.Common.{◌∙◌, refl, sym}
+use Rattle.mv_pass.specs.Courses.{Perhaps, Still}
+use Rattle.mv_pass.proofs.Stepped.{stuck, idle}
 use Rattle.mv_sweep.specs.Fills.{FillsNet, LetBe}
 use Rattle.mv_sweep.proofs.Marking.{marked_above, unmarked_plain}
 use Rattle.mv_sweep.proofs.Unfilled.{unfilled_held, keeps_none}
-use Rattle.mv_sweep.proofs.Visiting.{visit_stuck, visit_idle}
 use Rattle.mv_sweep.proofs.filling.visit.Goals as goal
 
 pub returns-in-Ok-false : goal.returns-in-Ok-false
 returns-in-Ok-false g c = record {
   keeps = keeps_none c.args.net.now.nets;
-  passes = visit_idle c.args.terms.free (FillsNet c.args.terms.free c.args.n.0) c.args.net.now _ (LetBe (rw c.in-Ok-false.field-0-test at c.in-Ok-false.ensures) (refl, refl));
+  passes = idle c.args.terms.free (FillsNet c.args.terms.free c.args.n.0) (Perhaps (FillsNet c.args.terms.free c.args.n.0)) c.args.net.now _ (LetBe (rw c.in-Ok-false.field-0-test at c.in-Ok-false.ensures) (refl, refl));
 }
 
 pub returns-in-Err : goal.returns-in-Err
 returns-in-Err g c = record {
   keeps = keeps_none c.args.net.now.nets;
-  passes = visit_stuck c.args.terms.free (FillsNet c.args.terms.free c.args.n.0) c.args.net.now _;
+  passes = stuck c.args.terms.free (FillsNet c.args.terms.free c.args.n.0) (Perhaps (FillsNet c.args.terms.free c.args.n.0)) c.args.net.now _ (Still (refl, refl));
 }
 
 pub note_reason-requires : goal.note_reason-requires

@@ -1,8 +1,9 @@
 -- One net after the other.
 use Rattle.std.proofs.Common.{◌≡◌, ◌+◌, length, arith}
+use Rattle.mv_pass.specs.Courses.{Perhaps}
 use Rattle.mv_pass.proofs.Coming.{came_none, came_more, came_stop, came_as, came_whole}
-use Rattle.mv_sweep.specs.Fills.{FillsNet, FillsTables}
-use Rattle.mv_sweep.specs.Filling.{HasFilled, FillsAll, Perhaps}
+use Rattle.mv_sweep.specs.Fills.{FillsNet, FillsTables, FillsAll}
+use Rattle.mv_sweep.specs.Filling.{HasFilled}
 use Rattle.mv_sweep.proofs.Filled.{filled_none, filled_more, filled_stops, filled_all}
 use Rattle.mv_sweep.proofs.Unfilled.{marks_kept}
 use Rattle.mv_sweep.proofs.filling.visit_each.Goals as goal

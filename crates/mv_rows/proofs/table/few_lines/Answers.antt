@@ -1,5 +1,5 @@
 use Rattle.mv_rows.proofs.Rows.{rows_more}
-use Rattle.mv_rows.proofs.table.row_lines.Goals as goal
+use Rattle.mv_rows.proofs.table.few_lines.Goals as goal
 
 pub loop-row-preserved : goal.loop-row-preserved
 loop-row-preserved c =

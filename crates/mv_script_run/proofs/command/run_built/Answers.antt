@@ -1,0 +1,10 @@
+-- `collapse NET` passes as the command that it is.
+use Rattle.std.proofs.Common.{sym, subst}
+use Rattle.mv_entry.specs.declared.note.Command.{Command}
+use Rattle.mv_script_run.specs.Commands.{PassesCommand}
+use Rattle.mv_script_run.proofs.command.run_built.Goals as goal
+
+pub returns-in-Collapse : goal.returns-in-Collapse
+returns-in-Collapse g c =
+    let P : Command → Type 0 = λ k. PassesCommand c.args.terms.free k c.args.net.now c.collapse.new.net (g.J.Journal.state c.args.journal.now) (g.J.Journal.state c.collapse.new.journal) c.collapse.result in
+    subst P (sym c.in-Collapse.is) c.collapse.ensures.passes
