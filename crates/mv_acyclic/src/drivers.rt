@@ -22,8 +22,8 @@ pub fn driven(alloc: Global, model: &FileModel, room: usize) -> Result<NameSet, 
     Ok(driven)
 }
 
-/// Adds these names, of which few are there yet.
-fn add_names(names: &mut NameSet, nets: &[Name]) -> Result<(), Memory>
+/// Adds these names, of which few are there yet: each is looked up once.
+pub fn add_names(names: &mut NameSet, nets: &[Name]) -> Result<(), Memory>
     ensures { OnOk result (names.new ≡ with_names names.old nets.now) }
 {
     for net in nets {

@@ -13,6 +13,7 @@ mod numbers;
 mod resets;
 
 pub use checking::check;
+pub use drivers::{add_latches, add_names};
 pub use naming::{Naming, front_before, namings};
 pub use nets::{add_named, add_net, add_nets};
 pub use numbers::Numbers;

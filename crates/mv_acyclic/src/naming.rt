@@ -71,7 +71,7 @@ pub fn namings(alloc: Global, model: &FileModel) -> Result<Vec<Naming<'_>>, Memo
 fn of_tables<'a>(alloc: Global, tables: &'a [FileTable]) -> Result<Vec<Naming<'a>>, Memory>
     ensures { IfOk result (λ all. all.items ≡ map table_naming tables.now) }
 {
-    let mut all = Vec::new(alloc);
+    let mut all = Vec::with_capacity(alloc, tables.len())?;
     for table in tables {
         all.push(Naming {
             line: table.line,
@@ -86,7 +86,7 @@ fn of_tables<'a>(alloc: Global, tables: &'a [FileTable]) -> Result<Vec<Naming<'a
 fn of_latches<'a>(alloc: Global, latches: &'a [FileLatch]) -> Result<Vec<Naming<'a>>, Memory>
     ensures { IfOk result (λ all. all.items ≡ map latch_naming latches.now) }
 {
-    let mut all = Vec::new(alloc);
+    let mut all = Vec::with_capacity(alloc, latches.len())?;
     for latch in latches {
         all.push(Naming {
             line: latch.line,

@@ -1,4 +1,5 @@
 pub mod Values
+pub mod Short
 pub mod Tables
 pub mod ByLine
 pub mod Nets

@@ -2,7 +2,8 @@
 ghost use Rattle.std.specs.Prelude.{◌≡◌, IfOk};
 
 use crate::design::{Bind, Decl, FileLatch, FileModel, Part};
-use crate::table::{Entry, FileTable};
+use crate::short::{Entries, Sets};
+use crate::table::FileTable;
 use mv_base::{Items, Memory, PackedSet};
 use std::alloc::Global;
 
@@ -17,13 +18,24 @@ pub fn copy_sets(alloc: Global, sets: &[PackedSet]) -> Result<Items<PackedSet>, 
     Ok(copied)
 }
 
+/// These sets as a row keeps them.
+pub fn short_sets(alloc: Global, sets: &[PackedSet]) -> Result<Sets, Memory>
+    ensures { IfOk result (λ c. c ≡ sets.now) }
+{
+    let mut copied = Sets::with_room(alloc, sets.len())?;
+    for set in sets {
+        copied.push(alloc, set.copy()?)?;
+    }
+    Ok(copied)
+}
+
 /// An equal list of entries.
-pub fn copy_entries(entries: &Items<Entry>) -> Result<Items<Entry>, Memory>
+pub fn copy_entries(alloc: Global, entries: &Entries) -> Result<Entries, Memory>
     ensures { IfOk result (λ c. c ≡ entries.now) }
 {
-    let mut copied = Items::with_room(entries.allocator(), entries.len())?;
+    let mut copied = Entries::with_room(alloc, entries.as_slice().len())?;
     for entry in entries.as_slice() {
-        copied.push(entry.copy()?)?;
+        copied.push(alloc, entry.copy()?)?;
     }
     Ok(copied)
 }

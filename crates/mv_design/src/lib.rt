@@ -4,9 +4,11 @@
 mod copies;
 mod design;
 mod rows;
+mod short;
 mod table;
 
-pub use copies::{copy_entries, copy_sets};
+pub use copies::{copy_entries, copy_sets, short_sets};
 pub use design::{Bind, Decl, Design, FileLatch, FileModel, Part};
 pub use rows::Rows;
+pub use short::{Entries, Sets};
 pub use table::{Entry, FileTable, Row};

@@ -1,7 +1,8 @@
 ghost use Rattle.std.specs.Prelude.{◌≡◌, IfOk};
 
-use crate::copies::{copy_entries, copy_sets};
+use crate::copies::copy_entries;
 use crate::rows::Rows;
+use crate::short::{Entries, Sets};
 use mv_base::{Items, Memory, Name, PackedSet};
 
 /// What a row or a default says of an output column.
@@ -16,8 +17,8 @@ pub enum Entry {
 /// A row of a table: the values of each input column, and an entry for each output column.
 #[derive(Drop)]
 pub struct Row {
-    pub ins: Items<PackedSet>,
-    pub outs: Items<Entry>,
+    pub ins: Sets,
+    pub outs: Entries,
 }
 
 /// A table as a file has it: the number of its first line, its input columns and its output columns in order, its rows,
@@ -28,7 +29,7 @@ pub struct FileTable {
     pub inputs: Items<Name>,
     pub outputs: Items<Name>,
     pub rows: Rows,
-    pub default: Option<Items<Entry>>,
+    pub default: Option<Entries>,
 }
 
 impl Entry {
@@ -43,25 +44,13 @@ impl Entry {
     }
 }
 
-impl Row {
-    /// An equal row.
-    pub fn copy(&self) -> Result<Row, Memory>
-        ensures { IfOk result (λ c. c ≡ self.now) }
-    {
-        Ok(Row {
-            ins: copy_sets(self.ins.allocator(), self.ins.as_slice())?,
-            outs: copy_entries(&self.outs)?,
-        })
-    }
-}
-
 impl FileTable {
     /// An equal table.
     pub fn copy(&self) -> Result<FileTable, Memory>
         ensures { IfOk result (λ c. c ≡ self.now) }
     {
         let default = match &self.default {
-            Some(entries) => Some(copy_entries(entries)?),
+            Some(entries) => Some(copy_entries(self.inputs.allocator(), entries)?),
             None => None,
         };
         Ok(FileTable {

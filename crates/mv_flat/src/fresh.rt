@@ -1,11 +1,10 @@
 //! Names for nets that are made.
 ghost use Rattle.std.specs.Prelude.{◌≡◌, ◌+◌, ◌<◌, ◌^◌, length, IfOk};
-ghost use Rattle.mv_flat.specs.Numbers.{made_name};
 ghost use Rattle.mv_flat.specs.Marks.{IsNext};
 
-use itoa::Buffer;
 use mv_acyclic::Numbers;
 use mv_base::{Memory, Name};
+use mv_net::made_name;
 use std::alloc::Global;
 
 /// The name of a made net, and its number.
@@ -22,20 +21,10 @@ pub fn next_made(alloc: Global, names: &Numbers, last: u32) -> Result<Made, Memo
     ensures { IfOk result (λ made. IsNext names.now last made.number made.name) }
 {
     for number in last + 1..u32::MAX {
-        let name = made_name(alloc, number)?;
+        let name = made_name(alloc, u64::from(number))?;
         if names.place(&name).is_none() {
             return Ok(Made { number, name });
         }
     }
     unreachable!()
-}
-
-/// The made name with this number.
-fn made_name(alloc: Global, number: u32) -> Result<Name, Memory>
-    ensures { IfOk result (λ name. name ≡ made_name number) }
-{
-    let mut buffer = Buffer::new();
-    let mut bytes = Vec::from_slice(alloc, b"_m")?;
-    bytes.extend_from_slice(buffer.format(number).as_bytes())?;
-    Name::new(alloc, bytes.as_slice())
 }

@@ -19,7 +19,7 @@ pub fn flat_latches(
     requires { length names.now ≤ MAX_NETS }
     ensures { IfOk result (λ flat. flat ≡ map (flat_latch names.now) latches.now) }
 {
-    let mut flat = Items::new(alloc);
+    let mut flat = Items::with_room(alloc, latches.len())?;
     for latch in latches {
         flat.push(FlatLatch {
             input: names.of(&latch.input),

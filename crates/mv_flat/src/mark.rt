@@ -12,9 +12,9 @@ ghost use Rattle.mv_flat.specs.Gathered.{can_stand, has_all, is_plain, some_has_
 use crate::columns::declared_columns;
 use crate::values::count_of;
 use mv_acyclic::Numbers;
-use mv_base::{Items, Memory, Name, PackedSet, ValueSet};
+use mv_base::{Memory, Name, PackedSet, ValueSet};
 use mv_decl::Declared;
-use mv_design::{Entry, FileTable, Row};
+use mv_design::{Entries, Entry, FileTable, Row};
 use mv_joint::is_joint_marked;
 use mv_rows::is_marked;
 use std::alloc::Global;
@@ -101,7 +101,7 @@ pub fn is_plain(table: &FileTable) -> bool
 }
 
 /// Whether the default can stand beside the rows: it is a set, and each row says a value.
-fn can_stand(rows: &[Row], default: &Items<Entry>) -> bool
+fn can_stand(rows: &[Row], default: &Entries) -> bool
     ensures { result ≡ can_stand rows.now (only_entry default.now) }
 {
     !names_column(default) && !some_row_is_silent(rows)
@@ -145,7 +145,7 @@ fn some_row_is_silent(rows: &[Row]) -> bool
 
 /// Whether no value lies in the first entry. None does where there is none.
 #[tactic(auto, unfolding(mv_base::specs::Set::empty))]
-fn says_nothing(entries: &Items<Entry>) -> bool
+fn says_nothing(entries: &Entries) -> bool
     ensures { result ≡ says_nothing (only_entry entries.now) }
 {
     match entries.as_slice() {
@@ -165,7 +165,7 @@ fn is_silent(entry: &Entry) -> bool
 }
 
 /// Whether the first entry names a column.
-fn names_column(entries: &Items<Entry>) -> bool
+fn names_column(entries: &Entries) -> bool
     ensures { result ≡ is_same (only_entry entries.now) }
 {
     match entries.as_slice() {

@@ -1,5 +1,5 @@
 //! The nets of a model by number.
-ghost use Rattle.std.specs.Prelude.{◌≡◌, ◌≤◌, length, map, true, IfOk, OnOk, All};
+ghost use Rattle.std.specs.Prelude.{◌≡◌, ◌≤◌, length, true, IfOk, OnOk, All};
 ghost use Rattle.mv_base.specs.Names.{names_differ};
 ghost use Rattle.mv_base.specs.declared.limits.TheConstants.{MAX_NETS};
 ghost use Rattle.mv_resets.specs.NetModels.{HasLawfulValues, IsNetModel};
@@ -10,10 +10,10 @@ ghost use Rattle.mv_flat.specs.Gathered.{counts_of, with_places};
 
 use crate::mark::{choice_name, has_mark, is_joint, mark_name};
 use crate::values::count_of;
-use mv_acyclic::{Numbers, add_net, add_nets};
+use mv_acyclic::{Numbers, add_latches, add_names, add_net};
 use mv_base::{Memory, Name, NameSet};
 use mv_decl::Declared;
-use mv_design::{FileLatch, FileModel, FileTable};
+use mv_design::{FileModel, FileTable};
 use std::alloc::Global;
 
 /// Nets by number, and how many values each has.
@@ -37,8 +37,8 @@ pub fn numbered(alloc: Global, model: &FileModel, driven: &Numbers) -> Result<Nu
 {
     let decls = Declared::of(alloc, model.decls.as_slice())?;
     let mut names = NameSet::with_room(alloc, driven.len())?;
-    add_nets(&mut names, model.inputs.as_slice())?;
-    add_states(&mut names, model.latches.as_slice())?;
+    add_names(&mut names, model.inputs.as_slice())?;
+    add_latches(&mut names, model.latches.as_slice())?;
     add_places(alloc, &mut names, &decls, driven, model.tables.as_slice())?;
     let counts = counts(alloc, &decls, names.as_slice())?;
     Ok(NumberedNets {
@@ -58,16 +58,6 @@ fn counts(alloc: Global, decls: &Declared, nets: &[Name]) -> Result<Vec<u16>, Me
     Ok(counts)
 }
 
-/// Adds the outputs of latches.
-fn add_states(names: &mut NameSet, latches: &[FileLatch]) -> Result<(), Memory>
-    ensures { OnOk result (names.new ≡ with_names names.old (map (λ l. l.output) latches.now)) }
-{
-    for latch in latches {
-        add_net(names, &latch.output)?;
-    }
-    Ok(())
-}
-
 /// Adds the nets of tables: those that are made for them, and their outputs.
 fn add_places(
     alloc: Global,
@@ -83,7 +73,7 @@ fn add_places(
 {
     for table in tables {
         add_made(alloc, names, decls, driven, table)?;
-        add_nets(names, table.outputs.as_slice())?;
+        add_names(names, table.outputs.as_slice())?;
     }
     Ok(())
 }

@@ -14,12 +14,12 @@ ghost use Rattle.mv_joint.specs.Meaning.{IsJointTable};
 ghost use Rattle.mv_joint.specs.Lawful.{IsPlain, IsMarkTable};
 
 use crate::out_row::OutRow;
-use crate::plain::{PlainTable, one_entry, only_one, plain_table};
+use crate::plain::{PlainTable, one_entry, plain_table};
 use crate::split::PlainRow;
 use indexmap::IndexSet;
 use mv_base::{Items, Memory, NetId, PackedSet, Value, ValueSet};
 use mv_cover::Cover;
-use mv_design::{Entry, FileTable, Row, Rows, copy_sets};
+use mv_design::{Entries, Entry, FileTable, Row, Rows, Sets, short_sets};
 use mv_rows::{Column, flat_table};
 use std::alloc::Global;
 
@@ -220,8 +220,8 @@ fn choice_row(alloc: Global, all: &IndexSet<OutRow>, row: &PlainRow) -> Result<R
     ensures { IfOk result (λ r. r ≡ choice_row all.now.keys row.now) }
 {
     Ok(Row {
-        ins: copy_sets(alloc, row.ins.as_slice())?,
-        outs: only_one(alloc, choice_entry(alloc, all, &row.outs)?)?,
+        ins: short_sets(alloc, row.ins.as_slice())?,
+        outs: Entries::one(choice_entry(alloc, all, &row.outs)?),
     })
 }
 
@@ -230,22 +230,18 @@ fn choice_default(
     alloc: Global,
     all: &IndexSet<OutRow>,
     default: &Option<OutRow>,
-) -> Result<Option<Items<Entry>>, Memory>
+) -> Result<Option<Entries>, Memory>
     requires few { length all.now.keys ≤ MAX_VALUES }
     ensures { IfOk result (λ entries. entries ≡ choice_default all.now.keys default.now) }
 {
     match default {
         None => Ok(None),
-        Some(outs) => Ok(Some(only_one(alloc, choice_entry(alloc, all, outs)?)?)),
+        Some(outs) => Ok(Some(Entries::one(choice_entry(alloc, all, outs)?))),
     }
 }
 
 /// A table of one output with these rows and this default.
-fn table_of(
-    alloc: Global,
-    rows: Items<Row>,
-    default: Option<Items<Entry>>,
-) -> Result<FileTable, Memory>
+fn table_of(alloc: Global, rows: Items<Row>, default: Option<Entries>) -> Result<FileTable, Memory>
     ensures { IfOk result (λ table. table ≡ table_of rows default) }
 {
     Ok(FileTable {
@@ -315,11 +311,9 @@ fn output_row(alloc: Global, value: Value, outs: &OutRow, output: usize) -> Resu
     requires { value.0 < MAX_VALUES }
     ensures { IfOk result (λ row. row ≡ output_row output value.0 outs.now) }
 {
-    let mut ins = Items::new(alloc);
-    ins.push(PackedSet::new(alloc, ValueSet::one(value))?)?;
     Ok(Row {
-        ins,
-        outs: only_one(alloc, Entry::Set(set_at(alloc, outs, output)?))?,
+        ins: Sets::one(PackedSet::one(alloc, value)?),
+        outs: Entries::one(Entry::Set(set_at(alloc, outs, output)?)),
     })
 }
 

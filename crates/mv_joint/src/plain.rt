@@ -22,7 +22,7 @@ use crate::out_row::OutRow;
 use crate::split::{PlainRow, is_silent, put_rows};
 use indexmap::IndexSet;
 use mv_base::{Items, MAX_JOINT_ROWS, Memory, NetId, PackedSet, Value, ValueSet};
-use mv_design::{Entry, FileTable, Row, Rows, copy_sets};
+use mv_design::{Entries, Entry, FileTable, Row, Rows, short_sets};
 use mv_rows::{Column, Frame};
 use std::alloc::Global;
 
@@ -311,7 +311,7 @@ fn mark_table(alloc: Global, rows: &[PlainRow]) -> Result<FileTable, Memory>
     for row in rows {
         all.push(mark_row(alloc, row)?)?;
     }
-    let default = only_one(alloc, one_entry(alloc, Value(1))?)?;
+    let default = Entries::one(one_entry(alloc, Value(1))?);
     Ok(FileTable {
         line: 0,
         inputs: Items::new(alloc),
@@ -326,8 +326,8 @@ fn mark_row(alloc: Global, row: &PlainRow) -> Result<Row, Memory>
     ensures { IfOk result (λ r. r ≡ mark_row row.now) }
 {
     Ok(Row {
-        ins: copy_sets(alloc, row.ins.as_slice())?,
-        outs: only_one(alloc, one_entry(alloc, Value(0))?)?,
+        ins: short_sets(alloc, row.ins.as_slice())?,
+        outs: Entries::one(one_entry(alloc, Value(0))?),
     })
 }
 
@@ -337,13 +337,4 @@ pub fn one_entry(alloc: Global, value: Value) -> Result<Entry, Memory>
     ensures { IfOk result (λ entry. entry ≡ Set (one value.0)) }
 {
     Ok(Entry::Set(PackedSet::new(alloc, ValueSet::one(value))?))
-}
-
-/// The list of one entry.
-pub fn only_one(alloc: Global, entry: Entry) -> Result<Items<Entry>, Memory>
-    ensures { IfOk result (λ entries. entries ≡ entry ∷ []) }
-{
-    let mut entries = Items::new(alloc);
-    entries.push(entry)?;
-    Ok(entries)
 }

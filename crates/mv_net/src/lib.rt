@@ -26,6 +26,7 @@ mod window;
 pub use change::{Change, NewCount, NewNet, NewTable};
 pub use fanins::fanins_of_cover;
 pub use laws::refinement_laws;
+pub use made::made_name;
 pub use network::Network;
 pub use parts::{FlatLatch, FlatNet, Kind, NetParts};
 pub use window::Window;

@@ -10,7 +10,7 @@ use mv_base::{Memory, Name};
 use std::alloc::Global;
 use std::str;
 
-/// The made name with this number.
+/// The made name with this number: `_m` and the number in decimal.
 pub fn made_name(alloc: Global, number: u64) -> Result<Name, Memory>
     ensures { IfOk result (λ name. name ≡ made_name number) }
 {

@@ -19,7 +19,7 @@ use crate::stop::RowStop;
 use indexmap::IndexSet;
 use mv_base::{Items, Memory, NetId, PackedSet, Value};
 use mv_cover::{Cover, Line};
-use mv_design::{Entry, FileTable, Row};
+use mv_design::{Entries, Entry, FileTable, Row};
 use std::alloc::Global;
 
 /// A table of one output: the cover of its output, and the cover of the mark net that it reads, if it reads one.
@@ -103,7 +103,7 @@ fn made(
 fn covered(
     alloc: Global,
     columns: &[Column],
-    default: &Option<Items<Entry>>,
+    default: &Option<Entries>,
     mark: NetId,
     lines: RowLines,
 ) -> Result<FlatTable, Memory>
@@ -208,7 +208,7 @@ fn one_row(alloc: Global, frame: &Frame, row: &Row) -> Result<Vec<Line>, Memory>
 }
 
 /// The only entry.
-fn only(entries: &Items<Entry>) -> &Entry
+fn only(entries: &Entries) -> &Entry
     requires { length entries.now ≡ 1 }
     ensures { result.now ≡ only_entry entries.now }
 {
@@ -216,7 +216,7 @@ fn only(entries: &Items<Entry>) -> &Entry
 }
 
 /// The default, unless no value lies in its entry or some line has no literal.
-fn left<'a>(default: &'a Option<Items<Entry>>, lines: &[Line]) -> Option<&'a Entry>
+fn left<'a>(default: &'a Option<Entries>, lines: &[Line]) -> Option<&'a Entry>
     requires { (entries : List Entry) → default.now ≡ Some entries → length entries ≡ 1 }
     ensures { option_copied result ≡ default_left default.now lines.now }
 {

@@ -5,20 +5,24 @@ ghost use Rattle.mv_base.specs.Names.{place_of};
 ghost use Rattle.mv_word.specs.Entries.{word_set};
 ghost use Rattle.mv_table.specs.Entries.{AreLookedUp, places_of, same_at, out_word, entry_faults, ins_faults, ins_said, outs_faults, outs_said};
 
-use mv_base::{Items, Memory, Name, PackedSet};
+use mv_base::{Memory, Name, PackedSet};
 use mv_decl::Decls;
-use mv_design::Entry;
+use mv_design::{Entries, Entry, Sets};
 use mv_fault::ParseFault;
 use mv_word::{EntryFault, begins_with, word_set};
+use smallvec::SmallVec;
 use std::alloc::Global;
+
+/// Where the nets of columns are declared. Those of eight columns take no memory.
+type Places = SmallVec<Option<usize>, 8>;
 
 /// The columns of a table, each with the place at which its net is declared, which is looked up once.
 #[derive(Drop)]
 pub struct Columns<'a> {
     pub ins: &'a [Name],
-    pub in_places: Vec<Option<usize>>,
+    pub in_places: Places,
     pub outs: &'a [Name],
-    pub out_places: Vec<Option<usize>>,
+    pub out_places: Places,
 }
 
 impl<'a> Columns<'a> {
@@ -43,10 +47,10 @@ impl<'a> Columns<'a> {
 }
 
 /// Where the nets of columns are declared.
-fn places(alloc: Global, decls: &Decls, nets: &[Name]) -> Result<Vec<Option<usize>>, Memory>
+fn places(alloc: Global, decls: &Decls, nets: &[Name]) -> Result<Places, Memory>
     ensures { IfOk result (λ places. places.items ≡ places_of decls.now nets.now) }
 {
-    let mut places = Vec::with_capacity(alloc, nets.len())?;
+    let mut places = SmallVec::with_capacity(alloc, nets.len())?;
     for net in nets {
         places.push(decls.place(net))?;
     }
@@ -140,17 +144,18 @@ pub fn in_entries(
     decls: &Decls,
     columns: &Columns,
     words: &[Name],
-) -> Result<Items<PackedSet>, ParseFault>
+) -> Result<Sets, ParseFault>
     requires { AreLookedUp decls.now columns.now }
     ensures fault { Tells result (ins_faults number decls.now columns.now.ins.now words.now) }
     ensures ok { IfOk result (λ sets. sets ≡ ins_said decls.now columns.now.ins.now words.now) }
 {
     let count = columns.ins.len().min(words.len());
-    let mut sets = Items::with_room(alloc, count)?;
+    let places = columns.in_places.as_slice();
+    let mut sets = Sets::with_room(alloc, count)?;
     for at in 0..count {
-        let (values, word) = (decls.values_at(columns.in_places[at]), words[at].bytes());
+        let (values, word) = (decls.values_at(places[at]), words[at].bytes());
         match entry_set(alloc, number, values, word) {
-            Ok(set) => sets.push(set)?,
+            Ok(set) => sets.push(alloc, set)?,
             Err(fault) => return Err(fault),
         }
     }
@@ -165,26 +170,27 @@ pub fn out_entries(
     decls: &Decls,
     columns: &Columns,
     words: &[Name],
-) -> Result<Items<Entry>, ParseFault>
+) -> Result<Entries, ParseFault>
     requires few { length columns.now.ins.now < 2 ^ 32 }
     requires placed { AreLookedUp decls.now columns.now }
     ensures fault { Tells result (outs_faults number decls.now columns.now.ins.now columns.now.outs.now words.now) }
     ensures ok { IfOk result (λ entries. entries ≡ outs_said decls.now columns.now.ins.now columns.now.outs.now words.now) }
 {
     let count = columns.outs.len().min(words.len());
-    let mut entries = Items::with_room(alloc, count)?;
+    let places = columns.out_places.as_slice();
+    let mut entries = Entries::with_room(alloc, count)?;
     for at in 0..count {
-        let (values, word) = (decls.values_at(columns.out_places[at]), words[at].bytes());
+        let (values, word) = (decls.values_at(places[at]), words[at].bytes());
         match out_entry(
             alloc,
             number,
             decls,
             columns.ins,
-            &columns.in_places,
+            columns.in_places.as_slice(),
             values,
             word,
         ) {
-            Ok(entry) => entries.push(entry)?,
+            Ok(entry) => entries.push(alloc, entry)?,
             Err(fault) => return Err(fault),
         }
     }

@@ -10,7 +10,7 @@ use crate::columns::{ins, outs};
 use crate::entries::{Columns, in_entries, out_entries};
 use mv_base::{Items, Name};
 use mv_decl::Decls;
-use mv_design::{Entry, FileTable, Row, Rows};
+use mv_design::{Entries, FileTable, Row, Rows};
 use mv_fault::ParseFault;
 use mv_lex::LexLine;
 use mv_word::is_text;
@@ -82,7 +82,7 @@ fn read_line(
     columns: &Columns,
     line: &LexLine,
     rows: &mut Items<Row>,
-    default: &mut Option<Items<Entry>>,
+    default: &mut Option<Entries>,
 ) -> Result<(), ParseFault>
     requires few { length columns.now.ins.now < 2 ^ 32 }
     requires placed { AreLookedUp decls.now columns.now }

@@ -25,7 +25,9 @@ pub fn local_nets(alloc: Global, models: &[FileModel]) -> Result<Items<NameSet>,
 fn nets_of(alloc: Global, model: &FileModel) -> Result<NameSet, Memory>
     ensures { IfOk result (λ nets. nets ≡ all_nets model.now) }
 {
-    let mut nets = NameSet::new(alloc);
+    // as many as are driven, where each table has one output
+    let room = model.inputs.len().saturating_add(model.latches.len());
+    let mut nets = NameSet::with_room(alloc, room.saturating_add(model.tables.len()))?;
     add_nets(&mut nets, model.inputs.as_slice())?;
     add_nets(&mut nets, model.outputs.as_slice())?;
     let namings = namings(alloc, model)?;

@@ -21,7 +21,7 @@ pub fn home_names(alloc: Global, layout: &Layout<'_>) -> Result<NameSet, FlatFau
     ensures faults { TellsFirst FlatFault.Memory result (home_faults (homes (places_of layout.now))) }
     ensures names { IfOk result (λ names. names ≡ homes (places_of layout.now)) }
 {
-    let mut names = NameSet::new(alloc);
+    let mut names = NameSet::with_room(alloc, layout.nets(0).len())?;
     for number in 0..layout.models.len() {
         add_homes(alloc, layout, &mut names, number)?;
     }

@@ -63,10 +63,9 @@ fn add_home(homes: &mut NameSet, name: Name) -> Result<(), FlatFault>
             number: size,
         });
     }
-    if homes.contains(&name) {
+    if !homes.add(name.copy()?)? {
         return Err(FlatFault::NameClash { net: name });
     }
-    homes.add(name)?;
     Ok(())
 }
 

@@ -7,7 +7,7 @@ ghost use Rattle.mv_unfold.specs.Placed.{place_at};
 use crate::layout::Layout;
 use crate::resets::home;
 use mv_base::{Items, Memory, Name};
-use mv_design::{Entry, FileLatch, FileTable, copy_entries};
+use mv_design::{Entries, FileLatch, FileTable, copy_entries};
 use std::alloc::Global;
 
 /// The latches of all places over the names of the whole.
@@ -91,16 +91,16 @@ pub fn placed_table(
         inputs: homes(alloc, layout, number, table.inputs.as_slice())?,
         outputs: homes(alloc, layout, number, table.outputs.as_slice())?,
         rows: table.rows.copy()?,
-        default: default_copy(&table.default)?,
+        default: default_copy(alloc, &table.default)?,
     })
 }
 
 /// An equal default.
-fn default_copy(default: &Option<Items<Entry>>) -> Result<Option<Items<Entry>>, Memory>
+fn default_copy(alloc: Global, default: &Option<Entries>) -> Result<Option<Entries>, Memory>
     ensures { IfOk result (λ copy. copy ≡ default.now) }
 {
     match default {
-        Some(entries) => Ok(Some(copy_entries(entries)?)),
+        Some(entries) => Ok(Some(copy_entries(alloc, entries)?)),
         None => Ok(None),
     }
 }

@@ -126,6 +126,26 @@ loop-table-preserved-in_ok-put_table c =
     let to = goal.at.loop-table-preserved-in_ok-put_table c in
     record { made = made_more to.In_ok-put_table (next to.In-Some); sized = sized_with to.In_ok-put_table (next to.In-Some) (covered to.In-Ok) }
 
+pub loop-table-preserved-in_ok-put_table-2 : goal.loop-table-preserved-in_ok-put_table-2
+loop-table-preserved-in_ok-put_table-2 c =
+    let to = goal.at.loop-table-preserved-in_ok-put_table-2 c in
+    record { made = made_more to.In_ok-put_table (next to.In-Some); sized = sized_with to.In_ok-put_table (next to.In-Some) (covered to.In-Ok) }
+
+pub loop-table-preserved-in_ok-put_table-3 : goal.loop-table-preserved-in_ok-put_table-3
+loop-table-preserved-in_ok-put_table-3 c =
+    let to = goal.at.loop-table-preserved-in_ok-put_table-3 c in
+    record { made = made_more to.In_ok-put_table (next to.In-Some); sized = sized_with to.In_ok-put_table (next to.In-Some) (covered to.In-Ok) }
+
+pub loop-table-preserved-in_ok-put_table-4 : goal.loop-table-preserved-in_ok-put_table-4
+loop-table-preserved-in_ok-put_table-4 c =
+    let to = goal.at.loop-table-preserved-in_ok-put_table-4 c in
+    record { made = made_more to.In_ok-put_table (next to.In-Some); sized = sized_with to.In_ok-put_table (next to.In-Some) (covered to.In-Ok) }
+
+pub loop-table-preserved-in_ok-put_table-5 : goal.loop-table-preserved-in_ok-put_table-5
+loop-table-preserved-in_ok-put_table-5 c =
+    let to = goal.at.loop-table-preserved-in_ok-put_table-5 c in
+    record { made = made_more to.In_ok-put_table (next to.In-Some); sized = sized_with to.In_ok-put_table (next to.In-Some) (covered to.In-Ok) }
+
 pub loop-table-preserved : goal.loop-table-preserved
 loop-table-preserved c =
     let to = goal.at.loop-table-preserved c in

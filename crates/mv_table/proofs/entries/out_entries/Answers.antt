@@ -1,4 +1,4 @@
-use Rattle.std.proofs.Common.{◌≡◌, [], ◌∷◌, ◌+◌, drop, append_assoc, inl, inr, ⊎_elim, arith}
+use Rattle.std.proofs.Common.{◌≡◌, ◌∙◌, None, [], ◌∷◌, ◌+◌, drop, append_assoc, inl, inr, ⊎_elim, arith}
 use Rattle.std.proofs.lemmas.List.{append-nil}
 use Rattle.mv_table.specs.Entries.{outs_said}
 use Rattle.mv_fault.proofs.Firsts.{first-append}
@@ -12,17 +12,17 @@ returns-clause-ok c =
 
 pub returns-in-Err-clause-fault : goal.returns-in-Err-clause-fault
 returns-in-Err-clause-fault c =
-    let values = values_at-place c.args.decls.now c.args.columns.now.outs.now c.values_at-values.result.now c.args.columns.now.out_places.items c.loop-at.at c.index.result.now c.requires.placed.outputs (omega arith) (rw c.index.ensures at c.values_at-values.ensures.value) in
+    let values = values_at-place c.args.decls.now c.args.columns.now.outs.now c.values_at-values.result.now c.as_slice-places.result.now c.loop-at.at None (c.as_slice-places.ensures ∙ c.requires.placed.outputs) (omega arith) c.values_at-values.ensures.value in
     rw (← c.loop-at.invariant.fault, outs_faults-split c.args.number c.args.decls.now c.args.columns.now.ins.now c.args.columns.now.outs.now c.args.words.now c.loop-at.at c.values_at-values.result.now c.bytes-word.result.now (omega arith) (omega arith) values (rw (← c.bytes-word.ensures) at c.index-words-at.is))
     (⊎_elim inl (λ e. inr (first-append _ _ _ e)) c.in-Err.ensures.fault)
 
 pub loop-at-preserved : goal.loop-at-preserved
 loop-at-preserved c =
-    let values = values_at-place c.args.decls.now c.args.columns.now.outs.now c.values_at-values.result.now c.args.columns.now.out_places.items c.loop-at.at c.index.result.now c.requires.placed.outputs (omega arith) (rw c.index.ensures at c.values_at-values.ensures.value) in
+    let values = values_at-place c.args.decls.now c.args.columns.now.outs.now c.values_at-values.result.now c.as_slice-places.result.now c.loop-at.at None (c.as_slice-places.ensures ∙ c.requires.placed.outputs) (omega arith) c.values_at-values.ensures.value in
     let word = rw (← c.bytes-word.ensures) at c.index-words-at.is in
     let said = rw c.in-Ok.ensures.ok at (outs_said-split c.args.decls.now c.args.columns.now.ins.now c.args.columns.now.outs.now c.args.words.now c.loop-at.at c.values_at-values.result.now c.bytes-word.result.now (omega arith) (omega arith) values word) in
     let faults = rw c.in-Ok.ensures.ok at (outs_faults-split c.args.number c.args.decls.now c.args.columns.now.ins.now c.args.columns.now.outs.now c.args.words.now c.loop-at.at c.values_at-values.result.now c.bytes-word.result.now (omega arith) (omega arith) values word) in
     record {
-      said = cc (c.in_ok-push-in-Ok.ensures.ok, said, c.loop-at.invariant.said, append_assoc c.loop-at.entries (c.in-Ok.entry ∷ []) (outs_said c.args.decls.now c.args.columns.now.ins.now (drop (c.loop-at.at + 1) c.args.columns.now.outs.now) (drop (c.loop-at.at + 1) c.args.words.now)));
+      said = cc (c.in_ok-push-in-Ok.ensures, said, c.loop-at.invariant.said, append_assoc c.loop-at.entries (c.in-Ok.entry ∷ []) (outs_said c.args.decls.now c.args.columns.now.ins.now (drop (c.loop-at.at + 1) c.args.columns.now.outs.now) (drop (c.loop-at.at + 1) c.args.words.now)));
       fault = cc (faults, c.loop-at.invariant.fault);
     }

@@ -32,7 +32,7 @@ returns-in_err-add_homes-clause-faults c =
     let long = places_long c.args.layout.now c.requires in
     let end = c.len-number-end.ensures in
     let lt : n < length ps = let t = c.loop-number-test.true in omega arith in
-    let e = err_from_is_err_and c.from_residual.result c.from_residual.ensures.1 in
+    let e = err_from_is_err_and c.from_residual-in_err-add_homes.result c.from_residual-in_err-add_homes.ensures.1 in
     rw (e.1, e.2)
     (told_of Memory _ (rest_faults MAX_FLAT_NETS c.loop-number.names (homes_at (place_at ps n))) (home_faults (homes ps))
     (λ f h.
