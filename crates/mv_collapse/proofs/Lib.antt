@@ -1,3 +1,1 @@
 mod Reasons
-mod WideNotes
-pub mod Eliminated

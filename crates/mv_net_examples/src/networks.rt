@@ -1,10 +1,11 @@
 //! What a network answers of itself and of its nets, as it is read, behind a `drop` and behind a `fill`.
 use mv_base::MemorySink;
 use mv_cert::NoteJournal;
+use mv_fill::fill;
 use mv_net::Network;
 use mv_rules::Terms;
 use mv_sample::{network, said_of};
-use mv_sweep::{fill, remove_unread};
+use mv_sweep::remove_unread;
 use std::alloc::Global;
 use std::test::Fail;
 

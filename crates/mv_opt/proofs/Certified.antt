@@ -1,32 +1,36 @@
 -- What a script puts to the notes is a certificate of what it did.
-use Rattle.std.proofs.Common.{◌≡◌, ◌∙◌, ℕ, ◌≤◌, Bool, true, nat_eq, is_some, List, [], ◌∷◌, ◌++◌, length, map, All, Option, Some, None, refl, sym, ap, subst, ⊎_elim}
-use Rattle.std.proofs.lemmas.Bool.{and_parts, eq-eqb, false≢true, or_left, or_right}
+use Rattle.std.proofs.Common.{◌≡◌, ◌∙◌, ℕ, ◌≤◌, Bool, true, is_some, List, [], ◌∷◌, ◌++◌, length, map, All, Option, Some, None, refl, sym, ap, subst, ⊎_elim}
+use Rattle.std.proofs.lemmas.Bool.{and_parts, false≢true}
 use Rattle.std.proofs.lemmas.List.{append-nil}
 use Rattle.std.proofs.lemmas.List.Elements.{All-nil, All-cons, All-append}
 use Rattle.mv_base.specs.declared.limits.TheConstants.{MAX_CERTIFICATE_BYTES}
-use Rattle.mv_base.specs.declared.number.NetId.{NetId}
 use Rattle.mv_cert.specs.Certificates.{Certifies}
 use Rattle.mv_collapse.specs.Collapses.{CollapsesNet, Collapsed, Remains}
-use Rattle.mv_collapse.specs.Eliminates.{IsEliminateStep, Eliminates, HasNoted, NotesWide, wide_note}
-use Rattle.mv_collapse.proofs.Eliminated.{all_some}
-use Rattle.mv_gain.specs.Savings.{NoneSaves}
+use Rattle.mv_eliminate.specs.Eliminates.{IsEliminateStep, EliminatesAll, NotesWide, Skips, Tells}
 use Rattle.mv_entry.specs.declared.note.Command.{Command}
 use Rattle.mv_entry.specs.declared.note.Command.TheVariants.{Drop, Sweep, Eliminate, Collapse, Kernel, Cube, Simplify, Merge, Default, Determinize, Encode, Fill}
 use Rattle.mv_entry.specs.declared.note.Note.{Note}
 use Rattle.mv_entry.specs.declared.note.Note.TheVariants.{Begin, Dropped, End, Done}
-use Rattle.mv_entry.specs.declared.note.Why.TheVariants.{Lines}
+use Rattle.mv_entry.specs.declared.note.Why.TheVariants.{Lines, Kernels, Nets}
 use Rattle.mv_entry.specs.Entries.{Entry, Applied, Noted, entry_names, print, rules_of, is_visible_name}
 use Rattle.mv_entry.proofs.Printing.{print-append, print-one}
-use Rattle.mv_entry.proofs.Visible.{visible-none, visible-one}
-use Rattle.mv_graph.specs.Nets.{has_id}
+use Rattle.mv_entry.proofs.Visible.{visible-none, visible-net, visible-one}
+use Rattle.mv_extract.specs.Steps.{AddsDivisor, DividesNet, Own, LetBe as NotDivided, Divided, TakesBest, next_net}
+use Rattle.mv_extract.specs.Extracts.{EndsBy, NoneLeft, NoRoom, Extracts, NotesKernels, Skips as KernelSkips, Tells as KernelTells}
+use Rattle.mv_extract.proofs.Notes.{note_visible}
+use Rattle.mv_division.specs.Divisors.{add_rule}
+use Rattle.mv_division.specs.Divided.{divide_rule}
+use Rattle.mv_gains.specs.Candidates.{Candidates, IsKernelCandidate, IsCubeCandidate}
+use Rattle.mv_cover.specs.Literal.{Lit}
+use Rattle.mv_base.specs.declared.number.NetId.{NetId}
 use Rattle.mv_net.specs.declared.parts.FlatNet.{FlatNet}
 use Rattle.mv_net.specs.declared.parts.NetParts.{NetParts}
 use Rattle.mv_net.specs.Formed.{WellFormed}
 use Rattle.mv_net.specs.Nets.{slot, name_in, table_in, literals_in}
-use Rattle.mv_pass.specs.Courses.{Course}
+use Rattle.mv_pass.specs.Courses.{Course, Nothing, Repeated, VisitsAll}
 use Rattle.mv_pass.specs.Going.{Goes}
-use Rattle.mv_pass.proofs.Going.{rules_of-append}
-use Rattle.mv_pass.proofs.Turns.{of_visits}
+use Rattle.mv_pass.proofs.Going.{goes_replays, rules_of-append}
+use Rattle.mv_pass.proofs.Turns.{Implies, of_nothing, of_turn, of_visits}
 use Rattle.mv_rules_back.specs.Names.{HasWordNames}
 use Rattle.mv_rules_back.specs.Notes.{notes_of}
 use Rattle.mv_rules.specs.Replaying.{Replays}
@@ -41,7 +45,7 @@ use Rattle.mv_script.specs.Commands.{IsCommand, is_named, are_named}
 use Rattle.mv_script.specs.Scripts.{Items}
 use Rattle.mv_script.proofs.Commands.{built_lawful}
 use Rattle.mv_sweep.specs.Drops.{IsDropStep}
-use Rattle.mv_sweep.specs.Fills.{Filled, FillsNet, FillsTables, LetBe, Stays, rule_of}
+use Rattle.mv_fill.specs.Fills.{Filled, FillsNet, FillsTables, LetBe, Stays, rule_of}
 use Rattle.mv_sweep.specs.Sweeps.{IsSweepStep}
 use Rattle.mv_opt.specs.Noted.{IsCertificateOf, all_notes}
 use Rattle.mv_opt.proofs.Seen.{IsSeenNote, seen_certifies}
@@ -74,28 +78,6 @@ tabled_visible net n formed tabled = by (slot net.nets n) refl tabled
     by None held t = absurd (false≢true t)
     by (Some f) held t = held_visible net n f.name formed (record { net = f; held = held; is = refl })
 
-wide_seen : (net : NetParts) (numbers : List NetId) → WellFormed net → ((n : ℕ) → has_id numbers n ≡ true → is_some (table_in (slot net.nets n)) ≡ true) → AreSeen (map (wide_note net) numbers)
-wide_seen net [] formed each = All-nil IsSeenNote
-wide_seen net (n ∷ ns) formed each =
-    let name = name_in (slot net.nets n.0) in
-    let tabled = each n.0 (or_left (nat_eq n.0 n.0) (has_id ns n.0) (eq-eqb n.0 n.0 refl)) in
-    All-cons IsSeenNote (Dropped Lines name) (notes_of (map (wide_note net) ns)) (visible-one (Noted (Dropped Lines name)) name refl (tabled_visible net n.0 formed tabled))
-    (wide_seen net ns formed (λ m h. each m (or_right (nat_eq n.0 m) (has_id ns m) h)))
-
-noted_seen : (net : NetParts) (notes : List Entry) → WellFormed net → HasNoted net notes → AreSeen notes
-noted_seen net notes formed h =
-    ⊎_elim
-    (λ (none : notes ≡ []). subst AreSeen (sym none) (All-nil IsSeenNote))
-    (λ (some : NoneSaves net × ((end : ℕ) × NotesWide net end notes)).
-    let wide = some.1.1 in
-    subst AreSeen (sym wide.notes_are) (wide_seen net wide.numbers formed (λ n y. (wide.wide n y).1.tabled)))
-    h.how
-
-eliminates_seen : (free : Bool) (a b : NetParts) (steps : List Entry) → WellFormed b → Eliminates free a steps b → AreSeen steps
-eliminates_seen free a b steps formed e =
-    subst AreSeen (sym e.steps_are)
-    (seen_append e.collapses e.notes (goes_seen free IsEliminateStep (λ net note never. absurd never) a b e.collapses e.goes) (noted_seen b e.notes formed e.noted))
-
 collapses_seen : (free : Bool) (name : List ℕ) → is_visible_name name ≡ true → (a b : NetParts) (steps : List Entry) → CollapsesNet free name a steps b → AreSeen steps
 collapses_seen free name h a b steps (Collapsed f applies is) = subst AreSeen (sym is) (All-nil IsSeenNote)
 collapses_seen free name h a b steps (Remains why stays is same) =
@@ -111,6 +93,21 @@ seen_then a b c xs ys p q formed =
     let second = q first.0 in
     (second.0, seen_append xs ys first.1 second.1)
 
+-- a note of a net that is too wide
+wide_seen : (n : ℕ) → Implies (NotesWide n) StaysSeen
+wide_seen n a es b (Skips narrow still) formed = (subst WellFormed (sym still.1) formed, subst AreSeen (sym still.0) (All-nil IsSeenNote))
+wide_seen n a es b (Tells wide is same) formed =
+    let name = name_in (slot a.nets n) in
+    let seen = visible-one (Noted (Dropped Lines name)) name refl (tabled_visible a n formed wide.tabled) in
+    (subst WellFormed (sym same) formed, subst AreSeen (sym is) (All-cons IsSeenNote (Dropped Lines name) [] seen (All-nil IsSeenNote)))
+
+eliminates_seen : (free : Bool) (a b : NetParts) (steps : List Entry) → WellFormed a → EliminatesAll free a steps b → AreSeen steps
+eliminates_seen free a b steps formed e =
+    let replays = goes_replays free IsEliminateStep a e.mid e.front e.first.steps in
+    let formed' = replayed_formed free (rules_of e.front) a e.mid formed replays in
+    let notes = (of_visits StaysSeen (λ n formed''. (formed'', All-nil IsSeenNote)) seen_then NotesWide wide_seen (length e.mid.nets) e.mid e.rest b e.second formed').1 in
+    subst AreSeen (sym e.entries_are) (seen_append e.front e.rest (goes_seen free IsEliminateStep (λ net note never. absurd never) a e.mid e.front e.first.steps) notes)
+
 -- a visit of `fill`
 visit_seen : (free : Bool) (n : ℕ) (a : NetParts) (es : List Entry) (b : NetParts) → FillsNet free n a es b → StaysSeen a es b
 visit_seen free n a es b (LetBe full still) formed = (subst WellFormed (sym still.1) formed, subst AreSeen (sym still.0) (All-nil IsSeenNote))
@@ -124,13 +121,45 @@ fills_seen : (free : Bool) (a b : NetParts) (steps : List Entry) → WellFormed 
 fills_seen free a b steps formed t =
     (of_visits StaysSeen (λ n formed'. (formed', All-nil IsSeenNote)) seen_then (FillsNet free) (visit_seen free) t.end a steps b t.visits formed).1
 
+-- an extraction: the net that comes, the tables that are divided, and the notes behind
+adds_seen : (free : Bool) (divisor : List (List Lit)) → Implies (AddsDivisor free divisor) StaysSeen
+adds_seen free divisor a es b p formed =
+    (kept_formed free (add_rule a.nets p.name divisor) a b formed p.applies, subst AreSeen (sym p.entries_are) (All-nil IsSeenNote))
+
+divides_seen : (free : Bool) (divisor : List (List Lit)) (d : NetId) (n : ℕ) → Implies (DividesNet free divisor d n) StaysSeen
+divides_seen free divisor d n a es b (Own own still) formed = (subst WellFormed (sym still.1) formed, subst AreSeen (sym still.0) (All-nil IsSeenNote))
+divides_seen free divisor d n a es b (NotDivided none still) formed = (subst WellFormed (sym still.1) formed, subst AreSeen (sym still.0) (All-nil IsSeenNote))
+divides_seen free divisor d n a es b (Divided by table lines division applies is) formed =
+    (kept_formed free (divide_rule a.nets n by table lines) a b formed applies, subst AreSeen (sym is) (All-nil IsSeenNote))
+
+takes_seen : (free : Bool) (Candidate : Candidates) → Implies (TakesBest Candidate free) StaysSeen
+takes_seen free Candidate a es b s =
+    of_turn StaysSeen (λ n f. (f, All-nil IsSeenNote)) seen_then (AddsDivisor free s.divisor) (VisitsAll (DividesNet free s.divisor (next_net a))) (adds_seen free s.divisor)
+    (λ a' es' b' v. of_visits StaysSeen (λ n f. (f, All-nil IsSeenNote)) seen_then (DividesNet free s.divisor (next_net a)) (divides_seen free s.divisor (next_net a)) (length a'.nets) a' es' b' v) a es b s.course
+
+kernels_seen : (n : ℕ) → Implies (NotesKernels n) StaysSeen
+kernels_seen n a es b (KernelSkips few still) formed = (subst WellFormed (sym still.1) formed, subst AreSeen (sym still.0) (All-nil IsSeenNote))
+kernels_seen n a es b (KernelTells many is same) formed =
+    let name = name_in (slot a.nets n) in
+    (subst WellFormed (sym same) formed, subst AreSeen (sym is) (All-cons IsSeenNote (Dropped Kernels name) [] (note_visible a n name formed many refl) (All-nil IsSeenNote)))
+
+extracts_seen : (free : Bool) (Candidate : Candidates) (Behind : Course) → Implies Behind StaysSeen → Implies (Extracts Candidate Behind free) StaysSeen
+extracts_seen free Candidate Behind behind =
+    of_turn StaysSeen (λ n f. (f, All-nil IsSeenNote)) seen_then (Repeated (TakesBest Candidate free)) (EndsBy Candidate Behind)
+    (λ a es b r. of_visits StaysSeen (λ n f. (f, All-nil IsSeenNote)) seen_then (λ k. TakesBest Candidate free) (λ k. takes_seen free Candidate) r.times a es b r.rounds) ends
+  where
+    ends : Implies (EndsBy Candidate Behind) StaysSeen
+    ends a es b (NoneLeft none course) formed = behind a es b course formed
+    ends a es b (NoRoom name full is same) formed =
+        (subst WellFormed (sym same) formed, subst AreSeen (sym is) (All-cons IsSeenNote (Dropped Nets name) [] (visible-one (Noted (Dropped Nets name)) name refl (visible-net name full.lawful)) (All-nil IsSeenNote)))
+
 whole_seen : (free : Bool) (c : Command) (a b : NetParts) (steps : List Entry) → IsCommand c → WellFormed a → WellFormed b → WholeOf free c a steps b → AreSeen steps
 whole_seen free Drop a b steps is formed formed' g = goes_seen free IsDropStep (λ net note never. absurd never) a b steps g.steps
 whole_seen free Sweep a b steps is formed formed' g = goes_seen free IsSweepStep (λ net note never. absurd never) a b steps g.steps
-whole_seen free Eliminate a b steps is formed formed' e = eliminates_seen free a b steps formed' (all_some free a b steps e)
+whole_seen free Eliminate a b steps is formed formed' e = eliminates_seen free a b steps formed e
 whole_seen free (Collapse name) a b steps is formed formed' g = collapses_seen free name (and_parts (is_visible_name name) true is.names.each).0 a b steps g
-whole_seen free Kernel a b steps is formed formed' g = absurd g
-whole_seen free Cube a b steps is formed formed' g = absurd g
+whole_seen free Kernel a b steps is formed formed' g = (extracts_seen free IsKernelCandidate (VisitsAll NotesKernels) (λ a es b v. of_visits StaysSeen (λ n f. (f, All-nil IsSeenNote)) seen_then NotesKernels kernels_seen (length a.nets) a es b v) a steps b g formed).1
+whole_seen free Cube a b steps is formed formed' g = (extracts_seen free IsCubeCandidate Nothing (of_nothing StaysSeen (λ n f. (f, All-nil IsSeenNote)) seen_then) a steps b g formed).1
 whole_seen free (Simplify down up) a b steps is formed formed' g = absurd g
 whole_seen free Merge a b steps is formed formed' g = absurd g
 whole_seen free Default a b steps is formed formed' g = absurd g

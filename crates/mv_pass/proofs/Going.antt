@@ -1,5 +1,5 @@
 -- Entries one after the other: two stretches of them, and the rules among them.
-use Rattle.std.proofs.Common.{◌≡◌, ◌≤◌, Bool, List, [], ◌∷◌, ◌++◌, refl, ap, subst, arith}
+use Rattle.std.proofs.Common.{◌≡◌, ◌≤◌, Bool, List, [], ◌∷◌, ◌++◌, refl, sym, ap, subst, arith}
 use Rattle.mv_entry.specs.declared.rule.Rule.{Rule}
 use Rattle.mv_entry.specs.Entries.{Entry, Applied, Noted, rules_of}
 use Rattle.mv_net.specs.declared.parts.NetParts.{NetParts}
@@ -8,6 +8,8 @@ use Rattle.mv_net.specs.Nets.{literals_in}
 use Rattle.mv_rules.specs.Applies.{Applies}
 use Rattle.mv_rules.specs.Replaying.{Replays}
 use Rattle.mv_rules.proofs.Kept.{kept_formed}
+use Rattle.mv_rules.proofs.Replayed.{replayed_then}
+use Rattle.mv_pass.specs.Courses.{Course}
 use Rattle.mv_pass.specs.Going.{Goes}
 
 module _ (free : Bool) (Lawful : NetParts → Entry → Type 0) where
@@ -26,6 +28,14 @@ pub rules_of-append : (xs ys : List Entry) → rules_of (xs ++ ys) ≡ rules_of 
 rules_of-append [] ys = refl
 rules_of-append (Applied r ∷ xs) ys = ap (λ rs. r ∷ rs) (rules_of-append xs ys)
 rules_of-append (Noted n ∷ xs) ys = rules_of-append xs ys
+
+-- the rules among the entries apply in turn
+abbrev pub ReplaysRules : Bool → Course
+ReplaysRules free a es b = Replays free (rules_of es) a b
+
+pub replays_then : (free : Bool) (a b c : NetParts) (xs ys : List Entry) → ReplaysRules free a xs b → ReplaysRules free b ys c → ReplaysRules free a (xs ++ ys) c
+replays_then free a b c xs ys p q =
+    subst (λ rs. Replays free rs a c) (sym (rules_of-append xs ys)) (replayed_then free (rules_of xs) (rules_of ys) a b c p q)
 
 -- where each rule that is lawful leaves no more literals than there were, all together leave no more
 pub goes_no_more : (free : Bool) (Lawful : NetParts → Entry → Type 0)

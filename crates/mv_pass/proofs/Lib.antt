@@ -5,4 +5,5 @@ pub mod Passed
 pub mod Coming
 pub mod Turns
 pub mod Stepped
+pub mod Visiting
 pub mod Greedy

@@ -1,5 +1,5 @@
 -- Courses: what some part of a run does, from a network to a network, with the entries that come of it.
-use Rattle.std.specs.Prelude.{◌≡◌, ℕ, zero, suc, List, [], ◌++◌}
+use Rattle.std.specs.Prelude.{◌≡◌, ℕ, zero, suc, ◌≤◌, List, [], ◌++◌, length}
 use Rattle.mv_entry.specs.Entries.{Entry}
 use Rattle.mv_net.specs.declared.parts.NetParts.{NetParts}
 
@@ -39,3 +39,23 @@ Rounds (suc n) Round = InTurn Round (Rounds n Round)
 abbrev pub Visits : (ℕ → Course) → ℕ → Course
 Visits Visit zero = Nothing
 Visits Visit (suc n) = InTurn (Visits Visit n) (Visit n)
+
+-- all nets of the old network are visited, ascending
+abbrev pub VisitsAll : (ℕ → Course) → Course
+VisitsAll Visit old entries new = Visits Visit (length old.nets) old entries new
+
+-- its first so many nets are visited, each in turn
+pub record VisitsSome (Visit : ℕ → Course) (old : NetParts) (entries : List Entry) (new : NetParts) : Type 0 where
+  pub end : ℕ
+  pub within : end ≤ length old.nets
+  pub visits : Visits Visit end old entries new
+
+-- how what goes on behind all of something stops: some of that came; or all of it, and some of what follows
+pub data Onward (Some All Behind : Course) (old : NetParts) (entries : List Entry) (new : NetParts) : Type 0 where
+  Short : Some old entries new → Onward Some All Behind old entries new
+  Past : InTurn All Behind old entries new → Onward Some All Behind old entries new
+
+-- such rounds, as many as there are
+pub record Repeated (Round : Course) (old : NetParts) (entries : List Entry) (new : NetParts) : Type 0 where
+  pub times : ℕ
+  pub rounds : Visits (λ k. Round) times old entries new

@@ -1,7 +1,7 @@
 -- The commands of scripts, and those that are built in this version.
 use Rattle.std.specs.Prelude.{◌≡◌, Bool, true, false, ◌&&◌, ◌||◌}
 use Rattle.mv_entry.specs.declared.note.Command.{Command}
-use Rattle.mv_entry.specs.declared.note.Command.TheVariants.{Drop, Sweep, Eliminate, Collapse, Fill}
+use Rattle.mv_entry.specs.declared.note.Command.TheVariants.{Drop, Sweep, Eliminate, Collapse, Kernel, Cube, Fill}
 use Rattle.mv_entry.specs.declared.note.Note.TheVariants.{Begin}
 use Rattle.mv_entry.specs.Entries.{Noted, HasVisibleNames, is_visible_name}
 use Rattle.mv_script.specs.Scripts.{Items, End, Do, Repeat, Better}
@@ -12,6 +12,8 @@ is_built Drop = true
 is_built Sweep = true
 is_built Eliminate = true
 is_built (Collapse net) = true
+is_built Kernel = true
+is_built Cube = true
 is_built Fill = true
 is_built _ = false
 

@@ -12,6 +12,8 @@ pub fn is_command_built(command: &Command) -> bool
         | Command::Sweep
         | Command::Eliminate
         | Command::Collapse(_)
+        | Command::Kernel
+        | Command::Cube
         | Command::Fill => true,
         _ => false,
     }

@@ -1,8 +1,9 @@
 -- No script without `determinize` and `encode` ends with more literals than it began with.
-use Rattle.std.proofs.Common.{◌≡◌, ◌∙◌, ℕ, ◌≤◌, Bool, true, is_some, List, [], ◌∷◌, ◌++◌, Option, Some, None, refl, sym, ap, subst, arith}
+use Rattle.std.proofs.Common.{◌≡◌, ◌∙◌, ℕ, ◌≤◌, Bool, true, is_some, List, [], ◌∷◌, ◌++◌, length, Option, Some, None, refl, sym, ap, subst, arith}
 use Rattle.std.proofs.lemmas.Bool.{false≢true}
 use Rattle.mv_collapse.specs.Collapses.{CollapsesNet, Collapsed, Remains}
-use Rattle.mv_collapse.specs.Eliminates.{IsEliminateStep}
+use Rattle.mv_eliminate.specs.Eliminates.{IsEliminateStep, EliminatesAll, NotesWide, Skips, Tells}
+use Rattle.mv_extract.proofs.Fewer.{kernels_no_more, cubes_no_more}
 use Rattle.mv_entry.specs.declared.note.Command.{Command}
 use Rattle.mv_entry.specs.declared.note.Command.TheVariants.{Drop, Sweep, Eliminate, Collapse, Kernel, Cube, Simplify, Merge, Default, Determinize, Encode, Fill}
 use Rattle.mv_entry.specs.declared.rule.Rule.{Rule}
@@ -17,13 +18,14 @@ use Rattle.mv_locality.proofs.Fewer.{removes_no_more, wires_no_more, collapses_n
 use Rattle.mv_locality.proofs.Steps.{names_itself}
 use Rattle.mv_pass.specs.Courses.{Course}
 use Rattle.mv_pass.proofs.Going.{goes_no_more}
+use Rattle.mv_pass.proofs.Turns.{Implies, of_visits}
 use Rattle.mv_rules.specs.Applies.{Applies}
 use Rattle.mv_rules.specs.Checks.{IsTabled}
 use Rattle.mv_rules.specs.Collapsing.{Collapses}
 use Rattle.mv_rules.proofs.CompositeLiterals.{collapse_leaves}
 use Rattle.mv_rules.proofs.OneAnswer.{one_network}
 use Rattle.mv_rules.proofs.Replayed.{replayed_formed}
-use Rattle.mv_sweep.proofs.Filled.{fills_no_more}
+use Rattle.mv_fill.proofs.Filled.{fills_no_more}
 use Rattle.mv_sweep.specs.Drops.{IsDropStep}
 use Rattle.mv_sweep.specs.Sweeps.{IsSweepStep}
 use Rattle.mv_script.specs.Commands.{all_commands}
@@ -90,6 +92,17 @@ eliminate_no_more free a b (CollapseNet name) formed lawful p =
     subst (λ c. NoMore a c) (sym same) saving.no_more
 eliminate_no_more free a b _ formed lawful p = absurd lawful
 
+-- a note leaves the network as it is
+wide_no_more : (n : ℕ) → Implies (NotesWide n) (λ a es b. NoMore a b)
+wide_no_more n a es b (Skips narrow still) = let e : literals_in b.nets ≡ literals_in a.nets = ap (λ (n : NetParts). literals_in n.nets) still.1 in omega (arith, e)
+wide_no_more n a es b (Tells wide is same) = let e : literals_in b.nets ≡ literals_in a.nets = ap (λ (n : NetParts). literals_in n.nets) same in omega (arith, e)
+
+eliminates_no_more : (free : Bool) (a b : NetParts) (steps : List Entry) → WellFormed a → EliminatesAll free a steps b → NoMore a b
+eliminates_no_more free a b steps formed e =
+    let collapses = goes_no_more free IsEliminateStep (eliminate_no_more free) a e.mid e.front formed e.first.steps in
+    let notes = of_visits (λ a es b. NoMore a b) (λ n. omega arith) (λ a b c xs ys p q. omega (arith, p, q)) NotesWide wide_no_more (length e.mid.nets) e.mid e.rest b e.second in
+    omega (arith, collapses, notes)
+
 collapse_no_more : (free : Bool) (name : List ℕ) (a b : NetParts) (steps : List Entry) → WellFormed a → CollapsesNet free name a steps b → NoMore a b
 collapse_no_more free name a b steps formed (Collapsed f applies is) = subst (λ c. NoMore a c) (one_network free (CollapseNet name) a f.new b formed f.applies applies) f.no_more
 collapse_no_more free name a b steps formed (Remains why stays is same) =
@@ -100,10 +113,10 @@ collapse_no_more free name a b steps formed (Remains why stays is same) =
 whole_no_more : (free : Bool) (c : Command) (a b : NetParts) (steps : List Entry) → leaves_no_more c ≡ true → WellFormed a → WholeOf free c a steps b → NoMore a b
 whole_no_more free Drop a b steps frugal formed g = goes_no_more free IsDropStep (drop_no_more free) a b steps formed g.steps
 whole_no_more free Sweep a b steps frugal formed g = goes_no_more free IsSweepStep (sweep_no_more free) a b steps formed g.steps
-whole_no_more free Eliminate a b steps frugal formed e = goes_no_more free IsEliminateStep (eliminate_no_more free) a b e.collapses formed e.goes.steps
+whole_no_more free Eliminate a b steps frugal formed e = eliminates_no_more free a b steps formed e
 whole_no_more free (Collapse name) a b steps frugal formed g = collapse_no_more free name a b steps formed g
-whole_no_more free Kernel a b steps frugal formed g = absurd g
-whole_no_more free Cube a b steps frugal formed g = absurd g
+whole_no_more free Kernel a b steps frugal formed g = kernels_no_more free a b steps formed g
+whole_no_more free Cube a b steps frugal formed g = cubes_no_more free a b steps formed g
 whole_no_more free (Simplify down up) a b steps frugal formed g = absurd g
 whole_no_more free Merge a b steps frugal formed g = absurd g
 whole_no_more free Default a b steps frugal formed g = absurd g

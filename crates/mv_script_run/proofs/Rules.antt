@@ -1,22 +1,21 @@
 -- The rules among the entries of scripts apply in turn.
-use Rattle.std.proofs.Common.{◌≡◌, ◌∙◌, ℕ, Bool, true, List, [], ◌∷◌, ◌++◌, map, refl, sym, ap, subst, ⊎_elim}
+use Rattle.std.proofs.Common.{◌≡◌, ◌∙◌, ℕ, Bool, true, List, [], ◌∷◌, ◌++◌, refl, sym, ap, subst}
 use Rattle.std.proofs.lemmas.List.{append-nil}
-use Rattle.mv_base.specs.declared.number.NetId.{NetId}
 use Rattle.mv_collapse.specs.Collapses.{CollapsesNet, Collapsed, Remains}
-use Rattle.mv_collapse.specs.Eliminates.{IsEliminateStep, Eliminates, HasNoted, NotesWide, wide_note}
-use Rattle.mv_collapse.proofs.Eliminated.{all_some}
-use Rattle.mv_gain.specs.Savings.{NoneSaves}
+use Rattle.mv_eliminate.specs.Eliminates.{IsEliminateStep, CollapsesAll, Eliminates, NotesWide, Skips, Tells}
+use Rattle.mv_eliminate.proofs.Eliminated.{all_some}
+use Rattle.mv_extract.proofs.Replays.{kernels_replay, cubes_replay, kernels_all_some, cubes_all_some}
 use Rattle.mv_entry.specs.declared.note.Command.{Command}
 use Rattle.mv_entry.specs.declared.note.Command.TheVariants.{Drop, Sweep, Eliminate, Collapse, Kernel, Cube, Simplify, Merge, Default, Determinize, Encode, Fill}
 use Rattle.mv_entry.specs.Entries.{Entry, rules_of}
 use Rattle.mv_net.specs.declared.parts.NetParts.{NetParts}
-use Rattle.mv_pass.specs.Courses.{Course, Perhaps, Still, Through}
+use Rattle.mv_pass.specs.Courses.{Course, Perhaps, Still, Through, VisitsSome, Short, Past}
 use Rattle.mv_pass.specs.Going.{Before, Within, Behind}
-use Rattle.mv_pass.proofs.Going.{goes_replays, rules_of-append}
+use Rattle.mv_pass.proofs.Going.{goes_replays, rules_of-append, ReplaysRules, replays_then}
+use Rattle.mv_pass.proofs.Turns.{Implies, of_turn, of_visits}
 use Rattle.mv_rules.specs.Replaying.{Replays}
-use Rattle.mv_rules.proofs.Replayed.{replayed_then}
 use Rattle.mv_script.specs.Scripts.{Items}
-use Rattle.mv_sweep.proofs.Filled.{fills_replays}
+use Rattle.mv_fill.proofs.Filled.{fills_replays}
 use Rattle.mv_sweep.specs.Drops.{IsDropStep}
 use Rattle.mv_sweep.specs.Sweeps.{IsSweepStep}
 use Rattle.mv_script_run.specs.Commands.{WholeOf, PartOf, DoesCommand, BegunCommand}
@@ -25,23 +24,19 @@ use Rattle.mv_script_run.proofs.Inductions.{of_items, of_stopped, any_commands}
 
 -- ---- the steps of a command
 
--- notes of nets are no rules
-wide_notes_ruleless : (net : NetParts) (numbers : List NetId) → rules_of (map (wide_note net) numbers) ≡ []
-wide_notes_ruleless net [] = refl
-wide_notes_ruleless net (n ∷ ns) = wide_notes_ruleless net ns
+-- a note of a net is no rule
+wide_replays : (free : Bool) (n : ℕ) → Implies (NotesWide n) (ReplaysRules free)
+wide_replays free n a es b (Skips narrow still) = subst (λ z. Replays free (rules_of z) a b) (sym still.0) still.1
+wide_replays free n a es b (Tells wide is same) = subst (λ z. Replays free (rules_of z) a b) (sym is) same
 
-noted_ruleless : (net : NetParts) (notes : List Entry) → HasNoted net notes → rules_of notes ≡ []
-noted_ruleless net notes h =
-    ⊎_elim
-    (λ (none : notes ≡ []). ap rules_of none)
-    (λ (some : NoneSaves net × ((end : ℕ) × NotesWide net end notes)). ap rules_of some.1.1.notes_are ∙ wide_notes_ruleless net some.1.1.numbers)
-    h.how
+wide_notes_replay : (free : Bool) → Implies (VisitsSome NotesWide) (ReplaysRules free)
+wide_notes_replay free a es b v = of_visits (ReplaysRules free) (λ n. refl) (replays_then free) NotesWide (wide_replays free) v.end a es b v.visits
 
-eliminates_replays : (free : Bool) (a b : NetParts) (steps : List Entry) → Eliminates free a steps b → Replays free (rules_of steps) a b
-eliminates_replays free a b steps e =
-    let rules : rules_of steps ≡ rules_of e.collapses =
-    ap rules_of e.steps_are ∙ (rules_of-append e.collapses e.notes ∙ (ap (λ rs. rules_of e.collapses ++ rs) (noted_ruleless b e.notes e.noted) ∙ append-nil (rules_of e.collapses))) in
-    subst (λ rs. Replays free rs a b) (sym rules) (goes_replays free IsEliminateStep a b e.collapses e.goes)
+eliminates_replays : (free : Bool) → Implies (Eliminates free) (ReplaysRules free)
+eliminates_replays free a es b (Short collapses) = goes_replays free IsEliminateStep a b es collapses
+eliminates_replays free a es b (Past turn) =
+    of_turn (ReplaysRules free) (λ n. refl) (replays_then free) (CollapsesAll free) (VisitsSome NotesWide)
+    (λ a xs b g. goes_replays free IsEliminateStep a b xs g.steps) (wide_notes_replay free) a es b turn
 
 -- the one step of `collapse NET`
 collapses_replays : (free : Bool) (name : List ℕ) (a b : NetParts) (steps : List Entry) → CollapsesNet free name a steps b → Replays free (rules_of steps) a b
@@ -56,10 +51,10 @@ collapse_replays free name a b steps (Through c) = collapses_replays free name a
 part_replays : (free : Bool) (c : Command) (a b : NetParts) (steps : List Entry) → PartOf free c a steps b → Replays free (rules_of steps) a b
 part_replays free Drop a b steps g = goes_replays free IsDropStep a b steps g
 part_replays free Sweep a b steps g = goes_replays free IsSweepStep a b steps g
-part_replays free Eliminate a b steps e = eliminates_replays free a b steps e
+part_replays free Eliminate a b steps e = eliminates_replays free a steps b e
 part_replays free (Collapse name) a b steps g = collapse_replays free name a b steps g
-part_replays free Kernel a b steps g = absurd g
-part_replays free Cube a b steps g = absurd g
+part_replays free Kernel a b steps g = kernels_replay free a steps b g
+part_replays free Cube a b steps g = cubes_replay free a steps b g
 part_replays free (Simplify down up) a b steps g = absurd g
 part_replays free Merge a b steps g = absurd g
 part_replays free Default a b steps g = absurd g
@@ -73,8 +68,8 @@ whole_part free Drop a b steps g = g.steps
 whole_part free Sweep a b steps g = g.steps
 whole_part free Eliminate a b steps e = all_some free a b steps e
 whole_part free (Collapse name) a b steps g = Through g
-whole_part free Kernel a b steps g = absurd g
-whole_part free Cube a b steps g = absurd g
+whole_part free Kernel a b steps g = kernels_all_some free a steps b g
+whole_part free Cube a b steps g = cubes_all_some free a steps b g
 whole_part free (Simplify down up) a b steps g = absurd g
 whole_part free Merge a b steps g = absurd g
 whole_part free Default a b steps g = absurd g
@@ -100,17 +95,10 @@ module _ (free : Bool) (c : Command) (a b : NetParts) (es : List Entry) where
 
 -- ---- scripts
 
--- the rules apply in turn
-abbrev ReplaysRules : Bool → Course
-ReplaysRules free a es b = Replays free (rules_of es) a b
-
-then_replays : (free : Bool) (a b c : NetParts) (xs ys : List Entry) → ReplaysRules free a xs b → ReplaysRules free b ys c → ReplaysRules free a (xs ++ ys) c
-then_replays free a b c xs ys p q = subst (λ rs. Replays free rs a c) (sym (rules_of-append xs ys)) (replayed_then free (rules_of xs) (rules_of ys) a b c p q)
-
 pub runs_replays : (free : Bool) (items : Items) (a b : NetParts) (es : List Entry) → Runs free items a es b → Replays free (rules_of es) a b
 runs_replays free items a b es r =
-    of_items free (ReplaysRules free) (λ n. refl) (then_replays free) (λ c. true) (λ c h m fs n d. does_replays free c m n fs d.does) items (any_commands items) a es b r
+    of_items free (ReplaysRules free) (λ n. refl) (replays_then free) (λ c. true) (λ c h m fs n d. does_replays free c m n fs d.does) items (any_commands items) a es b r
 
 pub stops_replays : (free : Bool) (items : Items) (a b : NetParts) (es : List Entry) → RunsTo free items a es b → Replays free (rules_of es) a b
 stops_replays free items a b es r =
-    of_stopped free (ReplaysRules free) (λ n. refl) (then_replays free) (λ c. true) (λ c h m fs n d. does_replays free c m n fs d.does) (λ c h m fs n d. begun_replays free c m n fs d.begun) items (any_commands items) a es b r
+    of_stopped free (ReplaysRules free) (λ n. refl) (replays_then free) (λ c. true) (λ c h m fs n d. does_replays free c m n fs d.does) (λ c h m fs n d. begun_replays free c m n fs d.begun) items (any_commands items) a es b r

@@ -3,12 +3,15 @@ ghost use Rattle.mv_pass.specs.Passing.{Passes};
 ghost use Rattle.mv_script.specs.Commands.{IsCommand, is_built, is_named};
 ghost use Rattle.mv_script_run.specs.Commands.{PassesCommand, RunsCommand, StopsCommand};
 
-use mv_collapse::{collapse, eliminate};
+use mv_collapse::collapse;
+use mv_eliminate::eliminate;
 use mv_entry::{Command, Journal};
+use mv_extract::{cube, kernel};
+use mv_fill::fill;
 use mv_net::Network;
 use mv_pass::Stop;
 use mv_rules::Terms;
-use mv_sweep::{fill, remove_unread, sweep};
+use mv_sweep::{remove_unread, sweep};
 use std::alloc::Global;
 
 /// Runs a command as it is built.
@@ -27,6 +30,8 @@ fn run_built<J: Journal>(
         Command::Sweep => sweep(alloc, net, journal, terms),
         Command::Eliminate => eliminate(alloc, net, journal, terms),
         Command::Collapse(name) => collapse(alloc, net, name, journal, terms),
+        Command::Kernel => kernel(alloc, net, journal, terms),
+        Command::Cube => cube(alloc, net, journal, terms),
         Command::Fill => fill(alloc, net, journal, terms),
         _ => unreachable!(),
     }

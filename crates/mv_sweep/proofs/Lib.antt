@@ -1,8 +1,3 @@
 pub mod Search
 pub mod Stepping
 pub mod Swept
-pub mod FilledNets
-pub mod Filled
-pub mod Unfilled
-pub mod Marking
-pub mod Strict

@@ -1,9 +1,6 @@
 //! mvopt reads a network in BLIF-MV and a script, and writes a network that may take its place.
 #![tactic(auto)]
 
-#[cfg(test)]
-mod tests;
-
 use mv_base::{HostErr, HostFiles, HostOut, Memory};
 use mv_run::run;
 use std::process::ExitCode;

@@ -1,4 +1,4 @@
--- `collapse NET` passes as the command that it is.
+-- `collapse NET`, `kernel` and `cube` pass as the commands that they are.
 use Rattle.std.proofs.Common.{sym, subst}
 use Rattle.mv_entry.specs.declared.note.Command.{Command}
 use Rattle.mv_script_run.specs.Commands.{PassesCommand}
@@ -8,3 +8,13 @@ pub returns-in-Collapse : goal.returns-in-Collapse
 returns-in-Collapse g c =
     let P : Command → Type 0 = λ k. PassesCommand c.args.terms.free k c.args.net.now c.collapse.new.net (g.J.Journal.state c.args.journal.now) (g.J.Journal.state c.collapse.new.journal) c.collapse.result in
     subst P (sym c.in-Collapse.is) c.collapse.ensures.passes
+
+pub returns-in-Kernel : goal.returns-in-Kernel
+returns-in-Kernel g c =
+    let P : Command → Type 0 = λ k. PassesCommand c.args.terms.free k c.args.net.now c.kernel.new.net (g.J.Journal.state c.args.journal.now) (g.J.Journal.state c.kernel.new.journal) c.kernel.result in
+    subst P (sym c.in-Kernel.is) c.kernel.ensures.passes
+
+pub returns-in-Cube : goal.returns-in-Cube
+returns-in-Cube g c =
+    let P : Command → Type 0 = λ k. PassesCommand c.args.terms.free k c.args.net.now c.cube.new.net (g.J.Journal.state c.args.journal.now) (g.J.Journal.state c.cube.new.journal) c.cube.result in
+    subst P (sym c.in-Cube.is) c.cube.ensures.passes

@@ -1,0 +1,2 @@
+mod WideNotes
+pub mod Eliminated

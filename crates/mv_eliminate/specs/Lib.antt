@@ -1,0 +1,3 @@
+pub mod Eliminates
+-- what private functions alone cite
+pub mod Eliminating

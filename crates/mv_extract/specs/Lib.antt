@@ -1,0 +1,4 @@
+pub mod Steps
+pub mod Extracts
+-- what private functions alone cite
+pub mod Dividing

@@ -1,0 +1,5 @@
+pub mod FilledNets
+pub mod Filled
+pub mod Unfilled
+pub mod Marking
+pub mod Strict

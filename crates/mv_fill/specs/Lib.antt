@@ -1,0 +1,3 @@
+pub mod Fills
+-- what private functions alone cite
+pub mod Filling

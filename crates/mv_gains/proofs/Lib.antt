@@ -1,0 +1,13 @@
+pub mod Sums
+pub mod Noting
+pub mod Parts
+pub mod Growing
+pub mod Savings
+pub mod Kept
+pub mod Choosing
+pub mod Divisors
+pub mod Ending
+pub mod Symbolic
+pub mod Commons
+pub mod Many
+pub mod Dividing

@@ -1,0 +1,13 @@
+//! Which common divisor of a network's tables, a kernel or a cube, saves the most literals.
+#![tactic(auto)]
+
+mod best;
+mod cubes;
+mod holders;
+mod kernels;
+mod law;
+mod tables;
+
+pub use best::{best_cube, best_kernel};
+pub use kernels::has_many_kernels;
+pub use law::{candidate_laws, table_law};

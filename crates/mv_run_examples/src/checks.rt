@@ -1,0 +1,109 @@
+//! Certificates that are replayed, and those that are refused.
+use crate::cases::{Form, all_end};
+use crate::networks::INVERTER;
+use crate::runs::{checked, ends, refused, written};
+use std::test::Fail;
+
+/// A network, a certificate, what is written, and the line of the notes.
+const REPLAYED: &str = "\
+-- A net goes into its reader.
+.model s;.inputs;.outputs p;.table -> c;-;.table c -> p;- =c;.end; | \
+# begin collapse c;collapse c;# end 0;# done 2 0; | \
+.model s;.inputs;.outputs p;.table -> p;0;1;.end; | # done 2 0;
+-- A net comes, and a table is divided by it.
+.model f;.inputs a b c d;.outputs f;.table a b c d -> f;.default 0;1 1 - - 1;1 - 1 - 1;1 - - 1 1;.end; | \
+# begin kernel;add _m1;line b 1 -> 1;line c 1 -> 1;line d 1 -> 1;default 0;end;\
+divide f _m1;line a 1 _m1 1 -> 1;default 0;end;# end 5;# done 6 5; | \
+.model f;.inputs a b c d;.outputs f;.table a _m1 -> f;.default 0;1 1 1;\
+.table b c d -> _m1;.default 0;1 - - 1;- 1 - 1;- - 1 1;.end; | # done 6 5;
+-- The readers of a buffer read its fanin, and then it goes.
+.model w;.inputs a;.outputs z;.table a -> b;0 0;1 1;.table b -> z;0 1;1 0;.end; | \
+wire b;remove b;# whoever reads this; | \
+.model w;.inputs a;.outputs z;.table a -> z;0 1;1 0;.end; | # done 4 2;
+-- Numbers may begin with zeros, and values stand in any order and several times.
+.model v;.inputs a;.outputs z;.mv a 3;.table a -> z;.default 0;1 1;2 1;.end; | \
+add k;line a (2,00001,2) -> 001;default (0);end; | \
+.model v;.inputs a;.outputs z;.mv a 3;.table a -> z;.default 0;1 1;2 1;\
+.table a -> k;.default 0;(1,2) 1;.end; | # done 2 3;
+";
+
+#[test]
+fn certificates_are_replayed(rt: HostRuntime) -> Result<(), Fail> {
+    all_end(&rt, rt.alloc(), Form::Replayed, REPLAYED)?;
+    ends(
+        &rt,
+        rt.alloc(),
+        checked(INVERTER, b""),
+        written(INVERTER, b"# done 2 2\n"),
+    )
+}
+
+/// A network with a net of three values, one of two at choice, a partial one and one that nobody reads.
+const MIXED: &[u8] =
+    b".model h\n.inputs a b\n.outputs z y\n.mv n 3\n.table a b -> n\n0 - 0\n1 0 1\n1 1 2\n.table n -> z\n0 0\n(1,2) 1\n.table n -> y\n0 1\n(1,2) 0\n.table -> c\n-\n.table c -> d\n0 0\n.table a -> e\n0 0\n1 1\n.end\n";
+
+/// Certificates, and the line and the cause for which they are refused on that network.
+const MIXED_REFUSED: &str = "\
+remove q; | 1 NoNet
+collapse a; | 1 NoNet
+remove z; | 1 Visible
+remove n; | 1 Read
+remove d; | 1 Partial
+add a;line b 1 -> 1;default 0;end; | 1 NotFresh
+add k;line b 1 -> 0;default 0;end; | 1 Form
+divide z e;line n 0 -> 0;line n (1,2) -> 1;end; | 1 NotSame
+add k;line z 1 -> 1;default 0;end;divide z k;line n 0 -> 0;line n (1,2) -> 1;end; | 5 Loop
+add k;default 0;end;divide n k;line a 0 -> 0;line a 1 b 0 -> 1;line a 1 b 1 -> 2;line z 1 k 1 -> 0;end; | 4 Loop
+wire n; | 1 NotSame
+wire e; | 1 Unread
+collapse e; | 1 Unread
+remove; | 1 Syntax
+line a 0 -> 0; | 1 Syntax
+add k;line b 2000 -> 1;default 0;end; | 2 Syntax
+remove e;\u{80} | 2 Lex 1
+";
+
+/// The same of an inverter.
+const INVERTER_REFUSED: &str = "\
+remove (a); | 1 NoNet
+# a line more;;remove z; | 3 Visible
+add k;line a 1 -> 1;end; | 1 Form
+add (a);default 0;end; | 1 NotFresh
+add k;line -> 0 -> 1;default 0;end; | 1 NoNet
+# begin simplify 1 0;narrow z 1 0;end; | 2 NotBuilt
+merge z 1; | 1 NotBuilt
+encode | 1 Syntax
+add k;line a 1 -> 1; | 1 Syntax
+;add k;default 0;line a 1 -> 1; | 4 Syntax
+add k;default 128;end; | 1 Form
+add k;default 1024;end; | 2 Syntax
+add k;default 000000;end; | 2 Syntax
+add k;default ();end; | 2 Syntax
+add k;line a -> 1;end; | 2 Syntax
+end; | 1 Syntax
+remove z z; | 1 Syntax
+.model inv;.inputs a;.outputs z;.table a -> z;0 1;1 0;.end; | 1 Syntax
+remove z;add (k; | 2 Lex 3
+";
+
+/// A network before each: with a net of several values and two readers, which are seen, with a table that can be divided, and none.
+const REFUSED: &str = "\
+.model s;.inputs;.outputs p q;.table -> c;-;.table c -> p;- =c;.table c -> q;- =c;.end; | collapse c; | 1 Shared
+.model s;.inputs;.outputs p q;.table -> c;-;.table c -> p;- =c;.table c -> q;- =c;.end; | wire c; | 1 NotSame
+.model f;.inputs a b c d;.outputs f;.table a b c d -> f;.default 0;1 1 - - 1;1 - 1 - 1;1 - - 1 1;.end; | # begin kernel;add _m1;line b 1 -> 1;line c 1 -> 0;line d 1 -> 1;default 0;end; | 2 Form
+ | divide a; | 1 Syntax
+";
+
+#[test]
+fn certificates_are_refused_with_line_and_cause(rt: HostRuntime) -> Result<(), Fail> {
+    all_end(&rt, rt.alloc(), Form::CertificateOn(MIXED), MIXED_REFUSED)?;
+    all_end(
+        &rt,
+        rt.alloc(),
+        Form::CertificateOn(INVERTER),
+        INVERTER_REFUSED,
+    )?;
+    all_end(&rt, rt.alloc(), Form::Certificate, REFUSED)?;
+    let end = refused(2, b"# fault network 20 NoModel line 1\n");
+    ends(&rt, rt.alloc(), checked(b"", b"remove z\n"), end)
+}

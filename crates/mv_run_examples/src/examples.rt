@@ -1,0 +1,110 @@
+//! The examples of this repository, whose files stand in `examples/`, and what was worked out by hand of each.
+use crate::cases::{Form, all_end};
+use std::test::Fail;
+
+/// The network of each example, what is written of it and what is noted.
+const EXAMPLES: &str = "\
+-- A grant that may be held: a default that names a column, and a net that goes.
+# A priority arbiter: of three requests the first is granted. While the lock is held the last grant stays.;\
+.model arbiter;.inputs a b c last lock;.outputs grant busy;.mv last, pick, grant 4 NONE A B C;\
+.mv lock 2 OPEN HELD;;# whose turn it would be;.table a b c -> pick;.default NONE;1 - - A;\
+0 1 - B;0 0 1 C;;# a held grant stays, and else it is the one picked;\
+.table lock last pick -> grant;HELD {A-C} - =last;.default =pick;;.table grant -> busy;\
+.default 1;NONE 0;;# how many ask, which nobody looks at;.mv asking 3 NOBODY ONE SEVERAL;\
+.table a b c -> asking;.default SEVERAL;0 0 0 NOBODY;1 0 0 ONE;0 1 0 ONE;0 0 1 ONE;.end; | \
+.model arbiter;.inputs a b c last lock;.outputs grant busy;.mv last 4 NONE A B C;\
+.mv lock 2 OPEN HELD;.mv pick 4 NONE A B C;.mv grant 4 NONE A B C;.table a b c -> pick;\
+.default NONE;1 - - A;0 1 - B;0 0 1 C;.table last lock -> _m1;.default 1;A HELD 0;B HELD 0;\
+C HELD 0;.table last lock pick _m1 -> grant;A HELD - - A;B HELD - - B;C HELD - - C;\
+- - NONE 1 NONE;- - A 1 A;- - B 1 B;- - C 1 C;.table grant -> busy;.default 1;NONE 0;.end; | \
+# begin drop;remove asking;# end 27;# done 39 27;
+-- Sets and ranges of named values, and a net that goes.
+# A decoder of instructions: which unit does the work, and how wide its operands are.;\
+.model decoder;.inputs op size;.outputs unit width;.mv op 8 NOP LOAD STORE ADD SUB AND OR JUMP;\
+.mv size, width 3 BYTE HALF WORD;.mv unit 4 IDLE MEMORY ALU BRANCH;;.table op -> unit;\
+.default ALU;NOP IDLE;{LOAD-STORE} MEMORY;JUMP BRANCH;;\
+# memory takes the size as it is, the rest works on half a word at least, and without work any width will do;\
+.table op size -> width;.default WORD;{LOAD,STORE} - =size;{ADD-OR} !WORD HALF;NOP - -;;\
+# nobody asks whether it is a jump;.table unit -> jumps;- 0;BRANCH 1;.end; | \
+.model decoder;.inputs op size;.outputs unit width;.mv op 8 NOP LOAD STORE ADD SUB AND OR JUMP;\
+.mv size 3 BYTE HALF WORD;.mv unit 4 IDLE MEMORY ALU BRANCH;.mv width 3 BYTE HALF WORD;\
+.table op -> unit;.default ALU;NOP IDLE;(LOAD,STORE) MEMORY;JUMP BRANCH;.table op size -> width;\
+.default WORD;(LOAD,STORE) BYTE BYTE;(LOAD,STORE) HALF HALF;(LOAD,STORE) WORD WORD;\
+(ADD,SUB,AND,OR) (BYTE,HALF) HALF;NOP - -;.end; | \
+# begin drop;remove jumps;# end 12;# done 13 12;
+-- Two nets go, one behind the other, and a partial table stays.
+.model spare;.inputs a b c;.outputs most;.table a b c -> most;1 1 - 1;1 - 1 1;- 1 1 1;0 0 - 0;\
+0 - 0 0;- 0 0 0;.table a b c -> all;1 1 1 1;0 - - 0;- 0 - 0;- - 0 0;.table all most -> odd;\
+1 0 1;0 - 0;- 1 0;.table a c -> legal;0 - 1;- 0 1;.end; | \
+.model spare;.inputs a b c;.outputs most;.table a b c -> most;1 1 - 1;1 - 1 1;- 1 1 1;0 0 - 0;\
+0 - 0 0;- 0 0 0;.table a c -> legal;0 - 1;- 0 1;.end; | \
+# begin drop;remove odd;remove all;# end 14;# done 24 14;
+-- Two instances of one model, the second behind the first, and an output of each that nobody reads.
+# A counter of two digits of three values each, which goes on wherever it is told to count.;.model counter;\
+.inputs count;.outputs carry low high;.mv low, high 3;;# the second digit goes on where the first one is full;\
+.subckt digit first step=count value=low carry=full;.subckt digit second step=full value=high carry=carry;.end;;\
+.model digit;.inputs step;.outputs value carry zero;.mv value, next 3;;.table step value -> next;0 - =value;1 0 1;\
+1 1 2;1 2 0;.latch next value;.reset -> value;0;;.table step value -> carry;.default 0;1 2 1;;\
+# nobody asks either digit whether it is zero;.table value -> zero;.default 0;0 1;.end; | \
+.model counter;.inputs count;.outputs carry low high;.mv low 3;.mv high 3;.mv first.next 3;.mv second.next 3;\
+.latch first.next low;.latch second.next high;.table count low -> first.next;0 0 0;0 1 1;0 2 2;1 0 1;1 1 2;1 2 0;\
+.reset -> low;0;.table count low -> full;.default 0;1 2 1;.table high full -> second.next;0 0 0;1 0 1;2 0 2;0 1 1;\
+1 1 2;2 1 0;.reset -> high;0;.table high full -> carry;.default 0;2 1 1;.end; | \
+# begin drop;remove first.zero;remove second.zero;# end 28;# done 30 28;
+-- A table of three outputs in two instances: one choice each, and an output that nobody reads.
+# Two servers are asked at once, and each may answer or put off. What it says and how much it sends belong together.;\
+.model exchange;.inputs request;.outputs done size;.mv request 3 IDLE READ WRITE;.mv left, right 3 NONE READY LATER;\
+.mv left_size, right_size, size 3 ZERO ONE MANY;.subckt server first asked=request answer=left amount=left_size;\
+.subckt server second asked=request answer=right amount=right_size;;# it is done when both were ready;\
+.table left right -> done;.default 0;READY READY 1;;# the first counts, if it was ready, and else the second;\
+.table left left_size right_size -> size;READY - - =left_size;!READY - - =right_size;.end;;.model server;\
+.inputs asked;.outputs answer amount;.mv asked 3 IDLE READ WRITE;.mv answer 3 NONE READY LATER;\
+.mv amount 3 ZERO ONE MANY;;# one choice for three nets, the last of which nobody looks at;.table asked -> answer amount busy;\
+IDLE NONE ZERO 0;READ READY (ONE,MANY) 1;WRITE READY ONE 1;!IDLE LATER ZERO 0;.end; | \
+.model exchange;.inputs request;.outputs done size;.mv request 3 IDLE READ WRITE;.mv size 3 ZERO ONE MANY;.mv _m1 4;\
+.mv left 3 NONE READY LATER;.mv left_size 3 ZERO ONE MANY;.mv _m2 4;.mv right 3 NONE READY LATER;\
+.mv right_size 3 ZERO ONE MANY;.table left right -> done;.default 0;READY READY 1;\
+.table left left_size right_size -> size;READY ZERO - ZERO;READY ONE - ONE;READY MANY - MANY;(NONE,LATER) - ZERO ZERO;\
+(NONE,LATER) - ONE ONE;(NONE,LATER) - MANY MANY;.table request -> _m1;IDLE 0;READ 1;WRITE 2;(READ,WRITE) 3;\
+.table _m1 -> left;0 NONE;1 READY;2 READY;3 LATER;.table _m1 -> left_size;0 ZERO;1 (ONE,MANY);2 ONE;3 ZERO;\
+.table request -> _m2;IDLE 0;READ 1;WRITE 2;(READ,WRITE) 3;.table _m2 -> right;0 NONE;1 READY;2 READY;3 LATER;\
+.table _m2 -> right_size;0 ZERO;1 (ONE,MANY);2 ONE;3 ZERO;.end; | \
+# begin drop;remove first.busy;remove second.busy;# end 38;# done 46 38;
+";
+
+/// The same of an example whose script is another one.
+const SWEPT: &str = "\
+-- A buffer, a constant and an inner net that go, and one that stays, since the literals would rise.
+# A register on a bus, put together from modules.;.model register;.inputs cmd addr lock ready;\
+.outputs load send;.mv cmd, op 3 IDLE READ WRITE;.mv addr 3 CTRL DATA NONE;;# the bus hands its command on;\
+.table cmd -> op;- =cmd;;# the test mode is tied off;.table -> test;0;;\
+# the register is meant and may be used;.table addr lock ready test -> hit;.default 0;DATA 0 1 - 1;- - - 1 1;;\
+.table op -> writing;.default 0;WRITE 1;;.table writing hit -> load;.default 0;1 1 1;;.table op hit -> send;\
+.default 0;READ 1 1;.end; | \
+.model register;.inputs cmd addr lock ready;.outputs load send;.mv cmd 3 IDLE READ WRITE;\
+.mv addr 3 CTRL DATA NONE;.table addr lock ready -> hit;.default 0;DATA 0 1 1;.table cmd hit -> load;\
+.default 0;WRITE 1 1;.table cmd hit -> send;.default 0;READ 1 1;.end; | \
+# begin sweep;wire op;remove op;collapse test;# end 8;# begin eliminate;collapse writing;# end 7;# done 12 7;
+-- A latch with a reset table, whose nets stay, and an inner net that goes.
+# A controller of four modes: told to go it loads and runs, is done, and waits again.;.model controller;.inputs go;\
+.outputs busy;.mv mode, next 4 IDLE LOAD RUN DONE;;# the mode is kept from step to step, and begins idle;\
+.latch next mode;.reset mode;IDLE;;# what is seen of it from outside;.table mode -> working;.default 0;\
+(LOAD,RUN) 1;.table working -> busy;- =working;;.table mode go -> next;IDLE 0 IDLE;IDLE 1 LOAD;LOAD - RUN;\
+RUN - DONE;DONE - IDLE;.end; | \
+.model controller;.inputs go;.outputs busy;.mv mode 4 IDLE LOAD RUN DONE;.mv next 4 IDLE LOAD RUN DONE;\
+.latch next mode;.reset -> mode;IDLE;.table mode -> busy;(IDLE,DONE) 0;(LOAD,RUN) 1;.table go mode -> next;\
+0 IDLE IDLE;1 IDLE LOAD;- LOAD RUN;- RUN DONE;- DONE IDLE;.end; | \
+# begin sweep;# end 10;# begin eliminate;collapse working;# end 9;# done 10 9;
+";
+
+#[test]
+fn a_swept_example_is_written_as_worked_out(rt: HostRuntime) -> Result<(), Fail> {
+    let script = b"sweep; eliminate # what modules leave between them\n";
+    all_end(&rt, rt.alloc(), Form::Written(script), SWEPT)
+}
+
+#[test]
+fn the_examples_are_written_as_worked_out(rt: HostRuntime) -> Result<(), Fail> {
+    let script = b"drop # what nobody sees or reads\n";
+    all_end(&rt, rt.alloc(), Form::Written(script), EXAMPLES)
+}
