@@ -18,7 +18,7 @@ CRATES := $(shell awk -F '[: ]+' '!/^(#|$$)/ { uses[$$1] = $$0 } \
 SHELL = /bin/bash
 .SHELLFLAGS = -euc
 .ONESHELL:
-.PHONY: demo docs install look pictures test uninstall
+.PHONY: demo docs index install look pictures test uninstall
 
 # Runs the proved program on each example, compares what it writes with what stands beside the example, and checks the notes.
 demo: $(PROGRAM)
@@ -52,13 +52,21 @@ $(PROGRAM): $(shell find crates -name out -prune -o -type f -print)
 		(cd crates/$$crate && if [ $$crate = mvopt ]; then rt run -- opt data/inv data/empty; else rt lib; fi) > $$log 2>&1 || { cat $$log; exit 1; }
 	done
 
-# The gate, and the documents.
-test: docs
-	@.ci/run
+# The documents, the gate, and then the commands that documents show.
+test:
+	@tools/docs
+	.ci/run
+	tools/shown
 
-# Compares the documents with the tree: what they name is there, links lead somewhere, sentences are short.
+# Compares the documents with the tree: what they name is there, links lead somewhere, sentences are short. Runs the commands
+# that they show, where the program is built.
 docs:
 	@tools/docs
+	tools/shown
+
+# Writes the list of all definitions anew.
+index:
+	@tools/index > docs/index.md
 
 # Draws what the examples become, and the register as it is read. It needs Graphviz.
 pictures:

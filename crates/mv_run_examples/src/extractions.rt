@@ -37,6 +37,14 @@ kernel | \
 .table b c d -> _m1;.default 0;1 - - 1;- 1 - 1;- - 1 1;.table c d e -> _m2;.default 0;1 - - 1;- 1 - 1;- - 1 1;.end; | \
 # begin kernel;add _m1;line b 1 -> 1;line c 1 -> 1;line d 1 -> 1;default 0;end;divide f _m1;line a 1 _m1 1 -> 1;default 0;end;\
 add _m2;line c 1 -> 1;line d 1 -> 1;line e 1 -> 1;default 0;end;divide g _m2;line a 1 _m2 1 -> 1;default 0;end;# end 10;# done 12 10;
+-- Of a cover's three kernels two save as much; the one of single symbols comes first, and the third is then none that saves.
+kernel | \
+.model k;.inputs a b c d e g;.outputs f;.table a b c d e g -> f;.default 0;\
+1 - 1 - 1 - 1;- 1 1 - 1 - 1;- - - 1 1 - 1;- - - - - 1 1;.end; | \
+.model k;.inputs a b c d e g;.outputs f;.table c d e g _m1 -> f;.default 0;- 1 1 - - 1;- - - 1 - 1;1 - 1 - 1 1;\
+.table a b -> _m1;.default 0;1 - 1;- 1 1;.end; | \
+# begin kernel;add _m1;line a 1 -> 1;line b 1 -> 1;default 0;end;\
+divide f _m1;line d 1 e 1 -> 1;line g 1 -> 1;line c 1 e 1 _m1 1 -> 1;default 0;end;# end 8;# done 9 8;
 -- A reset table gives a kernel, and is divided.
 kernel | \
 .model r;.inputs a b c d;.outputs s;.latch a s;.reset a b c d -> s;.default 0;1 1 - - 1;1 - 1 - 1;1 - - 1 1;.end; | \
@@ -56,6 +64,19 @@ cube | \
 .model q;.inputs a b c d e;.outputs z;.table a b c d -> z;.default 0;1 1 1 - 1;1 1 - 1 1;.end; | \
 .model q;.inputs a b c d e;.outputs z;.table a b c d -> z;.default 0;1 1 1 - 1;1 1 - 1 1;.end; | \
 # begin cube;# end 6;# done 6 6;
+-- No two rows have just c and d in common, until rows that have a, b, c and d are divided by a and b.
+cube | \
+.model n;.inputs a b c d p q r s t u v;.outputs z;.table a b c d p q r s t u v -> z;.default 0;\
+1 1 1 1 1 - - - - - - 1;1 1 1 1 - 1 - - - - - 1;1 - 1 1 - - 1 - - - - 1;1 1 - - - - - 1 - - - 1;\
+1 1 - - - - - - 1 - - 1;1 1 - - - - - - - 1 - 1;1 1 - - - - - - - - 1 1;.end; | \
+.model n;.inputs a b c d p q r s t u v;.outputs z;.table a p q r s t u v _m1 _m2 -> z;.default 0;\
+- - - - 1 - - - 1 - 1;- - - - - 1 - - 1 - 1;- - - - - - 1 - 1 - 1;- - - - - - - 1 1 - 1;\
+1 - - 1 - - - - - 1 1;- 1 - - - - - - 1 1 1;- - 1 - - - - - 1 1 1;\
+.table a b -> _m1;.default 0;1 1 1;.table c d -> _m2;.default 0;1 1 1;.end; | \
+# begin cube;add _m1;line a 1 b 1 -> 1;default 0;end;divide z _m1;line a 1 c 1 d 1 r 1 -> 1;line c 1 d 1 p 1 _m1 1 -> 1;\
+line c 1 d 1 q 1 _m1 1 -> 1;line s 1 _m1 1 -> 1;line t 1 _m1 1 -> 1;line u 1 _m1 1 -> 1;line v 1 _m1 1 -> 1;default 0;end;\
+add _m2;line c 1 d 1 -> 1;default 0;end;divide z _m2;line s 1 _m1 1 -> 1;line t 1 _m1 1 -> 1;line u 1 _m1 1 -> 1;\
+line v 1 _m1 1 -> 1;line a 1 r 1 _m2 1 -> 1;line p 1 _m1 1 _m2 1 -> 1;line q 1 _m1 1 _m2 1 -> 1;default 0;end;# end 21;# done 26 21;
 -- Of two cubes that save as much that with the set of less comes first, as a number: 70 alone before 0 and 70.
 cube | \
 .model s;.inputs a b c d e f g h;.outputs z;.mv a 71;.table a b c d e f g h -> z;.default 0;\
