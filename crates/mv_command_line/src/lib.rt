@@ -8,6 +8,3 @@ mod task;
 
 pub use reading::read_words;
 pub use task::{Options, Task, WordsStop};
-
-#[cfg(test)]
-mod tests;

@@ -14,6 +14,8 @@ pub mod Spelling
 pub mod Suiting
 pub mod Inclusion
 pub mod Absorbing
+pub mod JoinedSets
+pub mod WideMarks
 pub mod Marking
 pub mod Putting
 pub mod Differing

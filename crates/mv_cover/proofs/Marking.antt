@@ -1,45 +1,26 @@
 -- Marks of lines: a line that lies in another has each mark of that one.
-use Rattle.std.proofs.Common.{◌≡◌, ◌∙◌, ℕ, zero, suc, ◌+◌, ◌-◌, ◌%◌, ◌<◌, ◌≤◌, IsTrue, lit<, mod-lt, length, drop, get_or, set, map, subst, arith, Bool, true, false, ◌&&◌, ◌||◌, List, [], ◌∷◌, nat_eq, inl, inr, refl, sym, ap, Option, Some, None, if◌then◌else◌}
+use Rattle.std.proofs.Common.{◌≡◌, ◌∙◌, ℕ, zero, suc, ◌+◌, ◌-◌, ◌%◌, ◌^◌, ◌<◌, ◌≤◌, IsTrue, lit<, mod-lt, length, drop, get_or, set, map, subst, arith, Bool, true, false, ◌&&◌, ◌||◌, List, [], ◌∷◌, nat_eq, inl, inr, refl, sym, ap, Option, Some, None, if◌then◌else◌}
 use Rattle.std.specs.Prelude.{◌==◌, bit_and, bit_or, count_ones}
+use Rattle.std.specs.Int.{trailing_zeros, w64}
 use Rattle.std.specs.Int.Count.{ones-ones}
-use Rattle.std.proofs.lemmas.Bool.{cases_Bool, false≢true, and_parts, and_from, or_cases, or_left, or_right, eq-eqb, lt-ltb, false_from_ne_true}
+use Rattle.std.proofs.lemmas.Nat.Bits.{bit_at-trailing_zeros}
+use Rattle.std.proofs.lemmas.Bool.{cases_Bool, false≢true, and_parts, and_from, or_left, or_right, eq-eqb, lt-ltb, false_from_ne_true}
 use Rattle.std.specs.List.{swap, list_any}
 use Rattle.std.proofs.lemmas.List.{drop_more, drop_all, get_or-map, map-set, length-map}
-use Rattle.std.proofs.lemmas.Nat.{and_comm}
 use Rattle.std.proofs.Math.Bool.{and-false, or-false}
 use Rattle.mv_base.specs.Set.{has, empty, one, full, meet, join, Within}
-use Rattle.mv_base.proofs.Sets.{has-empty, has-one, has-full, has-join, same_set, count-empty, count-more, one_from_count, join_empty, meet_of_Within, Within-from_meet}
+use Rattle.mv_base.proofs.Sets.{has-empty, has-one, has-full, same_set, count-empty, count-more, one_from_count, join_empty, meet_of_Within, Within-from_meet}
 use Rattle.mv_cover.specs.Literal.{Lit}
 use Rattle.mv_cover.specs.declared.line.Line.{Line}
 use Rattle.mv_cover.specs.Meets.{literal_at}
 use Rattle.mv_cover.specs.Containing.{set_within, set_lies, lies_in}
 use Rattle.mv_cover.specs.Absorb.{line_lies}
-use Rattle.mv_cover.specs.Marks.{mark, set_marks, alone, alone_mark, literal_marks, net_place, cube_marks, line_marks, are_close, AreFar}
+use Rattle.mv_cover.specs.declared.marks.Marks.{Marks}
+use Rattle.mv_cover.specs.Marks.{mark, set_marks, alone, alone_mark, narrow_marks, wide_marks, net_place, cube_marks, line_marks, bits_among, are_among, are_close, no_marks, AreFar}
 use Rattle.mv_cover.proofs.Covering.{same_number}
 use Rattle.mv_cover.proofs.Meets.{order}
-
-or_again : (x y z : Bool) → ((x || y) || z) ≡ (x || (y || z))
-or_again true y z = refl
-or_again false y z = refl
-
--- ---- joined sets
-
-within_first : (a b : ℕ) → Within a (join a b)
-within_first a b v h = has-join a b v ∙ or_left (has a v) (has b v) h
-
-within_second : (a b : ℕ) → Within b (join a b)
-within_second a b v h = has-join a b v ∙ or_right (has a v) (has b v) h
-
-joined_within : (a b c : ℕ) → Within a c → Within b c → Within (join a b) c
-joined_within a b c p q v h =
-    elim (or_cases (has a v) (has b v) (sym (has-join a b v) ∙ h)) [
-      | inl t ↦ p v t
-      | inr t ↦ q v t
-    ]
-
-both_within : (a b c d : ℕ) → Within a c → Within b d → Within (join a b) (join c d)
-both_within a b c d p q =
-    joined_within a b (join c d) (λ v h. within_first c d v (p v h)) (λ v h. within_second c d v (q v h))
+use Rattle.mv_cover.proofs.JoinedSets.{or_again, within_first, within_second, joined_within, both_within, join-append, join-nothing}
+use Rattle.mv_cover.proofs.WideMarks.{wide_marks-within}
 
 -- ---- marks of sets
 
@@ -47,7 +28,7 @@ empty_within : (s : ℕ) → Within empty s
 empty_within s v h = absurd (false≢true (sym (has-empty v) ∙ h))
 
 -- what a set leaves out, a set within it leaves out
-mark-within : (s t v p : ℕ) → Within s t → Within (mark t v p) (mark s v p)
+mark-within : (s t v p : ℕ) → Within s t → Within (mark (has t v) p) (mark (has s v) p)
 unfolding mark
 mark-within s t v p w =
     elim (cases_Bool (has s v)) [
@@ -62,7 +43,8 @@ mark-within s t v p w =
 set_marks-within : (s t p : ℕ) → Within s t → Within (set_marks t p) (set_marks s p)
 unfolding set_marks
 set_marks-within s t p w =
-    both_within (mark t 1 p) (mark t 0 (p + 1)) (mark s 1 p) (mark s 0 (p + 1)) (mark-within s t 1 p w) (mark-within s t 0 (p + 1) w)
+    both_within (mark (has t 1) p) (mark (has t 0) (p + 1)) (mark (has s 1) p) (mark (has s 0) (p + 1)) (mark-within s t 1 p w)
+    (mark-within s t 0 (p + 1) w)
 
 -- ---- marks of single values
 
@@ -126,9 +108,11 @@ alone_mark-within s t p w =
           ]
     ]
 
-literal_marks-within : (s t p : ℕ) → Within s t → Within (literal_marks t p) (literal_marks s p)
-unfolding literal_marks
-literal_marks-within s t p w = both_within (set_marks t p) (alone_mark t p) (set_marks s p) (alone_mark s p) (set_marks-within s t p w) (alone_mark-within s t p w)
+narrow_marks-within : (s t n : ℕ) → Within s t → Within (narrow_marks t n) (narrow_marks s n)
+unfolding narrow_marks
+narrow_marks-within s t n w =
+    let p = net_place n in
+    both_within (set_marks t p) (alone_mark t p) (set_marks s p) (alone_mark s p) (set_marks-within s t p w) (alone_mark-within s t p w)
 
 -- ---- the value of a set that has no other
 
@@ -163,79 +147,109 @@ pub alone_mark-none : (s p : ℕ) → s ≡ empty → 18446744073709551615 ≡ a
 unfolding alone_mark full
 alone_mark-none s p e = rw (eq-eqb s empty e) refl
 
+-- the lowest bit of a number that isn't 0 is a member
+lowest : (s : ℕ) → 0 < s → s < 2 ^ 64 → IsTrue (has s (trailing_zeros w64 s))
+unfolding has
+lowest s some small = ap (λ b. b == 1) (bit_at-trailing_zeros w64 s some small).1
+
+pub alone_mark-bits : (s p m : ℕ) → (s ≡ 0 → ⊥) → s < 2 ^ 64 → count_ones s ≡ 1 → m ≡ one ((p + trailing_zeros w64 s) % 62) → m ≡ alone_mark s p
+alone_mark-bits s p m some small single is = alone_mark-one s (trailing_zeros w64 s) p m (lowest s (omega (arith, some)) small) single is
+
+pub alone_mark-no_bits : (s p : ℕ) → s ≡ 0 → 18446744073709551615 ≡ alone_mark s p
+alone_mark-no_bits s p e = alone_mark-none s p (e ∙ sym empty_is)
+
+pub alone_mark-more_bits : (s p : ℕ) → (s ≡ 0 → ⊥) → s < 2 ^ 64 → (count_ones s ≡ 1 → ⊥) → 0 ≡ alone_mark s p
+alone_mark-more_bits s p some small many = alone_mark-many s (trailing_zeros w64 s) p (lowest s (omega (arith, some)) small) many
+
 -- ---- marks of cubes
 
+-- marks of which a literal has all those of each in which it lies
+record Fall (f : ℕ → ℕ → ℕ) : Type 0 where
+  falls : (s t n : ℕ) → Within s t → Within (f t n) (f s n)
+
 -- the marks of a literal are marks of its cube
-marks_at : (a : List Lit) (n s : ℕ) → literal_at a n ≡ Some s → Within (literal_marks s (net_place n)) (cube_marks a)
-unfolding cube_marks
-marks_at [] n s e = let no : None ≡ Some s = e in absurd (cc)
-marks_at (l ∷ a) n s e =
+marks_at : (f : ℕ → ℕ → ℕ) (a : List Lit) (n s : ℕ) → literal_at a n ≡ Some s → Within (f s n) (cube_marks f a)
+marks_at f [] n s e = let no : None ≡ Some s = e in absurd (cc)
+marks_at f (l ∷ a) n s e =
     elim (cases_Bool (nat_eq l.net.0 n)) [
       | inl t ↦
           let here : Some l.set ≡ Some s = rw t at e in
           let same : l.set ≡ s = cc in
           let net : l.net.0 ≡ n = same_number l.net.0 n t in
-          λ v h.
-          within_first (literal_marks l.set (net_place l.net.0)) (cube_marks a) v ((λ i. has (literal_marks (same i) (net_place (net i))) v) ∙ h)
-      | inr f ↦ λ v h. within_second (literal_marks l.set (net_place l.net.0)) (cube_marks a) v (marks_at a n s (rw f at e) v h)
+          λ v h. within_first (f l.set l.net.0) (cube_marks f a) v ((λ i. has (f (same i) (net i)) v) ∙ h)
+      | inr g ↦ λ v h. within_second (f l.set l.net.0) (cube_marks f a) v (marks_at f a n s (rw g at e) v h)
     ]
 
-lies_marked : (a : List Lit) (n s : ℕ) (o : Option ℕ) → literal_at a n ≡ o → set_lies o s ≡ true → Within (literal_marks s (net_place n)) (cube_marks a)
-lies_marked a n s None e h = absurd (false≢true h)
-lies_marked a n s (Some u) e h =
-    λ v m. marks_at a n u e v (literal_marks-within u s (net_place n) (Within-from_meet u s (same_number (meet u s) u h)) v m)
+lies_marked : (f : ℕ → ℕ → ℕ) (a : List Lit) (n s : ℕ) (o : Option ℕ) → Fall f → literal_at a n ≡ o → set_lies o s ≡ true → Within (f s n) (cube_marks f a)
+lies_marked f a n s None fall e h = absurd (false≢true h)
+lies_marked f a n s (Some u) fall e h =
+    λ v m. marks_at f a n u e v (fall.falls u s n (Within-from_meet u s (same_number (meet u s) u h)) v m)
 
-cube_marks-within : (a b : List Lit) → lies_in a b ≡ true → Within (cube_marks b) (cube_marks a)
-unfolding cube_marks
-cube_marks-within a [] h = empty_within (cube_marks a)
-cube_marks-within a (l ∷ b) h =
+cube_marks-within : (f : ℕ → ℕ → ℕ) (a b : List Lit) → Fall f → lies_in a b ≡ true → Within (cube_marks f b) (cube_marks f a)
+cube_marks-within f a [] fall h = empty_within (cube_marks f a)
+cube_marks-within f a (l ∷ b) fall h =
     let p = and_parts (set_lies (literal_at a l.net.0) l.set) (lies_in a b) h in
-    joined_within (literal_marks l.set (net_place l.net.0)) (cube_marks b) (cube_marks a) (lies_marked a l.net.0 l.set (literal_at a l.net.0) refl p.0) (cube_marks-within a b p.1)
+    joined_within (f l.set l.net.0) (cube_marks f b) (cube_marks f a) (lies_marked f a l.net.0 l.set (literal_at a l.net.0) fall refl p.0)
+    (cube_marks-within f a b fall p.1)
 
 -- ---- marks of lines
 
-line_marks-within : (a b : Line) → line_lies a b ≡ true → Within (line_marks b) (line_marks a)
-unfolding line_marks
-line_marks-within a b h =
-    let p = and_parts (set_within a.out b.out) (lies_in a.cube b.cube) h in
-    both_within (cube_marks b.cube) (set_marks b.out 62) (cube_marks a.cube) (set_marks a.out 62) (cube_marks-within a.cube b.cube p.1)
-    (set_marks-within a.out b.out 62 (Within-from_meet a.out b.out (same_number (meet a.out b.out) a.out p.0)))
+narrow_fall : Fall narrow_marks
+narrow_fall = record { falls = narrow_marks-within }
+
+wide_fall : Fall wide_marks
+wide_fall = record { falls = wide_marks-within }
+
+among : (a b : ℕ) → Within a b → bits_among a b ≡ true
+unfolding meet
+among a b w = eq-eqb (bit_and a b) a (meet_of_Within a b w)
 
 -- a line has the marks of one in which it lies
-told : (a b : Line) → line_lies a b ≡ true → bit_and (line_marks b) (line_marks a) ≡ line_marks b
-unfolding meet
-told a b h = meet_of_Within (line_marks b) (line_marks a) (line_marks-within a b h)
+told : (a b : Line) → line_lies a b ≡ true → are_among (line_marks b) (line_marks a) ≡ true
+unfolding are_among line_marks
+told a b h =
+    let p = and_parts (set_within a.out b.out) (lies_in a.cube b.cube) h in
+    let narrow = both_within (cube_marks narrow_marks b.cube) (set_marks b.out 62) (cube_marks narrow_marks a.cube) (set_marks a.out 62)
+    (cube_marks-within narrow_marks a.cube b.cube narrow_fall p.1)
+    (set_marks-within a.out b.out 62 (Within-from_meet a.out b.out (same_number (meet a.out b.out) a.out p.0))) in
+    let wide = cube_marks-within wide_marks a.cube b.cube wide_fall p.1 in
+    and_from (bits_among (line_marks b).narrow (line_marks a).narrow) (bits_among (line_marks b).wide (line_marks a).wide)
+    (among (line_marks b).narrow (line_marks a).narrow narrow) (among (line_marks b).wide (line_marks a).wide wide)
 
 -- the test of the marks takes nothing from that of the lines
-pub marked : (a b : Line) (own marks : ℕ) → own ≡ line_marks a → marks ≡ line_marks b → (bit_and marks own == marks && line_lies a b) ≡ line_lies a b
+pub marked : (a b : Line) (own marks : Marks) → own ≡ line_marks a → marks ≡ line_marks b → (are_among marks own && line_lies a b) ≡ line_lies a b
 marked a b own marks o m =
     elim (cases_Bool (line_lies a b)) [
-      | inl t ↦
-          let all : bit_and marks own ≡ marks = (λ i. bit_and (m i) (o i)) ∙ (told a b t ∙ sym m) in
-          and_from (bit_and marks own == marks) (line_lies a b) (eq-eqb (bit_and marks own) marks all) t ∙ sym t
-      | inr f ↦ rw f (and-false (bit_and marks own == marks))
+      | inl t ↦ and_from (are_among marks own) (line_lies a b) ((λ i. are_among (m i) (o i)) ∙ told a b t) t ∙ sym t
+      | inr f ↦ rw f (and-false (are_among marks own))
     ]
 
 -- ---- lines with marks that are far
 
+-- marks that are close are close as far as the first of two tests tells
+pub close_near : (n m w x : Bool) → ((n || m) && ((n && w) || (m && x))) ≡ ((n && w) || (m && x))
+close_near true m w x = refl
+close_near false true w x = refl
+close_near false false w x = refl
+
 -- no line lies in one from which its marks are far
 far-inside : (x l : Line) → are_close (line_marks x) (line_marks l) ≡ false → line_lies x l ≡ false
 unfolding are_close
-far-inside x l far = false_from_ne_true (line_lies x l) (λ t.
-    let same : bit_and (line_marks x) (line_marks l) ≡ line_marks l = and_comm (line_marks x) (line_marks l) ∙ told x l t in
-    false≢true (sym far ∙ or_right (nat_eq (bit_and (line_marks x) (line_marks l)) (line_marks x)) (nat_eq (bit_and (line_marks x) (line_marks l)) (line_marks l)) (eq-eqb (bit_and (line_marks x) (line_marks l)) (line_marks l) same)))
+far-inside x l far =
+    false_from_ne_true (line_lies x l)
+    (λ t. false≢true (sym far ∙ or_right (are_among (line_marks x) (line_marks l)) (are_among (line_marks l) (line_marks x)) (told x l t)))
 
 -- and none lies in it
 far-over : (x l : Line) → are_close (line_marks x) (line_marks l) ≡ false → line_lies l x ≡ false
 unfolding are_close
-far-over x l far = false_from_ne_true (line_lies l x) (λ t.
-    let same : bit_and (line_marks x) (line_marks l) ≡ line_marks x = told l x t in
-    false≢true (sym far ∙ or_left (nat_eq (bit_and (line_marks x) (line_marks l)) (line_marks x)) (nat_eq (bit_and (line_marks x) (line_marks l)) (line_marks l)) (eq-eqb (bit_and (line_marks x) (line_marks l)) (line_marks x) same)))
+far-over x l far =
+    false_from_ne_true (line_lies l x)
+    (λ t. false≢true (sym far ∙ or_left (are_among (line_marks x) (line_marks l)) (are_among (line_marks l) (line_marks x)) (told l x t)))
 
-pub far_none : (own : ℕ) (marks : List ℕ) (k : ℕ) → AreFar own marks k k
+pub far_none : (own : Marks) (marks : List Marks) (k : ℕ) → AreFar own marks k k
 far_none own marks k = record { each = λ i low high. absurd (omega arith) }
 
-pub far_more : (own : ℕ) (marks : List ℕ) (k place : ℕ) → AreFar own marks k place → are_close own (get_or marks place 0) ≡ false → AreFar own marks k (place + 1)
+pub far_more : (own : Marks) (marks : List Marks) (k place : ℕ) → AreFar own marks k place → are_close own (get_or marks place no_marks) ≡ false → AreFar own marks k (place + 1)
 far_more own marks k place before here = record {
   each = λ i low high.
       elim (order i place) [
@@ -243,18 +257,18 @@ far_more own marks k place before here = record {
         | inr n ↦
             let above : place ≤ i = n.1 in
             let same : place ≡ i = omega arith in
-            subst (λ j. are_close own (get_or marks j 0) ≡ false) same here
+            subst (λ j. are_close own (get_or marks j no_marks) ≡ false) same here
       ];
 }
 
 -- a test that no line with far marks passes
-skipped : (d own : ℕ) (p : Line → Bool) (others : List Line) (marks : List ℕ) (k to : ℕ) → marks ≡ map line_marks others → ((l : Line) → are_close own (line_marks l) ≡ false → p l ≡ false) → to ≡ k + d → to ≤ length others → AreFar own marks k to → list_any p (drop to others) ≡ list_any p (drop k others)
+skipped : (d : ℕ) (own : Marks) (p : Line → Bool) (others : List Line) (marks : List Marks) (k to : ℕ) → marks ≡ map line_marks others → ((l : Line) → are_close own (line_marks l) ≡ false → p l ≡ false) → to ≡ k + d → to ≤ length others → AreFar own marks k to → list_any p (drop to others) ≡ list_any p (drop k others)
 skipped zero own p others marks k to beside fails e end far = let same : to ≡ k = omega arith in ap (λ i. list_any p (drop i others)) same
 skipped (suc d) own p others marks k to beside fails e end far =
     let none : Line = record { cube = []; out = 0 } in
     let low : k < length others = omega arith in
     let here : are_close own (line_marks (get_or others k none)) ≡ false =
-    ap (are_close own) (sym (ap (λ ms. get_or ms k 0) beside ∙ get_or-map line_marks others k none 0 low)) ∙ far.each k (omega arith) (omega arith) in
+    ap (are_close own) (sym (ap (λ ms. get_or ms k no_marks) beside ∙ get_or-map line_marks others k none no_marks low)) ∙ far.each k (omega arith) (omega arith) in
     let rest = skipped d own p others marks (k + 1) to beside fails (omega arith) end (record { each = λ i above below. far.each i (omega arith) below }) in
     rest ∙ sym (ap (list_any p) (drop_more others k none low) ∙ ap (λ b. b || list_any p (drop (k + 1) others)) (fails (get_or others k none) here))
 
@@ -267,7 +281,7 @@ pub record Stands (x : Line) (others : List Line) (found : Bool) (place : ℕ) :
 pub stands_none : (x : Line) (others : List Line) → Stands x others false 0
 stands_none x others = record { within = omega arith; inside = refl; over = refl }
 
-pub stands_far : (x : Line) (others : List Line) (own : ℕ) (marks : List ℕ) (over : Bool) (k to : ℕ) → own ≡ line_marks x → marks ≡ map line_marks others → k ≤ to → to ≤ length marks → AreFar own marks k to → Stands x others over k → Stands x others over to
+pub stands_far : (x : Line) (others : List Line) (own : Marks) (marks : List Marks) (over : Bool) (k to : ℕ) → own ≡ line_marks x → marks ≡ map line_marks others → k ≤ to → to ≤ length marks → AreFar own marks k to → Stands x others over k → Stands x others over to
 stands_far x others own marks over k to is beside later end far before =
     let long : length marks ≡ length others = ap length beside ∙ length-map others line_marks in
     let end_of_lines : to ≤ length others = omega (arith, long) in
@@ -307,36 +321,24 @@ stands_all x others over place end before = (
 
 -- ---- the literals, one by one
 
-join-append : (a b c : ℕ) → join (join a b) c ≡ join a (join b c)
-join-append a b c =
-    same_set _ _
-    (λ v.
-    has-join (join a b) c v
-    ∙ (ap (λ x. x || has c v) (has-join a b v)
-    ∙ (or_again (has a v) (has b v) (has c v) ∙ (ap (λ x. has a v || x) (sym (has-join b c v)) ∙ sym (has-join a (join b c) v)))))
-
-join-nothing : (a : ℕ) → join a empty ≡ a
-join-nothing a = same_set _ _ (λ v. has-join a empty v ∙ (ap (λ x. has a v || x) (has-empty v) ∙ or-false (has a v)))
-
 -- the marks so far are those of the first literals
-pub record Gathers (lits : List Lit) (i marks : ℕ) : Type 0 where
-  pub all : join marks (cube_marks (drop i lits)) ≡ cube_marks lits
+pub record Gathers (f : ℕ → ℕ → ℕ) (lits : List Lit) (i marks : ℕ) : Type 0 where
+  pub all : join marks (cube_marks f (drop i lits)) ≡ cube_marks f lits
 
-pub gathers_none : (lits : List Lit) → Gathers lits 0 empty
-gathers_none lits = record { all = join_empty (cube_marks lits) }
+pub gathers_none : (f : ℕ → ℕ → ℕ) (lits : List Lit) → Gathers f lits 0 empty
+gathers_none f lits = record { all = join_empty (cube_marks f lits) }
 
-pub gathers_more : (lits : List Lit) (i marks more : ℕ) (l : Lit) → i < length lits → l ≡ get_or lits i l → more ≡ literal_marks l.set (net_place l.net.0) → Gathers lits i marks → Gathers lits (i + 1) (bit_or marks more)
-unfolding cube_marks join
-gathers_more lits i marks more l low here is before =
-    let own = literal_marks l.set (net_place l.net.0) in
-    let rest = cube_marks (drop (i + 1) lits) in
+pub gathers_more : (f : ℕ → ℕ → ℕ) (lits : List Lit) (i marks more : ℕ) (l : Lit) → i < length lits → l ≡ get_or lits i l → more ≡ f l.set l.net.0 → Gathers f lits i marks → Gathers f lits (i + 1) (bit_or marks more)
+unfolding join
+gathers_more f lits i marks more l low here is before =
+    let own = f l.set l.net.0 in
+    let rest = cube_marks f (drop (i + 1) lits) in
     let split : drop i lits ≡ l ∷ drop (i + 1) lits = drop_more lits i l low ∙ ap (λ x. x ∷ drop (i + 1) lits) (sym here) in
-    record { all = ap (λ m. join (bit_or marks m) rest) is ∙ (join-append marks own rest ∙ (ap (λ ls. join marks (cube_marks ls)) (sym split) ∙ before.all)) }
+    record { all = ap (λ m. join (bit_or marks m) rest) is ∙ (join-append marks own rest ∙ (ap (λ ls. join marks (cube_marks f ls)) (sym split) ∙ before.all)) }
 
-pub gathers_all : (lits : List Lit) (i marks : ℕ) → length lits ≤ i → Gathers lits i marks → marks ≡ cube_marks lits
-unfolding cube_marks
-gathers_all lits i marks end before =
-    sym (join-nothing marks) ∙ (ap (λ ls. join marks (cube_marks ls)) (sym (drop_all i lits end)) ∙ before.all)
+pub gathers_all : (f : ℕ → ℕ → ℕ) (lits : List Lit) (i marks : ℕ) → length lits ≤ i → Gathers f lits i marks → marks ≡ cube_marks f lits
+gathers_all f lits i marks end before =
+    sym (join-nothing marks) ∙ (ap (λ ls. join marks (cube_marks f ls)) (sym (drop_all i lits end)) ∙ before.all)
 
 -- ---- marks beside lines
 
@@ -350,6 +352,6 @@ map-swap f (d ∷ ys) i j p q =
     (λ k. set (set (map f xs) i (second k)) j (first k))
     ∙ sym (map-set f (set xs i (get_or xs j d)) j (get_or xs i d) ∙ ap (λ zs. set zs j (f (get_or xs i d))) (map-set f xs i (get_or xs j d)))
 
-pub exchanged : (before after : List Line) (marks turned : List ℕ) (i j : ℕ) → i < length before → j < length before → marks ≡ map line_marks before → after ≡ swap before i j → turned ≡ swap marks i j → turned ≡ map line_marks after
+pub exchanged : (before after : List Line) (marks turned : List Marks) (i j : ℕ) → i < length before → j < length before → marks ≡ map line_marks before → after ≡ swap before i j → turned ≡ swap marks i j → turned ≡ map line_marks after
 exchanged before after marks turned i j p q beside lines other =
     other ∙ (ap (λ ms. swap ms i j) beside ∙ (map-swap line_marks before i j p q ∙ ap (map line_marks) (sym lines)))

@@ -5,6 +5,7 @@ ghost use Rattle.mv_cover.specs.Absorb as spec;
 
 use crate::absorb::default_beside;
 use crate::left::put_line;
+use crate::marks::Marks;
 use crate::{Cover, Line};
 use mv_base::{Items, Memory, PackedSet};
 use std::alloc::Global;
@@ -15,7 +16,7 @@ use std::marker::Model;
 #[derive(Drop)]
 pub struct Absorber {
     lines: Vec<Line>,
-    marks: Vec<u64>,
+    marks: Vec<Marks>,
 }
 
 impl Model for Absorber {

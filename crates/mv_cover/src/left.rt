@@ -2,11 +2,11 @@ ghost use Rattle.std.specs.Prelude.{◌≡◌, ◌≤◌, ◌<◌, ◌+◌, leng
 ghost use Rattle.std.specs.List.{list_any, SwappedAt};
 ghost use Rattle.mv_cover.specs.Cubes.{IsCube};
 ghost use Rattle.mv_cover.specs.Absorb.{line_lies, with_line};
-ghost use Rattle.mv_cover.specs.Marks.{line_marks, are_close, AreFar};
+ghost use Rattle.mv_cover.specs.Marks.{line_marks, AreFar};
 
 use crate::Line;
-use crate::lies::{lies_in, lies_in_marked};
-use crate::marks::marks_of;
+use crate::lies::lies_in_marked;
+use crate::marks::{Marks, marks_of};
 use mv_base::Memory;
 
 /// How a line stands among others: whether it lies in one of them, and if not, whether one of them lies in it.
@@ -19,7 +19,7 @@ struct Standing {
 /// Puts a line more among those that are left, which stand beside their marks.
 pub(crate) fn put_line(
     lines: &mut Vec<Line>,
-    marks: &mut Vec<u64>,
+    marks: &mut Vec<Marks>,
     line: Line,
 ) -> Result<(), Memory>
     requires { marks.old.items ≡ map line_marks lines.old.items }
@@ -41,8 +41,8 @@ pub(crate) fn put_line(
     Ok(())
 }
 
-/// How the line stands among the others. Both lines are looked at where their marks are close.
-fn standing_among(line: &Line, own: u64, others: &[Line], marks: &[u64]) -> Standing
+/// How the line stands among the others. Both lines are looked at where the marks of one are marks of the other.
+fn standing_among(line: &Line, own: Marks, others: &[Line], marks: &[Marks]) -> Standing
     requires own { own ≡ line_marks line.now }
     requires marked { marks.now ≡ map line_marks others.now }
     ensures inside { result.inside ≡ list_any (line_lies line.now) others.now }
@@ -52,10 +52,10 @@ fn standing_among(line: &Line, own: u64, others: &[Line], marks: &[u64]) -> Stan
     let mut place = next_close(own, marks, 0);
     while place < marks.len() {
         let other = &others[place];
-        if lies_in(line, other) {
+        if lies_in_marked(line, own, other, marks[place]) {
             return Standing { inside: true, over };
         }
-        over |= lies_in(other, line);
+        over |= lies_in_marked(other, marks[place], line, own);
         place = next_close(own, marks, place + 1);
     }
     Standing {
@@ -65,30 +65,21 @@ fn standing_among(line: &Line, own: u64, others: &[Line], marks: &[u64]) -> Stan
 }
 
 /// The first place from this one on whose marks are close, or the place behind all.
-fn next_close(own: u64, marks: &[u64], from: usize) -> usize
+fn next_close(own: Marks, marks: &[Marks], from: usize) -> usize
     requires { from ≤ length marks.now }
     ensures later { from ≤ result }
     ensures within { result ≤ length marks.now }
     ensures far { AreFar own marks.now from result }
 {
     let mut place = from;
-    while place < marks.len() && !are_close(own, marks[place]) {
+    while place < marks.len() && !own.are_close(marks[place]) {
         place += 1;
     }
     place
 }
 
-/// Whether all marks of one line are marks of the other.
-#[tactic(auto, unfolding(crate::specs::Marks::are_close))]
-fn are_close(own: u64, other: u64) -> bool
-    ensures { result ≡ are_close own other }
-{
-    let both = own & other;
-    both == own || both == other
-}
-
 /// Keeps the lines that don't lie in this one, in order, beside their marks: all where it stands over none.
-fn keep_outside(line: &Line, own: u64, over: bool, lines: &mut Vec<Line>, marks: &mut Vec<u64>)
+fn keep_outside(line: &Line, own: Marks, over: bool, lines: &mut Vec<Line>, marks: &mut Vec<Marks>)
     requires own { own ≡ line_marks line.now }
     requires marked { marks.old.items ≡ map line_marks lines.old.items }
     requires over { over ≡ list_any (λ l. line_lies l line.now) lines.old.items }
@@ -114,7 +105,7 @@ fn keep_outside(line: &Line, own: u64, over: bool, lines: &mut Vec<Line>, marks:
 }
 
 /// Exchanges the lines at two places, and their marks.
-fn exchange(lines: &mut Vec<Line>, marks: &mut Vec<u64>, first: usize, second: usize)
+fn exchange(lines: &mut Vec<Line>, marks: &mut Vec<Marks>, first: usize, second: usize)
     requires marked { marks.old.items ≡ map line_marks lines.old.items }
     requires first { first < length lines.old.items }
     requires second { second < length lines.old.items }

@@ -23,6 +23,7 @@ mod sharp;
 mod spell;
 mod stop;
 mod suit;
+mod wide;
 
 pub use absorber::Absorber;
 pub use cover::Cover;

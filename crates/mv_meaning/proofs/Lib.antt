@@ -8,3 +8,7 @@ pub mod Changing
 pub mod Wiring
 pub mod Ranked
 pub mod Filling
+pub mod Bounded
+pub mod Settling
+pub mod Replacing
+pub mod Narrowing

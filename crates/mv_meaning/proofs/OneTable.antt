@@ -69,10 +69,10 @@ module _ (nets : List (Option FlatNet)) (n : ℕ) (old c : Cover) (table : table
   -- ---- which nets are above which
 
   -- n reads what the table reads, any other net what it read
-  reads-here : (k : ℕ) → reads_in (with_net_table nets n c) n k ≡ cover_reads c k
+  pub reads-here : (k : ℕ) → reads_in (with_net_table nets n c) n k ≡ cover_reads c k
   reads-here k = ap (λ t. table_reads t k) table-here
 
-  reads-there : (m k : ℕ) → (m ≡ n → ⊥) → reads_in (with_net_table nets n c) m k ≡ reads_in nets m k
+  pub reads-there : (m k : ℕ) → (m ≡ n → ⊥) → reads_in (with_net_table nets n c) m k ≡ reads_in nets m k
   reads-there m k ne = ap (λ f. net_reads f k) (slot-there m ne)
 
   -- it was above before, or the table puts it there

@@ -1,4 +1,4 @@
-ghost use Rattle.std.specs.Prelude.{◌≡◌, ◌⊎◌, ◌↔◌, ℕ, true, false, List, [], ◌∷◌, ◌++◌, Option, Some, None, map, slice_set};
+ghost use Rattle.std.specs.Prelude.{◌≡◌, ◌⊎◌, ◌↔◌, ℕ, Bool, true, false, List, [], ◌∷◌, ◌++◌, Option, Some, None, map, slice_set};
 ghost use Rattle.mv_base.specs.Meaning.{Refines, SameMeaning};
 ghost use Rattle.mv_base.specs.declared.number.NetId.{NetId};
 ghost use Rattle.mv_cover.specs.declared.cover.Cover.{Cover};
@@ -18,6 +18,7 @@ ghost use Rattle.mv_net.specs.Index.{is_seen};
 ghost use Rattle.mv_net.specs.Nets.{slot, values_in, table_in, reads_in};
 ghost use Rattle.mv_net.specs.Plain.{IsPlainBuffer};
 ghost use Rattle.mv_net.specs.Total.{IsTotal};
+ghost use Rattle.mv_meaning.specs.Narrowing.{AreTotalBelow, IsRegion, KeepsSome, ReadsWithin, StaysInside};
 ghost use Rattle.mv_meaning.specs.Rewriting.{
   AgreesUnread,
   AllowOneAbove,
@@ -137,6 +138,21 @@ pub fn filling_laws()
     ensures refines { (net : NetParts) (n : ℕ) (c : Cover) (out : ℕ) → WellFormed net → table_in (slot net.nets n) ≡ Some c
         → (IsTotal net.nets c → ⊥) → AllowOneAbove net.nets n
         → Refines true (of_net (with_nets net (with_net_table net.nets n (record c { default = Some out })))) (of_net net) }
+{}
+
+/// A net's table gives way to one that reads no net besides: the network is well formed. It may take the old one's place, without
+/// leave to be free too, where the table allows some value wherever the old one did, each table below the net is total, and inside
+/// some region round it what the table allows can be replaced by what was allowed, with the same values at the region's inputs and
+/// outputs.
+pub fn narrowing_laws()
+    ensures formed { (net : NetParts) (n : ℕ) (old new : Cover) → WellFormed net → table_in (slot net.nets n) ≡ Some old
+        → IsCover net.nets (values_in (slot net.nets n)) new → ReadsWithin old new
+        → WellFormed (with_nets net (with_net_table net.nets n new)) }
+    ensures refines { (free : Bool) (net : NetParts) (n : ℕ) (old new : Cover) (inside input output : ℕ → Bool) → WellFormed net
+        → table_in (slot net.nets n) ≡ Some old → IsCover net.nets (values_in (slot net.nets n)) new → ReadsWithin old new
+        → KeepsSome net.nets old new → AreTotalBelow net.nets n
+        → IsRegion net inside input output → inside n ≡ true → StaysInside net.nets inside input output n new
+        → Refines free (of_net (with_nets net (with_net_table net.nets n new))) (of_net net) }
 {}
 
 /// What a change leaves that gives one net a table, that gives the readers of a net their new ones, that lets the net go besides, or

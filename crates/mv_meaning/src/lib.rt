@@ -6,6 +6,6 @@
 mod laws;
 
 pub use laws::{
-    adding_laws, change_laws, collapsing_laws, one_table_laws, reformed_laws, rewriting_laws,
-    wiring_laws,
+    adding_laws, change_laws, collapsing_laws, filling_laws, narrowing_laws, one_table_laws,
+    reformed_laws, rewriting_laws, wiring_laws,
 };

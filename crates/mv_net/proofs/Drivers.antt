@@ -1,8 +1,8 @@
 -- When networks over the same ports mean the same, or one may take the place of the other: by what is done with
 -- each assignment that agrees with one of them.
-use Rattle.std.proofs.Common.{◌≡◌, ◌∙◌, ℕ, ◌<◌, true, nat_eq, List, [], ◌∷◌, map, Option, Some, None, refl, sym, subst, eq-eqb}
+use Rattle.std.proofs.Common.{◌≡◌, ◌∙◌, ℕ, ◌<◌, Bool, true, nat_eq, List, [], ◌∷◌, map, Option, Some, None, refl, sym, subst, eq-eqb}
 use Rattle.std.proofs.lemmas.Bool.{or_left, or_right}
-use Rattle.mv_base.specs.Meaning.{SameMeaning}
+use Rattle.mv_base.specs.Meaning.{Refines, SameMeaning}
 use Rattle.mv_base.specs.declared.number.NetId.{NetId}
 use Rattle.mv_net.specs.declared.parts.FlatNet.{FlatNet}
 use Rattle.mv_net.specs.declared.parts.FlatLatch.{FlatLatch}
@@ -128,4 +128,21 @@ SameMeaning-by net nets keeps down up = record {
   same = interface-kept net nets keeps;
   only = λ i s o n r a. allows_ports net nets net.nets i s o n r (λ m h. sym (keeps.values m h)) a (down a.at a.agrees);
   all = λ i s o n r a. allows_ports net net.nets nets i s o n r keeps.values a (up a.at a.agrees);
+}
+
+-- it may take the other's place, if each assignment that agrees with its nets gives one with the same ports that agrees with the
+-- other's, and each that agrees with the other's gives one with the same sources that agrees with its own
+pub Refines-by : (free : Bool) (net : NetParts) (nets : List (Option FlatNet)) → KeepsPorts net nets → ((x : ℕ → ℕ) → Agrees nets x → AgreesAtPorts net net.nets x) → ((x : ℕ → ℕ) → Agrees net.nets x → AgreesAtSources net nets x) → Refines free (of_net (with_nets net nets)) (of_net net)
+unfolding of_net with_nets
+Refines-by free net nets keeps down up = record {
+  narrows = record {
+    same = interface-kept net nets keeps;
+    only = λ i s o n r some a. allows_ports net nets net.nets i s o n r (λ m h. sym (keeps.values m h)) a (down a.at a.agrees);
+  };
+  some = λ i s some. record {
+    o = _;
+    n = _;
+    r = _;
+    allowed = allows_sources net net.nets nets i s some.o some.n some.r keeps.values some.allowed (up some.allowed.at some.allowed.agrees);
+  };
 }

@@ -3,8 +3,6 @@
 
 mod held;
 mod page;
-#[cfg(test)]
-mod tests;
 
 pub use held::PAGE_BYTES;
 pub use page::Page;

@@ -1,21 +1,25 @@
 -- How it is told whether a net may get a table, by the order of the nets.
-use Rattle.std.proofs.Common.{◌≡◌, ◌∙◌, ◌⊎◌, ℕ, zero, suc, ◌<◌, Bool, true, false, ◌||◌, not, nat_eq, List, [], ◌∷◌, length, get_or, Option, Some, None, Result, Ok, Err, inl, inr, refl, sym, ap, subst, ⊎_elim, eq-eqb, eqb-true, arith}
-use Rattle.std.specs.Prelude.{IfOk, MatchBool}
+use Rattle.std.proofs.Common.{◌≡◌, ◌∙◌, ◌⊎◌, ℕ, zero, suc, ◌+◌, ◌<◌, ◌≤◌, Bool, true, false, ◌||◌, not, nat_eq, List, [], ◌∷◌, ◌++◌, length, get_or, take, Option, Some, None, Result, Ok, Err, inl, inr, refl, sym, ap, subst, ⊎_elim, eq-eqb, eqb-true, arith}
+use Rattle.std.specs.Prelude.{IfOk, MatchBool, is_some}
 use Rattle.std.specs.List.{Any, Contains, list_any}
 use Rattle.std.proofs.lemmas.Bool.{or_cases, or_left, or_right, false≢true, eqb-false}
+use Rattle.std.proofs.lemmas.List.{take_more, take_all, get_or_default}
+use Rattle.std.proofs.lemmas.List.Folds.{list_any-append}
 use Rattle.mv_base.specs.declared.number.NetId.{NetId}
 use Rattle.mv_cover.specs.declared.cover.Cover.{Cover}
 use Rattle.mv_cover.specs.Covers.{cover_reads}
 use Rattle.mv_cover.proofs.Absorbing.{any_at, find_any}
-use Rattle.mv_graph.specs.Above.{IsAbove}
+use Rattle.mv_graph.specs.Above.{IsAbove, GoesOn}
+use Rattle.mv_graph.proofs.Paths.{above_first}
 use Rattle.mv_graph.specs.Nets.{has_id, IsAscending}
 use Rattle.mv_meaning.specs.Rewriting.{IsOverTable, PutsAbove}
+use Rattle.mv_net.specs.declared.parts.Kind.TheVariants.{Latch}
 use Rattle.mv_net.specs.declared.parts.FlatNet.{FlatNet}
 use Rattle.mv_net.specs.declared.parts.FlatLatch.{FlatLatch}
 use Rattle.mv_net.specs.declared.parts.NetParts.{NetParts}
-use Rattle.mv_net.specs.Formed.{latch_outputs, with_reset, latch_resets, WellFormed}
-use Rattle.mv_net.specs.Nets.{reads_in}
-use Rattle.mv_rules.specs.Orders.{KeepsOrder, IsFrom, IsOver, IsFromReset, IsUnderReset, ReadsState}
+use Rattle.mv_net.specs.Formed.{latch_outputs, with_reset, latch_resets, has_table, IsKind, WellFormed}
+use Rattle.mv_net.specs.Nets.{slot, table_in, net_reads, reads_in}
+use Rattle.mv_rules.specs.Orders.{AreAmong, ReadsNoMore, KeepsOrder, IsFrom, IsOver, IsFromReset, IsUnderReset, ReadsState}
 use Rattle.mv_rules.proofs.Ahead.{any_first, any_later, any_none}
 
 -- ---- a net, or above it
@@ -108,6 +112,99 @@ reads_state nets ls fanins state listed over =
     let f = find_any (λ (k : FlatLatch). nat_eq k.output.0 state) ls (sym (outputs_any ls state) ∙ listed) in
     record { some = (f.there.0, f.x, f.there.1, f.there.2, subst (IsOver nets fanins) (sym (eqb-true f.x.output.0 state f.pass)) over) }
 
+-- ---- nets that read no more
+
+-- what is above a net is above those below it
+above_on : (reads : ℕ → ℕ → Bool) (a n m : ℕ) (path : List ℕ) → GoesOn reads n m path → IsAbove reads a n → IsAbove reads a m
+above_on reads a n m [] goes up = above_first reads m n a goes up
+above_on reads a n m (k ∷ path) goes up = above_first reads m k a goes.0 (above_on reads a n k path goes.1 up)
+
+above_fanin : (reads : ℕ → ℕ → Bool) (a n m : ℕ) → reads n m ≡ true → (a ≡ m) ⊎ IsAbove reads a m → IsAbove reads a n
+above_fanin reads a n m r (inl same) = record { path = []; goes = subst (λ k. reads n k ≡ true) (sym same) r }
+above_fanin reads a n m r (inr up) = above_first reads n m a r up
+
+-- the first step up
+record Up (reads : ℕ → ℕ → Bool) (a n : ℕ) : Type 0 where
+  first : ℕ
+  read : reads n first ≡ true
+  rest : (a ≡ first) ⊎ IsAbove reads a first
+
+first_step : (reads : ℕ → ℕ → Bool) (a n : ℕ) (path : List ℕ) → GoesOn reads a n path → Up reads a n
+first_step reads a n [] goes = record { first = a; read = goes; rest = inl refl }
+first_step reads a n (m ∷ path) goes = record { first = m; read = goes.0; rest = inr (record { path = path; goes = goes.1 }) }
+
+module _ (net : NetParts) (n d : ℕ) (fanins : List NetId) (latch : ℕ) (formed : WellFormed net) (less : ReadsNoMore net.nets n d fanins) (output : IsKind net.nets latch Latch) where
+  -- a net with a table is no latch output
+  tabled_other : latch ≡ d → ⊥
+  tabled_other same =
+      let there : is_some output.net.table ≡ true =
+      ap (λ f. is_some (table_in f)) (sym output.held) ∙ (ap (λ k. is_some (table_in (slot net.nets k))) same ∙ less.tabled) in
+      let none : is_some output.net.table ≡ false = (formed.nets latch output.net output.held).table ∙ ap has_table output.is in
+      false≢true (sym none ∙ there)
+
+  above_inner : (m : ℕ) → reads_in net.nets d m ≡ true → (m ≡ d) ⊎ (reads_in net.nets n m ≡ true) → (latch ≡ m) ⊎ IsAbove (reads_in net.nets) latch m → IsAbove (reads_in net.nets) latch n
+  above_inner m read (inl same) up = absurd (formed.acyclic.none d (record { path = []; goes = subst (λ k. reads_in net.nets d k ≡ true) same read }))
+  above_inner m read (inr own) up = above_fanin (reads_in net.nets) latch n m own up
+
+  above_divisor : (latch ≡ d) ⊎ IsAbove (reads_in net.nets) latch d → IsAbove (reads_in net.nets) latch n
+  above_divisor (inl same) = absurd (tabled_other same)
+  above_divisor (inr up) =
+      let s = first_step (reads_in net.nets) latch d up.path up.goes in
+      above_inner s.first s.read (less.through s.first s.read) s.rest
+
+  above_read : (m : ℕ) → (m ≡ d) ⊎ (reads_in net.nets n m ≡ true) → (latch ≡ m) ⊎ IsAbove (reads_in net.nets) latch m → IsAbove (reads_in net.nets) latch n
+  above_read m (inl same) up = above_divisor (subst (λ k. (latch ≡ k) ⊎ IsAbove (reads_in net.nets) latch k) same up)
+  above_read m (inr own) up = above_fanin (reads_in net.nets) latch n m own up
+
+-- a walk along two lists
+pub record Walks (nets : List NetId) (but : ℕ) (others : List NetId) (i : ℕ) : Type 0 where
+  pub within : i ≤ length nets
+  pub passed : AreAmong (take i nets) but others
+
+pub walks_none : (nets : List NetId) (but : ℕ) (others : List NetId) → Walks nets but others 0
+walks_none nets but others = record { within = omega arith; passed = record { each = λ m h. absurd (false≢true h) } }
+
+passed_more : (nets : List NetId) (but : ℕ) (others : List NetId) (x : NetId) → (x.0 ≡ but) ⊎ (has_id others x.0 ≡ true) → AreAmong nets but others → AreAmong (nets ++ x ∷ []) but others
+passed_more nets but others x is before = record {
+  each = λ m h.
+      ⊎_elim
+      (λ (early : has_id nets m ≡ true). before.each m early)
+      (λ (late : has_id (x ∷ []) m ≡ true).
+      let same : x.0 ≡ m = eqb-true x.0 m (⊎_elim (λ (e : nat_eq x.0 m ≡ true). e) (λ (f : false ≡ true). absurd (false≢true f)) (or_cases (nat_eq x.0 m) false late)) in
+      subst (λ k. (k ≡ but) ⊎ (has_id others k ≡ true)) same is)
+      (or_cases (has_id nets m) (has_id (x ∷ []) m) (sym (list_any-append (λ (k : NetId). nat_eq k.0 m) nets (x ∷ [])) ∙ h));
+}
+
+walks_more : (nets : List NetId) (but : ℕ) (others : List NetId) (i : ℕ) (d : NetId) → i < length nets → ((get_or nets i d).0 ≡ but) ⊎ (has_id others (get_or nets i d).0 ≡ true) → Walks nets but others i → Walks nets but others (i + 1)
+walks_more nets but others i d low is before = record {
+  within = omega (arith, low);
+  passed = subst (λ (ns : List NetId). AreAmong ns but others) (sym (take_more nets i d low)) (passed_more (take i nets) but others (get_or nets i d) is before.passed);
+}
+
+pub walks_but : (nets : List NetId) (but : ℕ) (others : List NetId) (i : ℕ) (d : NetId) → i < length nets → (get_or nets i d).0 ≡ but → Walks nets but others i → Walks nets but others (i + 1)
+walks_but nets but others i d low same before = walks_more nets but others i d low (inl same) before
+
+pub walks_found : (nets : List NetId) (but : ℕ) (others : List NetId) (i j : ℕ) (d : NetId) → i < length nets → j < length others → (get_or nets i d).0 ≡ (get_or others j d).0 → Walks nets but others i → Walks nets but others (i + 1)
+walks_found nets but others i j d low there same before =
+    walks_more nets but others i d low
+    (inr (any_at (λ (k : NetId). nat_eq k.0 (get_or nets i d).0) others (get_or others j d) (j, there, get_or_default others j (get_or others j d) d there)
+    (eq-eqb (get_or others j d).0 (get_or nets i d).0 (sym same)))) before
+
+pub walks_all : (nets : List NetId) (but : ℕ) (others : List NetId) (i : ℕ) → length nets ≤ i → Walks nets but others i → AreAmong nets but others
+walks_all nets but others i end before = subst (λ (ns : List NetId). AreAmong ns but others) (take_all i nets end) before.passed
+
+-- what was found among the fanins of n is read by n
+pub no_more : (nets : List (Option FlatNet)) (n d : ℕ) (fanins own inner : List NetId) → is_some (table_in (slot nets d)) ≡ true → IsAscending (λ m. net_reads (slot nets n) m) own → IsAscending (λ m. net_reads (slot nets d) m) inner → AreAmong fanins d own → AreAmong inner d own → ReadsNoMore nets n d fanins
+no_more nets n d fanins own inner tabled reads below listed through = record {
+  tabled = tabled;
+  listed = λ m h. read m (listed.each m h);
+  through = λ m h. read m (through.each m (below.members m ∙ h));
+}
+  where
+    read : (m : ℕ) → (m ≡ d) ⊎ (has_id own m ≡ true) → (m ≡ d) ⊎ (reads_in nets n m ≡ true)
+    read m (inl same) = inl same
+    read m (inr there) = inr (sym (reads.members m) ∙ there)
+
 -- ---- the order is kept
 
 flipped : (A : Type 0) (a b : ℕ) → (a ≡ b) ⊎ A → (b ≡ a) ⊎ A
@@ -144,6 +241,19 @@ module _ (net : NetParts) (n d : ℕ) (body : Cover) where
 
     pub without_reset : WellFormed net → (IsFrom net.nets n d → ⊥) → (IsOver net.nets fanins n → ⊥) → (IsUnderReset net.nets net.latches n → ⊥) → KeepsOrder net.nets n d body
     without_reset formed apart free under = keeps_order apart free (λ latch reset puts. under (reset_there formed latch reset puts))
+
+    -- what the table puts above a reset net stands above it already
+    already : WellFormed net → ReadsNoMore net.nets n d fanins → (latch reset : ℕ) → PutsAbove net.nets n body latch reset → ⊥
+    already formed less latch reset puts =
+        let over = puts.up in
+        let up = above_read net n d fanins latch formed less puts.output over.first (less.listed over.first (is.members over.first ∙ over.reads)) over.up in
+        ⊎_elim
+        (λ (same : reset ≡ n). formed.alone.none latch reset puts.output puts.reset_net (subst (IsAbove (reads_in net.nets) latch) (sym same) up))
+        (λ (down : IsAbove (reads_in net.nets) n reset). formed.alone.none latch reset puts.output puts.reset_net (above_on (reads_in net.nets) latch n reset down.path down.goes up))
+        puts.down
+
+    pub without_more : WellFormed net → (IsFrom net.nets n d → ⊥) → (IsOver net.nets fanins n → ⊥) → ReadsNoMore net.nets n d fanins → KeepsOrder net.nets n d body
+    without_more formed apart free less = keeps_order apart free (already formed less)
 
     not_alone : WellFormed net → IsUnderReset net.nets net.latches n → ReadsState net.nets net.latches fanins → KeepsOrder net.nets n d body → ⊥
     not_alone formed under reads keeps =

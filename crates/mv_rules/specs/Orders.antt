@@ -1,13 +1,14 @@
 -- Whether a net may get a table, by the order of the nets.
-use Rattle.std.specs.Prelude.{◌≡◌, ◌⊎◌, ℕ, Option, Some, None, List}
+use Rattle.std.specs.Prelude.{◌≡◌, ◌⊎◌, ℕ, true, is_some, Option, Some, None, List}
 use Rattle.std.specs.List.{Any}
 use Rattle.mv_base.specs.declared.number.NetId.{NetId}
 use Rattle.mv_cover.specs.declared.cover.Cover.{Cover}
 use Rattle.mv_graph.specs.Above.{IsAbove}
+use Rattle.mv_graph.specs.Nets.{has_id}
 use Rattle.mv_meaning.specs.Rewriting.{IsOverTable, PutsAbove}
 use Rattle.mv_net.specs.declared.parts.FlatNet.{FlatNet}
 use Rattle.mv_net.specs.declared.parts.FlatLatch.{FlatLatch}
-use Rattle.mv_net.specs.Nets.{reads_in}
+use Rattle.mv_net.specs.Nets.{slot, table_in, reads_in}
 
 -- the net n may get this table: it is neither the net d nor above it, the table reads neither n nor a net below it, and no
 -- latch output comes above a reset net
@@ -39,3 +40,13 @@ pub record IsUnderReset (nets : List (Option FlatNet)) (latches : List FlatLatch
 -- the output of one of these latches is one of the nets, or above one
 pub record ReadsState (nets : List (Option FlatNet)) (latches : List FlatLatch) (fanins : List NetId) : Type 0 where
   pub some : Any (λ (l : FlatLatch). IsOver nets fanins l.output.0) latches
+
+-- each of these nets is the one, or one of the others
+pub record AreAmong (nets : List NetId) (but : ℕ) (others : List NetId) : Type 0 where
+  pub each : (m : ℕ) → has_id nets m ≡ true → (m ≡ but) ⊎ (has_id others m ≡ true)
+
+-- the net d has a table, and n reads each of these nets but d, and each net that d reads
+pub record ReadsNoMore (nets : List (Option FlatNet)) (n d : ℕ) (fanins : List NetId) : Type 0 where
+  pub tabled : is_some (table_in (slot nets d)) ≡ true
+  pub listed : (m : ℕ) → has_id fanins m ≡ true → (m ≡ d) ⊎ (reads_in nets n m ≡ true)
+  pub through : (m : ℕ) → reads_in nets d m ≡ true → (m ≡ d) ⊎ (reads_in nets n m ≡ true)

@@ -1,5 +1,5 @@
-ghost use Rattle.std.specs.Prelude.{IfOk, MatchBool};
-ghost use Rattle.mv_rules.specs.Orders.{KeepsOrder, IsFrom, IsOver, IsFromReset, IsUnderReset, ReadsState};
+ghost use Rattle.std.specs.Prelude.{IsTrue, IfOk, MatchBool};
+ghost use Rattle.mv_rules.specs.Orders.{AreAmong, ReadsNoMore, KeepsOrder, IsFrom, IsOver, IsFromReset, IsUnderReset, ReadsState};
 
 use mv_base::{Memory, NetId};
 use mv_cover::Cover;
@@ -8,7 +8,7 @@ use std::alloc::Global;
 
 /// Whether the net n may get a table in which the net d stands for its own lines: n is neither d nor above it, the table reads
 /// neither n nor a net below it, and no latch output comes above a reset net. It looks only at nets between two places of the
-/// kept order, and at latches where n is a reset net or above one.
+/// kept order, and at latches only where the table, or d, reads a net that n doesn't read.
 pub fn keeps_order(
     alloc: Global,
     net: &Network,
@@ -25,6 +25,9 @@ pub fn keeps_order(
     let fanins = fanins_of_cover(alloc, body)?;
     if is_over(net, fanins.as_slice(), n)? {
         return Ok(false);
+    }
+    if reads_no_more(net, n, d, fanins.as_slice()) {
+        return Ok(true);
     }
     if !is_under_reset(net, net.latches(), n)? {
         return Ok(true);
@@ -52,6 +55,41 @@ fn is_over(net: &Network, fanins: &[NetId], n: NetId) -> Result<bool, Memory>
         }
     }
     Ok(false)
+}
+
+/// Whether d has a table, and it is seen at once that n reads each of these nets but d, and each net that d reads. What is above
+/// these is then above n already.
+fn reads_no_more(net: &Network, n: NetId, d: NetId, fanins: &[NetId]) -> bool
+    ensures { IsTrue result → ReadsNoMore net.now.nets n.0 d.0 fanins.now }
+{
+    if !net.holds(n) || !net.holds(d) {
+        return false;
+    }
+    let Some(_table) = net.table(d) else {
+        return false;
+    };
+    let own = net.fanins(n);
+    are_among(fanins, d, own) && are_among(net.fanins(d), d, own)
+}
+
+/// Whether one walk along both lists, which should ascend, finds each of the nets but one among the others.
+fn are_among(nets: &[NetId], but: NetId, others: &[NetId]) -> bool
+    ensures { IsTrue result → AreAmong nets.now but.0 others.now }
+{
+    let mut i = 0;
+    let mut j = 0;
+    'walk: while i < nets.len() {
+        if nets[i] == but {
+            i += 1;
+        } else if j == others.len() || nets[i].0 < others[j].0 {
+            return false;
+        } else if nets[i] == others[j] {
+            i += 1;
+        } else {
+            j += 1;
+        }
+    }
+    true
 }
 
 /// Whether the net is the reset net of one of the latches, or above one.

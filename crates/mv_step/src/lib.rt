@@ -11,8 +11,6 @@ mod reader;
 mod said;
 mod set;
 mod step;
-#[cfg(test)]
-mod tests;
 
 pub use fault::StepFault;
 pub use laws::printed_laws;

@@ -5,8 +5,6 @@ mod drawing;
 mod rows;
 mod summary;
 mod tables;
-#[cfg(test)]
-mod tests;
 mod texts;
 mod work;
 

@@ -15,4 +15,4 @@ loop-place-preserved c =
     let long = ap length c.requires.marked ∙ length-map c.args.others.now line_marks in
     let low : c.loop-place.place < length c.args.others.now = omega (arith, c.loop-place-test.true, long) in
     stands_far _ _ c.args.own c.args.marks.now _ _ _ c.requires.own c.requires.marked c.next_close-place-in-loop-place.ensures.later c.next_close-place-in-loop-place.ensures.within c.next_close-place-in-loop-place.ensures.far
-    (stands_more c.args.line.now c.index-others-place.result c.args.others.now c.loop-place.over c.lies_in.result c.lies_in-over.result c.loop-place.place low c.index-others-place.is c.lies_in.ensures c.if-lies_in.false c.lies_in-over.ensures c.loop-place.invariant)
+    (stands_more c.args.line.now c.index-others-place.result c.args.others.now c.loop-place.over c.lies_in_marked.result c.lies_in_marked-over.result c.loop-place.place low c.index-others-place.is c.lies_in_marked.ensures c.if-lies_in_marked.false c.lies_in_marked-over.ensures c.loop-place.invariant)

@@ -1,6 +1,6 @@
 //! How the pieces of a text are handed on, which no clause says.
-use crate::{PAGE_BYTES, Page};
 use mv_base::{Failed, MemorySink};
+use mv_page::{PAGE_BYTES, Page};
 use std::alloc::Global;
 use std::test::Fail;
 

@@ -1,4 +1,5 @@
-use crate::{Options, Task, WordsStop, read_words};
+//! The words of command lines, and what they ask for.
+use mv_command_line::{Options, Task, WordsStop, read_words};
 use std::alloc::Global;
 use std::process::Abort;
 use std::test::Fail;
@@ -22,8 +23,8 @@ fn are_asked(rt: &impl Abort, alloc: Global, lines: &[(&str, Task<'_>)]) -> Resu
 }
 
 /// Each line is refused.
-fn are_refused(rt: &impl Abort, alloc: Global, lines: &[&str]) -> Result<(), Fail> {
-    for line in lines {
+fn are_refused(rt: &impl Abort, alloc: Global, lines: &str) -> Result<(), Fail> {
+    for line in lines.split('\n') {
         let words = words_of(alloc, line)?;
         assert!(rt;
             read_words(alloc, words.as_slice()) == Err(WordsStop::Refused),
@@ -86,55 +87,55 @@ fn tasks_are_asked_for(rt: HostRuntime) -> Result<(), Fail> {
     are_asked(&rt, rt.alloc(), lines.as_slice())
 }
 
+/// Words that ask for nothing, a line each, parted by `|`. The first is one empty word.
+const REFUSED: &str = "
+opt
+opt|n
+opt|n|s|x
+help
+Opt|n|s
+opt|-|-
+check|-|--|-
+--|opt|n|s
+opt|n|s|-x
+opt|n|s|--help
+opt|n|s|-h
+opt|n|s|--budgets=1000
+opt|n|s|--budget
+opt|n|s|--budget=
+opt|n|s|--budget|
+opt|n|s|--budget|--|1000
+opt|n|s|--budget|-1
+opt|n|s|--budget|999
+opt|n|s|--budget=4000001
+opt|n|s|--budget=00001000
+opt|n|s|--budget=+1000
+opt|n|s|--budget=1000|--budget=1000
+--free|opt|n|s
+opt|--free|n
+opt|n|s|--free|--free
+opt|--free|n|s|--free
+opt|n|s|--free=
+opt|n|s|--free=x
+opt|n|s|--free=true
+opt|n|s|--fre
+opt|n|s|--freed
+opt|n|s|-free
+opt|n|s|--Free
+opt|n|s|--budget|--free
+opt|n|s|--free|true
+check|n|c|--free|--budget=1000|--free
+work|1|1|s|--free|--free
+work|0|1|s
+work|20001|1|s
+work|000001|1|s
+work|1|18446744073709551616|s
+work|1|000000000000000000001|s
+work|1||s
+work|1|s
+work|1|1|s|s";
+
 #[test]
 fn words_are_refused(rt: HostRuntime) -> Result<(), Fail> {
-    let lines = [
-        "",
-        "opt",
-        "opt|n",
-        "opt|n|s|x",
-        "help",
-        "Opt|n|s",
-        "opt|-|-",
-        "check|-|--|-",
-        "--|opt|n|s",
-        "opt|n|s|-x",
-        "opt|n|s|--help",
-        "opt|n|s|-h",
-        "opt|n|s|--budgets=1000",
-        "opt|n|s|--budget",
-        "opt|n|s|--budget=",
-        "opt|n|s|--budget|",
-        "opt|n|s|--budget|--|1000",
-        "opt|n|s|--budget|-1",
-        "opt|n|s|--budget|999",
-        "opt|n|s|--budget=4000001",
-        "opt|n|s|--budget=00001000",
-        "opt|n|s|--budget=+1000",
-        "opt|n|s|--budget=1000|--budget=1000",
-        "--free|opt|n|s",
-        "opt|--free|n",
-        "opt|n|s|--free|--free",
-        "opt|--free|n|s|--free",
-        "opt|n|s|--free=",
-        "opt|n|s|--free=x",
-        "opt|n|s|--free=true",
-        "opt|n|s|--fre",
-        "opt|n|s|--freed",
-        "opt|n|s|-free",
-        "opt|n|s|--Free",
-        "opt|n|s|--budget|--free",
-        "opt|n|s|--free|true",
-        "check|n|c|--free|--budget=1000|--free",
-        "work|1|1|s|--free|--free",
-        "work|0|1|s",
-        "work|20001|1|s",
-        "work|000001|1|s",
-        "work|1|18446744073709551616|s",
-        "work|1|000000000000000000001|s",
-        "work|1||s",
-        "work|1|s",
-        "work|1|1|s|s",
-    ];
-    are_refused(&rt, rt.alloc(), lines.as_slice())
+    are_refused(&rt, rt.alloc(), REFUSED)
 }

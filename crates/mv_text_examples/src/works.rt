@@ -1,6 +1,6 @@
 //! The texts of small networks, which were drawn by a program in another language, and a summary.
-use crate::{Summary, put_summary, work_text};
 use mv_base::MemorySink;
+use mv_work::{Summary, put_summary, work_text};
 use std::alloc::Global;
 use std::test::Fail;
 

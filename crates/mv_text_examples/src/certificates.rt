@@ -1,8 +1,8 @@
 //! Certificates, and the rules that they list.
-use crate::{StepFault, read_cert};
 use mv_base::{MemorySink, Sink};
 use mv_entry::put_rule;
 use mv_lex::{Lexer, Lines};
+use mv_step::{StepFault, read_cert};
 use std::alloc::Global;
 use std::test::Fail;
 

@@ -1,0 +1,11 @@
+-- The marks so far are those of the first literals.
+use Rattle.mv_cover.specs.Marks.{wide_marks}
+use Rattle.mv_cover.proofs.Marking.{gathers_more, gathers_all}
+use Rattle.mv_cover.proofs.marks.all_wide.Goals as goal
+
+pub loop-l-preserved : goal.loop-l-preserved
+loop-l-preserved c =
+    gathers_more wide_marks c.args.lits.now c.loop-l.l-index c.loop-l.marks c.wide_marks-marks.result c.l-item.result c.loop-l-test.true c.l-item.is c.wide_marks-marks.ensures c.loop-l.invariant
+
+pub returns : goal.returns
+returns c = gathers_all wide_marks c.args.lits.now c.loop-l.l-index c.loop-l.marks c.loop-l-test.false c.loop-l.invariant

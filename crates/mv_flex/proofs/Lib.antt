@@ -1,0 +1,9 @@
+pub mod Numbering
+pub mod Allowing
+pub mod Held
+pub mod Assigning
+pub mod Going
+pub mod Sizes
+pub mod Marking
+pub mod Checking
+pub mod Blocking

@@ -1,0 +1,5 @@
+use Rattle.mv_flex.specs.Plans.{MarksBelow}
+use Rattle.mv_flex.proofs.search.outside_pairs.Given as goal
+
+abbrev pub invariant-loop-shown : goal.invariant-loop-shown
+invariant-loop-shown l = MarksBelow l.net.nets l.plan l.shown l.marks.items

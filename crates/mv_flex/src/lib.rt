@@ -1,0 +1,16 @@
+//! The flexibility of a net in a window, decided by going through the window's points.
+#![tactic(auto)]
+
+mod allow;
+mod decide;
+mod flexibility;
+mod plan;
+mod search;
+mod space;
+mod stop;
+mod verdict;
+
+pub use decide::flex;
+pub use flexibility::Flexibility;
+pub use stop::FlexStop;
+pub use verdict::Verdict;

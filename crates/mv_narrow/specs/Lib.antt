@@ -1,0 +1,3 @@
+pub mod Verdicts
+-- what private functions alone cite
+pub mod Answers

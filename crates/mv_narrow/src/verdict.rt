@@ -1,0 +1,116 @@
+ghost use Rattle.std.specs.Prelude.{◌≡◌, Some, is_some, All, IfOk, IsTrue, MatchBool};
+ghost use Rattle.mv_base.specs.declared.number.NetId.{NetId};
+ghost use Rattle.mv_cover.specs.declared.cover.Cover.{Cover};
+ghost use Rattle.mv_meaning.specs.Narrowing.{AreTotalBelow, ReadsWithin};
+ghost use Rattle.mv_net.specs.Nets.{slot, table_in};
+ghost use Rattle.mv_net.specs.Total.{IsTotalNet};
+ghost use Rattle.mv_narrow.specs.Verdicts.{IsNarrowVerdict};
+ghost use Rattle.mv_narrow.specs.Answers.{IsStopVerdict, verdict_of};
+
+use mv_base::{Memory, NetId};
+use mv_cover::Cover;
+use mv_flex::{FlexStop, Verdict, flex};
+use mv_net::Network;
+use std::alloc::Global;
+
+/// What becomes of a net whose table is to give way to a new one: the first that holds.
+#[derive(Clone, Copy, Debug, PartialEq, Eq)]
+pub enum NarrowVerdict {
+    /// A table below the net isn't total.
+    Partial,
+    /// The window is too wide.
+    TooWide,
+    /// The pool of nodes is full.
+    NoNodes,
+    /// The new table allows something outside the flexibility.
+    Outside,
+    /// The new table allows nothing where the old one allows something.
+    Lost,
+    /// None of that: the new table may take the old one's place.
+    Lawful,
+}
+
+/// What becomes of a net with a table that is to give way to a new one, in the window that goes so many steps down from the net and
+/// from there so many up. The new table reads no net that the old one doesn't. It fails for want of memory alone.
+pub fn narrow_verdict(
+    alloc: Global,
+    net: &Network,
+    n: NetId,
+    d: u8,
+    u: u8,
+    new: &Cover,
+    budget: u32,
+) -> Result<NarrowVerdict, Memory>
+    requires table { IsTrue (is_some (table_in (slot net.now.nets n.0))) }
+    requires reads { (old : Cover) → table_in (slot net.now.nets n.0) ≡ Some old → ReadsWithin old new.now }
+    ensures { IfOk result (λ verdict. (old : Cover) → table_in (slot net.now.nets n.0) ≡ Some old
+        → IsNarrowVerdict net.now n.0 d u budget old new.now verdict) }
+{
+    net.well_formed();
+    if !are_total_below(alloc, net, n)? {
+        return Ok(NarrowVerdict::Partial);
+    }
+    let window = net.window(n, d, u)?;
+    let flexibility = match flex(net, &window, n, budget) {
+        Ok(flexibility) => flexibility,
+        Err(stop) => return of_stop(stop),
+    };
+    match flexibility.judge(new) {
+        Ok(verdict) => Ok(of_verdict(verdict)),
+        Err(stop) => of_stop(stop),
+    }
+}
+
+/// Whether each table below the net is total.
+fn are_total_below(alloc: Global, net: &Network, n: NetId) -> Result<bool, Memory>
+    ensures { IfOk result (λ total. MatchBool total (AreTotalBelow net.now.nets n.0) (AreTotalBelow net.now.nets n.0 → ⊥)) }
+{
+    let below = net.below(n)?;
+    all_total(alloc, net, below.as_slice())
+}
+
+/// Whether each of the nets has a table that is total.
+fn all_total(alloc: Global, net: &Network, nets: &[NetId]) -> Result<bool, Memory>
+    ensures { IfOk result (λ total. MatchBool total
+        (All (λ (m : NetId). IsTotalNet net.now.nets m.0) nets.now)
+        (All (λ (m : NetId). IsTotalNet net.now.nets m.0) nets.now → ⊥)) }
+{
+    for m in nets {
+        if !is_total(alloc, net, *m)? {
+            return Ok(false);
+        }
+    }
+    Ok(true)
+}
+
+/// Whether the net is held and has a table that is total.
+fn is_total(alloc: Global, net: &Network, m: NetId) -> Result<bool, Memory>
+    ensures { IfOk result (λ total. MatchBool total (IsTotalNet net.now.nets m.0) (IsTotalNet net.now.nets m.0 → ⊥)) }
+{
+    if !net.holds(m) {
+        return Ok(false);
+    }
+    net.is_total(alloc, m)
+}
+
+/// The verdict where no flexibility is found, or it decides nothing.
+fn of_stop(stop: FlexStop) -> Result<NarrowVerdict, Memory>
+    ensures { IfOk result (λ verdict. IsStopVerdict stop verdict) }
+{
+    match stop {
+        FlexStop::Window { levels: _ } => Ok(NarrowVerdict::TooWide),
+        FlexStop::Nodes { cap: _ } => Ok(NarrowVerdict::NoNodes),
+        FlexStop::Memory => Err(Memory),
+    }
+}
+
+/// The verdict where the flexibility decides.
+fn of_verdict(verdict: Verdict) -> NarrowVerdict
+    ensures { result ≡ verdict_of verdict }
+{
+    match verdict {
+        Verdict::Outside => NarrowVerdict::Outside,
+        Verdict::Lost => NarrowVerdict::Lost,
+        Verdict::Lawful => NarrowVerdict::Lawful,
+    }
+}
