@@ -1,24 +1,20 @@
 -- What the covers of a table need: the columns, the mark and the choice net fit it.
-use Rattle.std.proofs.Common.{◌≡◌, ℕ, ◌<◌, ◌+◌, true, false, List, [], ◌∷◌, length, get_or, refl, sym, ◌∙◌, ap, subst, arith}
+use Rattle.std.proofs.Common.{◌≡◌, ℕ, ◌<◌, true, false, List, [], ◌∷◌, length, get_or, sym, ◌∙◌, ap, subst, arith}
 use Rattle.std.specs.Prelude.{nat_eq, slice_index_or}
 use Rattle.std.specs.List.{list_any}
 use Rattle.mv_base.specs.Names.{among}
-use Rattle.mv_base.specs.declared.limits.TheConstants.{MAX_JOINT_ROWS}
 use Rattle.mv_base.specs.declared.number.NetId.{NetId}
 use Rattle.mv_design.specs.declared.table.FileTable.{FileTable}
 use Rattle.mv_design.specs.Nets.{output_of}
-use Rattle.mv_fault.specs.declared.flat.FlatFault.TheVariants.{JointWide}
 use Rattle.mv_rows.specs.declared.column.Column.{Column}
 use Rattle.mv_joint.specs.declared.joint.JointTable.{JointTable}
 use Rattle.mv_joint.specs.Plain.{AreApart}
-use Rattle.mv_joint.specs.Joint.{IsMadeJoint, IsWide}
-use Rattle.mv_flat.specs.declared.covers.TableCovers.TheVariants.{Joint}
-use Rattle.mv_flat.specs.Covers.{IsMadeTable}
+use Rattle.mv_joint.specs.declared.stop.CoversStop.{CoversStop}
+use Rattle.mv_joint.specs.Joint.{IsMadeJoint, StopsCovers}
 use Rattle.mv_flat.specs.Gathered.{number_or_past}
 use Rattle.mv_flat.specs.Numbers.{mark_at, mark_name, choice_at, choice_name}
 use Rattle.mv_flat.specs.Placed.{AreColumnsOf}
 use Rattle.mv_flat.specs.Places.{is_joint}
-use Rattle.mv_flat.specs.Sized.{TellsWide}
 use Rattle.mv_flat.proofs.Singles.{single_output, several_outputs}
 use Rattle.mv_flat.proofs.Shapes.{mark_unread}
 use Rattle.mv_flat.proofs.Unmarked.{own_apart}
@@ -61,17 +57,18 @@ numbers_unread names t columns mark choice own h =
     let Q : List Column → Type 0 = λ cs. list_any (λ (c : Column). nat_eq c.net.0 (mark_at names t).0) cs ≡ false in
     subst P (sym own.mark_is) (subst Q (sym h.are) (mark_unread h.decls names t h.placed))
 
-pub joint_made : (names : List (List ℕ)) (t : FileTable) (columns : List Column) (mark choice : NetId) (joint : JointTable) → AreOwn names t mark choice
-    → is_joint t ≡ true → IsMadeJoint columns t mark choice joint → IsMadeTable columns t (mark_at names t) (choice_at names t) (Joint joint)
-joint_made names t columns mark choice joint own several made =
+pub own_made : (names : List (List ℕ)) (t : FileTable) (columns : List Column) (mark choice : NetId) (joint : JointTable) → AreOwn names t mark choice
+    → IsMadeJoint columns t mark choice joint → IsMadeJoint columns t (mark_at names t) (choice_at names t) joint
+own_made names t columns mark choice joint own made =
     let P : NetId → Type 0 = λ n. IsMadeJoint columns t n choice joint in
     let Q : NetId → Type 0 = λ n. IsMadeJoint columns t (mark_at names t) n joint in
-    (several, subst Q own.choice_is (subst P own.mark_is made))
+    subst Q own.choice_is (subst P own.mark_is made)
 
-pub joint_wide : (names : List (List ℕ)) (t : FileTable) (columns : List Column) (mark choice : NetId) → AreOwn names t mark choice → is_joint t ≡ true
-    → IsWide columns t mark → TellsWide columns names t (JointWide (MAX_JOINT_ROWS + 1))
-joint_wide names t columns mark choice own several wide =
-    let P : NetId → Type 0 = IsWide columns t in
-    record { joint = several; wide = subst P own.mark_is wide; told = refl }
+pub own_stop : (names : List (List ℕ)) (t : FileTable) (columns : List Column) (mark choice : NetId) (most : ℕ) (stop : CoversStop) → AreOwn names t mark choice
+    → StopsCovers columns t mark choice most stop → StopsCovers columns t (mark_at names t) (choice_at names t) most stop
+own_stop names t columns mark choice most stop own stops =
+    let P : NetId → Type 0 = λ n. StopsCovers columns t n choice most stop in
+    let Q : NetId → Type 0 = λ n. StopsCovers columns t (mark_at names t) n most stop in
+    subst Q own.choice_is (subst P own.mark_is stops)
 
-pub ruleset own_needs = (own_numbers, numbers_apart, joint_made, joint_wide)
+pub ruleset own_needs = (own_numbers, numbers_apart, own_made, own_stop)

@@ -15,6 +15,7 @@ pub mod Outputs
 pub mod Sizes
 pub mod Behinds
 pub mod CoverNeeds
+pub mod JointPast
 pub mod OneCovers
 pub mod Blocks
 pub mod Slots

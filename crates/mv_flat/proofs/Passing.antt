@@ -1,16 +1,16 @@
 -- What is told where the cover of a table has more lines than a network may have.
-use Rattle.std.proofs.Common.{◌≡◌, ℕ, ◌+◌, ◌<◌, ◌≤◌, Bool, true, false, cond, List, [], ◌∷◌, ◌++◌, length, get_or, Option, Some, None, inl, inr, refl, sym, ◌∙◌, ap, subst, arith, ⊎_elim}
+use Rattle.std.proofs.Common.{◌≡◌, ℕ, ◌+◌, ◌<◌, ◌≤◌, Bool, true, false, cond, List, [], ◌++◌, length, get_or, Option, Some, None, inl, inr, refl, sym, ◌∙◌, ap, arith}
 use Rattle.std.specs.Prelude.{is_some, nat_lt}
 use Rattle.std.specs.List.{flat_map}
 use Rattle.std.proofs.lemmas.Bool.{lt-ltb, le-ltb}
 use Rattle.std.proofs.lemmas.List.{length-append}
-use Rattle.mv_base.specs.declared.limits.TheConstants.{MAX_FLAT_NETS, MAX_FLAT_LINES, MAX_FLAT_LITERALS}
+use Rattle.mv_base.specs.declared.limits.TheConstants.{MAX_FLAT_NETS, MAX_FLAT_LINES}
 use Rattle.mv_base.specs.declared.number.NetId.{NetId}
 use Rattle.mv_cover.specs.declared.cover.Cover.{Cover}
 use Rattle.mv_design.specs.declared.design.FileModel.{FileModel}
 use Rattle.mv_design.specs.declared.table.FileTable.{FileTable}
-use Rattle.mv_fault.specs.Tells.{when, first}
-use Rattle.mv_fault.specs.declared.fault.Which.TheVariants.{Nets, FlatLines, FlatEntries}
+use Rattle.mv_fault.specs.Tells.{first}
+use Rattle.mv_fault.specs.declared.fault.Which.TheVariants.{Nets, FlatLines}
 use Rattle.mv_fault.specs.declared.flat.FlatFault.{FlatFault}
 use Rattle.mv_fault.specs.declared.flat.FlatFault.TheVariants.{Limit, Memory}
 use Rattle.mv_rows.specs.declared.column.Column.{Column}
@@ -23,13 +23,13 @@ use Rattle.mv_rows.specs.Marked.{is_marked}
 use Rattle.mv_rows.proofs.Marked.{marked_exactly}
 use Rattle.mv_flat.specs.declared.covers.TableCovers.TheVariants.{Single}
 use Rattle.mv_flat.specs.declared.size.Size.{Size}
-use Rattle.mv_flat.specs.Covers.{MadeNet, made_mark, made_of, lines_of, IsTooWide}
+use Rattle.mv_flat.specs.Covers.{MadeNet, made_mark, made_of}
 use Rattle.mv_flat.specs.Gathered.{IsMarkNumber}
-use Rattle.mv_flat.specs.Numbers.{columns_at, mark_at, choice_at}
+use Rattle.mv_flat.specs.Numbers.{columns_at, mark_at}
 use Rattle.mv_flat.specs.Placed.{AreColumnsOf}
 use Rattle.mv_flat.specs.Places.{is_joint, net_places}
 use Rattle.mv_flat.specs.Size.{gives_reset, size_faults}
-use Rattle.mv_flat.specs.Sized.{IsWithinSize, PassesSize, TellsCovers, TellsPast, TellsWide, TellsLimit, AreSized, with_covers}
+use Rattle.mv_flat.specs.Sized.{TellsCovers, TellsPast, TellsLimit, AreSized, with_covers}
 use Rattle.mv_flat.proofs.Singles.{not_joint}
 use Rattle.mv_flat.proofs.Sizes.{past_limit, past_wide}
 use Rattle.mv_flat.proofs.Unmarked.{own_columns, own_made, own_table}
@@ -76,10 +76,6 @@ own_stops names t columns mark most Many h single is stops = record {
   many = stops.many;
 }
 own_stops names t columns mark most out_of_memory h single is stops = tt
-
-pub wide_covers : (columns : List Column) (names : List (List ℕ)) (t : FileTable) (s : Size) (f : FlatFault) → TellsWide columns names t f → TellsCovers columns names t s f
-wide_covers columns names t s Memory told = tt
-wide_covers columns names t s _ told = inl told
 
 past_told : (columns : List Column) (names : List (List ℕ)) (t : FileTable) (s : Size) (flat : FlatTable) (f : FlatFault) → is_joint t ≡ false
     → IsMade columns t (mark_at names t) flat → TellsPast s t flat f → TellsCovers columns names t s f

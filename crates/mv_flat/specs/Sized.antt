@@ -11,7 +11,8 @@ use Rattle.mv_flat.specs.declared.covers.TableCovers.{TableCovers}
 use Rattle.mv_cover.specs.declared.line.Line.{Line}
 use Rattle.mv_fault.specs.Tells.{first}
 use Rattle.mv_rows.specs.declared.table.FlatTable.{FlatTable}
-use Rattle.mv_flat.specs.declared.covers.TableCovers.TheVariants.{Single}
+use Rattle.mv_joint.specs.declared.joint.JointTable.{JointTable}
+use Rattle.mv_flat.specs.declared.covers.TableCovers.TheVariants.{Single, Joint}
 use Rattle.mv_flat.specs.Covers.{MadeNet, made_of, lines_of, IsMadeTable, IsTooWide}
 use Rattle.mv_flat.specs.Numbers.{mark_at, choice_at}
 use Rattle.mv_flat.specs.Size.{gives_reset, size_of, size_faults, AreCovers, IsPastLimit}
@@ -51,11 +52,6 @@ pub record AreSized (nets : ℕ) (m : FileModel) (names : List (List ℕ)) (i : 
   pub is : size ≡ size_of nets (take i m.tables) covers
   pub within : IsWithinSize size
 
--- want of memory, or a table that is too wide
-abbrev pub TellsWide : List Column → List (List ℕ) → FileTable → FlatFault → Type 0
-TellsWide columns names t Memory = Unit {0}
-TellsWide columns names t f = IsTooWide columns t (mark_at names t) f
-
 -- with these covers of one more table a limit is passed, and this is the first that is
 pub record PassesSize (columns : List Column) (names : List (List ℕ)) (t : FileTable) (s : Size) (f : FlatFault) : Type 0 where
   pub covers : TableCovers
@@ -71,6 +67,11 @@ TellsCovers columns names t s f = IsTooWide columns t (mark_at names t) f ⊎ Pa
 abbrev pub TellsPast : Size → FileTable → FlatTable → FlatFault → Type 0
 TellsPast s t flat Memory = Unit {0}
 TellsPast s t flat f = first (size_faults (with_covers s t (Single flat))) ≡ Some f
+
+-- want of memory, or the first limit that is passed with these covers of several outputs
+abbrev pub TellsJoint : Size → FileTable → JointTable → FlatFault → Type 0
+TellsJoint s t joint Memory = Unit {0}
+TellsJoint s t joint f = first (size_faults (with_covers s t (Joint joint))) ≡ Some f
 
 -- want of memory, or the limit that the network passes
 abbrev pub TellsLimit : ℕ → FileModel → FlatFault → Type 0

@@ -8,12 +8,15 @@ ghost use Rattle.mv_rows.specs.Cubes.{AreColumns};
 ghost use Rattle.mv_rows.specs.Flat.{IsMade, IsTable};
 ghost use Rattle.mv_rows.specs.Many.{StopsAt};
 ghost use Rattle.mv_rows.specs.Marked.{is_marked};
+ghost use Rattle.mv_joint.specs.declared.joint.JointTable.{JointTable};
+ghost use Rattle.mv_joint.specs.Joint.{mark_lines, IsMadeJoint, StopsCovers};
+ghost use Rattle.mv_joint.specs.Plain.{is_joint_marked, IsJointFile};
 ghost use Rattle.mv_flat.specs.Covers.{IsMadeTable};
 ghost use Rattle.mv_flat.specs.Gathered.{IsMarkNumber, number_or_past};
 ghost use Rattle.mv_flat.specs.Numbers.{choice_at, choice_name, mark_at};
 ghost use Rattle.mv_flat.specs.Placed.{AreColumnsOf};
 ghost use Rattle.mv_flat.specs.Places.{is_joint};
-ghost use Rattle.mv_flat.specs.Sized.{IsWithinSize, TellsCovers, TellsPast, TellsWide};
+ghost use Rattle.mv_flat.specs.Sized.{IsWithinSize, TellsCovers, TellsJoint, TellsPast};
 
 use crate::mark::{choice_name, is_joint, is_plain, mark_name};
 use crate::size::Size;
@@ -21,7 +24,7 @@ use mv_acyclic::Numbers;
 use mv_base::{MAX_JOINT_ROWS, Memory, Name, NetId};
 use mv_design::FileTable;
 use mv_fault::FlatFault;
-use mv_joint::{JointStop, JointTable, joint_table};
+use mv_joint::{CoversStop, JointTable, is_joint_marked, joint_table};
 use mv_rows::{Column, FlatTable, RowStop, flat_table_within, is_marked};
 use std::alloc::Global;
 
@@ -34,8 +37,8 @@ pub enum TableCovers {
 }
 
 /// The covers of a table over its columns, in a network of this size. The fault is that it has too many distinct rows of outputs,
-/// or the first limit that the network passes with it: the lines of a table of one output are counted while they are made.
-#[tactic(auto, using(crate::proofs::CoverNeeds::own_single, crate::proofs::Passing::wide_covers))]
+/// or the first limit that the network passes with it: its lines are counted while they are made.
+#[tactic(auto, using(crate::proofs::CoverNeeds::own_single, crate::proofs::JointPast::joint_covers))]
 pub fn covers(
     alloc: Global,
     columns: &[Column],
@@ -51,8 +54,8 @@ pub fn covers(
     ensures stop { IfErr result (TellsCovers columns.now names.now table.now size) }
 {
     if is_joint(table) {
-        return match joint_covers(alloc, columns, names, table) {
-            Ok(covers) => Ok(covers),
+        return match joint_covers(alloc, columns, names, table, size) {
+            Ok(joint) => Ok(TableCovers::Joint(joint)),
             Err(fault) => Err(fault),
         };
     }
@@ -137,30 +140,71 @@ fn mark_of(alloc: Global, names: &Numbers, table: &FileTable) -> Result<NetId, M
     Ok(number_or_past(names, &name))
 }
 
-/// The covers of a table of several outputs, of its choice net and of its mark.
-#[tactic(auto, using(crate::proofs::CoverNeeds::own_needs))]
+/// The covers of the outputs of a table, of its choice net and of its mark, in a network of this size.
+#[tactic(auto, using(crate::proofs::JointPast::joint_told, crate::proofs::JointPast::wide_told))]
 fn joint_covers(
     alloc: Global,
     columns: &[Column],
     names: &Numbers,
     table: &FileTable,
-) -> Result<TableCovers, FlatFault>
+    size: Size,
+) -> Result<JointTable, FlatFault>
     requires columns { AreColumnsOf names.now table.now columns.now }
     requires few { length names.now ≤ MAX_NETS }
     requires joint { is_joint table.now ≡ true }
     requires chosen { among (choice_name (output_of table.now)) names.now ≡ true }
-    ensures made { IfOk result (λ covers. IsMadeTable columns.now table.now (mark_at names.now table.now) (choice_at names.now table.now) covers) }
-    ensures wide { IfErr result (TellsWide columns.now names.now table.now) }
+    requires within { IsWithinSize size }
+    ensures made { IfOk result (IsMadeJoint columns.now table.now (mark_at names.now table.now) (choice_at names.now table.now)) }
+    ensures stop { IfErr result (TellsCovers columns.now names.now table.now size) }
+{
+    match several_covers(alloc, columns, names, table, size.lines_left()) {
+        Ok(joint) => Ok(joint),
+        Err(CoversStop::Wide) => Err(FlatFault::JointWide {
+            number: MAX_JOINT_ROWS + 1,
+        }),
+        Err(CoversStop::Many) => Err(joint_past(alloc, columns, table, size)),
+        Err(CoversStop::Memory) => Err(FlatFault::Memory),
+    }
+}
+
+/// The first limit that is passed with a table of several outputs whose covers have more lines than there may be.
+#[tactic(auto, using(crate::proofs::JointPast::past_holds))]
+fn joint_past(alloc: Global, columns: &[Column], table: &FileTable, size: Size) -> FlatFault
+    requires columns { AreColumns columns.now }
+    requires table { IsJointFile columns.now table.now }
+    requires some { 0 < length table.now.outputs }
+    requires within { IsWithinSize size }
+    ensures { (joint : JointTable) → is_some joint.mark ≡ is_joint_marked columns.now table.now
+        → MAX_FLAT_LINES < size.lines + (length (mark_lines joint.mark) + length joint.choice.lines) → TellsJoint size table.now joint result }
+{
+    match is_joint_marked(alloc, columns, table) {
+        Ok(marked) => size.past_joint(table, marked),
+        Err(_memory) => FlatFault::Memory,
+    }
+}
+
+/// The covers of the outputs of a table, of its choice net and of its mark, unless the latter two have more lines than `most`.
+#[tactic(auto, using(crate::proofs::CoverNeeds::own_needs))]
+fn several_covers(
+    alloc: Global,
+    columns: &[Column],
+    names: &Numbers,
+    table: &FileTable,
+    most: usize,
+) -> Result<JointTable, CoversStop>
+    requires columns { AreColumnsOf names.now table.now columns.now }
+    requires few { length names.now ≤ MAX_NETS }
+    requires joint { is_joint table.now ≡ true }
+    requires chosen { among (choice_name (output_of table.now)) names.now ≡ true }
+    ensures made { IfOk result (IsMadeJoint columns.now table.now (mark_at names.now table.now) (choice_at names.now table.now)) }
+    ensures stop { IfErr result (StopsCovers columns.now table.now (mark_at names.now table.now) (choice_at names.now table.now) most) }
 {
     let first = &table.outputs.as_slice()[0];
     let mark = number_or_past(names, &mark_name(alloc, first)?);
     let choice = number_or_past(names, &choice_name(alloc, first)?);
-    match joint_table(alloc, columns, table, mark, choice) {
-        Ok(joint) => Ok(TableCovers::Joint(joint)),
-        Err(JointStop::Wide) => Err(FlatFault::JointWide {
-            number: MAX_JOINT_ROWS + 1,
-        }),
-        Err(JointStop::Memory) => Err(FlatFault::Memory),
+    match joint_table(alloc, columns, table, mark, choice, most) {
+        Ok(joint) => Ok(joint),
+        Err(stop) => Err(stop),
     }
 }
 

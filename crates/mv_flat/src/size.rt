@@ -5,7 +5,9 @@ ghost use Rattle.mv_base.specs.declared.limits.TheConstants.{MAX_FLAT_LINES, MAX
 ghost use Rattle.mv_cover.specs.declared.cover.Cover.{Cover};
 ghost use Rattle.mv_fault.specs.Tells.{first};
 ghost use Rattle.mv_rows.specs.declared.table.FlatTable.{FlatTable};
-ghost use Rattle.mv_flat.specs.declared.covers.TableCovers.TheVariants.{Single};
+ghost use Rattle.mv_joint.specs.declared.joint.JointTable.{JointTable};
+ghost use Rattle.mv_joint.specs.Joint.{mark_lines};
+ghost use Rattle.mv_flat.specs.declared.covers.TableCovers.TheVariants.{Single, Joint};
 ghost use Rattle.mv_flat.specs.Covers.{made_mark, outputs_of};
 ghost use Rattle.mv_flat.specs.Size.{gives_reset, has_stop, size_faults, size_of};
 ghost use Rattle.mv_flat.specs.Sized.{IsWithinSize, with_covers, with_lines, with_net, with_nets};
@@ -68,7 +70,28 @@ impl Size {
         }
     }
 
-    /// How many nets there are with a table of one output, where it is told whether the table gets a mark.
+    /// The first limit that is passed with a table of several outputs whose mark and choice net have more lines than there may be.
+    #[tactic(auto, using(crate::proofs::JointPast::past_nets, crate::proofs::JointPast::past_lines))]
+    pub fn past_joint(self, table: &FileTable, marked: bool) -> FlatFault
+        requires within { IsWithinSize self }
+        requires some { 0 < length table.now.outputs }
+        ensures { (joint : JointTable) → is_some joint.mark ≡ marked
+            → MAX_FLAT_LINES < self.lines + (length (mark_lines joint.mark) + length joint.choice.lines)
+            → first (size_faults (with_covers self table.now (Joint joint))) ≡ Some result }
+    {
+        if self.nets_with(table, marked) + 1 > MAX_FLAT_NETS {
+            return FlatFault::Limit {
+                which: Which::Nets,
+                number: MAX_FLAT_NETS + 1,
+            };
+        }
+        FlatFault::Limit {
+            which: Which::FlatLines,
+            number: MAX_FLAT_LINES + 1,
+        }
+    }
+
+    /// How many nets there are with a table and its mark, where it is told whether the table gets a mark.
     fn nets_with(self, table: &FileTable, marked: bool) -> u64
         requires nets { self.nets ≤ MAX_FLAT_NETS }
         requires some { 0 < length table.now.outputs }

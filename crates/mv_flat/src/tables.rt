@@ -64,14 +64,32 @@ pub fn nets(
             Ok(size) => size,
             Err(fault) => return Err(fault),
         };
-        put_table(&mut nets, &mut last, alloc, &decls, names, &table, covers)?;
+        put_table(&mut nets, &mut last, alloc, &decls, names, table, covers)?;
     }
     Ok(nets)
 }
 
+/// Adds the nets of a table with these covers, and lets the table go. `last` is the number of the last made name.
+fn put_table(
+    nets: &mut Items<Option<FlatNet>>,
+    last: &mut u32,
+    alloc: Global,
+    decls: &Declared,
+    names: &Numbers,
+    table: FileTable,
+    covers: TableCovers,
+) -> Result<(), Memory>
+    requires some { 0 < length table.outputs }
+    requires made { IsMadeTable (columns_at decls.now names.now table) table (mark_at names.now table) (choice_at names.now table) covers }
+    requires later { last.old + 2 * length names.now + 4 < 2 ^ 32 }
+    ensures { OnOk result (AddsNets (TableNets decls.now names.now table) names.now last.old last.new nets.old nets.new) }
+{
+    put_nets(nets, last, alloc, decls, names, &table, covers)
+}
+
 /// Adds the nets of a table with these covers. `last` is the number of the last made name.
 #[tactic(auto, using(crate::proofs::Behinds::adds_tables))]
-fn put_table(
+fn put_nets(
     nets: &mut Items<Option<FlatNet>>,
     last: &mut u32,
     alloc: Global,

@@ -23,7 +23,7 @@ use Rattle.mv_design.specs.Tables.{row_matches, row_holds, some_row_matches, som
 use Rattle.mv_rows.specs.Cubes.{in_range}
 use Rattle.mv_rows.proofs.Flat.{IsFlatTable_made}
 use Rattle.mv_joint.specs.declared.split.PlainRow.{PlainRow}
-use Rattle.mv_joint.specs.declared.plain.PlainTable.{PlainTable}
+use Rattle.mv_joint.specs.Plain.{PlainTable}
 use Rattle.mv_joint.specs.OutRows.{same_outs, same_outs-Decides}
 use Rattle.mv_joint.specs.Joint.{given, distinct, choice_count, choice_row, choice_default, choice_table, output_rows, output_table, choice_columns, IsCoverOf, AreOutputs}
 use Rattle.mv_joint.specs.Meaning.{outputs_allow}

@@ -27,7 +27,7 @@ said_outs-append a b =
 joined-append : (keys : List (List ℕ)) (a b : List PlainRow) → joined keys (a ++ b) ≡ joined (joined keys a) b
 joined-append keys a b = ap (insert_all same_outs keys) (said_outs-append a b) ∙ inserted_append keys (said_outs a) (said_outs b)
 
-said-said : (rows : List PlainRow) → said (said rows) ≡ said rows
+pub said-said : (rows : List PlainRow) → said (said rows) ≡ said rows
 said-said [] = refl
 said-said (r ∷ rows) =
     elim (cases_Bool (is_silent r)) [

@@ -1,5 +1,5 @@
 -- A table of several outputs gets a mark exactly where its rows and its default say so, whatever the numbers of the nets are.
-use Rattle.std.proofs.Common.{◌≡◌, ℕ, Bool, true, false, not, ◌&&◌, Option, Some, None, List, [], ◌∷◌, filter, map, refl, ◌∙◌, ap}
+use Rattle.std.proofs.Common.{◌≡◌, ℕ, Bool, true, false, not, ◌&&◌, Option, Some, None, List, [], ◌∷◌, if◌then◌else◌, filter, map, refl, sym, ◌∙◌, ap}
 use Rattle.std.specs.List.{list_any, flat_map, range_with_len}
 use Rattle.std.specs.Option.{is_some}
 use Rattle.mv_base.specs.declared.number.NetId.{NetId}
@@ -15,7 +15,7 @@ use Rattle.mv_rows.proofs.Renumbered.{AreAlike, alike}
 use Rattle.mv_joint.specs.declared.split.PlainRow.{PlainRow}
 use Rattle.mv_joint.specs.declared.joint.JointTable.{JointTable}
 use Rattle.mv_joint.specs.Split.{narrowing, extended, split, is_possible, rows_of, all_rows}
-use Rattle.mv_joint.specs.Plain.{stays, some_bare, needs_mark, plain_by, plain_of, default_marked, is_joint_marked}
+use Rattle.mv_joint.specs.Plain.{stays, some_bare, needs_mark, plain_by, plain_of, default_marked, is_joint_marked, mark_table, mark_of}
 use Rattle.mv_joint.specs.Joint.{IsMarkOf, IsMadeJoint}
 
 -- ---- the mark
@@ -29,16 +29,32 @@ by_default : (cs : List Column) (mark : NetId) (rows : List PlainRow) (d : Optio
 by_default cs mark rows None = refl
 by_default cs mark rows (Some es) = by_tests cs mark rows es (stays cs rows es) (needs_mark rows es) refl refl
 
-mark_of : (cs : List Column) (mark : NetId) (table : Option FileTable) (cover : Option Cover) → IsMarkOf cs mark table cover → is_some cover ≡ is_some table
-mark_of cs mark None None is = refl
-mark_of cs mark None (Some c) is = absurd is
-mark_of cs mark (Some t) None is = absurd is
-mark_of cs mark (Some t) (Some c) is = refl
+mark_is : (cs : List Column) (mark : NetId) (table : Option FileTable) (cover : Option Cover) → IsMarkOf cs mark table cover → is_some cover ≡ is_some table
+mark_is cs mark None None is = refl
+mark_is cs mark None (Some c) is = absurd is
+mark_is cs mark (Some t) None is = absurd is
+mark_is cs mark (Some t) (Some c) is = refl
 
 pub joint_marked_exactly : (cs : List Column) (t : FileTable) (mark choice : NetId) (joint : JointTable) → IsMadeJoint cs t mark choice joint → is_some joint.mark ≡ is_joint_marked cs t
 unfolding is_joint_marked
 joint_marked_exactly cs t mark choice joint made =
-    mark_of cs mark (plain_of cs t mark).mark joint.mark made.marked ∙ by_default cs mark (all_rows cs t.rows) t.default
+    mark_is cs mark (plain_of cs t mark).mark joint.mark made.marked ∙ by_default cs mark (all_rows cs t.rows) t.default
+
+table_by_tests : (cs : List Column) (mark : NetId) (rows : List PlainRow) (es : List Entry) (s n : Bool) → stays cs rows es ≡ s → needs_mark rows es ≡ n
+    → (plain_by cs mark rows (Some es)).mark ≡ (if s && n then Some (mark_table rows) else None)
+table_by_tests cs mark rows es true true e f = rw e (rw f refl)
+table_by_tests cs mark rows es true false e f = rw e (rw f refl)
+table_by_tests cs mark rows es false n e f = rw e refl
+
+table_by_default : (cs : List Column) (mark : NetId) (rows : List PlainRow) (d : Option (List Entry))
+    → (plain_by cs mark rows d).mark ≡ (if default_marked cs rows d then Some (mark_table rows) else None)
+table_by_default cs mark rows None = refl
+table_by_default cs mark rows (Some es) = table_by_tests cs mark rows es (stays cs rows es) (needs_mark rows es) refl refl
+
+-- the mark's table is that of the table without `=`
+pub mark_table_of : (cs : List Column) (t : FileTable) (mark : NetId) → mark_of cs t ≡ (plain_of cs t mark).mark
+unfolding is_joint_marked
+mark_table_of cs t mark = sym (table_by_default cs mark (all_rows cs t.rows) t.default)
 
 -- ---- columns that rows match alike
 

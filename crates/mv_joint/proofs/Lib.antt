@@ -15,4 +15,6 @@ pub mod Outs
 pub mod Whole
 pub mod JointMarked
 pub mod OneJoint
+pub mod Marks
+pub mod Parts
 pub mod Looks

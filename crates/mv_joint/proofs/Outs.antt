@@ -21,7 +21,7 @@ use Rattle.mv_rows.specs.Lines.{FitEntry, count_at}
 use Rattle.mv_rows.proofs.Flat.{output_marked}
 use Rattle.mv_rows.proofs.Over.{one_within}
 use Rattle.mv_joint.specs.declared.split.PlainRow.{PlainRow}
-use Rattle.mv_joint.specs.declared.plain.PlainTable.{PlainTable}
+use Rattle.mv_joint.specs.Plain.{PlainTable}
 use Rattle.mv_joint.specs.Split.{narrowing, extended, split, is_possible, rows_of, all_rows}
 use Rattle.mv_joint.specs.Plain.{IsJointRow, IsJointFile, is_silent, said, stays, some_bare, is_same, needs_mark, set_of, with_any_mark, unmarked, marked, plain_by, plain_of}
 use Rattle.mv_joint.specs.Meaning.{FitEach, FitJointOutputs}

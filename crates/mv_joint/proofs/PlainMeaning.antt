@@ -22,7 +22,7 @@ use Rattle.mv_rows.proofs.Flat.{nothing_holds, marked_matches, fit_with_mark, ma
 use Rattle.mv_rows.proofs.Matching.{matched_everywhere}
 use Rattle.mv_rows.proofs.Rows.{fit_marked}
 use Rattle.mv_joint.specs.declared.split.PlainRow.{PlainRow}
-use Rattle.mv_joint.specs.declared.plain.PlainTable.{PlainTable}
+use Rattle.mv_joint.specs.Plain.{PlainTable}
 use Rattle.mv_joint.specs.Split.{all_rows, rows_of, IsFit}
 use Rattle.mv_joint.specs.Plain.{IsJointDefault, IsJointFile, is_silent, said, some_bare, stays, is_same, needs_mark, set_of, with_any_mark, unmarked, marked, plain_by, plain_of}
 use Rattle.mv_joint.proofs.Anys.{any_same, any-map, any-filter}

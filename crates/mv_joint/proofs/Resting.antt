@@ -129,10 +129,10 @@ numbers_split a (suc n) m =
     ∙ ap (λ (vs : List ℕ). a ∷ vs) (numbers_split (a + 1) n m ∙ ap (λ (b : ℕ). range_with_len (a + 1) n ++ range_with_len b m) place)
 
 -- the rows of values from n on
-abbrev rests_from : List Column → List Entry → ℕ → PlainRow → ℕ → ℕ → List PlainRow
+abbrev pub rests_from : List Column → List Entry → ℕ → PlainRow → ℕ → ℕ → List PlainRow
 rests_from cs es k r n m = flat_map (rest_of cs es) (flat_map (narrowing k r) (range_with_len n m))
 
-rests_split : (cs : List Column) (es : List Entry) (k : ℕ) (r : PlainRow) (n m : ℕ) → rests_below cs es k r (n + m) ≡ rests_below cs es k r n ++ rests_from cs es k r n m
+pub rests_split : (cs : List Column) (es : List Entry) (k : ℕ) (r : PlainRow) (n m : ℕ) → rests_below cs es k r (n + m) ≡ rests_below cs es k r n ++ rests_from cs es k r n m
 rests_split cs es k r n m =
     let f = narrowing k r in
     let place : 0 + n ≡ n = omega arith in
@@ -162,12 +162,12 @@ found_is cs es k r v next is =
     let P : PlainRow → Type 0 = λ x. IsFit cs x × (is_possible cs x ≡ true) in
     All-head P next [] (subst (All P) (sym is.is) (passing (IsFit cs) (is_possible cs) (narrowing k r v) (fit_narrowing cs k r v is.fit)))
 
-rests_none : (cs : List Column) (es : List Entry) (k : ℕ) (r : PlainRow) (v : ℕ) → IsFound cs es k r v None → rests_below cs es k r (v + 1) ≡ rests_below cs es k r v
+pub rests_none : (cs : List Column) (es : List Entry) (k : ℕ) (r : PlainRow) (v : ℕ) → IsFound cs es k r v None → rests_below cs es k r (v + 1) ≡ rests_below cs es k r v
 rests_none cs es k r v is =
     rests_next cs es k r v
     ∙ (ap (λ (rs : List PlainRow). rests_below cs es k r v ++ rs) (found_rows cs es k r v None is) ∙ append-nil (rests_below cs es k r v))
 
-rests_some : (cs : List Column) (es : List Entry) (k : ℕ) (r : PlainRow) (v : ℕ) (next : PlainRow) → IsFound cs es k r v (Some next) → rests_below cs es k r (v + 1) ≡ rests_below cs es k r v ++ rest_of cs es next
+pub rests_some : (cs : List Column) (es : List Entry) (k : ℕ) (r : PlainRow) (v : ℕ) (next : PlainRow) → IsFound cs es k r v (Some next) → rests_below cs es k r (v + 1) ≡ rests_below cs es k r v ++ rest_of cs es next
 rests_some cs es k r v next is =
     rests_next cs es k r v
     ∙ ap (λ (rs : List PlainRow). rests_below cs es k r v ++ rs) (found_rows cs es k r v (Some next) is ∙ append-nil (rest_of cs es next))

@@ -5,7 +5,7 @@ use Rattle.std.proofs.lemmas.Bool.{cond_both, cond-true, cond-false, and_left, a
 use Rattle.std.proofs.lemmas.List.Elements.{All-nil, All-cons, All-head, All-tail, All-append, All-filter, All-map, All-weaker}
 use Rattle.mv_base.specs.Set.{one, full}
 use Rattle.mv_base.specs.declared.number.NetId.{NetId}
-use Rattle.mv_base.specs.declared.limits.TheConstants.{MAX_VALUES}
+use Rattle.mv_base.specs.declared.limits.TheConstants.{MAX_JOINT_ROWS, MAX_VALUES}
 use Rattle.mv_cover.proofs.Points.{one_some}
 use Rattle.mv_design.specs.declared.table.Entry.{Entry}
 use Rattle.mv_design.specs.declared.table.Entry.TheVariants.{Set}
@@ -18,12 +18,14 @@ use Rattle.mv_rows.specs.Marked.{matches_none, is_silent, is_marked}
 use Rattle.mv_rows.proofs.Over.{one_within}
 use Rattle.mv_rows.proofs.Rows.{fit_marked}
 use Rattle.mv_joint.specs.declared.split.PlainRow.{PlainRow}
-use Rattle.mv_joint.specs.declared.plain.PlainTable.{PlainTable}
+use Rattle.mv_joint.specs.Plain.{PlainTable}
 use Rattle.mv_joint.specs.Split.{rows_of, all_rows, IsFit}
 use Rattle.mv_joint.specs.Plain.{IsJointFile, stays, needs_mark, set_of, said, with_any_mark, mark_row, mark_table, unmarked, marked, plain_by, plain_of}
 use Rattle.mv_joint.specs.Plain as plain
 use Rattle.mv_joint.specs.Joint.{distinct, choice_count, choice_entry, choice_row, choice_default, table_of, choice_table, output_row, output_rows, output_table, choice_columns}
-use Rattle.mv_joint.specs.Lawful.{IsPlain, IsUnmarked, IsMarkTable}
+use Rattle.mv_joint.specs.declared.plain.SplitTable.{SplitTable}
+use Rattle.mv_joint.specs.Gather.{AreChoices, choice_of}
+use Rattle.mv_joint.specs.Lawful.{IsPlain, IsSplit, IsUnmarked, IsMarkTable}
 use Rattle.mv_joint.proofs.Fitting.{rows_fit, all_rows_fit}
 
 -- ---- rows with one value as output
@@ -52,7 +54,7 @@ mark_rows_give : (cs : List Column) (rows : List PlainRow) → All (IsFit cs) ro
 mark_rows_give cs rows all =
     All-map (GivesValue cs) mark_row rows (All-weaker (IsFit cs) (λ (r : PlainRow). GivesValue cs (mark_row r)) (λ r fit. row_of_value cs r.ins 0 fit.sets) rows all)
 
-mark_unmarked : (cs : List Column) (rows : List PlainRow) → All (IsFit cs) rows → IsUnmarked cs (mark_table rows)
+pub mark_unmarked : (cs : List Column) (rows : List PlainRow) → All (IsFit cs) rows → IsUnmarked cs (mark_table rows)
 unfolding is_marked
 mark_unmarked cs rows all = record {
   table = record {
@@ -76,16 +78,20 @@ unfolding is_marked
 choice_no_mark cs rows all None give = refl
 choice_no_mark cs rows all (Some outs) give = and_right _ _ (none_silent cs rows give)
 
-pub choice_unmarked : (mark : NetId) (p : PlainTable) → IsPlain mark p → IsUnmarked p.columns (choice_table p)
-choice_unmarked mark p is =
-    let give = choice_rows_give p.columns (distinct p) p.rows is.rows in
+choices_unmarked : (cs : List Column) (all : List (List ℕ)) (rows : List PlainRow) (d : Option (List ℕ)) → All (IsFit cs) rows
+    → IsUnmarked cs (table_of (map (choice_row all) rows) (choice_default all d))
+choices_unmarked cs all rows d fits =
+    let give = choice_rows_give cs all rows fits in
     record {
-      table = record {
-        rows = all_rows_of p.columns (map (choice_row (distinct p)) p.rows) give;
-        default = λ es e. choice_default_fits p.columns (distinct p) p.default es e;
-      };
-      unmarked = choice_no_mark p.columns (map (choice_row (distinct p)) p.rows) (distinct p) p.default give;
+      table = record { rows = all_rows_of cs (map (choice_row all) rows) give; default = λ es e. choice_default_fits cs all d es e };
+      unmarked = choice_no_mark cs (map (choice_row all) rows) all d give;
     }
+
+pub choice_unmarked : (mark : NetId) (p : PlainTable) → IsPlain mark p → IsUnmarked p.columns (choice_table p)
+choice_unmarked mark p is = choices_unmarked p.columns (distinct p) p.rows p.default is.rows
+
+pub split_unmarked : (mark : NetId) (f : SplitTable) → IsSplit mark f → IsUnmarked f.columns (choice_of f)
+split_unmarked mark f is = choices_unmarked f.columns f.choices.keys f.rows f.default is.rows
 
 two_few : 2 ≤ MAX_VALUES
 two_few = omega arith
@@ -203,6 +209,23 @@ by_default cs mark rows (Some es) columns with all =
 
 pub plain_lawful : (cs : List Column) (t : FileTable) (mark : NetId) → AreColumns cs → AreColumns (with_mark cs mark) → IsJointFile cs t → IsLawfulPlain cs mark (plain_of cs t mark)
 plain_lawful cs t mark columns with table = by_default cs mark (all_rows cs t.rows) t.default columns with (all_rows_fit cs (length t.outputs) t.rows table.rows)
+
+-- ---- a table whose rows are split
+
+pub split_lawful : (cs : List Column) (t : FileTable) (mark : NetId) (f : SplitTable) → AreColumns cs → AreColumns (with_mark cs mark) → IsJointFile cs t
+    → AreChoices (plain_of cs t mark) f → length f.choices.keys ≤ MAX_JOINT_ROWS → IsSplit mark f
+split_lawful cs t mark f columns with table a few =
+    let p = plain_of cs t mark in
+    let is = (plain_lawful cs t mark columns with table).table in
+    record {
+      columns = subst AreColumns (sym a.columns) is.columns;
+      with_mark = subst (λ ds. AreColumns (with_mark ds mark)) (sym a.columns) is.with_mark;
+      rows = subst (λ ds. All (IsFit ds) f.rows) (sym a.columns) (subst (All (IsFit p.columns)) (sym a.rows) is.rows);
+      few = omega (arith, few);
+    }
+
+pub split_choice : (p : PlainTable) (f : SplitTable) → AreChoices p f → choice_of f ≡ choice_table p
+split_choice p f a = λ i. table_of (map (choice_row (a.choices i)) (a.rows i)) (choice_default (a.choices i) (a.default i))
 
 -- the mark and the choice net are apart
 pub apart_mark : (cs : List Column) (mark choice : NetId) → list_any (λ (c : Column). nat_eq c.net.0 choice.0) (with_mark cs mark) ≡ false → nat_eq mark.0 choice.0 ≡ false

@@ -22,7 +22,7 @@ use Rattle.mv_rows.specs.Flat.{with_mark, only_entry}
 use Rattle.mv_rows.proofs.Flat.{IsFlatTable_made, mark_is, mark_below, range_marked, count_marked}
 use Rattle.mv_rows.proofs.Over.{one_within}
 use Rattle.mv_joint.specs.declared.split.PlainRow.{PlainRow}
-use Rattle.mv_joint.specs.declared.plain.PlainTable.{PlainTable}
+use Rattle.mv_joint.specs.Plain.{PlainTable}
 use Rattle.mv_joint.specs.declared.joint.JointTable.{JointTable}
 use Rattle.mv_joint.specs.Split.{all_rows}
 use Rattle.mv_joint.specs.Plain.{IsJointFile, stays, needs_mark, set_of, mark_row, mark_table, unmarked, marked, plain_by, plain_of}

@@ -18,9 +18,10 @@ use Rattle.mv_joint.specs.OutRows.{same_outs}
 use Rattle.mv_joint.specs.Split.{rows_of, all_rows}
 use Rattle.mv_joint.specs.Plain.{is_silent, said, stays, needs_mark, set_of, with_any_mark, unmarked, marked, plain_by, plain_of}
 use Rattle.mv_joint.specs.Joint.{given, distinct, StopsWith}
-use Rattle.mv_joint.specs.Gather.{joined, StopsOver, StopsRows}
+use Rattle.mv_joint.specs.declared.plain.SplitTable.{SplitTable}
+use Rattle.mv_joint.specs.Gather.{joined, StopsOver, StopsRows, AreChoices}
 use Rattle.mv_joint.proofs.Lists.{inserted_distinct}
-use Rattle.mv_joint.proofs.Gathering.{said_outs, wide_by, wide_grows}
+use Rattle.mv_joint.proofs.Gathering.{said_outs, said-said, wide_by, wide_grows}
 use Rattle.mv_joint.proofs.PlainMeaning.{all_said}
 use Rattle.mv_joint.proofs.Looks.{SilentBy, silent_by_entries}
 
@@ -88,6 +89,30 @@ pub stops_with : (cs : List Column) (mark : NetId) (rows : List PlainRow) (es : 
 stops_with cs mark rows es g Wide some keys h =
     wide_by _ _ (ap (λ (ks : List (List ℕ)). joined ks (default_rows cs mark es)) keys ∙ distinct_marked cs mark rows es _ (joined_default cs mark es (joined [] rows) some)) h
 stops_with cs mark rows es g Memory some keys h = tt
+
+-- ---- a table with a mark, by those of its rows that say some values of each output
+
+marked_rows : (cs : List Column) (mark : NetId) (rows gathered : List PlainRow) (es : List Entry) → gathered ≡ said rows
+    → (marked cs mark gathered es).rows ≡ (marked cs mark rows es).rows
+marked_rows cs mark rows gathered es e =
+    ap (λ (rs : List PlainRow). map with_any_mark rs ++ default_rows cs mark es) (ap said e ∙ said-said rows)
+
+pub marked_choices : (cs : List Column) (mark : NetId) (rows gathered : List PlainRow) (es : List Entry) (f : SplitTable) → gathered ≡ said rows
+    → AreChoices (marked cs mark gathered es) f → AreChoices (marked cs mark rows es) f
+marked_choices cs mark rows gathered es f e a =
+    let same = marked_rows cs mark rows gathered es e in
+    record {
+      columns = a.columns;
+      rows = a.rows ∙ same;
+      default = a.default;
+      choices = a.choices ∙ ap (λ (rs : List PlainRow). firsts_by same_outs (row_outs rs ++ [])) same;
+    }
+
+pub marked_stops : (cs : List Column) (mark : NetId) (rows gathered : List PlainRow) (es : List Entry) (stop : JointStop) → gathered ≡ said rows
+    → StopsWith (marked cs mark gathered es) stop → StopsWith (marked cs mark rows es) stop
+marked_stops cs mark rows gathered es Wide e h =
+    wide_by _ _ (ap (λ (rs : List PlainRow). firsts_by same_outs (row_outs rs ++ [])) (marked_rows cs mark rows gathered es e)) h
+marked_stops cs mark rows gathered es Memory e h = tt
 
 -- ---- the table without `=`, by what is left of its default
 

@@ -7,13 +7,17 @@ use Rattle.mv_rows.specs.declared.column.Column.{Column}
 use Rattle.mv_joint.specs.OutRows.{same_outs}
 use Rattle.mv_joint.specs.declared.split.PlainRow.{PlainRow}
 use Rattle.mv_joint.specs.declared.gather.Gathered.{Gathered}
-use Rattle.mv_joint.specs.declared.plain.PlainTable.{PlainTable}
-use Rattle.mv_joint.specs.declared.plain.PlainChoices.{PlainChoices}
+use Rattle.mv_joint.specs.Plain.{PlainTable}
+use Rattle.mv_joint.specs.declared.plain.SplitTable.{SplitTable}
 use Rattle.mv_joint.specs.declared.joint.JointStop.{JointStop}
 use Rattle.mv_joint.specs.declared.joint.JointStop.TheVariants.{Wide, Memory}
 use Rattle.mv_joint.specs.Split.{split, is_possible}
 use Rattle.mv_joint.specs.Plain.{said}
-use Rattle.mv_joint.specs.Joint.{distinct}
+use Rattle.mv_joint.specs.Joint.{distinct, choice_row, choice_default, table_of}
+use Rattle.mv_design.specs.declared.table.Row.{Row}
+use Rattle.mv_design.specs.declared.table.FileTable.{FileTable}
+use Rattle.mv_rows.specs.declared.line_set.LineSet.{LineSet}
+use Rattle.mv_rows.specs.Once.{IsRoom, PutsRows}
 
 -- the rows of a row with these entries more that match something
 abbrev pub rest_of : List Column → List Entry → PlainRow → List PlainRow
@@ -48,7 +52,19 @@ abbrev pub StopsRows : List PlainRow → JointStop → Type 0
 StopsRows rows Wide = MAX_JOINT_ROWS < length (joined [] rows)
 StopsRows rows Memory = Unit {0}
 
--- the table and its distinct rows of outputs
-pub record AreChoices (p : PlainTable) (found : PlainChoices) : Type 0 where
-  pub table : found.table ≡ p
+-- the table, but for its mark, and its distinct rows of outputs
+pub record AreChoices (p : PlainTable) (found : SplitTable) : Type 0 where
+  pub columns : found.columns ≡ p.columns
+  pub rows : found.rows ≡ p.rows
+  pub default : found.default ≡ p.default
   pub choices : found.choices.keys ≡ distinct p
+
+-- the choice net's table
+abbrev pub choice_of : SplitTable → FileTable
+choice_of f = table_of (map (choice_row f.choices.keys) f.rows) (choice_default f.choices.keys f.default)
+
+-- the lines of rows are put in where there were none, and where there may be so many
+pub record PutsFrom (columns : List Column) (rows : List Row) (most : ℕ) (d : LineSet) : Type 0 where
+  pub start : LineSet
+  pub room : IsRoom most start
+  pub puts : PutsRows columns rows start d

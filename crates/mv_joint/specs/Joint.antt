@@ -15,11 +15,16 @@ use Rattle.mv_rows.specs.declared.column.Column.{Column}
 use Rattle.mv_rows.specs.Flat.{IsMade}
 use Rattle.mv_joint.specs.OutRows.{same_outs}
 use Rattle.mv_joint.specs.declared.split.PlainRow.{PlainRow}
-use Rattle.mv_joint.specs.declared.plain.PlainTable.{PlainTable}
+use Rattle.mv_joint.specs.Plain.{PlainTable}
 use Rattle.mv_joint.specs.declared.joint.JointTable.{JointTable}
 use Rattle.mv_joint.specs.declared.joint.JointStop.{JointStop}
 use Rattle.mv_joint.specs.declared.joint.JointStop.TheVariants.{Wide, Memory}
-use Rattle.mv_joint.specs.Plain.{plain_of}
+use Rattle.mv_cover.specs.declared.line.Line.{Line}
+use Rattle.mv_rows.specs.declared.stop.RowStop.{RowStop}
+use Rattle.mv_rows.specs.declared.stop.RowStop.TheVariants.{Many, Memory as out_of_rows}
+use Rattle.mv_joint.specs.declared.stop.CoversStop.{CoversStop}
+use Rattle.mv_joint.specs.declared.stop.CoversStop.TheVariants.{Wide as TooWide, Many as TooMany, Memory as out_of_covers}
+use Rattle.mv_joint.specs.Plain.{plain_of, mark_of}
 
 -- the default's row of outputs, if there is a default
 abbrev pub given : Option (List ℕ) → List (List ℕ)
@@ -109,6 +114,39 @@ IsWide columns t mark = MAX_JOINT_ROWS < length (distinct (plain_of columns t ma
 abbrev pub StopsWith : PlainTable → JointStop → Type 0
 StopsWith p Wide = MAX_JOINT_ROWS < length (distinct p)
 StopsWith p Memory = Unit {0}
+
+-- the lines of a mark's cover, if there is one
+abbrev pub mark_lines : Option Cover → List Line
+mark_lines None = []
+mark_lines (Some cover) = cover.lines
+
+-- the mark's cover has more lines than so many
+pub record HasMoreMarks (columns : List Column) (t : FileTable) (mark : NetId) (most : ℕ) : Type 0 where
+  pub cover : Cover
+  pub made : IsMarkOf columns mark (mark_of columns t) (Some cover)
+  pub many : most < length cover.lines
+
+-- why the mark's cover isn't made
+abbrev pub StopsMark : List Column → FileTable → NetId → ℕ → RowStop → Type 0
+StopsMark columns t mark most Many = HasMoreMarks columns t mark most
+StopsMark columns t mark most out_of_rows = Unit {0}
+
+-- the covers of the mark and of the choice net have more lines than so many
+pub record HasMoreLines (columns : List Column) (t : FileTable) (mark choice : NetId) (most : ℕ) : Type 0 where
+  pub joint : JointTable
+  pub made : IsMadeJoint columns t mark choice joint
+  pub many : most < length (mark_lines joint.mark) + length joint.choice.lines
+
+-- why the covers of a table that isn't too wide aren't made
+abbrev pub StopsMany : List Column → FileTable → NetId → NetId → ℕ → RowStop → Type 0
+StopsMany columns t mark choice most Many = HasMoreLines columns t mark choice most
+StopsMany columns t mark choice most out_of_rows = Unit {0}
+
+-- why the covers of a table aren't made
+abbrev pub StopsCovers : List Column → FileTable → NetId → NetId → ℕ → CoversStop → Type 0
+StopsCovers columns t mark choice most TooWide = IsWide columns t mark
+StopsCovers columns t mark choice most TooMany = HasMoreLines columns t mark choice most
+StopsCovers columns t mark choice most out_of_covers = Unit {0}
 
 -- why a table of a file has no covers
 abbrev pub StopsBy : List Column → FileTable → NetId → JointStop → Type 0

@@ -14,8 +14,14 @@ use Rattle.mv_rows.specs.Lines.{FitEntry}
 use Rattle.mv_rows.specs.Flat.{says_nothing, with_mark, marked_sets}
 use Rattle.mv_rows.specs.Marked.{matches_all}
 use Rattle.mv_joint.specs.declared.split.PlainRow.{PlainRow}
-use Rattle.mv_joint.specs.declared.plain.PlainTable.{PlainTable}
 use Rattle.mv_joint.specs.Split.{rows_of, all_rows}
+
+-- a table without `=`, and the table of the mark that it reads, if it reads one
+pub record PlainTable : Type 0 where
+  pub columns : List Column
+  pub rows : List PlainRow
+  pub default : Option (List ℕ)
+  pub mark : Option FileTable
 
 -- a set for each column and an entry for each of so many outputs
 pub record IsJointRow (columns : List Column) (outputs : ℕ) (r : Row) : Type 0 where
@@ -115,3 +121,7 @@ default_marked columns rows (Some entries) = stays columns rows entries && needs
 -- the table gets a mark
 unfoldable pub is_joint_marked : List Column → FileTable → Bool
 is_joint_marked columns t = default_marked columns (all_rows columns t.rows) t.default
+
+-- the table of the mark, if the table gets one
+abbrev pub mark_of : List Column → FileTable → Option FileTable
+mark_of columns t = if is_joint_marked columns t then Some (mark_table (all_rows columns t.rows)) else None

@@ -2,25 +2,29 @@ ghost use Rattle.std.specs.Prelude.{◌≡◌, ◌<◌, ◌≤◌, false, length
 ghost use Rattle.std.specs.List.{list_any};
 ghost use Rattle.std.specs.Option.{unwrap_or};
 ghost use Rattle.mv_base.specs.Set.{empty};
-ghost use Rattle.mv_base.specs.declared.limits.TheConstants.{MAX_VALUES};
+ghost use Rattle.mv_base.specs.declared.limits.TheConstants.{MAX_JOINT_ROWS, MAX_VALUES};
 ghost use Rattle.mv_rows.specs.Cubes.{AreColumns};
 ghost use Rattle.mv_rows.specs.Flat.{with_mark, IsTable};
 ghost use Rattle.mv_rows.specs.Marked.{is_marked};
 ghost use Rattle.mv_joint.specs.OutRows.{same_outs};
-ghost use Rattle.mv_joint.specs.Plain.{IsJointFile};
-ghost use Rattle.mv_joint.specs.Joint.{distinct, choice_count, choice_entry, choice_row, choice_default, choice_table, output_row, output_rows, output_table, table_of};
-ghost use Rattle.mv_joint.specs.Joint.{choice_columns, IsCoverOf, AreOutputs, IsMarkOf, IsMadeJoint, StopsBy};
+ghost use Rattle.mv_joint.specs.Plain.{IsJointFile, plain_of};
+ghost use Rattle.mv_joint.specs.Joint.{choice_count, choice_entry, choice_row, choice_default, output_row, output_rows, output_table, table_of};
+ghost use Rattle.mv_joint.specs.Joint.{choice_columns, IsCoverOf, AreOutputs, IsMadeJoint, StopsCovers, StopsMany};
 ghost use Rattle.mv_joint.specs.Meaning.{IsJointTable};
-ghost use Rattle.mv_joint.specs.Lawful.{IsPlain, IsMarkTable};
+ghost use Rattle.mv_joint.specs.Lawful.{IsSplit};
+ghost use Rattle.mv_joint.specs.Gather.{AreChoices, choice_of};
+ghost use Rattle.mv_rows.specs.Many.{StopsAt};
 
+use crate::mark::mark_cover;
 use crate::out_row::OutRow;
-use crate::plain::{PlainTable, one_entry, plain_table};
+use crate::plain::{SplitTable, one_entry, plain_table};
 use crate::split::PlainRow;
+use crate::stop::CoversStop;
 use indexmap::IndexSet;
 use mv_base::{Items, Memory, NetId, PackedSet, Value, ValueSet};
 use mv_cover::Cover;
 use mv_design::{Entries, Entry, FileTable, Row, Rows, Sets, short_sets};
-use mv_rows::{Column, flat_table};
+use mv_rows::{Column, RowStop, flat_table, flat_table_within};
 use std::alloc::Global;
 
 /// A table of several outputs: how many values its choice net has, the choice net's cover, the cover of each output on the
@@ -33,7 +37,7 @@ pub struct JointTable {
     pub mark: Option<Cover>,
 }
 
-/// Why a table of several outputs has no covers.
+/// Why the rows of a table of several outputs aren't split.
 #[derive(Clone, Copy, Debug, PartialEq, Eq)]
 pub enum JointStop {
     /// It has more than `MAX_JOINT_ROWS` distinct rows of outputs.
@@ -59,7 +63,8 @@ impl From<Memory> for JointStop {
 /// named column's slowest. Where the default names a column, or where a row says no value of some output, so that it takes the
 /// default away and has no line, the default can't stand in the cover. Then the net `mark` gets a cover, which is 0 where some
 /// row matches and 1 elsewhere, and the default becomes rows that have the mark at 1. There is no such table with more than
-/// `MAX_JOINT_ROWS` distinct rows of outputs.
+/// `MAX_JOINT_ROWS` distinct rows of outputs. The lines of the mark and those of the choice net are counted while they are made:
+/// none behind the first with which there are more than `most`.
 #[tactic(auto, using(crate::proofs::Whole::IsJointTable_made))]
 pub fn joint_table(
     alloc: Global,
@@ -67,7 +72,8 @@ pub fn joint_table(
     table: &FileTable,
     mark: NetId,
     choice: NetId,
-) -> Result<JointTable, JointStop>
+    most: usize,
+) -> Result<JointTable, CoversStop>
     requires columns { AreColumns columns.now }
     requires with_mark { AreColumns (with_mark columns.now mark) }
     requires unread { list_any (λ c. nat_eq c.net.0 mark.0) columns.now ≡ false }
@@ -75,9 +81,9 @@ pub fn joint_table(
     requires table { IsJointFile columns.now table.now }
     ensures lines { IfOk result (λ joint. IsMadeJoint columns.now table.now mark choice joint) }
     ensures relation { IfOk result (λ joint. IsJointTable columns.now table.now mark choice joint) }
-    ensures stop { IfErr result (λ stop. StopsBy columns.now table.now mark stop) }
+    ensures stop { IfErr result (λ stop. StopsCovers columns.now table.now mark choice most stop) }
 {
-    made(alloc, columns, table, mark, choice)
+    made(alloc, columns, table, mark, choice, most)
 }
 
 /// The covers of a table with several outputs, line by line.
@@ -87,26 +93,61 @@ fn made(
     table: &FileTable,
     mark: NetId,
     choice: NetId,
-) -> Result<JointTable, JointStop>
+    most: usize,
+) -> Result<JointTable, CoversStop>
     requires columns { AreColumns columns.now }
     requires with_mark { AreColumns (with_mark columns.now mark) }
     requires unread { list_any (λ c. nat_eq c.net.0 mark.0) columns.now ≡ false }
     requires apart { list_any (λ c. nat_eq c.net.0 choice.0) (with_mark columns.now mark) ≡ false }
     requires table { IsJointFile columns.now table.now }
     ensures made { IfOk result (λ joint. IsMadeJoint columns.now table.now mark choice joint) }
-    ensures stop { IfErr result (λ stop. StopsBy columns.now table.now mark stop) }
+    ensures stop { IfErr result (λ stop. StopsCovers columns.now table.now mark choice most stop) }
 {
     let found = match plain_table(alloc, columns, table, mark) {
         Ok(found) => found,
+        Err(JointStop::Wide) => return Err(CoversStop::Wide),
+        Err(JointStop::Memory) => return Err(CoversStop::Memory),
+    };
+    match covers_of(alloc, columns, table, mark, choice, most, found) {
+        Ok(joint) => Ok(joint),
+        Err(RowStop::Many) => Err(CoversStop::Many),
+        Err(RowStop::Memory) => Err(CoversStop::Memory),
+    }
+}
+
+/// The covers of a table whose rows are split. The choice net's come last, since the others' are told by the rows of outputs and by
+/// the table alone.
+fn covers_of(
+    alloc: Global,
+    columns: &[Column],
+    table: &FileTable,
+    mark: NetId,
+    choice: NetId,
+    most: usize,
+    found: SplitTable,
+) -> Result<JointTable, RowStop>
+    requires columns { AreColumns columns.now }
+    requires with_mark { AreColumns (with_mark columns.now mark) }
+    requires apart { list_any (λ c. nat_eq c.net.0 choice.0) (with_mark columns.now mark) ≡ false }
+    requires table { IsJointFile columns.now table.now }
+    requires found { AreChoices (plain_of columns.now table.now mark) found }
+    requires few { length found.choices.keys ≤ MAX_JOINT_ROWS }
+    ensures made { IfOk result (λ joint. IsMadeJoint columns.now table.now mark choice joint) }
+    ensures stop { IfErr result (λ stop. StopsMany columns.now table.now mark choice most stop) }
+{
+    let all = found.choices.as_slice();
+    let values = choice_count(all);
+    let outputs = output_covers(alloc, all, table.outputs.len(), mark, choice)?;
+    let marks = match mark_cover(alloc, columns, table, mark, most) {
+        Ok(marks) => marks,
         Err(stop) => return Err(stop),
     };
-    let all = &found.choices;
-    let marks = mark_cover(alloc, columns, &found.table, mark)?;
-    let chosen = choice_cover(alloc, &found.table, all, mark)?;
-    let all = all.as_slice();
-    let outputs = output_covers(alloc, all, table.outputs.len(), mark, choice)?;
+    let chosen = match choice_cover(alloc, &found, mark, most) {
+        Ok(chosen) => chosen,
+        Err(stop) => return Err(stop),
+    };
     Ok(JointTable {
-        values: choice_count(all),
+        values,
         choice: chosen,
         outputs,
         mark: marks,
@@ -142,55 +183,38 @@ fn cover_of(
     Ok(flat.cover)
 }
 
-/// The cover of the mark, if there is one.
-fn mark_cover(
-    alloc: Global,
-    columns: &[Column],
-    plain: &PlainTable,
-    mark: NetId,
-) -> Result<Option<Cover>, Memory>
-    requires columns { AreColumns columns.now }
-    requires with_mark { AreColumns (with_mark columns.now mark) }
-    requires plain { IsMarkTable columns.now plain.now.mark }
-    ensures { IfOk result (λ cover. IsMarkOf columns.now mark plain.now.mark cover) }
-{
-    match &plain.mark {
-        None => Ok(None),
-        Some(table) => Ok(Some(cover_of(alloc, columns, table, mark)?)),
-    }
-}
-
-/// The cover of the choice net.
+/// The cover of the choice net, unless it has more lines than `most`.
+#[tactic(auto, using(crate::proofs::Unmarked::cover_unmarked))]
 fn choice_cover(
     alloc: Global,
-    plain: &PlainTable,
-    all: &IndexSet<OutRow>,
+    found: &SplitTable,
     mark: NetId,
-) -> Result<Cover, Memory>
-    requires plain { IsPlain mark plain.now }
-    requires all { all.now.keys ≡ distinct plain.now }
-    requires few { length all.now.keys ≤ MAX_VALUES }
-    ensures { IfOk result (λ cover. IsCoverOf plain.now.columns (choice_table plain.now) mark cover) }
+    most: usize,
+) -> Result<Cover, RowStop>
+    requires found { IsSplit mark found.now }
+    ensures cover { IfOk result (λ cover. IsCoverOf found.now.columns (choice_of found.now) mark cover) }
+    ensures stop { IfErr result (λ stop. StopsAt found.now.columns (choice_of found.now) mark most stop) }
 {
-    let table = choice_table(alloc, plain, all)?;
-    cover_of(alloc, plain.columns.as_slice(), &table, mark)
+    let table = choice_table(alloc, found)?;
+    let columns = found.columns.as_slice();
+    let flat = match flat_table_within(alloc, columns, &table, mark, most) {
+        Ok(flat) => flat,
+        Err(stop) => return Err(stop),
+    };
+    Ok(flat.cover)
 }
 
 /// The choice net's table.
-fn choice_table(
-    alloc: Global,
-    plain: &PlainTable,
-    all: &IndexSet<OutRow>,
-) -> Result<FileTable, Memory>
-    requires all { all.now.keys ≡ distinct plain.now }
-    requires few { length all.now.keys ≤ MAX_VALUES }
-    ensures { IfOk result (λ table. table ≡ choice_table plain.now) }
+fn choice_table(alloc: Global, found: &SplitTable) -> Result<FileTable, Memory>
+    requires few { length found.now.choices.keys ≤ MAX_VALUES }
+    ensures { IfOk result (λ table. table ≡ choice_of found.now) }
 {
-    let mut rows = Items::with_room(alloc, plain.rows.len())?;
-    for row in plain.rows.as_slice() {
+    let all = &found.choices;
+    let mut rows = Items::with_room(alloc, found.rows.len())?;
+    for row in found.rows.as_slice() {
         rows.push(choice_row(alloc, all, row)?)?;
     }
-    let default = choice_default(alloc, all, &plain.default)?;
+    let default = choice_default(alloc, all, &found.default)?;
     table_of(alloc, rows, default)
 }
 

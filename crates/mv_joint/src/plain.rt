@@ -11,7 +11,7 @@ ghost use Rattle.mv_rows.specs.Flat.{says_nothing, with_mark, marked_sets};
 ghost use Rattle.mv_joint.specs.OutRows.{same_outs};
 ghost use Rattle.mv_joint.specs.Split.{all_rows};
 ghost use Rattle.mv_joint.specs.Plain.{IsJointFile, said, set_of};
-ghost use Rattle.mv_joint.specs.Plain.{with_any_mark, mark_row, mark_table, unmarked, marked, plain_of};
+ghost use Rattle.mv_joint.specs.Plain.{with_any_mark, unmarked, marked, plain_of};
 ghost use Rattle.mv_joint.specs.Joint.{given, StopsBy, StopsWith};
 ghost use Rattle.mv_joint.specs.Gather.{IsGathered, StopsRows, AreChoices};
 
@@ -19,27 +19,20 @@ use crate::gather::{Gathered, add_outs};
 use crate::joint::JointStop;
 use crate::marked::{needs_mark, some_empty, stays};
 use crate::out_row::OutRow;
-use crate::split::{PlainRow, is_silent, put_rows};
+use crate::split::{PlainRow, put_rows};
 use indexmap::IndexSet;
 use mv_base::{Items, MAX_JOINT_ROWS, Memory, NetId, PackedSet, Value, ValueSet};
-use mv_design::{Entries, Entry, FileTable, Row, Rows, short_sets};
+use mv_design::{Entry, FileTable};
 use mv_rows::{Column, Frame};
 use std::alloc::Global;
 
-/// A table of several outputs without `=`: each of its rows matches something and says some values of each output. With the
-/// table of the mark net that it reads, if it reads one.
+/// A table of several outputs without `=`, but for its mark: each of its rows matches something and says some values of each
+/// output. With its distinct rows of outputs in order of first appearance, the default's last.
 #[derive(Drop)]
-pub struct PlainTable {
+pub struct SplitTable {
     pub columns: Items<Column>,
     pub rows: Items<PlainRow>,
     pub default: Option<OutRow>,
-    pub mark: Option<FileTable>,
-}
-
-/// A table without `=`, and its distinct rows of outputs in order of first appearance, the default's last.
-#[derive(Drop)]
-pub struct PlainChoices {
-    pub table: PlainTable,
     pub choices: IndexSet<OutRow>,
 }
 
@@ -52,7 +45,7 @@ pub fn plain_table(
     columns: &[Column],
     table: &FileTable,
     mark: NetId,
-) -> Result<PlainChoices, JointStop>
+) -> Result<SplitTable, JointStop>
     requires columns { AreColumns columns.now }
     requires with_mark { AreColumns (with_mark columns.now mark) }
     requires unread { list_any (λ c. nat_eq c.net.0 mark.0) columns.now ≡ false }
@@ -74,25 +67,6 @@ pub fn plain_table(
     }
     let default = sets_of(alloc, entries)?;
     unmarked(alloc, &frame, table, Some(default))
-}
-
-/// The rows of all rows.
-fn all_rows(alloc: Global, frame: &Frame, table: &FileTable) -> Result<Gathered, JointStop>
-    requires frame { IsFrame frame.now }
-    requires table { IsJointFile frame.now.columns table.now }
-    ensures rows { IfOk result (λ gathered. IsGathered (all_rows frame.now.columns table.now.rows) gathered) }
-    ensures few { IfOk result (λ gathered. length gathered.outs.keys ≤ MAX_JOINT_ROWS) }
-    ensures stop { IfErr result (λ stop. StopsRows (all_rows frame.now.columns table.now.rows) stop) }
-{
-    let mut gathered = Gathered::new(alloc);
-    for row in table.rows.as_slice() {
-        let (ins, outs) = (row.ins.as_slice(), row.outs.as_slice());
-        match put_rows(&mut gathered, alloc, frame, ins, outs) {
-            Ok(()) => {}
-            Err(stop) => return Err(stop),
-        }
-    }
-    Ok(gathered)
 }
 
 /// Those of the rows of all rows that say some values of each output. A row that says nothing of one is not split.
@@ -144,7 +118,7 @@ fn unmarked(
     frame: &Frame,
     table: &FileTable,
     default: Option<OutRow>,
-) -> Result<PlainChoices, JointStop>
+) -> Result<SplitTable, JointStop>
     requires frame { IsFrame frame.now }
     requires table { IsJointFile frame.now.columns table.now }
     ensures found { IfOk result (λ found. AreChoices (unmarked frame.now.columns (all_rows frame.now.columns table.now.rows) default) found) }
@@ -160,13 +134,12 @@ fn unmarked(
     if choices.len() as u64 > MAX_JOINT_ROWS {
         return Err(JointStop::Wide);
     }
-    let table = PlainTable {
+    Ok(SplitTable {
         columns: frame.columns.copy()?,
         rows: gathered.rows,
         default,
-        mark: None,
-    };
-    Ok(PlainChoices { table, choices })
+        choices,
+    })
 }
 
 /// Adds the default's row of outputs, if there is a default and it is new.
@@ -179,19 +152,6 @@ fn add_given(all: &mut IndexSet<OutRow>, default: &Option<OutRow>) -> Result<(),
     }
 }
 
-/// The rows that say some values of each output.
-fn said(alloc: Global, rows: Items<PlainRow>) -> Result<Items<PlainRow>, Memory>
-    ensures { IfOk result (λ all. all ≡ said rows) }
-{
-    let mut all = Items::with_room(alloc, rows.len())?;
-    for row in rows.into_vec() {
-        if !is_silent(&row) {
-            all.push(row)?;
-        }
-    }
-    Ok(all)
-}
-
 /// The table with the default as rows that have the mark at 1.
 fn marked(
     alloc: Global,
@@ -199,7 +159,7 @@ fn marked(
     table: &FileTable,
     mark: NetId,
     entries: &[Entry],
-) -> Result<PlainChoices, JointStop>
+) -> Result<SplitTable, JointStop>
     requires frame { IsFrame frame.now }
     requires with_mark { AreColumns (with_mark frame.now.columns mark) }
     requires table { IsJointFile frame.now.columns table.now }
@@ -209,7 +169,7 @@ fn marked(
     ensures few { IfOk result (λ found. length found.choices.keys ≤ MAX_JOINT_ROWS) }
     ensures stop { IfErr result (λ stop. StopsWith (marked frame.now.columns mark (all_rows frame.now.columns table.now.rows) entries.now) stop) }
 {
-    let gathered = match all_rows(alloc, frame, table) {
+    let gathered = match said_rows(alloc, frame, table) {
         Ok(gathered) => gathered,
         Err(stop) => return Err(stop),
     };
@@ -223,10 +183,11 @@ fn with_default_rows(
     mark: NetId,
     gathered: Gathered,
     entries: &[Entry],
-) -> Result<PlainChoices, JointStop>
+) -> Result<SplitTable, JointStop>
     requires columns { AreColumns columns.now }
     requires with_mark { AreColumns (with_mark columns.now mark) }
     requires gathered { IsGathered gathered.rows gathered }
+    requires said { said gathered.rows ≡ gathered.rows }
     requires few { length gathered.outs.keys ≤ MAX_JOINT_ROWS }
     requires entries { All (FitEntry columns.now) entries.now }
     requires some { list_any says_nothing entries.now ≡ false }
@@ -236,7 +197,6 @@ fn with_default_rows(
 {
     let both = with_mark(alloc, columns, mark)?;
     let frame = Frame::new(alloc, both.as_slice())?;
-    let marks = mark_table(alloc, gathered.rows.as_slice())?;
     let mut gathered = Gathered {
         rows: with_any_mark(alloc, gathered.rows)?,
         outs: gathered.outs,
@@ -246,14 +206,10 @@ fn with_default_rows(
         Ok(()) => {}
         Err(stop) => return Err(stop),
     }
-    let table = PlainTable {
+    Ok(SplitTable {
         columns: Items::of(both),
         rows: gathered.rows,
         default: None,
-        mark: Some(marks),
-    };
-    Ok(PlainChoices {
-        table,
         choices: gathered.outs,
     })
 }
@@ -283,12 +239,12 @@ fn marked_sets(alloc: Global, columns: &[Column]) -> Result<Vec<PackedSet>, Memo
     Ok(sets)
 }
 
-/// Those of the rows that say some values of each output, where the mark has any value.
+/// The rows where the mark has any value.
 fn with_any_mark(alloc: Global, rows: Items<PlainRow>) -> Result<Items<PlainRow>, Memory>
-    ensures { IfOk result (λ all. all ≡ map with_any_mark (said rows)) }
+    ensures { IfOk result (λ all. all ≡ map with_any_mark rows) }
 {
     let mut all = Items::with_room(alloc, rows.len())?;
-    for row in said(alloc, rows)?.into_vec() {
+    for row in rows.into_vec() {
         all.push(one_with_any_mark(alloc, row)?)?;
     }
     Ok(all)
@@ -301,34 +257,6 @@ fn one_with_any_mark(alloc: Global, row: PlainRow) -> Result<PlainRow, Memory>
     let mut row = row;
     row.ins.push(PackedSet::new(alloc, ValueSet::full(2))?)?;
     Ok(row)
-}
-
-/// The mark's table: 0 where some row matches, and 1 elsewhere.
-fn mark_table(alloc: Global, rows: &[PlainRow]) -> Result<FileTable, Memory>
-    ensures { IfOk result (λ table. table ≡ mark_table rows.now) }
-{
-    let mut all = Items::with_room(alloc, rows.len())?;
-    for row in rows {
-        all.push(mark_row(alloc, row)?)?;
-    }
-    let default = Entries::one(one_entry(alloc, Value(1))?);
-    Ok(FileTable {
-        line: 0,
-        inputs: Items::new(alloc),
-        outputs: Items::new(alloc),
-        rows: Rows::of(alloc, all)?,
-        default: Some(default),
-    })
-}
-
-/// The row that gives the mark 0.
-fn mark_row(alloc: Global, row: &PlainRow) -> Result<Row, Memory>
-    ensures { IfOk result (λ r. r ≡ mark_row row.now) }
-{
-    Ok(Row {
-        ins: short_sets(alloc, row.ins.as_slice())?,
-        outs: Entries::one(one_entry(alloc, Value(0))?),
-    })
 }
 
 /// The entry of one value.

@@ -55,7 +55,7 @@ pub fn put_rows(
 }
 
 /// The row with these sets and no output yet, with room for so many.
-fn bare_row(alloc: Global, ins: &[PackedSet], outputs: usize) -> Result<PlainRow, Memory>
+pub fn bare_row(alloc: Global, ins: &[PackedSet], outputs: usize) -> Result<PlainRow, Memory>
     ensures { IfOk result (λ row. row ≡ record { ins = ins.now; outs = [] }) }
 {
     Ok(PlainRow {
@@ -119,7 +119,7 @@ fn put_rest(
 }
 
 /// How many values the net of the column at the place has.
-fn count(frame: &Frame, place: usize) -> u16
+pub fn count(frame: &Frame, place: usize) -> u16
     requires frame { IsFrame frame.now }
     requires place { place < length frame.now.columns }
     ensures value { result ≡ count_at frame.now.columns place }
@@ -130,7 +130,7 @@ fn count(frame: &Frame, place: usize) -> u16
 
 /// The row that has the value alone at the place, and as the set of one output more, if the row has it there and then matches
 /// something.
-fn narrowed(
+pub fn narrowed(
     alloc: Global,
     frame: &Frame,
     row: &PlainRow,

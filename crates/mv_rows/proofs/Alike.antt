@@ -1,14 +1,12 @@
 -- Lines of which the distinct ones are the same give a table the same covers, and lines that are put in a set one after the other.
-use Rattle.std.proofs.Common.{◌≡◌, ℕ, ◌+◌, ◌<◌, ◌≤◌, Bool, true, false, not, ◌&&◌, ◌||◌, nat_eq, if◌then◌else◌, filter, Option, Some, None, List, [], ◌∷◌, ◌++◌, length, map, fold, get_or, take, drop, inl, inr, refl, sym, ◌∙◌, ap, subst, arith, All}
+use Rattle.std.proofs.Common.{◌≡◌, ℕ, Bool, true, false, not, ◌||◌, nat_eq, if◌then◌else◌, filter, Option, Some, None, List, [], ◌∷◌, ◌++◌, length, map, inl, inr, refl, sym, ◌∙◌, ap, subst}
 use Rattle.std.specs.List.{list_any}
-use Rattle.std.proofs.lemmas.Bool.{cases_Bool, false≢true}
-use Rattle.std.proofs.lemmas.List.Elements.{filter-append}
-use Rattle.std.proofs.lemmas.List.{length-append}
+use Rattle.std.proofs.lemmas.Bool.{cases_Bool}
 use Rattle.std.proofs.lemmas.Grind.{fold-append}
 use Rattle.indexmap.specs.IndexSet.{insert_key, insert_all}
 use Rattle.mv_base.specs.Set.{empty}
 use Rattle.mv_base.specs.declared.number.NetId.{NetId}
-use Rattle.mv_cover.specs.Absorb.{firsts, some_bare}
+use Rattle.mv_cover.specs.Absorb.{firsts}
 use Rattle.mv_cover.specs.Equal.{line_eq}
 use Rattle.mv_cover.specs.Keys.{line_eq-Decides}
 use Rattle.mv_cover.specs.declared.line.Line.{Line}
@@ -22,8 +20,8 @@ use Rattle.mv_rows.specs.declared.column.Column.{Column}
 use Rattle.mv_rows.specs.declared.table.FlatTable.{FlatTable}
 use Rattle.mv_rows.specs.declared.line_set.LineSet.{LineSet}
 use Rattle.mv_rows.specs.Lines.{AddsLines}
-use Rattle.mv_rows.specs.Flat.{RowsLines, has_output, kept, only_entry, says_nothing, default_left, plain_default, mark_line, mark_cover, unmarked, IsMarked, FlatBy, FlatOf, IsMade}
-use Rattle.mv_rows.specs.Once.{count_said, most_of, IsRoom, Puts, AreDistinct, AreLinesOf}
+use Rattle.mv_rows.specs.Flat.{RowsLines, has_output, kept, only_entry, says_nothing, default_left, plain_default, mark_line, mark_cover, unmarked, FlatBy, FlatOf, IsMade}
+use Rattle.mv_rows.specs.Once.{AreDistinct, AreLinesOf}
 
 -- ---- filters
 

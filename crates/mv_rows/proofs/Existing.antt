@@ -1,9 +1,9 @@
 -- Each table has covers: the lines of its rows are there, whoever makes them.
-use Rattle.std.proofs.Common.{◌≡◌, ℕ, zero, suc, ◌+◌, ◌<◌, ◌≤◌, Bool, true, false, ◌&&◌, if◌then◌else◌, Option, Some, None, List, [], ◌∷◌, ◌++◌, length, filter, get_or, take, drop, inl, inr, append-nil, append_assoc, refl, sym, ◌∙◌, ap, subst, arith, All}
+use Rattle.std.proofs.Common.{◌≡◌, ℕ, zero, suc, ◌+◌, ◌<◌, ◌≤◌, true, if◌then◌else◌, Option, Some, None, List, [], ◌∷◌, ◌++◌, length, get_or, take, drop, inl, inr, append-nil, append_assoc, refl, sym, ◌∙◌, ap, subst, arith, All}
 use Rattle.std.specs.Prelude.{nat_le}
 use Rattle.std.specs.List.Sorted.{IsPermutation}
-use Rattle.std.proofs.lemmas.Bool.{cases_Bool, and_from, and_parts, le-leb, leb-true, leb-false}
-use Rattle.std.proofs.lemmas.List.{take_more, take-append-drop, drop_more}
+use Rattle.std.proofs.lemmas.Bool.{cases_Bool, and_from, and_parts, le-leb, leb-false}
+use Rattle.std.proofs.lemmas.List.{take-append-drop, drop_more}
 use Rattle.std.proofs.lemmas.List.Elements.{All-head, All-tail, All-drop}
 use Rattle.std.proofs.lemmas.List.Sorted.{IsPermutation-refl, IsPermutation-trans, IsPermutation-cons, IsPermutation-middle}
 use Rattle.indexmap.specs.IndexSet.{insert_all}
@@ -25,13 +25,13 @@ use Rattle.mv_rows.specs.declared.table.FlatTable.{FlatTable}
 use Rattle.mv_rows.specs.Columns.{placed, rises_after, IsColumnOrder}
 use Rattle.mv_rows.specs.Cubes.{AreColumns, FitRow}
 use Rattle.mv_rows.specs.Lines.{AddsLines, OneLine, EachValue, EntryLines, narrowed, count_at}
-use Rattle.mv_rows.specs.Flat.{only_entry, IsRow, RowsLines, has_output, kept, default_left, plain_default, mark_cover, with_mark, marked_sets, unmarked, IsMarked, FlatBy, FlatOf, IsMade}
-use Rattle.mv_rows.specs.Many.{HasMore, StopsAt}
+use Rattle.mv_rows.specs.Flat.{only_entry, IsRow, RowsLines, kept, default_left, plain_default, mark_cover, with_mark, marked_sets, unmarked, FlatBy, FlatOf, IsMade}
+use Rattle.mv_rows.specs.Many.{StopsAt}
 use Rattle.mv_rows.specs.Meeting.{literals_of, all_possible}
-use Rattle.mv_rows.specs.Once.{count_said, most_of, IsRoom, Puts, StopsPut, AreDistinct, HaveMore, StopsLines}
+use Rattle.mv_rows.specs.Once.{count_said, most_of, IsRoom, Puts, StopsPut, PutsRows, StopsRows, AreDistinct, StopsLines}
 use Rattle.mv_rows.proofs.Alike.{inserted-append, kept-firsts}
 use Rattle.mv_rows.proofs.Cubes.{IsRowCube-literals, HasNoPoint-literals}
-use Rattle.mv_rows.proofs.LineSets.{count-grows, stops_more}
+use Rattle.mv_rows.proofs.LineSets.{count-grows, puts_none, puts_more, stops_more}
 use Rattle.mv_rows.proofs.Rows.{rows_more, fit_marked}
 use Rattle.mv_rows.proofs.Values.{fit_narrowed}
 
@@ -112,7 +112,7 @@ entry_lines : (cs : List Column) (sets : List ℕ) (e : Entry) → AreColumns cs
 entry_lines cs sets (Set s) columns fit = one_line cs sets s columns fit
 entry_lines cs sets (Same k) columns fit = each_line cs sets k (count_at cs k) columns fit
 
-rows_lines : (cs : List Column) (rows : List Row) → AreColumns cs → All (IsRow cs) rows → Lines (RowsLines cs rows)
+pub rows_lines : (cs : List Column) (rows : List Row) → AreColumns cs → All (IsRow cs) rows → Lines (RowsLines cs rows)
 rows_lines cs [] columns all = record { lines = []; are = refl }
 rows_lines cs (r ∷ rows) columns all =
     let first = entry_lines cs r.ins (only_entry r.outs) columns (All-head (IsRow cs) r rows all).sets in
@@ -142,7 +142,7 @@ distinct_more cs rows most i r here old new low is so_far are puts =
       room = puts.most ∙ so_far.room;
     }
 
-rows_append : (cs : List Column) (xs ys : List Row) (a b : List Line) → RowsLines cs xs a → RowsLines cs ys b → RowsLines cs (xs ++ ys) (a ++ b)
+pub rows_append : (cs : List Column) (xs ys : List Row) (a b : List Line) → RowsLines cs xs a → RowsLines cs ys b → RowsLines cs (xs ++ ys) (a ++ b)
 rows_append cs [] ys a b p q = let P : List Line → Type 0 = λ ls. RowsLines cs ys (ls ++ b) in subst P (sym p) q
 rows_append cs (x ∷ xs) ys a b p q = record {
   before = p.before;
@@ -151,6 +151,62 @@ rows_append cs (x ∷ xs) ys a b p q = record {
   are_here = rows_append cs xs ys p.here b p.are_here q;
   joined = ap (λ ls. ls ++ b) p.joined ∙ append_assoc p.before p.here b;
 }
+
+-- ---- rows whose lines are put in
+
+pub puts_no_rows : (cs : List Column) (d : LineSet) → PutsRows cs [] d d
+puts_no_rows cs d = record { lines = []; are = refl; puts = puts_none d }
+
+pub puts_more_rows : (cs : List Column) (xs ys : List Row) (a b c : LineSet) → PutsRows cs xs a b → PutsRows cs ys b c → PutsRows cs (xs ++ ys) a c
+puts_more_rows cs xs ys a b c p q = record {
+  lines = p.lines ++ q.lines;
+  are = rows_append cs xs ys p.lines q.lines p.are q.are;
+  puts = puts_more p.lines q.lines a b c p.puts q.puts;
+}
+
+-- where lines stop behind those of some rows, they stop among those of them all
+pub stops_more_rows : (cs : List Column) (xs ys : List Row) (a b : LineSet) (stop : RowStop) → PutsRows cs xs a b → StopsRows cs ys b stop
+    → StopsRows cs (xs ++ ys) a stop
+stops_more_rows cs xs ys a b Memory p q = tt
+stops_more_rows cs xs ys a b Many p q =
+    let P : List Line → Type 0 = λ ls. most_of a < count_said (insert_all line_eq a.lines.keys (p.lines ++ ls)) in
+    record {
+      lines = p.lines ++ q.lines;
+      are = rows_append cs xs ys p.lines q.lines p.are q.are;
+      many = subst P (append-nil q.lines) (stops_more p.lines q.lines [] a b Many p.puts q.many);
+    }
+
+-- and so they do with those of the rows behind
+pub stops_early_rows : (cs : List Column) (xs ys : List Row) (a : LineSet) (stop : RowStop) → AreColumns cs → All (IsRow cs) ys → StopsRows cs xs a stop
+    → StopsRows cs (xs ++ ys) a stop
+stops_early_rows cs xs ys a Memory columns fit q = tt
+stops_early_rows cs xs ys a Many columns fit q =
+    let rest = rows_lines cs ys columns fit in
+    record {
+      lines = q.lines ++ rest.lines;
+      are = rows_append cs xs ys q.lines rest.lines q.are rest.are;
+      many = stops_more [] q.lines rest.lines a a Many (puts_none a) q.many;
+    }
+
+-- the distinct lines of rows that are put in where there were none
+pub distinct_rows : (cs : List Column) (rows : List Row) (most : ℕ) (a b : LineSet) → IsRoom most a → PutsRows cs rows a b → AreDistinct cs rows most b
+distinct_rows cs rows most a b is p = record {
+  lines = p.lines;
+  are = p.are;
+  keys = p.puts.keys ∙ ap (λ ks. insert_all line_eq ks p.lines) is.keys;
+  room = let none = ap count_said is.keys in let left = is.room in let all = p.puts.most in omega arith;
+}
+
+pub many_rows : (cs : List Column) (rows : List Row) (most : ℕ) (a : LineSet) (stop : RowStop) → IsRoom most a → StopsRows cs rows a stop
+    → StopsLines cs rows most stop
+many_rows cs rows most a Memory is q = tt
+many_rows cs rows most a Many is q =
+    let none = ap count_said is.keys in
+    let left = is.room in
+    let same = ap (λ ks. count_said (insert_all line_eq ks q.lines)) is.keys in
+    let counted = ap length (kept-firsts q.lines) ∙ ap count_said (sym (inserted_firsts q.lines)) in
+    let more = q.many in
+    record { all = q.lines; are = q.are; many = omega arith }
 
 -- the row's lines stop, and the rows behind it have lines too
 pub row_stops : (cs : List Column) (rows : List Row) (most i : ℕ) (r : Row) (here : List Line) (d : LineSet) (stop : RowStop) → AreColumns cs → All (IsRow cs) rows → i < length rows → r ≡ get_or rows i r → AreDistinct cs (take i rows) most d → EntryLines cs r.ins (only_entry r.outs) here → StopsPut here d stop → StopsLines cs rows most stop
@@ -217,3 +273,14 @@ table_stops cs t mark most Many columns stops =
     let more = there.many in
     let many = stops.many in
     record { flat = there.flat; made = record { lines = stops.all; are = stops.are; covers = there.is }; many = omega arith }
+
+-- covers of a table
+pub record HasCovers (cs : List Column) (t : FileTable) (mark : NetId) : Type 0 where
+  pub flat : FlatTable
+  pub made : IsMade cs t mark flat
+
+pub table_there : (cs : List Column) (t : FileTable) (mark : NetId) → AreColumns cs → AreColumns (with_mark cs mark) → All (IsRow cs) t.rows → HasCovers cs t mark
+table_there cs t mark columns with rows =
+    let there = rows_lines cs t.rows columns rows in
+    let covers = covered_of cs mark there.lines (default_left t.default there.lines) with in
+    record { flat = covers.flat; made = record { lines = there.lines; are = there.are; covers = covers.is } }

@@ -1,5 +1,5 @@
 -- How many lines with an output there are while lines are put in a set.
-use Rattle.std.proofs.Common.{◌≡◌, ℕ, ◌+◌, ◌<◌, ◌≤◌, true, false, not, nat_eq, filter, List, [], ◌∷◌, ◌++◌, length, inl, inr, refl, sym, ◌∙◌, ap, subst, arith}
+use Rattle.std.proofs.Common.{◌≡◌, ◌+◌, ◌≤◌, true, false, nat_eq, filter, List, [], ◌∷◌, ◌++◌, length, inl, inr, refl, sym, ◌∙◌, ap, arith}
 use Rattle.std.specs.List.{list_any}
 use Rattle.std.proofs.lemmas.Bool.{cases_Bool}
 use Rattle.std.proofs.lemmas.List.Elements.{filter-append}
@@ -12,7 +12,7 @@ use Rattle.mv_rows.specs.declared.line_set.LineSet.{LineSet}
 use Rattle.mv_rows.specs.declared.stop.RowStop.{RowStop}
 use Rattle.mv_rows.specs.declared.stop.RowStop.TheVariants.{Many, Memory}
 use Rattle.mv_rows.specs.Flat.{has_output}
-use Rattle.mv_rows.specs.Once.{count_said, most_of, Puts, StopsPut}
+use Rattle.mv_rows.specs.Once.{count_said, Puts, StopsPut}
 use Rattle.mv_rows.proofs.Alike.{inserted-append}
 
 pub count-there : (keys : List Line) (l : Line) → list_any (line_eq l) keys ≡ true → count_said (insert_key line_eq keys l) ≡ count_said keys

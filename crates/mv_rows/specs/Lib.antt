@@ -5,8 +5,8 @@ pub mod Many
 pub mod Covers
 pub mod Marked
 pub mod Renumbered
+pub mod Once
 -- what private functions alone cite
 pub mod Columns
 pub mod Meeting
-pub mod Once
 pub mod Single

@@ -1,4 +1,4 @@
--- Lines that are put together one after the other, each once, as long as there is room. For private functions.
+-- Lines that are put together one after the other, each once, as long as there is room.
 use Rattle.std.specs.Prelude.{◌≡◌, ℕ, ◌+◌, ◌<◌, true, List, [], length, filter}
 use Rattle.indexmap.specs.IndexSet.{insert_all}
 use Rattle.mv_cover.specs.Absorb.{firsts}
@@ -34,6 +34,23 @@ pub record Puts (ls : List Line) (old new : LineSet) : Type 0 where
 abbrev pub StopsPut : List Line → LineSet → RowStop → Type 0
 StopsPut ls d Many = most_of d < count_said (insert_all line_eq d.lines.keys ls)
 StopsPut ls d Memory = Unit {0}
+
+-- the lines of the rows are put in
+pub record PutsRows (columns : List Column) (rows : List Row) (old new : LineSet) : Type 0 where
+  pub lines : List Line
+  pub are : RowsLines columns rows lines
+  pub puts : Puts lines old new
+
+-- with the lines of the rows there are more with an output than there may be
+pub record HoldMore (columns : List Column) (rows : List Row) (d : LineSet) : Type 0 where
+  pub lines : List Line
+  pub are : RowsLines columns rows lines
+  pub many : most_of d < count_said (insert_all line_eq d.lines.keys lines)
+
+-- why the lines of the rows can't be put in
+abbrev pub StopsRows : List Column → List Row → LineSet → RowStop → Type 0
+StopsRows columns rows d Many = HoldMore columns rows d
+StopsRows columns rows d Memory = Unit {0}
 
 -- the distinct lines of the rows, where there may be so many
 pub record AreDistinct (columns : List Column) (rows : List Row) (most : ℕ) (d : LineSet) : Type 0 where

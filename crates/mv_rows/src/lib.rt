@@ -10,6 +10,7 @@ mod stop;
 mod table;
 
 pub use column::{Column, Frame, Placed};
+pub use line_set::LineSet;
 pub use looks::is_marked;
 pub use stop::RowStop;
-pub use table::{FlatTable, flat_table, flat_table_within};
+pub use table::{FlatTable, flat_table, flat_table_of, flat_table_within};

@@ -40,7 +40,7 @@ impl LineSet {
     }
 
     /// Adds the line, if it is new.
-    fn put(&mut self, line: Line) -> Result<(), RowStop>
+    pub fn put(&mut self, line: Line) -> Result<(), RowStop>
         ensures ok { OnOk result (Puts (line ∷ []) self.old self.new) }
         ensures stop { IfErr result (λ stop. StopsPut (line ∷ []) self.old stop) }
     {

@@ -1,9 +1,10 @@
-ghost use Rattle.std.specs.Prelude.{◌≡◌, List, ◌++◌, ◌∷◌, [], true, false, length, nat_eq, map, option_copied, Some, None, IfErr, IfOk, OnOk, All};
+ghost use Rattle.std.specs.Prelude.{◌≡◌, ℕ, List, ◌++◌, ◌∷◌, [], true, false, length, nat_eq, map, option_copied, Some, None, IfErr, IfOk, OnOk, All};
 ghost use Rattle.std.specs.List.{list_any};
 ghost use Rattle.mv_base.specs.Set.{empty};
 ghost use Rattle.mv_cover.specs.Absorb.{firsts, some_bare};
 ghost use Rattle.mv_cover.specs.Equal.{line_eq};
 ghost use Rattle.mv_design.specs.declared.table.Entry.{Entry};
+ghost use Rattle.mv_design.specs.declared.table.FileTable.{FileTable};
 ghost use Rattle.mv_rows.specs.Cubes.{AreColumns, IsFrame, FitRow};
 ghost use Rattle.mv_rows.specs.Lines.{AddsLines, EntryLines, FitEntry};
 ghost use Rattle.mv_rows.specs.Flat.{only_entry, IsRow, IsTable, IsDefault, RowsLines, kept, insert_kept, says_nothing, default_left};
@@ -73,6 +74,29 @@ pub fn flat_table_within(
     ensures stop { IfErr result (λ stop. StopsAt columns.now table.now mark most stop) }
 {
     made(alloc, columns, table, mark, most)
+}
+
+/// The covers of a table of one output with this default, whose rows have these distinct lines. `mark` is the net of the mark,
+/// should one be needed.
+pub fn flat_table_of(
+    alloc: Global,
+    columns: &[Column],
+    default: &Option<Entries>,
+    mark: NetId,
+    set: LineSet,
+) -> Result<FlatTable, Memory>
+    requires with_mark { AreColumns (with_mark columns.now mark) }
+    requires default { (entries : List Entry) → default.now ≡ Some entries → IsDefault columns.now entries }
+    requires distinct { firsts set.lines.keys ≡ set.lines.keys }
+    ensures { IfOk result (λ flat. (t : FileTable) (most : ℕ) → t.default ≡ default.now → AreDistinct columns.now t.rows most set
+        → IsMade columns.now t mark flat) }
+{
+    let list = collected(alloc, set.lines)?;
+    let lines = RowLines {
+        list,
+        distinct: true,
+    };
+    covered(alloc, columns, default, mark, lines)
 }
 
 /// The covers of a table with these columns and one output, line by line. `mark` is the net of the mark, should one be

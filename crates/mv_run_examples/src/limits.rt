@@ -98,6 +98,8 @@ const TABLES: &str = "\
 ~.model m;.inputs x a b;.mv x, z, p 128;.mv a, b, y, q 100;.table x a -> p q;- - =x =a;.table x a b -> z;\
 ~7813*- % / =x;~.end; | 34 JointWide 1025
 ~.model m;.inputs x a b;.mv x, z, p 128;.mv a, b, y, q 100;.table x a b -> z y;~7813*- % / =x =a;~.end; | 34 JointWide 1025
+~.model m;.inputs a b c d;.mv a, b, c, d, p, q, r, s 128;.table a b c d -> p q r s t;.default 0 0 0 0 0;- - - - =a =b =c =d !-;.end; | \
+35 Limit FlatLines 1000001
 ";
 
 #[test]

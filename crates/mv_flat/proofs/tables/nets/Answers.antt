@@ -10,7 +10,7 @@ use Rattle.mv_design.specs.Values.{count_of}
 use Rattle.mv_rows.specs.declared.column.Column.{Column}
 use Rattle.mv_flat.specs.Built.{open_nets}
 use Rattle.mv_flat.specs.Covers.{IsMadeTable}
-use Rattle.mv_flat.specs.Numbers.{choice_at, columns_at, mark_at}
+use Rattle.mv_flat.specs.Numbers.{choice_at, mark_at}
 use Rattle.mv_flat.specs.Marks.{AddsNets, TableNets}
 use Rattle.mv_flat.specs.Sized.{AreSized, TellsCovers}
 use Rattle.mv_flat.proofs.Behinds.{TablesMade, choice_at_table, outputs_few, table_at, tables_more, tables_last, tables_room}
@@ -120,31 +120,6 @@ sized_with c at covers =
     subst P (sym (length_push c.loop-table.yielded c.in-Some.table))
     (sized_more c.args.file_nets c.args.model c.args.names.now (length c.loop-table.yielded) c.loop-table.size c.in-Ok-with.size c.in-Some.table c.in-Ok.covers
     c.loop-table.invariant.sized at.low at.is covers c.in-Ok-with.ensures.size c.in-Ok-with.ensures.within)
-
-pub loop-table-preserved-in_ok-put_table : goal.loop-table-preserved-in_ok-put_table
-loop-table-preserved-in_ok-put_table c =
-    let to = goal.at.loop-table-preserved-in_ok-put_table c in
-    record { made = made_more to.In_ok-put_table (next to.In-Some); sized = sized_with to.In_ok-put_table (next to.In-Some) (covered to.In-Ok) }
-
-pub loop-table-preserved-in_ok-put_table-2 : goal.loop-table-preserved-in_ok-put_table-2
-loop-table-preserved-in_ok-put_table-2 c =
-    let to = goal.at.loop-table-preserved-in_ok-put_table-2 c in
-    record { made = made_more to.In_ok-put_table (next to.In-Some); sized = sized_with to.In_ok-put_table (next to.In-Some) (covered to.In-Ok) }
-
-pub loop-table-preserved-in_ok-put_table-3 : goal.loop-table-preserved-in_ok-put_table-3
-loop-table-preserved-in_ok-put_table-3 c =
-    let to = goal.at.loop-table-preserved-in_ok-put_table-3 c in
-    record { made = made_more to.In_ok-put_table (next to.In-Some); sized = sized_with to.In_ok-put_table (next to.In-Some) (covered to.In-Ok) }
-
-pub loop-table-preserved-in_ok-put_table-4 : goal.loop-table-preserved-in_ok-put_table-4
-loop-table-preserved-in_ok-put_table-4 c =
-    let to = goal.at.loop-table-preserved-in_ok-put_table-4 c in
-    record { made = made_more to.In_ok-put_table (next to.In-Some); sized = sized_with to.In_ok-put_table (next to.In-Some) (covered to.In-Ok) }
-
-pub loop-table-preserved-in_ok-put_table-5 : goal.loop-table-preserved-in_ok-put_table-5
-loop-table-preserved-in_ok-put_table-5 c =
-    let to = goal.at.loop-table-preserved-in_ok-put_table-5 c in
-    record { made = made_more to.In_ok-put_table (next to.In-Some); sized = sized_with to.In_ok-put_table (next to.In-Some) (covered to.In-Ok) }
 
 pub loop-table-preserved : goal.loop-table-preserved
 loop-table-preserved c =

@@ -1,5 +1,5 @@
 use Rattle.std.proofs.Common.{◌≡◌, true, false, IfErr, sym, subst, arith}
-use Rattle.mv_joint.specs.declared.plain.PlainTable.{PlainTable}
+use Rattle.mv_joint.specs.Plain.{PlainTable}
 use Rattle.mv_joint.specs.Split.{all_rows}
 use Rattle.mv_joint.specs.Plain.{stays, needs_mark}
 use Rattle.mv_joint.specs.Joint.{StopsWith}

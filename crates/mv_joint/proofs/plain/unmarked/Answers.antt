@@ -1,4 +1,4 @@
-use Rattle.std.proofs.Common.{[], None, ◌∙◌, ap, arith}
+use Rattle.std.proofs.Common.{[], refl, ◌∙◌, ap, arith}
 use Rattle.indexmap.specs.IndexSet.{insert_all}
 use Rattle.mv_joint.specs.OutRows.{same_outs}
 use Rattle.mv_joint.specs.Split.{all_rows}
@@ -19,12 +19,9 @@ returns-clause-found c =
     let default = c.args.default in
     let gathered = c.in-Ok.ensures.rows in
     record {
-      table = λ i. record {
-        columns = c.in_ok-copy.ensures i;
-        rows = gathered.rows i;
-        default = default;
-        mark = None;
-      };
+      columns = c.in_ok-copy.ensures;
+      rows = gathered.rows;
+      default = refl;
       choices =
           distinct_unmarked columns rows default _
           (c.in_ok-add_given.ensures ∙ ap (λ keys. insert_all same_outs keys (given default)) (gathered.outs ∙ joined-said [] rows));

@@ -1,7 +1,5 @@
-use Rattle.std.proofs.Common.{List}
-use Rattle.mv_cover.specs.declared.line.Line.{Line}
 use Rattle.mv_rows.specs.Flat.{only_entry}
-use Rattle.mv_rows.specs.Lines.{AddsLines, EntryLines}
+use Rattle.mv_rows.specs.Lines.{EntryLines}
 use Rattle.mv_rows.proofs.Alike.{only_here}
 use Rattle.mv_rows.proofs.table.one_row.Goals as goal
 
