@@ -77,7 +77,7 @@ module _ (free : Bool) (divisor : List (List Lit)) (d : NetId) (mid : NetParts) 
     pub formed : WellFormed cur
 
   -- one visit
-  left_visit : (n : ℕ) (cur new : NetParts) (es : List Entry) → Left n cur → DividesNet free divisor d n cur es new → Left (n + 1) new
+  pub left_visit : (n : ℕ) (cur new : NetParts) (es : List Entry) → Left n cur → DividesNet free divisor d n cur es new → Left (n + 1) new
   unfolding with_nets with_net_table
   left_visit n cur new es left (Own own still) = subst (Left (n + 1)) (sym still.1) (record { long = left.long; stays = λ m up. left.stays m (omega arith); formed = left.formed })
   left_visit n cur new es left (LetBe none still) = subst (Left (n + 1)) (sym still.1) (record { long = left.long; stays = λ m up. left.stays m (omega arith); formed = left.formed })
@@ -90,7 +90,7 @@ module _ (free : Bool) (divisor : List (List Lit)) (d : NetId) (mid : NetParts) 
         formed = kept_formed free (divide_rule cur.nets n by table lines) cur new left.formed applies;
       }
 
-  left_visits : (n : ℕ) (cur : NetParts) (es : List Entry) → WellFormed mid → Visits (DividesNet free divisor d) n mid es cur → Left n cur
+  pub left_visits : (n : ℕ) (cur : NetParts) (es : List Entry) → WellFormed mid → Visits (DividesNet free divisor d) n mid es cur → Left n cur
   left_visits zero cur es formed still = subst (Left 0) (sym still.1) (record { long = refl; stays = λ m low. refl; formed = formed })
   left_visits (suc n) cur es formed turn =
       subst (λ k. Left k cur) (add-one n) (left_visit n turn.mid cur turn.rest (left_visits n turn.mid turn.front formed turn.first) turn.second)

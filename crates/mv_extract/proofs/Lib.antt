@@ -5,3 +5,6 @@ pub mod Leaving
 pub mod Taking
 pub mod Stopping
 pub mod Fewer
+pub mod Behind
+pub mod Skipping
+pub mod Keeping

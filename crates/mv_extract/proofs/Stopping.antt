@@ -1,5 +1,6 @@
 -- Steps of an extraction up to its end, or to where it stops.
-use Rattle.std.proofs.Common.{Bool, List, [], Result, Ok, Err, refl}
+use Rattle.std.proofs.Common.{Bool, List, [], Result, Ok, Err, refl, sym}
+use Rattle.std.proofs.lemmas.List.{append-nil}
 use Rattle.mv_cover.specs.Literal.{Lit}
 use Rattle.mv_entry.specs.Tallies.{Journaled}
 use Rattle.mv_gains.specs.Candidates.{Candidates, IsBest, NoneSaves, IsDivisorFor}
@@ -8,9 +9,10 @@ use Rattle.mv_gains.proofs.Kept.{all_lines_formed}
 use Rattle.mv_net.specs.declared.parts.NetParts.{NetParts}
 use Rattle.mv_net.specs.Formed.{WellFormed}
 use Rattle.mv_pass.specs.declared.stop.Stop.{Stop}
+use Rattle.mv_pass.specs.declared.stop.Stop.TheVariants.{Memory}
 use Rattle.mv_pass.specs.Courses.{Course, Perhaps, Still, Through, Repeated, Short, Past}
 use Rattle.mv_pass.specs.Passing.{Passes}
-use Rattle.mv_pass.proofs.Coming.{Came, came_more, came_stop, came_whole}
+use Rattle.mv_pass.proofs.Coming.{Came, came_as, came_more, came_stop, came_stuck, came_whole}
 use Rattle.mv_pass.proofs.Stepped.{passes_as}
 use Rattle.mv_extract.specs.declared.kind.Divisors.{Divisors}
 use Rattle.mv_extract.specs.declared.kind.Divisors.TheVariants.{Kernels, Cubes}
@@ -39,6 +41,13 @@ module _ (free : Bool) (Candidate : Candidates) (Behind Some : Course) (start he
   come_to_end new l (Err stop) p =
       came_stop free (Repeated (TakesBest Candidate free)) (EndsBy Candidate Behind) (Perhaps (EndsBy Candidate Some)) start here new j k l came (Extracts Candidate Behind free) (ExtractsSome Candidate Some free) stop
       (λ xs ys r e. Past (record { mid = here; front = xs; rest = ys; first = r; second = e; entries_are = refl })) p
+
+  -- it stopped between two steps, for want of memory
+  pub stuck_between : Passes free (Extracts Candidate Behind free) (ExtractsSome Candidate Some free) start here j k (Err Memory)
+  stuck_between =
+      came_stuck free (Extracts Candidate Behind free) (ExtractsSome Candidate Some free) start here j k
+      (came_as free (Repeated (TakesBest Candidate free)) (ExtractsSome Candidate Some free) start here j k
+      (λ es r. Short (record { mid = here; front = es; rest = []; first = r; second = Still (refl, refl); entries_are = sym (append-nil es) })) came)
 
   -- no candidate saves, and what comes behind answered
   pub none_left : NoneSaves Candidate here.nets → (new : NetParts) (l : Journaled) (result : Result (Unit {0}) Stop) → Passes free Behind Some here new k l result

@@ -1,6 +1,9 @@
 ghost use Rattle.std.specs.Prelude.{◌≡◌, ◌<◌, All, IfOk, MatchOption, Some, length};
 ghost use Rattle.mv_base.specs.Meaning.{SameMeaning};
+ghost use Rattle.std.specs.List.{list_all};
+ghost use Rattle.mv_cover.specs.Literal.{Lit};
 ghost use Rattle.mv_cover.specs.declared.line.Line.{Line};
+ghost use Rattle.mv_graph.specs.Nets.{has_id};
 ghost use Rattle.mv_divide.specs.Grouped.{AreBelow};
 ghost use Rattle.mv_divide.specs.Tables.{IsDivided, IsUndivided};
 ghost use Rattle.mv_division.specs.Divided.{IsDivision, divide_rule};
@@ -14,7 +17,7 @@ ghost use Rattle.mv_pass.specs.Passing.{Passes};
 
 use crate::Stop;
 use mv_base::{Items, Memory, Name, NetId};
-use mv_cover::{Cover, Cube, Line};
+use mv_cover::{Cover, Cube, Line, Lit};
 use mv_divide::{divide, parts};
 use mv_division::divide_law;
 use mv_entry::{Journal, Rule};
@@ -72,6 +75,20 @@ fn rule_with(
     })
 }
 
+/// Whether each of the literals is on one of these nets.
+fn reads_each(fanins: &[NetId], literals: &[Lit]) -> bool
+    ensures { result ≡ list_all (λ (l : Lit). has_id fanins.now l.net.0) literals.now }
+{
+    literals.iter().all(|literal| reads(fanins, literal.net()))
+}
+
+/// Whether the net is one of these.
+fn reads(fanins: &[NetId], net: NetId) -> bool
+    ensures { result ≡ has_id fanins.now net.0 }
+{
+    fanins.iter().any(|fanin| fanin.0 == net.0)
+}
+
 /// The rule by which the net's table is divided, or None where no cover of it has a quotient.
 fn rule_for(
     alloc: Global,
@@ -94,6 +111,9 @@ fn rule_for(
     let Some(table) = net.table(n) else {
         return Ok(None);
     };
+    if !reads_each(net.fanins(n), divisor[0].lits()) {
+        return Ok(None);
+    }
     match divided_lines(alloc, table.lines.as_slice(), divisor, d)? {
         Some(lines) => Ok(Some(rule_with(alloc, net, divisor, n, d, table, lines)?)),
         None => Ok(None),

@@ -16,7 +16,7 @@ ghost use Rattle.mv_rules.specs.Checks.{HasRoom};
 use crate::Stop;
 use crate::adding::add_divisor;
 use crate::dividing::divide_each;
-use crate::kind::{Divisors, best};
+use crate::kind::{Divisors, begin, best, follow};
 use crate::noting::{note_behind, note_full};
 use mv_base::{MAX_NETS, NetId};
 use mv_cover::Cube;
@@ -66,9 +66,13 @@ fn take_out_each<J: Journal>(
         net.old net.new (J.state journal.old) (J.state journal.new) result }
     ensures means { SameMeaning (of_net net.new) (of_net net.old) }
 {
+    let mut search = match begin(alloc, net, divisors) {
+        Ok(search) => search,
+        Err(_memory) => return Err(Stop::Memory),
+    };
     'extracting: loop {
         net.well_formed();
-        let divisor = match best(alloc, net, divisors) {
+        let divisor = match best(alloc, net, divisors, &mut search) {
             Ok(Some(divisor)) => divisor,
             Ok(None) => return note_behind(alloc, net, divisors, terms, journal),
             Err(_memory) => return Err(Stop::Memory),
@@ -76,10 +80,15 @@ fn take_out_each<J: Journal>(
         if net.next_number() as u64 >= MAX_NETS {
             return note_full(net, divisors, divisor.as_slice(), terms, journal);
         }
+        let d = NetId(net.next_number());
         match take_out(alloc, net, divisor.as_slice(), terms, journal) {
             Ok(()) => {}
             Err(stop) => return Err(stop),
         }
+        search = match follow(alloc, net, divisors, search, d) {
+            Ok(search) => search,
+            Err(_memory) => return Err(Stop::Memory),
+        };
     }
 }
 

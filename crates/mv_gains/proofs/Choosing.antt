@@ -16,7 +16,7 @@ use Rattle.mv_divide.specs.declared.part.Part.{Part}
 use Rattle.mv_gains.specs.declared.best.Best.{Best}
 use Rattle.mv_gains.specs.Best.{IsSaved, IsOnlySaved, IsNoBetter, IsBestOf, SavesNothing, better, comes_before}
 
-less_is : (r : Ordering) → is_lt r ≡ true → r ≡ Less
+pub less_is : (r : Ordering) → is_lt r ≡ true → r ≡ Less
 less_is Less h = refl
 less_is Equal h = absurd (false≢true h)
 less_is Greater h = absurd (false≢true h)
@@ -33,28 +33,28 @@ not_behind_itself : (a : List (List Lit)) → cubes_cmp a a ≡ Greater → ⊥
 not_behind_itself a g = let e : Equal ≡ Greater = sym (tied_itself cubes_total a) ∙ g in absurd (cc)
 
 module _ (tables : List (List Part)) where
-  itself : (x : List (List Lit)) (saved : ℕ) → IsOnlySaved tables x saved → IsNoBetter tables x saved x
+  pub itself : (x : List (List Lit)) (saved : ℕ) → IsOnlySaved tables x saved → IsNoBetter tables x saved x
   itself x saved o = record { most = λ s h. omega (arith, o.only s h); least = λ h g. not_behind_itself x g }
 
-  over_nothing : (x d : List (List Lit)) (saved : ℕ) → 0 < saved → SavesNothing tables d → IsNoBetter tables x saved d
+  pub over_nothing : (x d : List (List Lit)) (saved : ℕ) → 0 < saved → SavesNothing tables d → IsNoBetter tables x saved d
   over_nothing x d saved some n = record { most = λ s h. omega (arith, n.none s h); least = λ h g. absurd (omega (arith, n.none saved h, some)) }
 
   -- what saves more is no worse than what the old one is no worse than
-  over_more : (old x d : List (List Lit)) (was saved : ℕ) → was < saved → IsNoBetter tables old was d → IsNoBetter tables x saved d
+  pub over_more : (old x d : List (List Lit)) (was saved : ℕ) → was < saved → IsNoBetter tables old was d → IsNoBetter tables x saved d
   over_more old x d was saved more n = record {
     most = λ s h. omega (arith, n.most s h, more);
     least = λ h g. absurd (omega (arith, n.most saved h, more));
   }
 
   -- nor is what saves as much and comes before the old one
-  over_before : (old x d : List (List Lit)) (was saved : ℕ) → saved ≡ was → cubes_cmp x old ≡ Less → IsNoBetter tables old was d → IsNoBetter tables x saved d
+  pub over_before : (old x d : List (List Lit)) (was saved : ℕ) → saved ≡ was → cubes_cmp x old ≡ Less → IsNoBetter tables old was d → IsNoBetter tables x saved d
   over_before old x d was saved same less n = record {
     most = λ s h. omega (arith, n.most s h, same);
     least = λ h g. n.least (subst (IsSaved tables d) same h) (behind d old (cubes_total.trans d x old (before x d g) less));
   }
 
   -- a candidate by which the old one stays is no better than it
-  old_stays : (old x : List (List Lit)) (was saved : ℕ) → IsOnlySaved tables x saved → nat_lt was saved ≡ false → (saved ≡ was → is_lt (cubes_cmp x old) ≡ false) → IsNoBetter tables old was x
+  pub old_stays : (old x : List (List Lit)) (was saved : ℕ) → IsOnlySaved tables x saved → nat_lt was saved ≡ false → (saved ≡ was → is_lt (cubes_cmp x old) ≡ false) → IsNoBetter tables old was x
   old_stays old x was saved o low no_before = record {
     most = λ s h. let at_most = ltb-false was saved low in omega (arith, o.only s h, at_most);
     least = λ h g. false≢true (sym (no_before (sym (o.only was h))) ∙ ap is_lt (before old x g));

@@ -1,22 +1,25 @@
 -- The best of the list of all candidates is the best candidate.
-use Rattle.std.proofs.Common.{◌≡◌, ◌∙◌, ℕ, ◌<◌, Option, Some, None, List, length, map, All, Contains, inl, inr, refl, sym, ap, subst, arith}
-use Rattle.std.proofs.lemmas.Bool.{cases_lt}
-use Rattle.std.proofs.lemmas.List.{get_or_past, get_or_default}
+use Rattle.std.proofs.Common.{◌≡◌, ◌∙◌, ℕ, ◌<◌, Option, Some, None, List, [], map, All, Contains, refl, sym, ap, subst, arith}
 use Rattle.std.proofs.lemmas.List.Elements.{All-weaker, All-contains, All-contains_itself}
 use Rattle.std.specs.Option.{MatchOption}
 use Rattle.mv_cover.specs.Literal.{Lit}
 use Rattle.mv_net.specs.declared.parts.FlatNet.{FlatNet}
 use Rattle.mv_net.specs.Nets.{slot}
+use Rattle.mv_kernels.specs.declared.kernel.Kernel.{Kernel}
 use Rattle.mv_kernels.specs.Kernels.{IsKernelOf, HasFew}
-use Rattle.mv_kernels.proofs.Lists.{Contains-none, Contains-map, Contains-from_map}
+use Rattle.mv_kernels.proofs.Lists.{Contains-map, Contains-from_map}
 use Rattle.mv_divide.specs.declared.part.Part.{Part}
-use Rattle.mv_gains.specs.Gains.{lines_at, IsTableSaving, Saves}
-use Rattle.mv_gains.specs.Candidates.{IsKernelCandidate, IsCubeCandidate, IsBest, NoneSaves}
-use Rattle.mv_gains.specs.Tables.{covers_at, HasLines, IsDivisor, IsPartsSaving}
+use Rattle.mv_gains.specs.Gains.{lines_at, covers_at, IsTableSaving, Saves}
+use Rattle.mv_gains.specs.Candidates.{IsKernelCandidate, IsCubeCandidate, IsDivisorFor, IsBest, NoneSaves}
+use Rattle.mv_gains.specs.Tables.{HasLines, IsDivisor, IsPartsSaving}
 use Rattle.mv_gains.specs.Best.{IsSaved, IsNoBetter, IsChosen, SavesNothing}
-use Rattle.mv_gains.specs.Kernels.{IsKernelIn, AreKernelsIn}
+use Rattle.mv_gains.specs.declared.kernels.Candidate.{Candidate}
+use Rattle.mv_gains.specs.declared.leader.Offer.{Offer}
+use Rattle.mv_gains.specs.Kernels.{AreCandidates, IsKernelOfTable}
+use Rattle.mv_gains.specs.Leading.{offer}
 use Rattle.mv_gains.specs.Cubes.{AreCubeCandidates}
 use Rattle.mv_gains.proofs.Divisors.{kernel_divisor, cube_divisor, divisor_of}
+use Rattle.mv_gains.proofs.Readers.{table_at}
 use Rattle.mv_gains.proofs.Sums.{sum_weaker, sum_of_map, sum_to_map}
 
 saves_is : (nets : List (Option FlatNet)) (d : List (List Lit)) (s : ℕ) → Saves nets d s → IsSaved (map covers_at nets) d s
@@ -71,54 +74,49 @@ module _ (Candidate : List (Option FlatNet) → List (List Lit) → Type 0) (net
 
 -- ---- kernels
 
-parts_in : (nets : List (Option FlatNet)) (n : ℕ) (part : Part) → Contains (covers_at (slot nets n)) part → Contains (map covers_at nets) (covers_at (slot nets n))
-parts_in nets n part there =
-    elim (cases_lt n (length nets)) [
-      | inl low ↦ Contains-map covers_at nets (slot nets n) (n, low, get_or_default nets n (slot nets n) None low)
-      | inr past ↦
-          absurd (Contains-none part (subst (λ (f : Option FlatNet). Contains (covers_at f) part) (get_or_past nets n None past) there))
-    ]
-
-kernel_to : (nets : List (Option FlatNet)) (k : List (List Lit)) → IsKernelCandidate nets k → IsKernelIn (map covers_at nets) (record { cubes = k })
+kernel_to : (nets : List (Option FlatNet)) (k : List (List Lit)) (c : IsKernelCandidate nets k) → IsKernelOfTable (covers_at (slot nets c.net)) (record { cubes = k })
 kernel_to nets k c =
     let same = c.there.is in
     record {
-      from = covers_at (slot nets c.net);
-      there = parts_in nets c.net c.there.part c.there.there;
+      from = c.there.part;
+      there = c.there.there;
       is = record {
-        from = c.there.part;
-        there = c.there.there;
-        is = record {
-          few = subst HasFew (sym same) c.few;
-          is = subst (λ (cover : List (List Lit)). IsKernelOf cover k) (sym same) c.is;
-          symbols = c.symbols;
-        };
+        few = subst HasFew (sym same) c.few;
+        is = subst (λ (cover : List (List Lit)). IsKernelOf cover k) (sym same) c.is;
+        symbols = c.symbols;
       };
     }
 
-kernel_from : (nets : List (Option FlatNet)) (k : List (List Lit)) → IsKernelIn (map covers_at nets) (record { cubes = k }) → IsKernelCandidate nets k
-kernel_from nets k c =
-    let m = Contains-from_map covers_at nets c.from c.there in
-    let at : slot nets m.1.0 ≡ m.0 = get_or_default nets m.1.0 None m.0 m.1.1 ∙ m.1.2 in
-    let parts : c.from ≡ covers_at (slot nets m.1.0) = m.2 ∙ ap covers_at (sym at) in
-    record {
-      net = m.1.0;
-      cover = c.is.from.cover;
-      there = record { part = c.is.from; there = subst (λ (ps : List Part). Contains ps c.is.from) parts c.is.there; is = refl };
-      few = c.is.is.few;
-      is = c.is.is.is;
-      symbols = c.is.is.symbols;
-    }
-
-pub kernels_all : (nets : List (Option FlatNet)) (tables : List (List Part)) (list : List (List (List Lit))) → tables ≡ map covers_at nets → AreKernelsIn tables list → AreAll IsKernelCandidate nets list
-kernels_all nets tables list are a = record {
-  each = λ d i. kernel_from nets d (subst (λ (ts : List (List Part)). IsKernelIn ts (record { cubes = d })) are (a.each d i));
-  all = λ d c. a.all d (subst (λ (ts : List (List Part)). IsKernelIn ts (record { cubes = d })) (sym are) (kernel_to nets d c));
+kernel_from : (nets : List (Option FlatNet)) (n : ℕ) (k : Kernel) → IsKernelOfTable (covers_at (slot nets n)) k → IsKernelCandidate nets k.cubes
+kernel_from nets n k c = record {
+  net = n;
+  cover = c.from.cover;
+  there = record { part = c.from; there = c.there; is = refl };
+  few = c.is.few;
+  is = c.is.is;
+  symbols = c.is.symbols;
 }
 
-pub kernels_divide : (nets : List (Option FlatNet)) (tables : List (List Part)) (list : List (List (List Lit))) → tables ≡ map covers_at nets → All HasLines nets → AreKernelsIn tables list → All IsDivisor list
+-- a candidate that is kept is one of the network
+pub candidate_is : (nets : List (Option FlatNet)) (tables : List (List Part)) (list : List Candidate) (c : Candidate) → tables ≡ map covers_at nets → AreCandidates tables [] list → Contains list c → IsKernelCandidate nets c.kernel.cubes
+candidate_is nets tables list c are a i =
+    kernel_from nets c.table.0 c.kernel (subst (λ (ps : List Part). IsKernelOfTable ps c.kernel) (table_at nets tables are c.table.0) (a.each c i))
+
+pub kernels_divide : (nets : List (Option FlatNet)) (tables : List (List Part)) (list : List Candidate) → tables ≡ map covers_at nets → All HasLines nets → AreCandidates tables [] list → All (λ (c : Candidate). IsDivisorFor nets c.kernel.cubes) list
 kernels_divide nets tables list are good a =
-    All-weaker (Contains list) IsDivisor (λ d i. divisor_of nets d (kernel_divisor nets d good ((kernels_all nets tables list are a).each d i))) list (All-contains_itself list)
+    All-weaker (Contains list) (λ (c : Candidate). IsDivisorFor nets c.kernel.cubes) (λ c i. kernel_divisor nets c.kernel.cubes good (candidate_is nets tables list c are a i)) list (All-contains_itself list)
+
+pub kernels_all : (nets : List (Option FlatNet)) (tables : List (List Part)) (list : List Candidate) → tables ≡ map covers_at nets → AreCandidates tables [] list → AreAll IsKernelCandidate nets (map (λ (o : Offer). o.divisor) (map offer list))
+kernels_all nets tables list are a = record {
+  each = λ d i.
+      let m = Contains-from_map (λ (o : Offer). o.divisor) (map offer list) d i in
+      let n = Contains-from_map offer list m.0 m.1 in
+      subst (IsKernelCandidate nets) (sym (m.2 ∙ ap (λ (o : Offer). o.divisor) n.2)) (candidate_is nets tables list n.0 are a n.1);
+  all = λ d c.
+      let h = a.all c.net (record { cubes = d }) refl (subst (λ (ps : List Part). IsKernelOfTable ps (record { cubes = d })) (sym (table_at nets tables are c.net)) (kernel_to nets d c)) in
+      subst (Contains (map (λ (o : Offer). o.divisor) (map offer list))) (ap (λ (k : Kernel). k.cubes) h.is)
+      (Contains-map (λ (o : Offer). o.divisor) (map offer list) (offer h.candidate) (Contains-map offer list h.candidate h.there));
+}
 
 -- ---- cubes
 

@@ -24,9 +24,9 @@ use Rattle.indexmap.specs.IndexSet.{insert_all}
 use Rattle.mv_kernels.proofs.Lists.{insert_all-keeps, insert_all-has}
 use Rattle.mv_divide.specs.declared.part.Part.{Part}
 use Rattle.mv_divide.specs.Tables.{parts_of}
-use Rattle.mv_gains.specs.Gains.{lines_in, lines_at}
+use Rattle.mv_gains.specs.Gains.{lines_in, lines_at, covers_at}
 use Rattle.mv_gains.specs.Holders.{IsNoted, Ascends, AreHolders}
-use Rattle.mv_gains.specs.Tables.{covers_at, HasLines, IsReady, HasLiteral, HasAllOf, AreKept, IsSavingAt, IsGainAt, IsPartsSaving, IsTablesGain, IsDivisor, IsOnlyGain}
+use Rattle.mv_gains.specs.Tables.{HasLines, IsReady, HasLiteral, HasAllOf, AreKept, IsSavingAt, IsGainAt, IsPartsSaving, IsTablesGain, IsDivisor, IsOnlyGain}
 use Rattle.mv_gains.proofs.Noting.{take_more}
 use Rattle.mv_gains.proofs.Parts.{line_of, ready_parts}
 use Rattle.mv_gains.proofs.Savings.{table_cases, gain_once}

@@ -11,3 +11,9 @@ pub mod Symbolic
 pub mod Commons
 pub mod Many
 pub mod Dividing
+pub mod Marking
+pub mod Readers
+pub mod Staying
+pub mod Offers
+pub mod Renewal
+pub mod Refreshing

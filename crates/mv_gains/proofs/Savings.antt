@@ -1,7 +1,7 @@
 -- What the division of a cover saves is one number, and nothing where the divisor's symbols don't stand in it.
-use Rattle.std.proofs.Common.{◌≡◌, ◌∙◌, ℕ, ◌+◌, ◌<◌, ◌≤◌, ◌⊎◌, Bool, true, false, List, [], ◌∷◌, length, take, get_or, filter, All, Contains, inl, inr, refl, sym, ap, subst, arith, Decides}
+use Rattle.std.proofs.Common.{◌≡◌, ◌∙◌, ℕ, ◌+◌, ◌<◌, ◌≤◌, ◌⊎◌, Bool, true, false, List, [], ◌∷◌, length, map, take, get_or, filter, All, Contains, inl, inr, refl, sym, ap, subst, arith, Decides}
 use Rattle.std.proofs.lemmas.Bool.{cases_Bool, false≢true, or_right, false_from_ne_true}
-use Rattle.std.proofs.lemmas.List.Elements.{All-nil, All-contains, All-weaker, recursion_from_All}
+use Rattle.std.proofs.lemmas.List.Elements.{All-nil, All-contains, All-contains_itself, All-map, All-weaker, recursion_from_All}
 use Rattle.std.proofs.lemmas.List.Sums.{sum_by_more}
 use Rattle.std.proofs.lemmas.Map.Keys.{IsDistinct-cons, sorted_tail}
 use Rattle.std.proofs.lemmas.Map.Views.{All-after_first}
@@ -20,7 +20,10 @@ use Rattle.mv_kernels.specs.Order.{lit_cmp, cube_cmp, Ascend}
 use Rattle.mv_kernels.proofs.Lists.{Contains-none}
 use Rattle.mv_kernels.proofs.Orders.{lit_total, cube_total, Less-differs, same_sorted, sorted_cube}
 use Rattle.mv_kernels.proofs.Quotients.{in_symbol, symbol_in}
+use Rattle.mv_cover.specs.declared.line.Line.{Line}
 use Rattle.mv_divide.specs.declared.part.Part.{Part}
+use Rattle.mv_divide.specs.declared.quotient.Quotient.{Quotient}
+use Rattle.mv_divide.specs.Tables.{IsUndivided, parts_of}
 use Rattle.mv_divide.specs.Division.{IsQuotientCube, IsQuotient, HasJoin}
 use Rattle.mv_saving.specs.Saving.{literals, joined, AreCubes, IsSaving}
 use Rattle.mv_saving.proofs.Counting.{literals_are}
@@ -67,7 +70,7 @@ parts_once divisor parts n m r d =
     sum_once (λ (p : Part) (s : ℕ). IsSaving p.cover divisor s) parts n m
     (λ p a b i. saving_once p.cover divisor a b (All-contains (λ (q : Part). AreCubes q.cover) parts p r i) d)
 
-ready_cubes : (parts : List Part) → IsReady parts → All (λ (p : Part). AreCubes p.cover) parts
+pub ready_cubes : (parts : List Part) → IsReady parts → All (λ (p : Part). AreCubes p.cover) parts
 ready_cubes parts r k d low = record { formed = r.formed k d low; distinct = r.distinct k d low }
 
 pub gain_once : (divisor : List (List Lit)) (tables : List (List Part)) (n m : ℕ) → All IsReady tables → IsDivisor divisor → IsTablesGain tables divisor n → IsTablesGain tables divisor m → n ≡ m
@@ -101,18 +104,22 @@ pub all_stay : (xs : List (List Lit)) → xs ≡ filter (λ (_ : List Lit). true
 all_stay [] = refl
 all_stay (x ∷ xs) = ap (λ (ys : List (List Lit)). x ∷ ys) (all_stay xs)
 
-nothing_saved : (divisor : List (List Lit)) (first : List Lit) (l : Lit) (p : Part) → Contains divisor first → Contains first l → cover_has l p ≡ false → IsSaving p.cover divisor 0
+-- a divisor with that literal has the empty quotient
+no_quotient : (divisor : List (List Lit)) (first : List Lit) (l : Lit) (p : Part) → Contains divisor first → Contains first l → cover_has l p ≡ false → IsQuotient p.cover divisor []
 unfolding IsStrictlySortedBy
+no_quotient divisor first l p i j none = record {
+  ascending = tt;
+  each = All-nil (IsQuotientCube p.cover divisor);
+  all = λ s h.
+      let w = All-contains (HasJoin p.cover s) divisor first h.joins i in
+      let has : has_symbol w.cube l ≡ true = w.join.each l ∙ or_right (has_symbol s l) (has_symbol first l) (in_symbol first l j) in
+      absurd (false≢true (sym none ∙ any_at (λ (c : List Lit). has_symbol c l) p.cover w.cube w.held has));
+}
+
+nothing_saved : (divisor : List (List Lit)) (first : List Lit) (l : Lit) (p : Part) → Contains divisor first → Contains first l → cover_has l p ≡ false → IsSaving p.cover divisor 0
 nothing_saved divisor first l p i j none = record {
   quotient = [];
-  is = record {
-    ascending = tt;
-    each = All-nil (IsQuotientCube p.cover divisor);
-    all = λ s h.
-        let w = All-contains (HasJoin p.cover s) divisor first h.joins i in
-        let has : has_symbol w.cube l ≡ true = w.join.each l ∙ or_right (has_symbol s l) (has_symbol first l) (in_symbol first l j) in
-        absurd (false≢true (sym none ∙ any_at (λ (c : List Lit). has_symbol c l) p.cover w.cube w.held has));
-  };
+  is = no_quotient divisor first l p i j none;
   rest = p.cover;
   are = record {
     stays = λ _. true;
@@ -136,3 +143,30 @@ table_cases divisor first l parts i j =
           (sum_zero (λ (p : Part) (s : ℕ). IsSaving p.cover divisor s) parts (λ p h.
           nothing_saved divisor first l p i j (false_from_ne_true (cover_has l p) (λ t. false≢true (sym f ∙ any_at (cover_has l) parts p h t)))))
     ]
+
+abbrev no : Part → Quotient
+no p = record { out = p.out; cubes = [] }
+
+-- and has no quotient, so that it isn't divided
+pub undivided_at : (lines : List Line) (divisor : List (List Lit)) (first : List Lit) (l : Lit) → Contains divisor first → Contains first l → (HasLiteral l (parts_of lines) → ⊥) → IsUndivided lines divisor
+undivided_at lines divisor first l i j none = record {
+  quotients = map no (parts_of lines);
+  are = record {
+    outs = outs_same (parts_of lines);
+    each =
+        All-map (λ (q : Quotient). (p : Part) × Contains (parts_of lines) p × (p.out ≡ q.out) × IsQuotient p.cover divisor q.cubes) no (parts_of lines)
+        (All-weaker (Contains (parts_of lines)) (λ (x : Part). (p : Part) × Contains (parts_of lines) p × (p.out ≡ x.out) × IsQuotient p.cover divisor [])
+        (λ p there. (p, there, refl, no_quotient divisor first l p i j (off p there))) (parts_of lines) (All-contains_itself (parts_of lines)));
+  };
+  none = All-map (λ (q : Quotient). q.cubes ≡ []) no (parts_of lines) (λ k d low. refl);
+}
+  where
+    outs_same : (parts : List Part) → map (λ (q : Quotient). q.out) (map no parts) ≡ map (λ (p : Part). p.out) parts
+    outs_same [] = refl
+    outs_same (p ∷ ps) = ap (λ (os : List ℕ). p.out ∷ os) (outs_same ps)
+
+    off : (p : Part) → Contains (parts_of lines) p → cover_has l p ≡ false
+    off p there =
+        false_from_ne_true (cover_has l p) (λ t.
+        let c = find_any (λ (q : List Lit). has_symbol q l) p.cover t in
+        none (record { part = p; there = there; cube = c.x; held = c.there; has = symbol_in c.x l c.pass }))

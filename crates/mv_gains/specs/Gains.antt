@@ -1,11 +1,13 @@
 -- What a network saves where all of its tables are divided by one common divisor.
-use Rattle.std.specs.Prelude.{◌≡◌, ◌<◌, ◌+◌, ℕ, Option, Some, None, List, [], ◌∷◌}
+use Rattle.std.specs.Prelude.{◌≡◌, ◌<◌, ◌+◌, ℕ, false, Option, Some, None, List, [], ◌∷◌, slice_index_or}
+use Rattle.mv_base.specs.declared.number.NetId.{NetId}
 use Rattle.mv_cover.specs.Literal.{Lit}
 use Rattle.mv_cover.specs.Covers.{literal_count}
 use Rattle.mv_cover.specs.declared.line.Line.{Line}
 use Rattle.mv_cover.specs.declared.cover.Cover.{Cover}
 use Rattle.mv_net.specs.declared.parts.FlatNet.{FlatNet}
-use Rattle.mv_net.specs.Nets.{table_in}
+use Rattle.mv_net.specs.Nets.{slot, table_in}
+use Rattle.mv_graph.specs.Nets.{has_id}
 use Rattle.mv_divide.specs.declared.part.Part.{Part}
 use Rattle.mv_divide.specs.Tables.{parts_of}
 use Rattle.mv_saving.specs.Saving.{IsSaving, literals}
@@ -18,6 +20,10 @@ lines_in (Some c) = c.lines
 -- the lines of a net's table
 abbrev pub lines_at : Option FlatNet → List Line
 lines_at f = lines_in (table_in f)
+
+-- the covers of a net's table
+abbrev pub covers_at : Option FlatNet → List Part
+covers_at f = parts_of (lines_at f)
 
 -- a number for the first of a list, and the sum of those for the others
 pub record IsFirstSum {X : Type 0} (Is : X → ℕ → Type 0) (Rest : ℕ → Type 0) (x : X) (total : ℕ) : Type 0 where
@@ -53,3 +59,7 @@ pub record Saves (nets : List (Option FlatNet)) (divisor : List (List Lit)) (sav
   pub is : IsGain nets divisor gain
   pub some : 0 < saved
   pub less : gain ≡ literals divisor + saved
+
+-- the covers of the nets' tables are these, but for the ones that wait
+pub record AreCoversBut (waiting : List NetId) (nets : List (Option FlatNet)) (tables : List (List Part)) : Type 0 where
+  pub same : (n : ℕ) → has_id waiting n ≡ false → covers_at (slot nets n) ≡ slice_index_or tables n []

@@ -7,3 +7,6 @@ pub mod Tables
 pub mod Kernels
 pub mod Cubes
 pub mod Best
+pub mod Known
+pub mod Leading
+pub mod Renewing

@@ -9,14 +9,9 @@ use Rattle.mv_cover.specs.Lines.{lines_differ}
 use Rattle.mv_cover.specs.declared.line.Line.{Line}
 use Rattle.mv_net.specs.declared.parts.FlatNet.{FlatNet}
 use Rattle.mv_divide.specs.declared.part.Part.{Part}
-use Rattle.mv_divide.specs.Tables.{parts_of}
 use Rattle.mv_saving.specs.Saving.{IsSaving, literals}
 use Rattle.mv_gains.specs.Gains.{lines_at, IsSum}
 use Rattle.mv_gains.specs.Holders.{AreHolders}
-
--- the covers of a net's table
-abbrev pub covers_at : Option FlatNet → List Part
-covers_at f = parts_of (lines_at f)
 
 -- the lines of the net's table are distinct, and their literals are cubes
 pub record HasLines (f : Option FlatNet) : Type 0 where

@@ -5,7 +5,7 @@ ghost use Rattle.mv_gains.specs.Best.{IsBestOf, IsChosen, IsOnlySaved, SavesNoth
 ghost use Rattle.mv_gains.specs.Tables.{IsDivisor};
 
 use crate::cubes::cube_candidates;
-use crate::kernels::kernel_candidates;
+use crate::gains::Gains;
 use crate::tables::Tables;
 use mv_base::{Items, Memory};
 use mv_cover::Cube;
@@ -22,10 +22,8 @@ pub fn best_kernel(alloc: Global, net: &Network) -> Result<Option<Items<Cube>>, 
         (NoneSaves IsKernelCandidate net.now.nets)
         (IsBest IsKernelCandidate net.now.nets)) }
 {
-    net.well_formed();
-    let tables = Tables::of(alloc, net)?;
-    let candidates = kernel_candidates(alloc, &tables)?;
-    best_of(&tables, candidates)
+    let mut gains = Gains::of(alloc, net)?;
+    gains.best(net)
 }
 
 /// The cube that is best taken out of the tables of the network: the least of those that save the most, or None where none

@@ -1,13 +1,12 @@
-ghost use Rattle.std.specs.Prelude.{◌≡◌, All, IfOk, OnOk, IsTrue, ◌↔◌, MatchBool, map};
-ghost use Rattle.mv_kernels.specs.declared.kernel.Kernel.{Kernel as a_kernel};
+ghost use Rattle.std.specs.Prelude.{◌≡◌, ◌++◌, All, IfOk, OnOk, IsTrue, ◌↔◌, MatchBool, map};
 ghost use Rattle.mv_kernels.specs.Kernels.{HasFew, HasMany};
 ghost use Rattle.mv_gains.specs.Candidates.{HasManyKernels};
 ghost use Rattle.mv_gains.specs.Grown.{Grew, IsOneOf};
-ghost use Rattle.mv_gains.specs.Kernels.{HasSome, AreKernelsIn, IsKernelFrom, IsKernelOfPart, IsSymbolic};
+ghost use Rattle.mv_gains.specs.Kernels.{HasSome, IsKernelFrom, IsKernelOfPart, IsSymbolic, IsWithKernels, new_candidate};
 
-use crate::tables::{Tables, lines_of};
+use crate::tables::lines_of;
 use indexmap::IndexSet;
-use mv_base::{Items, Memory, NetId};
+use mv_base::{Memory, NetId};
 use mv_cover::Cube;
 use mv_divide::{Part, parts};
 use mv_kernels::{Kernel, KernelStop, kernels};
@@ -43,15 +42,47 @@ fn has_many(alloc: Global, cover: &[Cube]) -> Result<bool, Memory>
     }
 }
 
-/// The kernels of the covers, each once, whose every cube has a symbol. A cover of more than `MAX_KERNELS` gives none.
-pub fn kernel_candidates(alloc: Global, tables: &Tables) -> Result<Vec<Items<Cube>>, Memory>
-    ensures { IfOk result (λ found. AreKernelsIn tables.now found.items) }
+/// A kernel of a cover of a table, and what taking it out saved when that was last worked out.
+#[derive(Drop)]
+pub struct Candidate {
+    pub kernel: Kernel,
+    pub table: NetId,
+    /// A net of one of its literals: what it saves stays while the tables that read this net do.
+    pub key: NetId,
+    /// When what it saves was worked out, and 0 where it never was.
+    pub seen: u64,
+    pub saved: u128,
+}
+
+/// Adds the kernels of the covers of the table, each once, whose every cube has a symbol. A cover of more than `MAX_KERNELS`
+/// gives none.
+pub fn add_kernels(
+    alloc: Global,
+    list: &mut Vec<Candidate>,
+    table: NetId,
+    parts: &[Part],
+) -> Result<(), Memory>
+    ensures { OnOk result (IsWithKernels table parts.now list.old.items list.new.items) }
 {
     let mut found = IndexSet::new(alloc);
-    for covers in tables.covers() {
-        add_table(alloc, &mut found, covers.as_slice())?;
+    add_table(alloc, &mut found, parts)?;
+    add_all(list, table, listed(alloc, found)?)
+}
+
+/// Adds the kernels as candidates of the table, of which nothing is known yet.
+fn add_all(list: &mut Vec<Candidate>, table: NetId, kernels: Vec<Kernel>) -> Result<(), Memory>
+    ensures { OnOk result (list.new.items ≡ list.old.items ++ map (new_candidate table) kernels.items) }
+{
+    for kernel in kernels {
+        list.push(Candidate {
+            kernel,
+            table,
+            key: table,
+            seen: 0,
+            saved: 0,
+        })?;
     }
-    cubes_of(alloc, listed(alloc, found)?)
+    Ok(())
 }
 
 /// Puts the kernels of the covers of a table to those found.
@@ -101,17 +132,6 @@ fn have_symbols(cubes: &[Cube]) -> bool
     ensures { IsTrue result ↔ All HasSome cubes.now }
 {
     cubes.iter().all(|cube| cube.len() > 0)
-}
-
-/// The cubes of each kernel.
-fn cubes_of(alloc: Global, kernels: Vec<Kernel>) -> Result<Vec<Items<Cube>>, Memory>
-    ensures { IfOk result (λ list. list.items ≡ map (λ (k : a_kernel). k.cubes) kernels.items) }
-{
-    let mut list = Vec::new(alloc);
-    for kernel in kernels {
-        list.push(kernel.cubes)?;
-    }
-    Ok(list)
 }
 
 /// The kernels found, in order.

@@ -3,11 +3,16 @@
 
 mod best;
 mod cubes;
+mod gains;
 mod holders;
 mod kernels;
 mod law;
+mod leader;
+mod marks;
 mod tables;
+mod worth;
 
 pub use best::{best_cube, best_kernel};
+pub use gains::Gains;
 pub use kernels::has_many_kernels;
 pub use law::{candidate_laws, table_law};

@@ -5,9 +5,9 @@ ghost use Rattle.mv_base.specs.declared.limits.TheConstants.{MAX_NETS};
 ghost use Rattle.mv_cover.specs.Equal.{cube_eq, lit_eq};
 ghost use Rattle.mv_cover.specs.Covers.{literal_count};
 ghost use Rattle.mv_saving.specs.Saving as savings;
-ghost use Rattle.mv_gains.specs.Gains.{lines_at};
+ghost use Rattle.mv_gains.specs.Gains.{covers_at, lines_at};
 ghost use Rattle.mv_gains.specs.Holders.{Ascends};
-ghost use Rattle.mv_gains.specs.Tables.{HasAllOf, HasLines, IsDivisor, IsGainAt, IsOnlyGain, IsPartsSaving, IsReady, covers_at};
+ghost use Rattle.mv_gains.specs.Tables.{HasAllOf, HasLines, IsDivisor, IsGainAt, IsOnlyGain, IsPartsSaving, IsReady};
 
 use crate::holders::{Holders, no_holders, note_all, places_of};
 use indexmap::IndexSet;
@@ -67,13 +67,6 @@ impl Tables {
         Ok(Tables { covers, holders })
     }
 
-    /// The covers of each table.
-    pub fn covers(&self) -> &[Items<Part>]
-        ensures { result.now ≡ self.now }
-    {
-        self.covers.as_slice()
-    }
-
     /// What dividing all tables by the divisor saves. The divisor's own literals aren't counted.
     pub fn gain(&self, divisor: &[Cube]) -> Result<u128, Memory>
         requires { IsDivisor divisor.now }
@@ -99,7 +92,7 @@ impl Tables {
 }
 
 /// What dividing the covers of a table by the divisor saves.
-fn saving_of(parts: &[Part], divisor: &[Cube]) -> Result<u128, Memory>
+pub fn saving_of(parts: &[Part], divisor: &[Cube]) -> Result<u128, Memory>
     requires ready { IsReady parts.now }
     requires distinct { IsDistinct cube_eq divisor.now }
     requires some { 0 < savings.literals divisor.now }

@@ -1,6 +1,7 @@
 use Rattle.std.proofs.Common.{◌≡◌, map, take}
 use Rattle.mv_gains.specs.Holders.{places_in}
-use Rattle.mv_gains.specs.Tables.{AreKept, covers_at}
+use Rattle.mv_gains.specs.Gains.{covers_at}
+use Rattle.mv_gains.specs.Tables.{AreKept}
 use Rattle.mv_gains.proofs.tables.Tables.of_nets.Given as goal
 
 abbrev pub invariant-loop-number : goal.invariant-loop-number
