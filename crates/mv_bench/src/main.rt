@@ -4,10 +4,12 @@
 //! 4000 1`. The one word `lex` cuts standard input into lines of words, and prints how many there are; the one word `parse`
 //! reads it as a network file, and prints how many models, tables and rows its design has. The words `rules KIND COUNT`
 //! read it as a network, apply so many rules of a kind, and print how many were applied, the literals that are left, and the
-//! time that the rules took.
+//! time that the rules took. The words `flex D U TIMES` read it as a network, work out the flexibility of each net with a table in the
+//! window of so many steps down and up, so many times, and print how many were found, how many windows were too wide, and the time.
 #![tactic(auto)]
 
 mod draw;
+mod flexing;
 mod lexing;
 mod meets;
 mod pairs;
@@ -38,6 +40,13 @@ fn run(rt: &HostRuntime) -> Result<(), Stop> {
         if word.as_str() == "rules" {
             let applied = ruling::ruled(rt, kind.as_str(), count.as_str())?;
             println!(rt; "rules {kind} {applied}")?;
+            return Ok(());
+        }
+    }
+    if let [word, down, up, times] = words.as_slice() {
+        if word.as_str() == "flex" {
+            let found = flexing::flex_input(rt, down.as_str(), up.as_str(), times.as_str())?;
+            println!(rt; "flex {down} {up} {found}")?;
             return Ok(());
         }
     }

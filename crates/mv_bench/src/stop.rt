@@ -69,7 +69,7 @@ impl fmt::Display for Stop {
         match self {
             Stop::Words => write!(
                 f,
-                "the words are lex, parse, rules KIND COUNT, or TASK SIZE SEED once or more; a TASK is covers, absorb, complement, kernels or meet"
+                "the words are lex, parse, rules KIND COUNT, flex D U TIMES, or TASK SIZE SEED once or more; a TASK is covers, absorb, complement, kernels or meet"
             ),
             Stop::Memory => write!(f, "out of memory"),
             Stop::Read => write!(f, "standard input can't be read"),

@@ -2,7 +2,7 @@
 use Rattle.std.proofs.Common.{◌≡◌, ◌∙◌, ℕ, Bool, true, false, inl, inr, refl, sym, ap}
 use Rattle.std.proofs.lemmas.Bool.{false≢true}
 use Rattle.mv_entry.specs.declared.rule.Rule.{Rule}
-use Rattle.mv_entry.specs.declared.rule.Rule.TheVariants.{Remove, Add, Divide, Wire, Collapse, Fill}
+use Rattle.mv_entry.specs.declared.rule.Rule.TheVariants.{Remove, Add, Divide, Wire, Collapse, Narrow, Fill}
 use Rattle.mv_entry.specs.declared.fault.RuleFault.{RuleFault}
 use Rattle.mv_entry.specs.declared.fault.RuleFault.TheVariants.{Memory}
 use Rattle.mv_net.specs.declared.parts.NetParts.{NetParts}
@@ -46,6 +46,10 @@ row_spares free (Divide w by body) net =
 row_spares free (Wire w) net = with_spares _ _ (λ n. unless_spares _ _ _ refl (unless_spares _ _ _ refl passed_spares))
 row_spares free (Collapse w) net =
     with_spares _ _ (λ n. unless_spares _ _ _ refl (unless_spares _ _ _ refl (unless_spares _ _ _ refl (unless_spares _ _ _ refl passed_spares))))
+row_spares free (Narrow w d u body) net =
+    with_spares _ _ (λ n.
+    unless_spares _ _ _ refl (unless_spares _ _ _ refl (unless_spares _ _ _ refl (
+    unless_spares _ _ _ refl (unless_spares _ _ _ refl (unless_spares _ _ _ refl (unless_spares _ _ _ refl passed_spares)))))))
 row_spares free (Fill w out) net = with_spares _ _ (λ n. unless_spares _ _ _ refl (unless_spares _ _ _ refl (unless_spares _ _ _ refl (unless_spares _ _ _ refl passed_spares))))
 row_spares free _ net = record { none = λ x. x }
 

@@ -4,11 +4,11 @@ use Rattle.std.proofs.lemmas.List.{map-append, take_more, take_all, take-append-
 use Rattle.std.proofs.lemmas.Bool.{cases_Bool, false≢true}
 use Rattle.std.proofs.lemmas.List.Folds.{list_all_at}
 use Rattle.mv_entry.specs.declared.fault.RuleFault.{RuleFault}
-use Rattle.mv_entry.specs.declared.fault.RuleFault.TheVariants.{Memory as out_of_memory}
+use Rattle.mv_entry.specs.declared.fault.RuleFault.TheVariants.{Nodes, Memory as out_of_memory}
 use Rattle.mv_entry.specs.Entries.{is_built}
 use Rattle.mv_net.specs.declared.parts.NetParts.{NetParts}
 use Rattle.mv_net.specs.Formed.{WellFormed}
-use Rattle.mv_rules.specs.Applies.{Applies, Fails}
+use Rattle.mv_rules.specs.Applies.{Applies, Fails, LacksNodes, Stops}
 use Rattle.mv_rules.specs.Replaying.{Replays}
 use Rattle.mv_rules.proofs.Kept.{kept_formed}
 use Rattle.mv_rules.proofs.OneAnswer.{one_network, not_both}
@@ -18,7 +18,7 @@ use Rattle.mv_step.specs.Certificates.{are_built}
 use Rattle.mv_cert.specs.Certificates.{Certifies, steps_in}
 use Rattle.mv_cert.specs.declared.fault.ReplayFault.{ReplayFault}
 use Rattle.mv_cert.specs.declared.fault.ReplayFault.TheVariants.{Rule as RuleFails, Memory}
-use Rattle.mv_cert.specs.Replay.{LeadPart, FailsAt, EndsEarly, rules_in}
+use Rattle.mv_cert.specs.Replay.{LeadPart, FailsAt, LacksAt, EndsEarly, rules_in}
 use Rattle.mv_cert.proofs.Causes.{never_memory}
 
 -- rules that all apply, and a front of them behind which one fails
@@ -61,13 +61,27 @@ module _ (free : Bool) (steps : List Step) (i : ℕ) (old mid : NetParts) (ran :
     fails = fails;
   }
 
+  lacks_here : (budget : ℕ) (d : Step) (line : ℕ) → i < length steps → line ≡ (get_or steps i d).line → LacksNodes budget (get_or steps i d).rule mid → LacksAt free budget steps old mid line
+  lacks_here budget d line low at lacks = record {
+    front = take i steps;
+    step = get_or steps i d;
+    behind = drop (i + 1) steps;
+    steps_are = sym (take-append-drop i steps) ∙ ap (λ z. take i steps ++ z) (drop_more steps i d low);
+    replays = ran;
+    line_is = at;
+    lacks = lacks;
+  }
+
   -- the rule of the next step isn't applied
-  pub stops_here : (d : Step) (line : ℕ) (fault : RuleFault) (answer : ReplayFault) → i < length steps → line ≡ (get_or steps i d).line → (fault ≡ out_of_memory) ⊎ Fails free (get_or steps i d).rule mid fault
-      → (fault ≡ out_of_memory → answer ≡ Memory) → ((fault ≡ out_of_memory → ⊥) → answer ≡ RuleFails line fault) → EndsEarly free steps old mid answer
-  stops_here d line fault answer low at (inl e) memory rule = subst (λ a. EndsEarly free steps old mid a) (sym (memory e)) part_led
-  stops_here d line fault answer low at (inr fails) memory rule =
+  pub stops_here : (budget : ℕ) (d : Step) (line : ℕ) (fault : RuleFault) (answer : ReplayFault) → i < length steps → line ≡ (get_or steps i d).line → (fault ≡ out_of_memory) ⊎ Stops free budget (get_or steps i d).rule mid fault
+      → (fault ≡ out_of_memory → answer ≡ Memory) → ((fault ≡ out_of_memory → ⊥) → answer ≡ RuleFails line fault) → EndsEarly free budget steps old mid answer
+  stops_here budget d line fault answer low at (inl e) memory rule = subst (λ a. EndsEarly free budget steps old mid a) (sym (memory e)) part_led
+  stops_here budget d line fault answer low at (inr (inl short)) memory rule =
+      let known = rule (λ e. let bad : Nodes ≡ out_of_memory = sym short.0 ∙ e in absurd cc) in
+      subst (λ a. EndsEarly free budget steps old mid a) (sym known) (inr (short.0, lacks_here budget d line low at short.1))
+  stops_here budget d line fault answer low at (inr (inr fails)) memory rule =
       let known = rule (λ e. never_memory free (get_or steps i d).rule mid (subst (λ f. Fails free (get_or steps i d).rule mid f) e fails)) in
-      subst (λ a. EndsEarly free steps old mid a) (sym known) (fails_here d line fault low at fails)
+      subst (λ a. EndsEarly free budget steps old mid a) (sym known) (inl (fails_here d line fault low at fails))
 
 -- each step of steps that are built is
 pub step_built : (steps : List Step) (i : ℕ) (d : Step) → are_built steps ≡ true → i < length steps → is_built (get_or steps i d).rule ≡ true

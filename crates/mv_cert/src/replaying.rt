@@ -25,9 +25,9 @@ fn refusal(line: u32, fault: RuleFault) -> ReplayFault
 }
 
 /// Applies the steps in turn on these terms. At Ok all of them applied; else the fault is that of the first that doesn't, with its
-/// line, and the network is as the steps before it leave it, as it is for want of memory. The network may always take the place of
-/// the old one, where free under values where that one allows some choice. The rules have to be built in this version, as those
-/// that `read_cert` lists are.
+/// line, or that there are too few nodes to judge it, and the network is as the steps before it leave it, as it is for want of
+/// memory. The network may always take the place of the old one, where free under values where that one allows some choice. The
+/// rules have to be built in this version, as those that `read_cert` lists are.
 pub fn replay(
     alloc: Global,
     net: &mut Network,
@@ -36,7 +36,7 @@ pub fn replay(
 ) -> Result<(), ReplayFault>
     requires { are_built steps.now ≡ true }
     ensures replays { OnOk result (Replays terms.free (rules_in steps.now) net.old net.new) }
-    ensures stops { IfErr result (EndsEarly terms.free steps.now net.old net.new) }
+    ensures stops { IfErr result (EndsEarly terms.free terms.budget steps.now net.old net.new) }
     ensures refines { Refines terms.free (of_net net.new) (of_net net.old) }
 {
     for step in steps {

@@ -22,6 +22,7 @@ pub enum TrialStop {
 
 /// Applies the steps, whose rules are built in this version, to the network in turn on these terms, and then puts the done line to the
 /// notes and the text of the network that is left to the output. From the done line on it takes no memory.
+#[tactic(auto, using(crate::proofs::Trials::fails_trial))]
 pub fn carry_out<O: Sink, E: Sink>(
     alloc: Global,
     trial: Trial,

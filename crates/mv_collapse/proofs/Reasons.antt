@@ -1,5 +1,5 @@
 -- The one step of `collapse NET`: a check of the rule that fails has its note, and a step is all.
-use Rattle.std.proofs.Common.{◌≡◌, ◌⊎◌, ⊎_elim, ◌<◌, ◌≤◌, ℕ, Bool, false, List, [], ◌∷◌, inl, inr, Result, refl, sym, ap, subst, arith}
+use Rattle.std.proofs.Common.{◌≡◌, ◌⊎◌, ◌<◌, ◌≤◌, ℕ, Bool, false, List, [], ◌∷◌, inl, inr, Result, refl, sym, ap, subst, arith}
 use Rattle.std.specs.Prelude.{MatchOption}
 use Rattle.mv_entry.specs.declared.fault.RuleFault.{RuleFault}
 use Rattle.mv_entry.specs.declared.fault.RuleFault.TheVariants.{Memory as out_of_memory}
@@ -15,7 +15,7 @@ use Rattle.mv_entry.specs.Tallies.{Journaled, Takes}
 use Rattle.mv_net.specs.declared.parts.NetParts.{NetParts}
 use Rattle.mv_net.specs.Nets.{literals_in}
 use Rattle.mv_pass.specs.Taking.{CanApply}
-use Rattle.mv_rules.specs.Applies.{Applies, Fails, LeavesLiterals}
+use Rattle.mv_rules.specs.Applies.{Applies, Fails, LacksNodes, LeavesLiterals, Stops}
 use Rattle.mv_rules.specs.Collapsing.{FailsCollapse}
 use Rattle.mv_collapse.specs.Collapses.{CollapsesFreely, StaysFor, CollapsesNet, Collapsed, Remains}
 use Rattle.mv_collapse.specs.Reasons.{why_for}
@@ -33,9 +33,10 @@ fails_for net name f (inr (n, tabled, inr (unseen, inr (read, inr (unshared, inl
     rw e (inr (n, tabled, inr (unseen, inr (read, inr (unshared, inl (wide, refl))))))
 fails_for net name f (inr (n, tabled, inr (unseen, inr (read, inr (unshared, inr nothing))))) = absurd nothing.1
 
-pub reason_for : (net : NetParts) (name : List ℕ) (rule : Rule) (f : RuleFault) → rule ≡ Collapse name → (f ≡ out_of_memory) ⊎ Fails false rule net f → (f ≡ out_of_memory → ⊥) → MatchOption (why_for f) ⊥ (StaysFor net name)
-reason_for net name rule f is answer not_memory =
-    ⊎_elim (λ e. absurd (not_memory e)) (λ (fails : Fails false rule net f). fails_for net name f (subst (λ r. Fails false r net f) is fails)) answer
+pub reason_for : (net : NetParts) (name : List ℕ) (rule : Rule) (budget : ℕ) (f : RuleFault) → rule ≡ Collapse name → (f ≡ out_of_memory) ⊎ Stops false budget rule net f → (f ≡ out_of_memory → ⊥) → MatchOption (why_for f) ⊥ (StaysFor net name)
+reason_for net name rule budget f is (inl e) not_memory = absurd (not_memory e)
+reason_for net name rule budget f is (inr (inl short)) not_memory = absurd (subst (λ r. LacksNodes budget r net) is short.1)
+reason_for net name rule budget f is (inr (inr fails)) not_memory = fails_for net name f (subst (λ r. Fails false r net f) is fails)
 
 pub freely : (net : NetParts) (name : List ℕ) (rule : Rule) (after before : ℕ) → rule ≡ Collapse name → LeavesLiterals rule net after → before ≡ literals_in net.nets → after ≤ before → CollapsesFreely net name
 freely net name rule after before is leaves now low = record {

@@ -106,6 +106,7 @@ is_built (Add net body) = true
 is_built (Divide net by body) = true
 is_built (Wire net) = true
 is_built (Collapse net) = true
+is_built (Narrow net d u body) = true
 is_built (Fill net out) = true
 is_built _ = false
 

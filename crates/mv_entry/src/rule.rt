@@ -172,6 +172,7 @@ impl Rule {
             | Rule::Divide { .. }
             | Rule::Wire { .. }
             | Rule::Collapse { .. }
+            | Rule::Narrow { .. }
             | Rule::Fill { .. } => true,
             _ => false,
         }

@@ -107,7 +107,7 @@ by_test : (b : Bool) (P Q : Type 0) → (b ≡ true → P) → (b ≡ false → 
 by_test true P Q f g = f refl
 by_test false P Q f g = g refl
 
-marked_low : (marks : List Bool) (q : ℕ) → get_or marks q false ≡ true → q < length marks
+pub marked_low : (marks : List Bool) (q : ℕ) → get_or marks q false ≡ true → q < length marks
 marked_low marks q y =
     ⊎_elim
     (λ (low : q < length marks). low)

@@ -60,7 +60,7 @@ default_some : (d : Option ℕ) → default_chooses d ≡ true → (v : ℕ) × 
 default_some None h = absurd (false≢true h)
 default_some (Some out) h = member_of out (not-true (nat_eq out empty) h)
 
-default_from : (d : Option ℕ) (v : ℕ) → default_gives d v ≡ true → default_chooses d ≡ true
+pub default_from : (d : Option ℕ) (v : ℕ) → default_gives d v ≡ true → default_chooses d ≡ true
 default_from None v h = absurd (false≢true h)
 default_from (Some out) v h = not_empty out v h
 

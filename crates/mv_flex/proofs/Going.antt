@@ -1,8 +1,9 @@
 -- What going through the points of a window finds: the pairs outside the flexibility.
-use Rattle.std.proofs.Common.{◌≡◌, ◌⊎◌, ◌∙◌, ℕ, suc, ◌<◌, Bool, true, false, not, ◌&&◌, ◌||◌, nat_eq, nat_lt, List, [], ◌∷◌, ◌++◌, filter, get_or, length, Option, Some, None, is_some, refl, sym, ap, subst, inl, inr, ⊎_elim}
+use Rattle.std.proofs.Common.{◌≡◌, ◌⊎◌, ◌∙◌, ℕ, suc, ◌<◌, ◌≤◌, Bool, true, false, not, ◌&&◌, ◌||◌, nat_eq, nat_lt, List, [], ◌∷◌, ◌++◌, filter, get_or, length, Option, Some, None, is_some, refl, sym, ap, subst, inl, inr, ⊎_elim}
 use Rattle.std.proofs.lemmas.Bool.{cases_Bool, cases_eq, false≢true, or_cases, or_left, or_right, and_parts, and_from, eqb-true, eqb-false, ne_eqb, ltb-true, not-true, not_from_false}
 use Rattle.std.proofs.lemmas.List.{map-append}
 use Rattle.mv_base.specs.declared.number.NetId.{NetId}
+use Rattle.mv_base.specs.declared.limits.TheConstants.{MAX_WINDOW_POINTS}
 use Rattle.mv_graph.specs.Nets.{has_id}
 use Rattle.mv_graph.proofs.Nets.{has_id-append}
 use Rattle.mv_net.specs.declared.parts.FlatNet.{FlatNet}
@@ -12,21 +13,24 @@ use Rattle.mv_net.specs.Nets.{slot, values_in, table_in, reads_in}
 use Rattle.mv_net.specs.Allowed.{net_allows, net_table_allows}
 use Rattle.mv_net.specs.Formed.{WellFormed}
 use Rattle.mv_net.proofs.Local.{net_allows-local}
+use Rattle.mv_net.specs.Window.{ways_of}
 use Rattle.mv_net.proofs.Windows.{table_held}
 use Rattle.mv_flex.specs.declared.plan.Plan.{Plan}
 use Rattle.mv_flex.specs.Spaces.{value_at, digits, code, AreBelow, NetSpace}
-use Rattle.mv_flex.specs.Plans.{counts_of, values_of, IsSpace, IsPlan, all_agree, point_at, IsStuck, IsReady, MarksBad}
+use Rattle.mv_flex.specs.Plans.{counts_of, values_of, IsSpace, IsPlan, IsInside, agrees_at, all_agree, window_agrees, point_at, IsStuck, IsReady, MarksBad}
 use Rattle.mv_flex.specs.Flex.{AgreesInside, AgreesBeside, HasReplacement, IsWindowOf}
 use Rattle.mv_flex.specs.Flexibilities.{IsOutside, IsFlex}
 use Rattle.mv_cover.specs.declared.cover.Cover.{Cover}
 use Rattle.mv_flex.proofs.Numbering.{value_at-map, value_at-append, below-length, digits-below, code-ways, digits-code}
 use Rattle.mv_flex.proofs.Assigning.{all_each, each_all, has_filtered, below_from, value_at-below, below_both, value_at-behind, values_same, search_below}
+use Rattle.mv_flex.proofs.Sizes.{pairs_numbered}
 
 -- what a window and its plan say of the nets
 pub record IsAt (net : NetParts) (w : Window) (n : ℕ) (p : Plan) : Type 0 where
   pub formed : WellFormed net
   pub window : IsWindowOf net n w
   pub tabled : is_some (table_in (slot net.nets n)) ≡ true
+  pub few : ways_of net.nets (w.tables ++ w.inputs) ≤ MAX_WINDOW_POINTS
   pub plan : IsPlan net.nets w n p
 
 -- ---- spaces
@@ -124,8 +128,11 @@ module _ (net : NetParts) (w : Window) (n : ℕ) (p : Plan) (is : IsAt net w n p
 
   -- ---- the assignment of a point
 
+  abbrev pub values : ℕ → ℕ → List ℕ
+  values c h = point_at p (digits p.shown.counts c) h
+
   abbrev pub point : ℕ → ℕ → ℕ → ℕ
-  point c h = value_at p.nets (point_at p c h)
+  point c h = value_at p.nets (values c h)
 
   shown_space : IsSpace net.nets p.shown.nets p.shown
   shown_space = record { list = refl; counts = is.plan.shown.counts ∙ ap (counts_of net.nets) (sym is.plan.shown.list); counted = is.plan.shown.counted }
@@ -136,25 +143,25 @@ module _ (net : NetParts) (w : Window) (n : ℕ) (p : Plan) (is : IsAt net w n p
   -- at the inputs and outputs it has the values of the first number
   point_shown : (c h m : ℕ) → has_id p.shown.nets m ≡ true → point c h m ≡ value_at p.shown.nets (digits p.shown.counts c) m
   point_shown c h m y =
-      ap (λ l. value_at l (point_at p c h) m) is.plan.order
+      ap (λ l. value_at l (values c h) m) is.plan.order
       ∙ value_at-append p.shown.nets p.hidden.nets (digits p.shown.counts c) (digits p.hidden.counts h) m (digits_long net.nets p.shown.nets p.shown c shown_space) y
 
   -- and at the other tables those of the second
   point_hidden : (c h m : ℕ) → has_id p.shown.nets m ≡ false → point c h m ≡ value_at p.hidden.nets (digits p.hidden.counts h) m
   point_hidden c h m f =
-      ap (λ l. value_at l (point_at p c h) m) is.plan.order
+      ap (λ l. value_at l (values c h) m) is.plan.order
       ∙ value_at-behind p.shown.nets p.hidden.nets (digits p.shown.counts c) (digits p.hidden.counts h) m (digits_long net.nets p.shown.nets p.shown c shown_space) f
 
-  point_low : (c h m : ℕ) → has_id p.nets m ≡ true → point c h m < values_in (slot net.nets m)
-  point_low c h m y = value_at-below (λ k. values_in (slot net.nets k)) p.nets (point_at p c h) m below y
+  point_below : (c h : ℕ) → AreBelow (counts_of net.nets p.nets) (values c h)
+  point_below c h =
+      subst (λ l. AreBelow l (values c h)) (sym counts_both)
+      (below_both (counts_of net.nets p.shown.nets) (counts_of net.nets p.hidden.nets) (digits p.shown.counts c) (digits p.hidden.counts h) (digits_low net.nets p.shown.nets p.shown c shown_space) (digits_low net.nets p.hidden.nets p.hidden h hidden_space))
     where
       counts_both : counts_of net.nets p.nets ≡ counts_of net.nets p.shown.nets ++ counts_of net.nets p.hidden.nets
       counts_both = ap (counts_of net.nets) is.plan.order ∙ map-append (λ (k : NetId). values_in (slot net.nets k.0)) p.shown.nets p.hidden.nets
 
-      below : AreBelow (counts_of net.nets p.nets) (point_at p c h)
-      below =
-          subst (λ l. AreBelow l (point_at p c h)) (sym counts_both)
-          (below_both (counts_of net.nets p.shown.nets) (counts_of net.nets p.hidden.nets) (digits p.shown.counts c) (digits p.hidden.counts h) (digits_low net.nets p.shown.nets p.shown c shown_space) (digits_low net.nets p.hidden.nets p.hidden h hidden_space))
+  point_low : (c h m : ℕ) → has_id p.nets m ≡ true → point c h m < values_in (slot net.nets m)
+  point_low c h m y = value_at-below (λ k. values_in (slot net.nets k)) p.nets (values c h) m (point_below c h) y
 
   -- an assignment with the values of a number at the inputs and outputs is that of some point
   fits : (c : ℕ) (r : ℕ → ℕ) → ((m : ℕ) → has_id p.shown.nets m ≡ true → value_at p.shown.nets (digits p.shown.counts c) m ≡ r m) → ((m : ℕ) → has_id p.hidden.nets m ≡ true → r m < values_in (slot net.nets m)) → (h : ℕ) × (h < p.hidden.size) × ((m : ℕ) → has_id p.nets m ≡ true → point c h m ≡ r m)
@@ -173,20 +180,7 @@ module _ (net : NetParts) (w : Window) (n : ℕ) (p : Plan) (is : IsAt net w n p
 
   -- ---- what the tests of a point say
 
-  agrees_inside : (c h : ℕ) → all_agree net.nets p.tables p.nets (point_at p c h) ≡ true → AgreesInside net.nets w (point c h)
-  agrees_inside c h all = record {
-    inputs = λ m y. point_low c h m (shown_in m (input_shown m y));
-    tables = λ m y. all_each (λ k. net_allows (slot net.nets k) (point c h) (point c h k)) p.tables all m (ap (λ l. has_id l m) is.plan.tables ∙ y);
-  }
-
-  inside_agrees : (c h : ℕ) (r : ℕ → ℕ) → AgreesInside net.nets w r → ((m : ℕ) → has_id p.nets m ≡ true → point c h m ≡ r m) → all_agree net.nets p.tables p.nets (point_at p c h) ≡ true
-  inside_agrees c h r agrees same =
-      each_all (λ k. net_allows (slot net.nets k) (point c h) (point c h k)) p.tables
-      (λ m y.
-      let there : has_id w.tables m ≡ true = ap (λ l. has_id l m) (sym is.plan.tables) ∙ y in
-      same_allows (point c h) r same m there ∙ agrees.tables m there)
-
-  pub agrees_beside : (c h : ℕ) → all_agree net.nets p.others p.nets (point_at p c h) ≡ true → AgreesBeside net.nets w n (point c h)
+  pub agrees_beside : (c h : ℕ) → all_agree net.nets p.others p.nets (values c h) ≡ true → AgreesBeside net.nets w n (point c h)
   agrees_beside c h all = record {
     inputs = λ m y. point_low c h m (shown_in m (input_shown m y));
     here = point_low c h n (table_in_nets n here_table);
@@ -195,7 +189,30 @@ module _ (net : NetParts) (w : Window) (n : ℕ) (p : Plan) (is : IsAt net w n p
         (others_has m ∙ and_from (not (nat_eq m n)) (has_id w.tables m) (not_from_false (nat_eq m n) (ne_eqb m n ne)) y);
   }
 
-  beside_agrees : (c h : ℕ) (at : ℕ → ℕ) → AgreesBeside net.nets w n at → ((m : ℕ) → has_id p.nets m ≡ true → point c h m ≡ at m) → all_agree net.nets p.others p.nets (point_at p c h) ≡ true
+  agrees_inside : (c h : ℕ) → window_agrees net.nets p (values c h) ≡ true → AgreesInside net.nets w (point c h)
+  agrees_inside c h all =
+      let both = and_parts (all_agree net.nets p.others p.nets (values c h)) (agrees_at net.nets p.nets (values c h) p.net.0) all in
+      let beside = agrees_beside c h both.0 in
+      record {
+        inputs = beside.inputs;
+        tables = λ m y.
+            ⊎_elim
+            (λ (e : m ≡ n). ap (agrees_at net.nets p.nets (values c h)) (e ∙ sym is.plan.own) ∙ both.1)
+            (λ (ne : m ≡ n → ⊥). beside.tables m ne y)
+            (cases_eq m n);
+      }
+
+  inside_agrees : (c h : ℕ) (r : ℕ → ℕ) → AgreesInside net.nets w r → ((m : ℕ) → has_id p.nets m ≡ true → point c h m ≡ r m) → window_agrees net.nets p (values c h) ≡ true
+  inside_agrees c h r agrees same =
+      let there : has_id w.tables p.net.0 ≡ true = ap (has_id w.tables) is.plan.own ∙ here_table in
+      and_from (all_agree net.nets p.others p.nets (values c h)) (agrees_at net.nets p.nets (values c h) p.net.0)
+      (each_all (agrees_at net.nets p.nets (values c h)) p.others
+      (λ m y.
+      let both = and_parts (not (nat_eq m n)) (has_id w.tables m) (sym (others_has m) ∙ y) in
+      same_allows (point c h) r same m both.1 ∙ agrees.tables m both.1))
+      (same_allows (point c h) r same p.net.0 there ∙ agrees.tables p.net.0 there)
+
+  beside_agrees : (c h : ℕ) (at : ℕ → ℕ) → AgreesBeside net.nets w n at → ((m : ℕ) → has_id p.nets m ≡ true → point c h m ≡ at m) → all_agree net.nets p.others p.nets (values c h) ≡ true
   beside_agrees c h at agrees same =
       each_all (λ k. net_allows (slot net.nets k) (point c h) (point c h k)) p.others
       (λ m y.
@@ -255,7 +272,7 @@ module _ (net : NetParts) (w : Window) (n : ℕ) (p : Plan) (is : IsAt net w n p
   -- ---- which pairs are bad
 
   -- at the inputs and outputs of no point that agrees with every table there is no replacement
-  stuck_alone : (c : ℕ) (at : ℕ → ℕ) → IsStuck net.nets p c → ((m : ℕ) → has_id p.shown.nets m ≡ true → value_at p.shown.nets (digits p.shown.counts c) m ≡ at m) → HasReplacement net.nets w at → ⊥
+  stuck_alone : (c : ℕ) (at : ℕ → ℕ) → IsStuck net.nets p (digits p.shown.counts c) → ((m : ℕ) → has_id p.shown.nets m ≡ true → value_at p.shown.nets (digits p.shown.counts c) m ≡ at m) → HasReplacement net.nets w at → ⊥
   stuck_alone c at stuck shown r =
       let same : (m : ℕ) → has_id p.shown.nets m ≡ true → r.given m ≡ at m =
       λ m y. ⊎_elim (λ (i : has_id w.inputs m ≡ true). r.inputs m i) (λ (o : has_id w.outputs m ≡ true). r.outputs m o) (shown_is m y) in
@@ -281,7 +298,7 @@ module _ (net : NetParts) (w : Window) (n : ℕ) (p : Plan) (is : IsAt net w n p
       λ m y. ap (λ l. value_at p.shown.nets l m) k.2 ∙ value_at-map at p.shown.nets m y in
       let f = fits k.0 at shown (λ m y. beside_table at agrees m (hidden_table m y)) in
       ⊎_elim
-      (λ (found : (h : ℕ) × (h < p.hidden.size) × (all_agree net.nets p.tables p.nets (point_at p k.0 h) ≡ true)).
+      (λ (found : (h : ℕ) × (h < p.hidden.size) × (window_agrees net.nets p (values k.0 h) ≡ true)).
       inr
       (record {
         given = point k.0 found.0;
@@ -289,7 +306,7 @@ module _ (net : NetParts) (w : Window) (n : ℕ) (p : Plan) (is : IsAt net w n p
         inputs = λ m y. point_shown k.0 found.0 m (input_shown m y) ∙ shown m (input_shown m y);
         outputs = λ m y. point_shown k.0 found.0 m (output_shown m y) ∙ shown m (output_shown m y);
       }))
-      (λ (none : (h : ℕ) → h < p.hidden.size → all_agree net.nets p.tables p.nets (point_at p k.0 h) ≡ false).
+      (λ (none : (h : ℕ) → h < p.hidden.size → window_agrees net.nets p (values k.0 h) ≡ false).
       inl
       (bad.all (code p.pairs.counts (values_of at p.pairs.nets))
       (record {
@@ -301,14 +318,24 @@ module _ (net : NetParts) (w : Window) (n : ℕ) (p : Plan) (is : IsAt net w n p
           pair = ap (code p.pairs.counts) (values_same (point k.0 f.0) at p.pairs.nets (λ m y. f.2 m (pair_in_nets m y)));
         };
       })))
-      (search_below (λ h. all_agree net.nets p.tables p.nets (point_at p k.0 h)) p.hidden.size)
+      (search_below (λ h. window_agrees net.nets p (values k.0 h)) p.hidden.size)
 
   -- the points can be gone through
+  inside : (m : ℕ) → has_id w.tables m ≡ true → IsInside net.nets p.nets m
+  inside m there = record {
+    held = table_held (slot net.nets m) (table_of m there);
+    here = table_in_nets m there;
+    reads = λ k r. read_in_nets m k there r;
+    numbered = λ fs reads. pairs_numbered net w n is.formed is.window is.few m fs there reads;
+  }
+
   pub ready : IsReady net.nets p
   ready = record {
-    tables = record { each = λ m y. table_held (slot net.nets m) (table_of m (ap (λ l. has_id l m) (sym is.plan.tables) ∙ y)) };
-    others = record { each = λ m y. table_held (slot net.nets m) (table_of m (and_parts (not (nat_eq m n)) (has_id w.tables m) (sym (others_has m) ∙ y)).1) };
-    below = λ c h all. pairs_below (point c h) (agrees_beside c h all);
+    own = inside p.net.0 (ap (has_id w.tables) is.plan.own ∙ here_table);
+    others = λ m y. inside m (and_parts (not (nat_eq m n)) (has_id w.tables m) (sym (others_has m) ∙ y)).1;
+    ranged = λ start h s. subst (λ l. AreBelow (counts_of net.nets p.nets) (point_at p l h)) (sym s.is) (point_below s.number h);
+    pairs = record { list = refl; counts = is.plan.pairs.counts ∙ ap (counts_of net.nets) (sym is.plan.pairs.list); counted = is.plan.pairs.counted };
+    within = pair_in_nets;
   }
 
   -- what was found is the flexibility

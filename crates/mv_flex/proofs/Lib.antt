@@ -1,4 +1,5 @@
 pub mod Numbering
+pub mod Looking
 pub mod Allowing
 pub mod Held
 pub mod Assigning
@@ -7,3 +8,5 @@ pub mod Sizes
 pub mod Marking
 pub mod Checking
 pub mod Blocking
+pub mod Leaving
+pub mod Needing

@@ -20,7 +20,7 @@ use Rattle.mv_net.specs.Window.{ways_in, ways_of}
 use Rattle.mv_net.proofs.Known.{reads_readable, values_some}
 use Rattle.mv_net.proofs.Windows.{table_held, ways_of-append}
 use Rattle.mv_flex.specs.Flex.{IsWindowOf}
-use Rattle.mv_flex.specs.Plans.{counts_of, values_of}
+use Rattle.mv_flex.specs.Plans.{counts_of, values_of, IsNumbered}
 use Rattle.mv_flex.proofs.Held.{has_head}
 use Rattle.mv_flex.proofs.Assigning.{has_filtered}
 
@@ -120,12 +120,7 @@ ascending_differ (n ∷ m ∷ ns) up =
 
 -- ---- the parts of a window
 
--- a list of nets whose points can be numbered
-pub record IsNumbered (net : NetParts) (ns : List NetId) : Type 0 where
-  pub held : AreHeld net.nets ns
-  pub few : ways (counts_of net.nets ns) < 2 ^ 64
-
-module _ (net : NetParts) (w : Window) (n : ℕ) (fanins : List NetId) (formed : WellFormed net) (window : IsWindowOf net n w) (tabled : is_some (table_in (slot net.nets n)) ≡ true) (small : ways_of net.nets (w.tables ++ w.inputs) ≤ MAX_WINDOW_POINTS) (reads : IsAscending (λ m. reads_in net.nets n m) fanins) where
+module _ (net : NetParts) (w : Window) (n : ℕ) (formed : WellFormed net) (window : IsWindowOf net n w) (small : ways_of net.nets (w.tables ++ w.inputs) ≤ MAX_WINDOW_POINTS) where
   held_tables : AreHeld net.nets w.tables
   held_tables = record { each = λ m h. table_held (slot net.nets m) ((window.is.tables.members m).0 h).table }
 
@@ -175,7 +170,7 @@ module _ (net : NetParts) (w : Window) (n : ℕ) (fanins : List NetId) (formed :
   through : (a b c : ℕ) → a ≤ b → b ≤ c → a ≤ c
   through a b c x y = omega (arith, x, y)
 
-  pub shown_numbered : IsNumbered net (w.inputs ++ filter (λ (m : NetId). has_id w.outputs m.0) w.tables)
+  pub shown_numbered : IsNumbered net.nets (w.inputs ++ filter (λ (m : NetId). has_id w.outputs m.0) w.tables)
   shown_numbered = record {
     held = record {
       each = λ m h.
@@ -194,7 +189,7 @@ module _ (net : NetParts) (w : Window) (n : ℕ) (fanins : List NetId) (formed :
         small_enough (ways (counts_of net.nets (w.inputs ++ out))) (subst (λ k. k ≤ MAX_WINDOW_POINTS) (sym both) (through _ _ _ less all));
   }
 
-  pub hidden_numbered : IsNumbered net (filter (λ (m : NetId). not (has_id w.outputs m.0)) w.tables)
+  pub hidden_numbered : IsNumbered net.nets (filter (λ (m : NetId). not (has_id w.outputs m.0)) w.tables)
   hidden_numbered = record {
     held = filtered_held (λ k. not (has_id w.outputs k));
     few =
@@ -202,23 +197,6 @@ module _ (net : NetParts) (w : Window) (n : ℕ) (fanins : List NetId) (formed :
         (through _ _ _ (filtered_few (λ k. not (has_id w.outputs k)))
         (through _ _ _ (subst (λ k. ways (counts_of net.nets w.tables) ≤ k) (mul_comm _ _) (no_less (ways (counts_of net.nets w.inputs)) (ways (counts_of net.nets w.tables)) inputs_some)) total));
   }
-
-  here_table : has_id w.tables n ≡ true
-  here_table = (window.is.tables.members n).1 (record { around = record { net = n; below = inl refl; above = inl refl }; table = tabled })
-
-  pairs_inside : (m : ℕ) → has_id (record { 0 = n } ∷ fanins) m ≡ true → has_id (w.tables ++ w.inputs) m ≡ true
-  pairs_inside m h =
-      has_id-append w.tables w.inputs m
-      ∙ ⊎_elim
-      (λ (e : nat_eq n m ≡ true). or_left (has_id w.tables m) (has_id w.inputs m) (ap (has_id w.tables) (sym (eqb-true n m e)) ∙ here_table))
-      (λ (f : has_id fanins m ≡ true).
-      ⊎_elim
-      (λ (t : has_id w.tables m ≡ true). or_left (has_id w.tables m) (has_id w.inputs m) t)
-      (λ (o : has_id w.tables m ≡ false).
-      or_right (has_id w.tables m) (has_id w.inputs m)
-      ((window.is.inputs.members m).1 (record { reader = n; is_inside = here_table; reads = sym (reads.members m) ∙ f; outside = o })))
-      (cases_Bool (has_id w.tables m)))
-      (or_cases (nat_eq n m) (has_id fanins m) h)
 
   held_all : AreHeld net.nets (w.tables ++ w.inputs)
   held_all = record {
@@ -232,27 +210,45 @@ module _ (net : NetParts) (w : Window) (n : ℕ) (fanins : List NetId) (formed :
   all_few : ways (counts_of net.nets (w.tables ++ w.inputs)) ≤ MAX_WINDOW_POINTS
   all_few = subst (λ k. k ≤ MAX_WINDOW_POINTS) (sym (ways_same (w.tables ++ w.inputs) held_all)) small
 
-  apart : has_id fanins n ≡ false
-  apart = false_from_ne_true (has_id fanins n) (λ y. formed.acyclic.none n (record { path = []; goes = sym (reads.members n) ∙ y }))
-
-  differ : all_differ (record { 0 = n } ∷ fanins) ≡ true
-  differ = and_from (not (has_id fanins n)) (all_differ fanins) (not_from_false (has_id fanins n) apart) (ascending_differ fanins reads.ascending)
-
-  pub pairs_numbered : IsNumbered net (record { 0 = n } ∷ fanins)
-  pairs_numbered = record {
-    held = record { each = λ m h. held_all.each m (pairs_inside m h) };
+  -- different nets of the window
+  some_numbered : (ns : List NetId) → all_differ ns ≡ true → ((m : ℕ) → has_id ns m ≡ true → has_id (w.tables ++ w.inputs) m ≡ true) → IsNumbered net.nets ns
+  some_numbered ns differ inside = record {
+    held = record { each = λ m h. held_all.each m (inside m h) };
     few =
         small_enough _
-        (through _ _ _ (ways_less (λ m. values_in (slot net.nets m)) (record { 0 = n } ∷ fanins) (w.tables ++ w.inputs) differ (some_of (w.tables ++ w.inputs) held_all) pairs_inside) all_few);
+        (through _ _ _ (ways_less (λ m. values_in (slot net.nets m)) ns (w.tables ++ w.inputs) differ (some_of (w.tables ++ w.inputs) held_all) inside) all_few);
   }
 
-  pub fanins_numbered : IsNumbered net fanins
-  fanins_numbered = record {
-    held = record { each = λ m h. held_all.each m (pairs_inside m (or_right (nat_eq n m) (has_id fanins m) h)) };
-    few =
-        small_enough _
-        (through _ _ _ (ways_less (λ m. values_in (slot net.nets m)) fanins (w.tables ++ w.inputs) (ascending_differ fanins reads.ascending) (some_of (w.tables ++ w.inputs) held_all) (λ m h. pairs_inside m (or_right (nat_eq n m) (has_id fanins m) h))) all_few);
-  }
+  -- a table of the window reads nets of the window
+  reads_inside : (t : ℕ) → has_id w.tables t ≡ true → (m : ℕ) → reads_in net.nets t m ≡ true → has_id (w.tables ++ w.inputs) m ≡ true
+  reads_inside t there m r =
+      has_id-append w.tables w.inputs m
+      ∙ ⊎_elim
+      (λ (y : has_id w.tables m ≡ true). or_left (has_id w.tables m) (has_id w.inputs m) y)
+      (λ (o : has_id w.tables m ≡ false).
+      or_right (has_id w.tables m) (has_id w.inputs m)
+      ((window.is.inputs.members m).1 (record { reader = t; is_inside = there; reads = r; outside = o })))
+      (cases_Bool (has_id w.tables m))
 
-pub numbered_as : (net : NetParts) (ns ms : List NetId) → ns ≡ ms → IsNumbered net ms → IsNumbered net ns
-numbered_as net ns ms e numbered = subst (λ l. IsNumbered net l) (sym e) numbered
+  pub fanins_numbered : (t : ℕ) (fanins : List NetId) → has_id w.tables t ≡ true → IsAscending (λ m. reads_in net.nets t m) fanins → IsNumbered net.nets fanins
+  fanins_numbered t fanins there reads =
+      some_numbered fanins (ascending_differ fanins reads.ascending) (λ m h. reads_inside t there m (sym (reads.members m) ∙ h))
+
+  pub pairs_numbered : (t : ℕ) (fanins : List NetId) → has_id w.tables t ≡ true → IsAscending (λ m. reads_in net.nets t m) fanins → IsNumbered net.nets (record { 0 = t } ∷ fanins)
+  pairs_numbered t fanins there reads =
+      some_numbered (record { 0 = t } ∷ fanins)
+      (and_from (not (has_id fanins t)) (all_differ fanins)
+      (not_from_false (has_id fanins t) (false_from_ne_true (has_id fanins t) (λ y. formed.acyclic.none t (record { path = []; goes = sym (reads.members t) ∙ y }))))
+      (ascending_differ fanins reads.ascending))
+      (λ m h.
+      ⊎_elim
+      (λ (e : nat_eq t m ≡ true). has_id-append w.tables w.inputs m ∙ or_left (has_id w.tables m) (has_id w.inputs m) (ap (has_id w.tables) (sym (eqb-true t m e)) ∙ there))
+      (λ (f : has_id fanins m ≡ true). reads_inside t there m (sym (reads.members m) ∙ f))
+      (or_cases (nat_eq t m) (has_id fanins m) h))
+
+  -- the net of a window is one of its tables
+  pub here_table : is_some (table_in (slot net.nets n)) ≡ true → has_id w.tables n ≡ true
+  here_table tabled = (window.is.tables.members n).1 (record { around = record { net = n; below = inl refl; above = inl refl }; table = tabled })
+
+pub numbered_as : (net : NetParts) (ns ms : List NetId) → ns ≡ ms → IsNumbered net.nets ms → IsNumbered net.nets ns
+numbered_as net ns ms e numbered = subst (λ l. IsNumbered net.nets l) (sym e) numbered

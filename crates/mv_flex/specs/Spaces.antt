@@ -1,5 +1,5 @@
 -- Lists of values of a list of nets. What private functions alone cite, and of the public definitions `IsFlex`.
-use Rattle.std.specs.Prelude.{◌≡◌, ℕ, ◌+◌, ◌*◌, ◌/◌, ◌%◌, ◌<◌, ◌≤◌, if◌then◌else◌, nat_eq, List, [], ◌∷◌, All}
+use Rattle.std.specs.Prelude.{◌≡◌, ℕ, ◌+◌, ◌*◌, ◌/◌, ◌%◌, ◌<◌, ◌≤◌, if◌then◌else◌, nat_eq, nat_lt, List, [], ◌∷◌, map, slice_index_or, All}
 use Rattle.mv_base.specs.declared.limits.TheConstants.{MAX_VALUES}
 use Rattle.mv_base.specs.declared.number.NetId.{NetId}
 
@@ -8,6 +8,10 @@ abbrev pub value_at : List NetId → List ℕ → ℕ → ℕ
 value_at [] vs m = 0
 value_at (n ∷ ns) [] m = 0
 value_at (n ∷ ns) (v ∷ vs) m = if nat_eq n.0 m then v else value_at ns vs m
+
+-- the values at these places, and 0 past the last
+abbrev pub placed : List ℕ → List ℕ → List ℕ
+placed places vs = map (λ (i : ℕ). slice_index_or vs i 0) places
 
 -- in how many ways nets of these numbers of values can have values
 abbrev pub ways : List ℕ → ℕ
@@ -18,6 +22,12 @@ ways (c ∷ cs) = c * ways cs
 abbrev pub digits : List ℕ → ℕ → List ℕ
 digits [] k = []
 digits (c ∷ cs) k = (k % c) ∷ digits cs (k / c)
+
+-- the values with the next number: the first that is not its net's last becomes one more, and those before it 0
+abbrev pub next : List ℕ → List ℕ → List ℕ
+next [] vs = vs
+next (c ∷ cs) [] = []
+next (c ∷ cs) (v ∷ vs) = if nat_lt (v + 1) c then (v + 1) ∷ vs else 0 ∷ next cs vs
 
 -- the number of these values
 abbrev pub code : List ℕ → List ℕ → ℕ

@@ -56,7 +56,7 @@ fn some_holds(nets: &[NetId], values: &[u16], lines: &[Line]) -> bool
 }
 
 /// Whether the default gives the value.
-fn default_gives(default: &Option<PackedSet>, value: Value) -> bool
+pub fn default_gives(default: &Option<PackedSet>, value: Value) -> bool
     ensures { result ≡ default_gives default.now value.0 }
 {
     match default {
@@ -92,7 +92,7 @@ fn line_chooses(nets: &[NetId], values: &[u16], line: &Line) -> bool
 }
 
 /// Whether the default gives some value.
-fn default_chooses(default: &Option<PackedSet>) -> bool
+pub fn default_chooses(default: &Option<PackedSet>) -> bool
     ensures { result ≡ default_chooses default.now }
 {
     match default {

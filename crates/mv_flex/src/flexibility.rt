@@ -119,7 +119,7 @@ impl Flexibility {
     }
 
     /// Whether the pair is outside.
-    fn is_outside(&self, pair: u64) -> bool
+    pub(crate) fn is_outside(&self, pair: u64) -> bool
         ensures { result ≡ slice_index_or self.now.outside pair false }
     {
         match self.outside.as_slice().get(pair as usize) {

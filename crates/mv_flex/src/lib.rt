@@ -2,12 +2,15 @@
 #![tactic(auto)]
 
 mod allow;
+mod asked;
 mod decide;
 mod flexibility;
+mod left;
 mod plan;
 mod search;
 mod space;
 mod stop;
+mod truth;
 mod verdict;
 
 pub use decide::flex;

@@ -13,12 +13,12 @@ use mv_base::{Items, Memory, NetId};
 use mv_net::{Network, Window};
 use std::alloc::Global;
 
-/// How the points of a window are gone through: the tables, those but the one of the net in question, and the nets of the
-/// window. First come the inputs and outputs, then the tables that aren't shown. Beside it are the net's fanins, and the
-/// net before its fanins.
+/// How the points of a window are gone through: the net in question, the other tables, and the nets of the window. First
+/// come the inputs and outputs, then the tables that aren't shown. Beside it are the net's fanins, and the net before its
+/// fanins.
 #[derive(Debug, Drop)]
 pub struct Plan {
-    pub tables: Items<NetId>,
+    pub net: NetId,
     pub others: Items<NetId>,
     pub nets: Items<NetId>,
     pub shown: Space,
@@ -40,7 +40,7 @@ pub fn plan_of(net: &Network, w: &Window, n: NetId) -> Result<Plan, Memory>
     let hidden = hidden_nets(w)?;
     let fanins = net.fanins(n);
     Ok(Plan {
-        tables: w.tables.copy()?,
+        net: n,
         others: other_tables(w, n)?,
         nets: joined(alloc, shown.as_slice(), hidden.as_slice())?,
         shown: Space::of(net, shown)?,
@@ -98,7 +98,7 @@ fn is_among(nets: &Items<NetId>, n: NetId) -> bool
 }
 
 /// The one list and the other behind it.
-fn joined(alloc: Global, first: &[NetId], second: &[NetId]) -> Result<Items<NetId>, Memory>
+pub fn joined(alloc: Global, first: &[NetId], second: &[NetId]) -> Result<Items<NetId>, Memory>
     ensures { IfOk result (λ nets. nets ≡ first.now ++ second.now) }
 {
     let mut nets = Vec::from_slice(alloc, first)?;

@@ -1,16 +1,11 @@
-ghost use Rattle.std.specs.Prelude.{◌≡◌, ◌<◌, ◌^◌, ◌++◌, ℕ, true, false, length, map, slice_set, IsTrue, IfOk, OnOk, MatchBool};
-ghost use Rattle.mv_base.specs.declared.number.NetId.{NetId};
-ghost use Rattle.mv_net.specs.Nets.{slot};
-ghost use Rattle.mv_net.specs.Index.{is_held};
-ghost use Rattle.mv_net.specs.Allowed.{net_allows};
-ghost use Rattle.mv_net.specs.Searching.{AreHeld};
-ghost use Rattle.mv_flex.specs.Spaces.{value_at, AreBelow};
-ghost use Rattle.mv_flex.specs.Plans.{values_of, all_agree, point_at, pair_at, IsStuck, IsBadPair, IsReady, Adds, MarksBad};
+ghost use Rattle.std.specs.Prelude.{◌≡◌, length, IfOk, OnOk, MatchBool};
+ghost use Rattle.mv_flex.specs.Spaces.{AreBelow};
+ghost use Rattle.mv_flex.specs.Plans.{counts_of, point_at, IsPairAt, IsStart, IsStuck, IsBadPair, IsReady, Adds, MarksBad};
+ghost use Rattle.mv_flex.specs.Truths.{IsAsked};
 
-use crate::allow::allows;
+use crate::asked::Asked;
 use crate::plan::Plan;
-use crate::space::value_at;
-use mv_base::{Items, Memory, NetId, Value};
+use mv_base::{Items, Memory};
 use mv_net::Network;
 
 /// Marks for the pairs of the points that agree with every table but the net's own, at inputs and outputs at which no point
@@ -20,10 +15,16 @@ pub fn outside_pairs(net: &Network, plan: &Plan) -> Result<Items<bool>, Memory>
     ensures { IfOk result (λ marks. MarksBad net.now.nets plan.now marks) }
 {
     let alloc = plan.nets.allocator();
+    let asked = Asked::by(net, plan)?;
     let mut marks = vec![in alloc; false; plan.pairs.size() as usize]?;
+    let mut start = Vec::new(alloc);
+    plan.shown.put(0, &mut start)?;
     let mut values = Vec::new(alloc);
     for shown in 0..plan.shown.size() {
-        mark_at(net, plan, shown, &mut values, &mut marks)?;
+        let first = start.as_slice();
+        mark_at(net, plan, &asked, first, &mut values, &mut marks)?;
+        plan.shown.counted();
+        plan.shown.step(0, &mut start);
     }
     Ok(Items::of(marks))
 }
@@ -32,37 +33,46 @@ pub fn outside_pairs(net: &Network, plan: &Plan) -> Result<Items<bool>, Memory>
 fn mark_at(
     net: &Network,
     plan: &Plan,
-    shown: u64,
+    asked: &Asked,
+    start: &[u16],
     values: &mut Vec<u16>,
     marks: &mut Vec<bool>,
 ) -> Result<(), Memory>
     requires ready { IsReady net.now.nets plan.now }
+    requires asked { IsAsked net.now.nets plan.now asked.now }
+    requires start { IsStart plan.now start.now }
     requires long { length marks.old.items ≡ plan.now.pairs.size }
-    ensures { OnOk result (Adds (IsBadPair net.now.nets plan.now shown) marks.old.items marks.new.items) }
+    ensures { OnOk result (Adds (IsBadPair net.now.nets plan.now start.now) marks.old.items marks.new.items) }
 {
-    if is_stuck(net, plan, shown, values)? {
-        return mark_stuck(net, plan, shown, values, marks);
+    if is_stuck(net, plan, asked, start, values)? {
+        return mark_stuck(net, plan, asked, start, values, marks);
     }
     Ok(())
 }
 
 /// Whether at these inputs and outputs no point agrees with every table.
-fn is_stuck(net: &Network, plan: &Plan, shown: u64, values: &mut Vec<u16>) -> Result<bool, Memory>
-    requires { IsReady net.now.nets plan.now }
+fn is_stuck(
+    net: &Network,
+    plan: &Plan,
+    asked: &Asked,
+    start: &[u16],
+    values: &mut Vec<u16>,
+) -> Result<bool, Memory>
+    requires ready { IsReady net.now.nets plan.now }
+    requires asked { IsAsked net.now.nets plan.now asked.now }
+    requires start { IsStart plan.now start.now }
     ensures { IfOk result (λ stuck. MatchBool stuck
-        (IsStuck net.now.nets plan.now shown)
-        (IsStuck net.now.nets plan.now shown → ⊥)) }
+        (IsStuck net.now.nets plan.now start.now)
+        (IsStuck net.now.nets plan.now start.now → ⊥)) }
 {
+    put_first(plan, start, values)?;
     for hidden in 0..plan.hidden.size() {
-        put_point(plan, shown, hidden, values)?;
-        if all_agree(
-            net,
-            plan.tables.as_slice(),
-            plan.nets.as_slice(),
-            values.as_slice(),
-        ) {
+        let point = values.as_slice();
+        if asked.all_agree(net, plan, point) {
             return Ok(false);
         }
+        plan.hidden.counted();
+        plan.hidden.step(start.len(), values);
     }
     Ok(true)
 }
@@ -71,76 +81,48 @@ fn is_stuck(net: &Network, plan: &Plan, shown: u64, values: &mut Vec<u16>) -> Re
 fn mark_stuck(
     net: &Network,
     plan: &Plan,
-    shown: u64,
+    asked: &Asked,
+    start: &[u16],
     values: &mut Vec<u16>,
     marks: &mut Vec<bool>,
 ) -> Result<(), Memory>
     requires ready { IsReady net.now.nets plan.now }
+    requires asked { IsAsked net.now.nets plan.now asked.now }
+    requires start { IsStart plan.now start.now }
     requires long { length marks.old.items ≡ plan.now.pairs.size }
-    requires stuck { IsStuck net.now.nets plan.now shown }
-    ensures { OnOk result (Adds (IsBadPair net.now.nets plan.now shown) marks.old.items marks.new.items) }
+    requires stuck { IsStuck net.now.nets plan.now start.now }
+    ensures { OnOk result (Adds (IsBadPair net.now.nets plan.now start.now) marks.old.items marks.new.items) }
 {
+    put_first(plan, start, values)?;
     for hidden in 0..plan.hidden.size() {
-        put_point(plan, shown, hidden, values)?;
-        if all_agree(
-            net,
-            plan.others.as_slice(),
-            plan.nets.as_slice(),
-            values.as_slice(),
-        ) {
-            let pair = pair_at(plan, values.as_slice())?;
-            marks[pair as usize] = true;
-        }
+        let point = values.as_slice();
+        mark_point(net, plan, asked, point, marks);
+        plan.hidden.counted();
+        plan.hidden.step(start.len(), values);
     }
     Ok(())
 }
 
-/// The values of all nets at a point.
-fn put_point(plan: &Plan, shown: u64, hidden: u64, values: &mut Vec<u16>) -> Result<(), Memory>
-    ensures { OnOk result (values.new.items ≡ point_at plan.now shown hidden) }
+/// Puts a mark for the pair of a point where every table but the net's own agrees.
+fn mark_point(net: &Network, plan: &Plan, asked: &Asked, point: &[u16], marks: &mut Vec<bool>)
+    requires asked { IsAsked net.now.nets plan.now asked.now }
+    requires point { AreBelow (counts_of net.now.nets plan.now.nets) point.now }
+    requires long { length marks.old.items ≡ plan.now.pairs.size }
+    ensures { Adds (IsPairAt net.now.nets plan.now point.now) marks.old.items marks.new.items }
+{
+    if !asked.others_agree(net, plan, point) {
+        return;
+    }
+    let places = asked.places.as_slice();
+    let pair = plan.pairs.number(places, point);
+    marks[pair as usize] = true;
+}
+
+/// The values of all nets at the first point at these inputs and outputs.
+fn put_first(plan: &Plan, start: &[u16], values: &mut Vec<u16>) -> Result<(), Memory>
+    ensures { OnOk result (values.new.items ≡ point_at plan.now start.now 0) }
 {
     values.clear();
-    plan.shown.put(shown, values)?;
-    plan.hidden.put(hidden, values)
-}
-
-/// The number of the pair at a point.
-fn pair_at(plan: &Plan, values: &[u16]) -> Result<u64, Memory>
-    requires { AreBelow plan.now.pairs.counts (values_of (value_at plan.now.nets values.now) plan.now.pairs.nets) }
-    ensures value { IfOk result (λ pair. pair ≡ pair_at plan.now values.now) }
-    ensures low { IfOk result (λ pair. pair < plan.now.pairs.size) }
-{
-    let mut pair = Vec::new(plan.nets.allocator());
-    for net in plan.pairs.nets() {
-        pair.push(value_at(plan.nets.as_slice(), values, *net))?;
-    }
-    Ok(plan.pairs.code(pair.as_slice()))
-}
-
-/// Whether each of these tables agrees with these values.
-fn all_agree(net: &Network, tables: &[NetId], nets: &[NetId], values: &[u16]) -> bool
-    requires { AreHeld net.now.nets tables.now }
-    ensures { result ≡ all_agree net.now.nets tables.now nets.now values.now }
-{
-    for table in tables {
-        if !agrees(net, *table, nets, values) {
-            return false;
-        }
-    }
-    true
-}
-
-/// Whether the net's table agrees with these values.
-fn agrees(net: &Network, n: NetId, nets: &[NetId], values: &[u16]) -> bool
-    requires { IsTrue (is_held net.now.nets n.0) }
-    ensures { result ≡ net_allows (slot net.now.nets n.0) (value_at nets.now values.now) (value_at nets.now values.now n.0) }
-{
-    let value = value_at(nets, values, n);
-    if value >= net.values(n) {
-        return false;
-    }
-    match net.table(n) {
-        None => true,
-        Some(cover) => allows(nets, values, cover, Value(value)),
-    }
+    values.extend_from_slice(start)?;
+    plan.hidden.put(0, values)
 }

@@ -1,10 +1,11 @@
-ghost use Rattle.std.specs.Prelude.{◌≡◌, ◌<◌, ◌^◌, ◌++◌, All, OnOk, IfOk, slice_index_or};
+ghost use Rattle.std.specs.Prelude.{◌≡◌, ℕ, ◌+◌, ◌<◌, ◌^◌, ◌++◌, List, All, OnOk, IfOk, length, take, drop, slice_index_or};
 ghost use Rattle.mv_net.specs.Searching.{AreHeld};
-ghost use Rattle.mv_flex.specs.Spaces.{value_at, ways, digits, code, AreBelow, IsCounted};
-ghost use Rattle.mv_flex.specs.Plans.{counts_of, IsSpace};
+ghost use Rattle.mv_flex.specs.Spaces.{value_at, placed, ways, digits, next, code, AreBelow, IsCounted};
+ghost use Rattle.mv_flex.specs.Plans.{counts_of, values_of, IsSpace};
 
 use mv_base::{Items, Memory, NetId};
 use mv_net::Network;
+use std::alloc::Global;
 use std::marker::Model;
 
 /// Nets with their numbers of values, and in how many ways they can have values. Lists of their values are numbered.
@@ -66,14 +67,22 @@ impl Space {
         put_digits(self.counts.as_slice(), number, values)
     }
 
-    /// The number of these values.
-    pub fn code(&self, values: &[u16]) -> u64
-        requires { AreBelow self.now.counts values.now }
-        ensures value { result ≡ code self.now.counts values.now }
+    /// Gives the values behind the first ones their next number.
+    pub fn step(&self, from: usize, values: &mut Vec<u16>)
+        requires { length values.old.items ≡ from + length self.now.counts }
+        ensures { values.new.items ≡ take from values.old.items ++ next self.now.counts (drop from values.old.items) }
+    {
+        step(self.counts.as_slice(), from, values);
+    }
+
+    /// The number of the values at these places.
+    pub fn number(&self, places: &[usize], values: &[u16]) -> u64
+        requires { AreBelow self.now.counts (placed places.now values.now) }
+        ensures value { result ≡ code self.now.counts (placed places.now values.now) }
         ensures low { result < self.now.size }
     {
         let _size = self.size;
-        code(self.counts.as_slice(), values)
+        number(self.counts.as_slice(), places, values)
     }
 }
 
@@ -140,17 +149,59 @@ fn put_digits(counts: &[u16], number: u64, values: &mut Vec<u16>) -> Result<(), 
     Ok(())
 }
 
-/// The number of these values.
-fn code(counts: &[u16], values: &[u16]) -> u64
-    requires below { AreBelow counts.now values.now }
-    requires few { ways counts.now < 2 ^ 64 }
-    ensures { result ≡ code counts.now values.now }
+/// Gives the values behind the first ones their next number.
+fn step(counts: &[u16], from: usize, values: &mut Vec<u16>)
+    requires { length values.old.items ≡ from + length counts.now }
+    ensures { values.new.items ≡ take from values.old.items ++ next counts.now (drop from values.old.items) }
 {
-    let [count, more_counts @ ..] = counts else {
-        return 0;
-    };
-    let [value, more_values @ ..] = values else {
-        return 0;
-    };
-    code(more_counts, more_values) * (*count as u64) + *value as u64
+    for (place, count) in counts.iter().enumerate() {
+        let more = values[from + place] as u32 + 1;
+        if more < *count as u32 {
+            values[from + place] = more as u16;
+            return;
+        }
+        values[from + place] = 0;
+    }
+}
+
+/// The number of the values at these places.
+fn number(counts: &[u16], places: &[usize], values: &[u16]) -> u64
+    requires below { AreBelow counts.now (placed places.now values.now) }
+    requires some { All (λ c. 0 < c) counts.now }
+    requires few { ways counts.now < 2 ^ 64 }
+    ensures { result ≡ code counts.now (placed places.now values.now) }
+{
+    let mut number: u64 = 0;
+    let mut weight: u64 = 1;
+    for (place, count) in counts.iter().enumerate() {
+        let value = value_in(values, places[place]);
+        number += value as u64 * weight;
+        weight *= *count as u64;
+    }
+    number
+}
+
+/// Where a net's value stands in lists of values of these nets; past the last for a net that isn't one of them.
+#[tactic(auto, using(crate::proofs::Numbering::value_at_looking))]
+fn place_of(nets: &[NetId], net: NetId) -> usize
+    ensures { (vs : List ℕ) → length vs ≡ length nets.now → slice_index_or vs result 0 ≡ value_at nets.now vs net.0 }
+{
+    for (place, held) in nets.iter().enumerate() {
+        if *held == net {
+            return place;
+        }
+    }
+    nets.len()
+}
+
+/// Where the values of some nets stand in lists of values of these.
+pub fn places_of(nets: &[NetId], some: &[NetId], alloc: Global) -> Result<Items<usize>, Memory>
+    ensures { IfOk result (λ places. (vs : List ℕ) → length vs ≡ length nets.now
+        → placed places vs ≡ values_of (value_at nets.now vs) some.now) }
+{
+    let mut places = Items::new(alloc);
+    for net in some {
+        places.push(place_of(nets, *net))?;
+    }
+    Ok(places)
 }

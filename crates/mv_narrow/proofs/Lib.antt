@@ -1,2 +1,4 @@
 pub mod Windows
 pub mod Judging
+pub mod OneWindow
+pub mod Less

@@ -4,6 +4,8 @@
 
 mod law;
 mod verdict;
+mod wide;
 
-pub use law::narrow_laws;
-pub use verdict::{NarrowVerdict, narrow_verdict};
+pub use law::{less_is_inside, narrow_laws, verdict_laws};
+pub use verdict::{NarrowVerdict, are_total_below, narrow_verdict, verdict_with};
+pub use wide::is_too_wide;

@@ -1,15 +1,16 @@
-ghost use Rattle.std.specs.Prelude.{◌≡◌, Some, is_some, All, IfOk, IsTrue, MatchBool};
+ghost use Rattle.std.specs.Prelude.{◌≡◌, ℕ, Some, is_some, All, IfOk, IsTrue, MatchBool};
 ghost use Rattle.mv_base.specs.declared.number.NetId.{NetId};
 ghost use Rattle.mv_cover.specs.declared.cover.Cover.{Cover};
 ghost use Rattle.mv_meaning.specs.Narrowing.{AreTotalBelow, ReadsWithin};
 ghost use Rattle.mv_net.specs.Nets.{slot, table_in};
 ghost use Rattle.mv_net.specs.Total.{IsTotalNet};
-ghost use Rattle.mv_narrow.specs.Verdicts.{IsNarrowVerdict};
+ghost use Rattle.mv_net.specs.declared.parts.NetParts.{NetParts};
+ghost use Rattle.mv_narrow.specs.Verdicts.{IsFlexHere, IsNarrowVerdict};
 ghost use Rattle.mv_narrow.specs.Answers.{IsStopVerdict, verdict_of};
 
 use mv_base::{Memory, NetId};
 use mv_cover::Cover;
-use mv_flex::{FlexStop, Verdict, flex};
+use mv_flex::{FlexStop, Flexibility, Verdict, flex};
 use mv_net::Network;
 use std::alloc::Global;
 
@@ -51,10 +52,18 @@ pub fn narrow_verdict(
         return Ok(NarrowVerdict::Partial);
     }
     let window = net.window(n, d, u)?;
-    let flexibility = match flex(net, &window, n, budget) {
-        Ok(flexibility) => flexibility,
-        Err(stop) => return of_stop(stop),
-    };
+    match flex(net, &window, n, budget) {
+        Ok(flexibility) => verdict_with(&flexibility, new),
+        Err(stop) => of_stop(stop),
+    }
+}
+
+/// The same of a net whose flexibility in that window, which isn't too wide, is at hand, and below which each table is total. It
+/// costs what the flexibility has to be asked.
+pub fn verdict_with(flexibility: &Flexibility, new: &Cover) -> Result<NarrowVerdict, Memory>
+    ensures { IfOk result (λ verdict. (net : NetParts) (n d u budget : ℕ) (old : Cover) → IsFlexHere net n d u budget flexibility.now
+        → table_in (slot net.nets n) ≡ Some old → ReadsWithin old new.now → IsNarrowVerdict net n d u budget old new.now verdict) }
+{
     match flexibility.judge(new) {
         Ok(verdict) => Ok(of_verdict(verdict)),
         Err(stop) => of_stop(stop),
@@ -62,7 +71,7 @@ pub fn narrow_verdict(
 }
 
 /// Whether each table below the net is total.
-fn are_total_below(alloc: Global, net: &Network, n: NetId) -> Result<bool, Memory>
+pub fn are_total_below(alloc: Global, net: &Network, n: NetId) -> Result<bool, Memory>
     ensures { IfOk result (λ total. MatchBool total (AreTotalBelow net.now.nets n.0) (AreTotalBelow net.now.nets n.0 → ⊥)) }
 {
     let below = net.below(n)?;

@@ -37,13 +37,15 @@ use Rattle.mv_rules.specs.Replaying.{Replays}
 use Rattle.mv_rules.proofs.Kept.{kept_formed}
 use Rattle.mv_rules.proofs.Replayed.{replayed_formed}
 use Rattle.mv_rules.proofs.Spoken.{held_visible}
+use Rattle.mv_rules.specs.declared.terms.Terms.{Terms}
 use Rattle.mv_script_run.specs.Commands.{WholeOf, DoesCommand, RunsCommand}
 use Rattle.mv_script_run.specs.Runs.{Runs}
 use Rattle.mv_script_run.proofs.Inductions.{of_items}
 use Rattle.mv_script_run.proofs.Rules.{whole_replays, does_replays, runs_replays}
-use Rattle.mv_script.specs.Commands.{IsCommand, is_named, are_named}
+use Rattle.mv_script.specs.Commands.{IsCommand, is_lawful, are_lawful}
 use Rattle.mv_script.specs.Scripts.{Items}
 use Rattle.mv_script.proofs.Commands.{built_lawful}
+use Rattle.mv_simplify.specs.Simplifies.{IsTightNow, LetBe as BareNet, Narrowed, SimplifiesAll, SimplifiesNet, Stays as KeepsTable, rule_of as narrow_of}
 use Rattle.mv_sweep.specs.Drops.{IsDropStep}
 use Rattle.mv_fill.specs.Fills.{Filled, FillsNet, FillsTables, LetBe, Stays, rule_of}
 use Rattle.mv_sweep.specs.Sweeps.{IsSweepStep}
@@ -153,51 +155,65 @@ extracts_seen free Candidate Behind behind =
     ends a es b (NoRoom name full is same) formed =
         (subst WellFormed (sym same) formed, subst AreSeen (sym is) (All-cons IsSeenNote (Dropped Nets name) [] (visible-one (Noted (Dropped Nets name)) name refl (visible-net name full.lawful)) (All-nil IsSeenNote)))
 
-whole_seen : (free : Bool) (c : Command) (a b : NetParts) (steps : List Entry) → IsCommand c → WellFormed a → WellFormed b → WholeOf free c a steps b → AreSeen steps
-whole_seen free Drop a b steps is formed formed' g = goes_seen free IsDropStep (λ net note never. absurd never) a b steps g.steps
-whole_seen free Sweep a b steps is formed formed' g = goes_seen free IsSweepStep (λ net note never. absurd never) a b steps g.steps
-whole_seen free Eliminate a b steps is formed formed' e = eliminates_seen free a b steps formed e
-whole_seen free (Collapse name) a b steps is formed formed' g = collapses_seen free name (and_parts (is_visible_name name) true is.names.each).0 a b steps g
-whole_seen free Kernel a b steps is formed formed' g = (extracts_seen free IsKernelCandidate (VisitsAll NotesKernels) (λ a es b v. of_visits StaysSeen (λ n f. (f, All-nil IsSeenNote)) seen_then NotesKernels kernels_seen (length a.nets) a es b v) a steps b g formed).1
-whole_seen free Cube a b steps is formed formed' g = (extracts_seen free IsCubeCandidate Nothing (of_nothing StaysSeen (λ n f. (f, All-nil IsSeenNote)) seen_then) a steps b g formed).1
-whole_seen free (Simplify down up) a b steps is formed formed' g = absurd g
-whole_seen free Merge a b steps is formed formed' g = absurd g
-whole_seen free Default a b steps is formed formed' g = absurd g
-whole_seen free Determinize a b steps is formed formed' g = absurd g
-whole_seen free Encode a b steps is formed formed' g = absurd g
-whole_seen free Fill a b steps is formed formed' g = fills_seen free a b steps formed g.tables
+-- a visit of `simplify`
+narrows_seen : (terms : Terms) (d u n : ℕ) → Implies (SimplifiesNet terms d u n) StaysSeen
+narrows_seen terms d u n a es b (BareNet none still) formed = (subst WellFormed (sym still.1) formed, subst AreSeen (sym still.0) (All-nil IsSeenNote))
+narrows_seen terms d u n a es b (KeepsTable why tabled keeps is same) formed =
+    let name = name_in (slot a.nets n) in
+    let seen = visible-one (Noted (Dropped why name)) name refl (tabled_visible a n formed tabled) in
+    (subst WellFormed (sym same) formed, subst AreSeen (sym is) (All-cons IsSeenNote (Dropped why name) [] seen (All-nil IsSeenNote)))
+narrows_seen terms d u n a es b (IsTightNow table table_is below tight still) formed = (subst WellFormed (sym still.1) formed, subst AreSeen (sym still.0) (All-nil IsSeenNote))
+narrows_seen terms d u n a es b (Narrowed table body table_is applies tight grown changed is) formed =
+    (kept_formed terms.free (narrow_of a n d u body) a b formed applies, subst AreSeen (sym is) (All-nil IsSeenNote))
+
+simplifies_seen : (terms : Terms) (d u : ℕ) → Implies (SimplifiesAll terms d u) StaysSeen
+simplifies_seen terms d u a es b v = of_visits StaysSeen (λ n f. (f, All-nil IsSeenNote)) seen_then (SimplifiesNet terms d u) (narrows_seen terms d u) (length a.nets) a es b v
+
+whole_seen : (terms : Terms) (c : Command) (a b : NetParts) (steps : List Entry) → IsCommand c → WellFormed a → WellFormed b → WholeOf terms c a steps b → AreSeen steps
+whole_seen terms Drop a b steps is formed formed' g = goes_seen terms.free IsDropStep (λ net note never. absurd never) a b steps g.steps
+whole_seen terms Sweep a b steps is formed formed' g = goes_seen terms.free IsSweepStep (λ net note never. absurd never) a b steps g.steps
+whole_seen terms Eliminate a b steps is formed formed' e = eliminates_seen terms.free a b steps formed e
+whole_seen terms (Collapse name) a b steps is formed formed' g = collapses_seen terms.free name (and_parts (is_visible_name name) true is.names.each).0 a b steps g
+whole_seen terms Kernel a b steps is formed formed' g = (extracts_seen terms.free IsKernelCandidate (VisitsAll NotesKernels) (λ a es b v. of_visits StaysSeen (λ n f. (f, All-nil IsSeenNote)) seen_then NotesKernels kernels_seen (length a.nets) a es b v) a steps b g formed).1
+whole_seen terms Cube a b steps is formed formed' g = (extracts_seen terms.free IsCubeCandidate Nothing (of_nothing StaysSeen (λ n f. (f, All-nil IsSeenNote)) seen_then) a steps b g formed).1
+whole_seen terms (Simplify down up) a b steps is formed formed' g = (simplifies_seen terms down up a steps b g formed).1
+whole_seen terms Merge a b steps is formed formed' g = absurd g
+whole_seen terms Default a b steps is formed formed' g = absurd g
+whole_seen terms Determinize a b steps is formed formed' g = absurd g
+whole_seen terms Encode a b steps is formed formed' g = absurd g
+whole_seen terms Fill a b steps is formed formed' g = fills_seen terms.free a b steps formed g.tables
 
 -- ---- the notes of commands
 
 numbers_seen : (note : Note) → entry_names (Noted note) ≡ [] → AreSeen (Noted note ∷ [])
 numbers_seen note none = All-cons IsSeenNote note [] (visible-none (Noted note) none) (All-nil IsSeenNote)
 
-does_seen : (free : Bool) (c : Command) (a b : NetParts) (es : List Entry) → IsCommand c → WellFormed a → DoesCommand free c a es b → AreSeen es
-does_seen free c a b es is formed d =
-    let formed' = replayed_formed free (rules_of d.steps) a b formed (whole_replays free c a b d.steps d.course) in
+does_seen : (terms : Terms) (c : Command) (a b : NetParts) (es : List Entry) → IsCommand c → WellFormed a → DoesCommand terms c a es b → AreSeen es
+does_seen terms c a b es is formed d =
+    let formed' = replayed_formed terms.free (rules_of d.steps) a b formed (whole_replays terms c a b d.steps d.course) in
     let end = End (literals_in b.nets) in
-    let rest = seen_append d.steps (Noted end ∷ []) (whole_seen free c a b d.steps is formed formed' d.course) (numbers_seen end refl) in
+    let rest = seen_append d.steps (Noted end ∷ []) (whole_seen terms c a b d.steps is formed formed' d.course) (numbers_seen end refl) in
     subst AreSeen (sym d.entries_are) (All-cons IsSeenNote (Begin c) (notes_of (d.steps ++ Noted end ∷ [])) is.names rest)
 
 -- ---- the notes of scripts
 
-command_seen : (free : Bool) (c : Command) → is_named c ≡ true → (a : NetParts) (es : List Entry) (b : NetParts) → RunsCommand free c a es b → StaysSeen a es b
-command_seen free c named a es b r formed =
-    (replayed_formed free (rules_of es) a b formed (does_replays free c a b es r.does), does_seen free c a b es (built_lawful c named r.built) formed r.does)
+command_seen : (terms : Terms) (c : Command) → is_lawful c ≡ true → (a : NetParts) (es : List Entry) (b : NetParts) → RunsCommand terms c a es b → StaysSeen a es b
+command_seen terms c lawful a es b r formed =
+    (replayed_formed terms.free (rules_of es) a b formed (does_replays terms c a b es r.does), does_seen terms c a b es (built_lawful c lawful r.built) formed r.does)
 
-runs_seen : (free : Bool) (items : Items) (a b : NetParts) (es : List Entry) → are_named items ≡ true → WellFormed a → Runs free items a es b → AreSeen es
-runs_seen free items a b es named formed r =
-    (of_items free StaysSeen (λ n formed'. (formed', All-nil IsSeenNote)) seen_then is_named (command_seen free) items named a es b r formed).1
+runs_seen : (terms : Terms) (items : Items) (a b : NetParts) (es : List Entry) → are_lawful items ≡ true → WellFormed a → Runs terms items a es b → AreSeen es
+runs_seen terms items a b es lawful formed r =
+    (of_items terms StaysSeen (λ n formed'. (formed', All-nil IsSeenNote)) seen_then is_lawful (command_seen terms) items lawful a es b r formed).1
 
 -- ---- the certificate
 
-pub certified : (free : Bool) (items : Items) (first net : NetParts) (es : List Entry) → are_named items ≡ true → WellFormed first → HasWordNames first.nets → Runs free items first es net → IsCertificateOf free es first net
-certified free items first net es named formed names runs short =
+pub certified : (terms : Terms) (items : Items) (first net : NetParts) (es : List Entry) → are_lawful items ≡ true → WellFormed first → HasWordNames first.nets → Runs terms items first es net → IsCertificateOf terms.free es first net
+certified terms items first net es lawful formed names runs short =
     let done = Done (literals_in first.nets) (literals_in net.nets) in
     let all = es ++ Noted done ∷ [] in
     let text : print all ≡ all_notes es first net = print-append es (Noted done ∷ []) ∙ ap (λ t. print es ++ t) (print-one (Noted done)) in
-    let replays : Replays free (rules_of all) first net =
-    subst (λ rs. Replays free rs first net) (sym (rules_of-append es (Noted done ∷ []) ∙ append-nil (rules_of es))) (runs_replays free items first net es runs) in
-    let notes = seen_append es (Noted done ∷ []) (runs_seen free items first net es named formed runs) (numbers_seen done refl) in
-    subst (λ t. Certifies free t first net) text
-    (seen_certifies free all first net formed names notes replays (subst (λ t. length t ≤ MAX_CERTIFICATE_BYTES) (sym text) short))
+    let replays : Replays terms.free (rules_of all) first net =
+    subst (λ rs. Replays terms.free rs first net) (sym (rules_of-append es (Noted done ∷ []) ∙ append-nil (rules_of es))) (runs_replays terms items first net es runs) in
+    let notes = seen_append es (Noted done ∷ []) (runs_seen terms items first net es lawful formed runs) (numbers_seen done refl) in
+    subst (λ t. Certifies terms.free t first net) text
+    (seen_certifies terms.free all first net formed names notes replays (subst (λ t. length t ≤ MAX_CERTIFICATE_BYTES) (sym text) short))

@@ -7,6 +7,7 @@ use Rattle.mv_entry.specs.Entries.{Entry, print}
 use Rattle.mv_net.specs.declared.parts.NetParts.{NetParts}
 use Rattle.mv_net.specs.Allowed.{of_net}
 use Rattle.mv_text_back.specs.Back.{ReadsBack}
+use Rattle.mv_rules.specs.declared.terms.Terms.{Terms}
 use Rattle.mv_script.specs.Scripts.{Items}
 use Rattle.mv_task.specs.declared.fault.FileFault.{FileFault}
 use Rattle.mv_task.specs.declared.fault.SourceStop.TheVariants.{Fault, Read as unread, Memory as short_source}
@@ -60,15 +61,15 @@ read_told (Source unread) notes notes' t e = t
 read_told (Source short_source) notes notes' t e = absurd (omega arith)
 
 -- memory ran out before any command
-short_told : (free : Bool) (given : Inputs) (old new : Stored) (stop : Stop) (notes notes' : Written) → TellsLine notes notes' (line_of stop) → status_of stop ≡ 6 → EndsShort free given old new notes notes'
+short_told : (terms : Terms) (given : Inputs) (old new : Stored) (stop : Stop) (notes notes' : Written) → TellsLine notes notes' (line_of stop) → status_of stop ≡ 6 → EndsShort terms given old new notes notes'
 unfolding print
-short_told free given old new (Script fault) notes notes' t e = absurd (omega arith)
-short_told free given old new Unbuilt notes notes' t e = absurd (omega arith)
-short_told free given old new Read notes notes' t e = absurd (omega arith)
-short_told free given old new Memory notes notes' t e = record { entries = []; ran = inl refl; tells = TellsBehind-nothing notes notes' memory_line t }
-short_told free given old new (Source (Fault f)) notes notes' t e = absurd (omega arith)
-short_told free given old new (Source unread) notes notes' t e = absurd (omega arith)
-short_told free given old new (Source short_source) notes notes' t e = record { entries = []; ran = inl refl; tells = TellsBehind-nothing notes notes' memory_line t }
+short_told terms given old new (Script fault) notes notes' t e = absurd (omega arith)
+short_told terms given old new Unbuilt notes notes' t e = absurd (omega arith)
+short_told terms given old new Read notes notes' t e = absurd (omega arith)
+short_told terms given old new Memory notes notes' t e = record { entries = []; ran = inl refl; tells = TellsBehind-nothing notes notes' memory_line t }
+short_told terms given old new (Source (Fault f)) notes notes' t e = absurd (omega arith)
+short_told terms given old new (Source unread) notes notes' t e = absurd (omega arith)
+short_told terms given old new (Source short_source) notes notes' t e = record { entries = []; ran = inl refl; tells = TellsBehind-nothing notes notes' memory_line t }
 
 fault_told : (source : Origin) (old : Stored) (stop : Stop) (notes notes' : Written) → TellsLine notes notes' (line_of stop)
     → ((f : FileFault) → stop ≡ Source (Fault f) → IfSome old.held (RefusesNetwork source f)) → status_of stop ≡ 2 → TellsFault source old notes notes'
@@ -98,10 +99,10 @@ never_one (Source (Fault f)) e = omega arith
 never_one (Source unread) e = omega arith
 never_one (Source short_source) e = omega arith
 
-early_of : (free : Bool) (given : Inputs) (old new : Stored) (out notes notes' : Written) (stop : Stop) → Ended IsScript 3 given old new (status_of stop)
+early_of : (terms : Terms) (given : Inputs) (old new : Stored) (out notes notes' : Written) (stop : Stop) → Ended IsScript 3 given old new (status_of stop)
     → ((f : FileFault) → stop ≡ Source (Fault f) → IfSome old.held (RefusesNetwork given.network f)) → IsRefusal given.second old stop → TellsLine notes notes' (line_of stop)
-    → Optimises free given old new out out notes notes' (status_of stop)
-early_of free given old new out notes notes' stop ended faulty why tells = record {
+    → Optimises terms given old new out out notes notes' (status_of stop)
+early_of terms given old new out notes notes' stop ended faulty why tells = record {
   done = λ e. absurd (ended_not_done own ended e);
   network = λ e. fault_told given.network old stop notes notes' tells faulty e;
   behind = λ e. ended_network own ended e;
@@ -110,7 +111,7 @@ early_of free given old new out notes notes' stop ended faulty why tells = recor
   read = λ e. ended_read own ended e;
   read_told = λ e. read_told stop notes notes' tells e;
   cut = λ e. absurd (ended_not_cut own ended e);
-  short = λ e. short_told free given old new stop notes notes' tells e;
+  short = λ e. short_told terms given old new stop notes notes' tells e;
   script_begun = λ e. ended_began_one own ended e;
   begun = ended_begins own ended;
   untouched = λ a b. refl;
@@ -120,15 +121,15 @@ early_of free given old new out notes notes' stop ended faulty why tells = recor
   words_accepted = λ e. never_one stop e;
 }
 
-pub early : (free : Bool) (given : Inputs) (old new : Stored) (out notes notes' : Written) (stop : Stop) (status : ℕ) → status ≡ status_of stop → Ended IsScript 3 given old new (status_of stop)
+pub early : (terms : Terms) (given : Inputs) (old new : Stored) (out notes notes' : Written) (stop : Stop) (status : ℕ) → status ≡ status_of stop → Ended IsScript 3 given old new (status_of stop)
     → ((f : FileFault) → stop ≡ Source (Fault f) → IfSome old.held (RefusesNetwork given.network f)) → IsRefusal given.second old stop → TellsLine notes notes' (line_of stop)
-    → Optimises free given old new out out notes notes' status
-early free given old new out notes notes' stop status is ended faulty why tells =
-    subst (λ s. Optimises free given old new out out notes notes' s) (sym is) (early_of free given old new out notes notes' stop ended faulty why tells)
+    → Optimises terms given old new out out notes notes' status
+early terms given old new out notes notes' stop status is ended faulty why tells =
+    subst (λ s. Optimises terms given old new out out notes notes' s) (sym is) (early_of terms given old new out notes notes' stop ended faulty why tells)
 
 -- memory ran out before anything was read
-pub short_at_once : (free : Bool) (given : Inputs) (files : Stored) (out notes notes' : Written) → TellsLine notes notes' memory_line → Optimises free given files files out out notes notes' 6
-short_at_once free given files out notes notes' tells = early_of free given files files out notes notes' Memory (Short refl (inl refl)) (λ f e. absurd cc) tt tells
+pub short_at_once : (terms : Terms) (given : Inputs) (files : Stored) (out notes notes' : Written) → TellsLine notes notes' memory_line → Optimises terms given files files out out notes notes' 6
+short_at_once terms given files out notes notes' tells = early_of terms given files files out notes notes' Memory (Short refl (inl refl)) (λ f e. absurd cc) tt tells
 
 -- ---- the work was begun
 
@@ -137,14 +138,14 @@ replaces : (free : Bool) (source : Origin) (old new : Stored) (first net : NetPa
 replaces free (File name) old new first net entries out out' made gained back refines = replaced free name old new first net out out' made gained back refines
 replaces free (Text text) old new first net entries out out' made gained back refines = refines
 
-module _ (free : Bool) (given : Inputs) (old new : Stored) (items : Items) (first : NetParts) (made : Prepared given.network old new first) (script : IfSome old.held (IsTaken IsScript given.second)) (taken : IfSome old.held (TakesItems given.second items)) (began : BeganAll given.network old new) where
-  pub worked : (out out' notes notes' : Written) → HasWorked free (output_for given.network) items first out out' notes notes' → Optimises free given old new out out' notes notes' 0
+module _ (terms : Terms) (given : Inputs) (old new : Stored) (items : Items) (first : NetParts) (made : Prepared given.network old new first) (script : IfSome old.held (IsTaken IsScript given.second)) (taken : IfSome old.held (TakesItems given.second items)) (began : BeganAll given.network old new) where
+  pub worked : (out out' notes notes' : Written) → HasWorked terms (output_for given.network) items first out out' notes notes' → Optimises terms given old new out out' notes notes' 0
   worked out out' notes notes' w = record {
     done = λ e. record {
       first = first;
       made = made;
       net = w.net;
-      replaces = replaces free given.network old new first w.net w.entries out out' made w.gained w.back w.refines;
+      replaces = replaces terms.free given.network old new first w.net w.entries out out' made w.gained w.back w.refines;
       output = w.gained;
       told = record { items = items; taken = taken; entries = w.entries; runs = w.runs; noted = w.noted; certified = w.certified; no_more = w.no_more };
     };
@@ -166,10 +167,10 @@ module _ (free : Bool) (given : Inputs) (old new : Stored) (items : Items) (firs
   }
 
   -- the cause of a write that failed
-  cut_cause : (out out' notes notes' : Written) → IsCut free (output_for given.network) items first out out' notes notes' → Rose out.faults out'.faults ⊎ Rose notes.faults notes'.faults
+  cut_cause : (out out' notes notes' : Written) → IsCut terms (output_for given.network) items first out out' notes notes' → Rose out.faults out'.faults ⊎ Rose notes.faults notes'.faults
   cut_cause out out' notes notes' h = ⊎_elim (λ text. inl text.0) (λ line. inr line.1) h.how
 
-  pub cut_off : (out out' notes notes' : Written) → IsCut free (output_for given.network) items first out out' notes notes' → Optimises free given old new out out' notes notes' 5
+  pub cut_off : (out out' notes notes' : Written) → IsCut terms (output_for given.network) items first out out' notes notes' → Optimises terms given old new out out' notes notes' 5
   cut_off out out' notes notes' h = record {
     done = λ e. absurd (omega arith);
     network = λ e. absurd (omega arith);
@@ -191,7 +192,7 @@ module _ (free : Bool) (given : Inputs) (old new : Stored) (items : Items) (firs
     words_accepted = λ e. omega arith;
   }
 
-  pub ran_short : (out out' notes mid notes' : Written) → HasStoppedAt free items first notes mid → notes.faults ≤ mid.faults → out' ≡ out → TellsLine mid notes' memory_line → Optimises free given old new out out' notes notes' 6
+  pub ran_short : (out out' notes mid notes' : Written) → HasStoppedAt terms items first notes mid → notes.faults ≤ mid.faults → out' ≡ out → TellsLine mid notes' memory_line → Optimises terms given old new out out' notes notes' 6
   ran_short out out' notes mid notes' h later same tells = record {
     done = λ e. absurd (omega arith);
     network = λ e. absurd (omega arith);
@@ -216,8 +217,8 @@ module _ (free : Bool) (given : Inputs) (old new : Stored) (items : Items) (firs
   }
 
   -- however the work ends
-  pub run_ends : (out out' notes notes' : Written) (status : ℕ) → EndsRun free (output_for given.network) items first out out' notes notes' status → Optimises free given old new out out' notes notes' status
-  run_ends out out' notes notes' status (Done is w) = subst (λ s. Optimises free given old new out out' notes notes' s) (sym is) (worked out out' notes notes' w)
-  run_ends out out' notes notes' status (Cut is h) = subst (λ s. Optimises free given old new out out' notes notes' s) (sym is) (cut_off out out' notes notes' h)
+  pub run_ends : (out out' notes notes' : Written) (status : ℕ) → EndsRun terms (output_for given.network) items first out out' notes notes' status → Optimises terms given old new out out' notes notes' status
+  run_ends out out' notes notes' status (Done is w) = subst (λ s. Optimises terms given old new out out' notes notes' s) (sym is) (worked out out' notes notes' w)
+  run_ends out out' notes notes' status (Cut is h) = subst (λ s. Optimises terms given old new out out' notes notes' s) (sym is) (cut_off out out' notes notes' h)
   run_ends out out' notes notes' status (OutOfMemory is mid h later same tells) =
-      subst (λ s. Optimises free given old new out out' notes notes' s) (sym is) (ran_short out out' notes mid notes' h later same tells)
+      subst (λ s. Optimises terms given old new out out' notes notes' s) (sym is) (ran_short out out' notes mid notes' h later same tells)

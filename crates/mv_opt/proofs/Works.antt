@@ -9,6 +9,7 @@ use Rattle.mv_net.specs.Allowed.{of_net}
 use Rattle.mv_net.specs.Formed.{WellFormed}
 use Rattle.mv_rules_back.specs.Names.{HasWordNames}
 use Rattle.mv_opt.proofs.Certified.{certified}
+use Rattle.mv_rules.specs.declared.terms.Terms.{Terms}
 use Rattle.mv_script_run.proofs.NoMore.{runs_no_more}
 use Rattle.mv_net.specs.Nets.{literals_in}
 use Rattle.mv_text_back.specs.Back.{ReadsBack}
@@ -19,15 +20,15 @@ use Rattle.mv_opt.specs.declared.output.Output.{Output}
 use Rattle.mv_opt.specs.Outcomes.{HasRun, HasStopped, IsNoteCut, HasWorked, IsDoneCut, IsOutputCut, IsCut}
 use Rattle.mv_opt.specs.Outputs.{no_tally, output_text, output_of}
 use Rattle.mv_script_run.specs.Runs.{Runs, RunsTo}
-use Rattle.mv_script.specs.Commands.{are_named}
+use Rattle.mv_script.specs.Commands.{are_lawful}
 use Rattle.mv_script.specs.Scripts.{Items}
 use Rattle.mv_task.specs.Ending.{IsEndCut, done_line}
 
 -- ---- the script
 
 -- what a journal took of the script, as its sink gained it
-module _ (free : Bool) (items : Items) (a b : NetParts) (j k : Journaled) where
-  pub ran : (tally : Tally) → j.tally ≡ no_tally → tally ≡ k.tally → Took (λ es. Runs free items a es b) j k → HasRun free items a b j.written k.written tally
+module _ (terms : Terms) (items : Items) (a b : NetParts) (j k : Journaled) where
+  pub ran : (tally : Tally) → j.tally ≡ no_tally → tally ≡ k.tally → Took (λ es. Runs terms items a es b) j k → HasRun terms items a b j.written k.written tally
   ran tally none e t = record {
     entries = t.entries;
     runs = t.are;
@@ -35,10 +36,10 @@ module _ (free : Bool) (items : Items) (a b : NetParts) (j k : Journaled) where
     counted = e ∙ (t.counted ∙ ap (λ n. with_entries n t.entries) none);
   }
 
-  pub stopped : Took (λ es. RunsTo free items a es b) j k → HasStopped free items a b j.written k.written
+  pub stopped : Took (λ es. RunsTo terms items a es b) j k → HasStopped terms items a b j.written k.written
   stopped t = record { entries = t.entries; stops = t.are; gained = t.gained }
 
-  pub note_cut : TookPart (λ es. RunsTo free items a es b) j k → IsNoteCut free items a b j.written k.written
+  pub note_cut : TookPart (λ es. RunsTo terms items a es b) j k → IsNoteCut terms items a b j.written k.written
   note_cut t = record { entries = t.entries; stops = t.are; gained = t.gained }
 
 pub ruleset noted = (ran, stopped, note_cut)
@@ -49,13 +50,13 @@ pub ruleset noted = (ran, stopped, note_cut)
 same_line : (first net : NetParts) (before : ℕ) → before ≡ literals_in first.nets → done_line before (literals_in net.nets) ≡ done_line (literals_in first.nets) (literals_in net.nets)
 same_line first net before e = ap (λ n. done_line n (literals_in net.nets)) e
 
-module _ (free : Bool) (output : Output) (items : Items) (first net : NetParts) (before : ℕ) (tally : Tally) (notes mid : Written) (same : before ≡ literals_in first.nets) (ran : HasRun free items first net notes mid tally) where
+module _ (terms : Terms) (output : Output) (items : Items) (first net : NetParts) (before : ℕ) (tally : Tally) (notes mid : Written) (same : before ≡ literals_in first.nets) (ran : HasRun terms items first net notes mid tally) where
   -- what was counted and the literals are those of the entries and of the first network
   same_output : output_text output before tally net ≡ output_of output first ran.entries net
   same_output = ap (λ n. output_text output n tally net) same ∙ ap (λ t. output_text output (literals_in first.nets) t net) ran.counted
 
-  pub work_done : (out out' notes' : Written) → Refines free (of_net net) (of_net first) → ReadsBack net → are_named items ≡ true → WellFormed first → HasWordNames first.nets → Gained out out' (output_text output before tally net) → Gained mid notes' (done_line before (literals_in net.nets)) → HasWorked free output items first out out' notes notes'
-  work_done out out' notes' refines back named formed names text line =
+  pub work_done : (out out' notes' : Written) → Refines terms.free (of_net net) (of_net first) → ReadsBack net → are_lawful items ≡ true → WellFormed first → HasWordNames first.nets → Gained out out' (output_text output before tally net) → Gained mid notes' (done_line before (literals_in net.nets)) → HasWorked terms output items first out out' notes notes'
+  work_done out out' notes' refines back lawful formed names text line =
       let P : List ℕ → Type 0 = λ z. Gained mid notes' z in
       let Q : List ℕ → Type 0 = λ z. Gained out out' z in
       record {
@@ -63,15 +64,15 @@ module _ (free : Bool) (output : Output) (items : Items) (first net : NetParts) 
         net = net;
         runs = ran.runs;
         noted = Gained-then notes mid notes' _ _ ran.gained (subst P (same_line first net before same) line);
-        certified = certified free items first net ran.entries named formed names ran.runs;
-        no_more = λ frugal. runs_no_more free items first net ran.entries frugal formed ran.runs;
+        certified = certified terms items first net ran.entries lawful formed names ran.runs;
+        no_more = λ frugal. runs_no_more terms items first net ran.entries frugal formed ran.runs;
         gained = subst Q same_output text;
         back = back;
         refines = refines;
       }
 
   -- the output failed behind the notes
-  output_cut : (out out' notes' : Written) → Gained mid notes' (done_line before (literals_in net.nets)) → GainedPart out out' (output_text output before tally net) → IsOutputCut free output items first out out' notes notes'
+  output_cut : (out out' notes' : Written) → Gained mid notes' (done_line before (literals_in net.nets)) → GainedPart out out' (output_text output before tally net) → IsOutputCut terms output items first out out' notes notes'
   output_cut out out' notes' line part =
       let P : List ℕ → Type 0 = λ z. Gained mid notes' z in
       let Q : List ℕ → Type 0 = λ z. GainedPart out out' z in
@@ -84,7 +85,7 @@ module _ (free : Bool) (output : Output) (items : Items) (first net : NetParts) 
       }
 
   -- the notes failed at the done line
-  done_cut : (notes' : Written) → GainedPart mid notes' (done_line before (literals_in net.nets)) → IsDoneCut free items first notes notes'
+  done_cut : (notes' : Written) → GainedPart mid notes' (done_line before (literals_in net.nets)) → IsDoneCut terms items first notes notes'
   done_cut notes' part =
       let P : List ℕ → Type 0 = λ z. GainedPart mid notes' z in
       record {
@@ -94,7 +95,7 @@ module _ (free : Bool) (output : Output) (items : Items) (first net : NetParts) 
         noted = GainedPart-then notes mid notes' _ _ ran.gained (subst P (same_line first net before same) part);
       }
 
-  pub work_cut : (out out' notes' : Written) → notes.faults ≤ mid.faults → IsEndCut out out' mid notes' (done_line before (literals_in net.nets)) (output_text output before tally net) → IsCut free output items first out out' notes notes'
+  pub work_cut : (out out' notes' : Written) → notes.faults ≤ mid.faults → IsEndCut out out' mid notes' (done_line before (literals_in net.nets)) (output_text output before tally net) → IsCut terms output items first out out' notes notes'
   work_cut out out' notes' later cut = record {
     how =
         ⊎_elim

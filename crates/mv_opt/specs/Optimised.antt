@@ -5,6 +5,7 @@ use Rattle.mv_base.specs.Outside.{Stored, Written, Gained, Rose}
 use Rattle.mv_entry.specs.Entries.{Entry}
 use Rattle.mv_net.specs.declared.parts.NetParts.{NetParts}
 use Rattle.mv_net.specs.Nets.{literals_in}
+use Rattle.mv_rules.specs.declared.terms.Terms.{Terms}
 use Rattle.mv_script_run.specs.Commands.{leaves_no_more}
 use Rattle.mv_script_run.specs.Runs.{Runs}
 use Rattle.mv_script.specs.Commands.{all_commands}
@@ -26,13 +27,13 @@ use Rattle.mv_opt.specs.Scripts.{IsScript, TakesItems, TellsScript}
 
 -- what the script did: the named one ran on the first network, and the notes gained its entries and the done line, which are a
 -- certificate of it
-pub record Told (free : Bool) (script : List ℕ) (files : Stored) (first net : NetParts) (notes notes' : Written) : Type 0 where
+pub record Told (terms : Terms) (script : List ℕ) (files : Stored) (first net : NetParts) (notes notes' : Written) : Type 0 where
   pub items : Items
   pub taken : IfSome files.held (TakesItems script items)
   pub entries : List Entry
-  pub runs : Runs free items first entries net
+  pub runs : Runs terms items first entries net
   pub noted : Gained notes notes' (all_notes entries first net)
-  pub certified : IsCertificateOf free entries first net
+  pub certified : IsCertificateOf terms.free entries first net
   -- without `determinize` and `encode` it ends with no more literals than it began with
   pub no_more : all_commands leaves_no_more items ≡ true → literals_in net.nets ≤ literals_in first.nets
 
@@ -43,19 +44,19 @@ Replaces free (Text text) old new first net out out' = Refines free (of_net net)
 
 -- the work is done: the network came from where it was to; the script led from it to another one, and told what it did; that
 -- one takes its place, where free with any meaning under values under which the first allows nothing; and the output was written
-pub record IsOptimised (free : Bool) (given : Inputs) (old new : Stored) (out out' notes notes' : Written) : Type 0 where
+pub record IsOptimised (terms : Terms) (given : Inputs) (old new : Stored) (out out' notes notes' : Written) : Type 0 where
   pub first : NetParts
   pub made : Prepared given.network old new first
   pub net : NetParts
-  pub replaces : Replaces free given.network old new first net out out'
-  pub told : Told free given.second old first net notes notes'
+  pub replaces : Replaces terms.free given.network old new first net out out'
+  pub told : Told terms given.second old first net notes notes'
   pub output : Gained out out' (output_of (output_for given.network) first told.entries net)
 
 -- each status and what it says: 0 the work is done; 2 the network is refused, behind a script that was taken, and the notes tell
 -- why; 3 the script is refused, before the network is begun, and the notes tell why; 4 a read failed; 5 a write failed; 6 memory
 -- ran out
-pub record Optimises (free : Bool) (given : Inputs) (old new : Stored) (out out' notes notes' : Written) (status : ℕ) : Type 0 where
-  pub done : status ≡ 0 → IsOptimised free given old new out out' notes notes'
+pub record Optimises (terms : Terms) (given : Inputs) (old new : Stored) (out out' notes notes' : Written) (status : ℕ) : Type 0 where
+  pub done : status ≡ 0 → IsOptimised terms given old new out out' notes notes'
   pub network : status ≡ 2 → TellsFault given.network old notes notes'
   pub behind : status ≡ 2 → IfSome old.held (IsTaken IsScript given.second)
   pub script : status ≡ 3 → IfSome old.held (IsRefused IsScript given.second)
@@ -63,8 +64,8 @@ pub record Optimises (free : Bool) (given : Inputs) (old new : Stored) (out out'
   pub script_begun : status ≡ 3 → BeganOne old new
   pub read : status ≡ 4 → Rose old.faults new.faults × IfSome old.held (LacksFile IsScript given)
   pub read_told : status ≡ 4 → TellsLine notes notes' read_line
-  pub cut : status ≡ 5 → EndsCut free given old new out out' notes notes'
-  pub short : status ≡ 6 → EndsShort free given old new notes notes'
+  pub cut : status ≡ 5 → EndsCut terms given old new out out' notes notes'
+  pub short : status ≡ 6 → EndsShort terms given old new notes notes'
   pub begun : BeginsFiles given.network old new status
   pub untouched : (status ≡ 0 → ⊥) → (status ≡ 5 → ⊥) → out' ≡ out
   pub exact : IsExact IsScript 3 given old status

@@ -1,6 +1,6 @@
 ghost use Rattle.std.specs.Prelude.{◌≡◌, ◌≤◌, true};
 ghost use Rattle.mv_rules_back.specs.Names.{HasWordNames};
-ghost use Rattle.mv_script.specs.Commands.{are_built, are_named};
+ghost use Rattle.mv_script.specs.Commands.{are_built, are_lawful};
 ghost use Rattle.mv_script.specs.Scripts.{items_of};
 ghost use Rattle.mv_opt.specs.Optimised.{Optimises};
 ghost use Rattle.mv_opt.specs.Stops.{line_of};
@@ -39,8 +39,8 @@ fn finish_run<O: Sink, E: Sink>(
 ) -> u8
     requires names { HasWordNames work.net.nets }
     requires built { are_built (items_of work.script) ≡ true }
-    requires named { are_named (items_of work.script) ≡ true }
-    ensures { EndsRun terms.free output (items_of work.script) work.net (O.state out.old) (O.state out.new) (E.state notes.old) (E.state notes.new) result }
+    requires lawful { are_lawful (items_of work.script) ≡ true }
+    ensures { EndsRun terms output (items_of work.script) work.net (O.state out.old) (O.state out.new) (E.state notes.old) (E.state notes.new) result }
 {
     match carry_out(alloc, work, terms, output, out, notes) {
         Ok(()) => 0,
@@ -64,7 +64,7 @@ pub fn optimise<F: Files, O: Sink, E: Sink>(
     out: &mut O,
     notes: &mut E,
 ) -> u8
-    ensures { Optimises terms.free (named network.now script.now) (F.state files.old) (F.state files.new)
+    ensures { Optimises terms (named network.now script.now) (F.state files.old) (F.state files.new)
         (O.state out.old) (O.state out.new) (E.state notes.old) (E.state notes.new) result }
 {
     match prepare(alloc, network, script, files) {
@@ -91,7 +91,7 @@ pub fn work<F: Files, O: Sink, E: Sink>(
 ) -> u8
     requires least { MIN_WORK_TABLES ≤ size }
     requires most { size ≤ MAX_WORK_TABLES }
-    ensures { Optimises terms.free (drawn size seed script.now) (F.state files.old) (F.state files.new)
+    ensures { Optimises terms (drawn size seed script.now) (F.state files.old) (F.state files.new)
         (O.state out.old) (O.state out.new) (E.state notes.old) (E.state notes.new) result }
 {
     match prepare_drawn(alloc, size, seed, script, files) {

@@ -1,7 +1,7 @@
 ghost use Rattle.std.specs.Prelude.{◌≡◌, ◌≤◌, true, Err, IfOk, IfErr, IfSome, OnOk};
 ghost use Rattle.mv_files.specs.FileReading.{BeganOne, Stay};
 ghost use Rattle.mv_rules_back.specs.Names.{HasWordNames};
-ghost use Rattle.mv_script.specs.Commands.{are_built, are_named};
+ghost use Rattle.mv_script.specs.Commands.{are_built, are_lawful};
 ghost use Rattle.mv_script.specs.Scripts.{items_of};
 ghost use Rattle.mv_task.specs.declared.fault.FileFault.{FileFault};
 ghost use Rattle.mv_task.specs.declared.fault.SourceStop.TheVariants.{Fault as faulty};
@@ -32,7 +32,7 @@ fn take_script<F: Files>(alloc: Global, name: &str, files: &mut F) -> Result<Scr
     ensures taken { OnOk result (IfSome (F.state files.old).held (IsTaken IsScript name.now)) }
     ensures items { IfOk result (λ script. IfSome (F.state files.old).held (TakesItems name.now (items_of script))) }
     ensures built { IfOk result (λ script. are_built (items_of script) ≡ true) }
-    ensures named { IfOk result (λ script. are_named (items_of script) ≡ true) }
+    ensures lawful { IfOk result (λ script. are_lawful (items_of script) ≡ true) }
     ensures stay { Stay (F.state files.old) (F.state files.new) }
     ensures own { (fault : FileFault) → result ≡ Err (Stop.Source (faulty fault)) → ⊥ }
     ensures refused { IfErr result (IsRefusal name.now (F.state files.old)) }
@@ -74,7 +74,7 @@ pub fn prepare<F: Files>(
     ensures taken { OnOk result (IfSome (F.state files.old).held (IsTaken IsScript script.now)) }
     ensures items { IfOk result (λ work. IfSome (F.state files.old).held (TakesItems script.now (items_of work.script))) }
     ensures built { IfOk result (λ work. are_built (items_of work.script) ≡ true) }
-    ensures named { IfOk result (λ work. are_named (items_of work.script) ≡ true) }
+    ensures lawful { IfOk result (λ work. are_lawful (items_of work.script) ≡ true) }
     ensures made { IfOk result (λ work. Prepared (File network.now) (F.state files.old) (F.state files.new) work.net) }
     ensures names { IfOk result (λ work. HasWordNames work.net.nets) }
     ensures starts { OnOk result (BeganAll (File network.now) (F.state files.old) (F.state files.new)) }
@@ -108,7 +108,7 @@ pub fn prepare_drawn<F: Files>(
     ensures taken { OnOk result (IfSome (F.state files.old).held (IsTaken IsScript script.now)) }
     ensures items { IfOk result (λ work. IfSome (F.state files.old).held (TakesItems script.now (items_of work.script))) }
     ensures built { IfOk result (λ work. are_built (items_of work.script) ≡ true) }
-    ensures named { IfOk result (λ work. are_named (items_of work.script) ≡ true) }
+    ensures lawful { IfOk result (λ work. are_lawful (items_of work.script) ≡ true) }
     ensures made { IfOk result (λ work. Prepared (Text (work_text size seed)) (F.state files.old) (F.state files.new) work.net) }
     ensures names { IfOk result (λ work. HasWordNames work.net.nets) }
     ensures starts { OnOk result (BeganAll (Text (work_text size seed)) (F.state files.old) (F.state files.new)) }

@@ -3,7 +3,7 @@ ghost use Rattle.mv_rules_back.specs.Names.{HasWordNames};
 ghost use Rattle.mv_base.specs.Meaning.{Refines};
 ghost use Rattle.mv_base.specs.Outside.{Rose};
 ghost use Rattle.mv_net.specs.Allowed.{of_net};
-ghost use Rattle.mv_script.specs.Commands.{are_built, are_named};
+ghost use Rattle.mv_script.specs.Commands.{are_built, are_lawful};
 ghost use Rattle.mv_script.specs.Scripts.{items_of};
 ghost use Rattle.mv_opt.specs.Outcomes.{HasRun, HasStopped, HasStoppedAt, HasWorked, IsCut, IsNoteCut};
 
@@ -37,12 +37,12 @@ fn run_noted<E: Sink>(
     notes: &mut E,
 ) -> Result<Tally, Stop>
     requires built { are_built (items_of script.now) ≡ true }
-    requires named { are_named (items_of script.now) ≡ true }
-    ensures ok { IfOk result (HasRun terms.free (items_of script.now) net.old net.new (E.state notes.old) (E.state notes.new)) }
+    requires lawful { are_lawful (items_of script.now) ≡ true }
+    ensures ok { IfOk result (HasRun terms (items_of script.now) net.old net.new (E.state notes.old) (E.state notes.new)) }
     ensures memory { result ≡ Err Stop.Memory
-        → HasStopped terms.free (items_of script.now) net.old net.new (E.state notes.old) (E.state notes.new) }
+        → HasStopped terms (items_of script.now) net.old net.new (E.state notes.old) (E.state notes.new) }
     ensures note { result ≡ Err Stop.Note
-        → IsNoteCut terms.free (items_of script.now) net.old net.new (E.state notes.old) (E.state notes.new) }
+        → IsNoteCut terms (items_of script.now) net.old net.new (E.state notes.old) (E.state notes.new) }
     ensures cause { result ≡ Err Stop.Note → Rose (E.state notes.old).faults (E.state notes.new).faults }
     ensures refines { Refines terms.free (of_net net.new) (of_net net.old) }
     ensures later { (E.state notes.old).faults ≤ (E.state notes.new).faults }
@@ -66,13 +66,13 @@ pub fn carry_out<O: Sink, E: Sink>(
 ) -> Result<(), WorkStop>
     requires names { HasWordNames work.net.nets }
     requires built { are_built (items_of work.script) ≡ true }
-    requires named { are_named (items_of work.script) ≡ true }
-    ensures ok { OnOk result (HasWorked terms.free output (items_of work.script) work.net
+    requires lawful { are_lawful (items_of work.script) ≡ true }
+    ensures ok { OnOk result (HasWorked terms output (items_of work.script) work.net
         (O.state out.old) (O.state out.new) (E.state notes.old) (E.state notes.new)) }
-    ensures write { result ≡ Err WorkStop.Write → IsCut terms.free output (items_of work.script) work.net
+    ensures write { result ≡ Err WorkStop.Write → IsCut terms output (items_of work.script) work.net
         (O.state out.old) (O.state out.new) (E.state notes.old) (E.state notes.new) }
     ensures memory { result ≡ Err WorkStop.Memory
-        → HasStoppedAt terms.free (items_of work.script) work.net (E.state notes.old) (E.state notes.new) }
+        → HasStoppedAt terms (items_of work.script) work.net (E.state notes.old) (E.state notes.new) }
     ensures untouched { result ≡ Err WorkStop.Memory → O.state out.new ≡ O.state out.old }
     ensures later { result ≡ Err WorkStop.Memory → (E.state notes.old).faults ≤ (E.state notes.new).faults }
 {

@@ -55,6 +55,13 @@ Strict=Total | .model p;.inputs a;.outputs z;.table a -> x;0 1;1 0;.table x -> z
 .model v;.inputs a;.outputs z w;.table -> c;-;.table c -> y;0 0;1 1;.table y -> z;1 1;.table a -> w;1 1;.end; | \
 free fill z 0 / free fill w 01 / free wire y | Strict=Varied Strict=4 4=4 | .model v;.inputs a;.outputs z \
 w;.table -> c;-;.table c -> y;0 0;1 1;.table c -> z;1 1;.table a -> w;.default -;1 1;.end;
+.model h;.inputs a b;.outputs z y;.mv n 3;.table a b -> n;0 - 0;1 0 1;1 1 2;.table n -> z;0 0;(1,2) 1;.table n -> \
+y;0 1;(1,2) 0;.table -> c;-;.table c -> d;0 0;.table a -> e;0 0;1 1;.end; | narrow q 0 0 a=0:0 / narrow a 0 0 :0 / \
+narrow n 9 0 q=0:0 / narrow n 9 0 a=0:0 / narrow n 0 9 a=0:0 / narrow n 0 0 a=0:3 / narrow z 0 0 a=0:0 / narrow c 0 0 \
+:0 / narrow n 0 0 a=0:0 a=1:1 / narrow n 0 0 a=0:0 / narrow n 1 0 a=0:0 a=1:1 | NoNet=NoNet NoNet=NoNet NoNet=NoNet \
+Form=Form Form=Form Form=Form Outside=Outside Partial=Partial Outside=Outside Lost=Lost 9=9 | .model h;.inputs a \
+b;.outputs z y;.mv n 3;.table a -> n;0 0;1 1;.table n -> z;0 0;(1,2) 1;.table n -> y;0 1;(1,2) 0;.table -> c;-;.table \
+c -> d;0 0;.table a -> e;0 0;1 1;.end;
 ";
 
 /// The network, the rules, and what is answered, of a case.

@@ -1,5 +1,5 @@
-//! Rules from texts: `remove k`, `wire k`, `collapse k`, `fill k 01`, `add k BODY` and `divide k by BODY`, where a body is words
-//! such as `a=1&b=02:1`, which are its lines, and `else:0`, which is its default.
+//! Rules from texts: `remove k`, `wire k`, `collapse k`, `fill k 01`, `add k BODY`, `divide k by BODY` and `narrow k 1 0 BODY`,
+//! where a body is words such as `a=1&b=02:1`, which are its lines, and `else:0`, which is its default.
 use mv_base::{Items, Name, PackedSet, Value, ValueSet};
 use mv_rules::{Body, BodyLine, BodyLit, Rule};
 use std::alloc::Global;
@@ -74,6 +74,25 @@ fn division(alloc: Global, net: &str, words: &str) -> Result<Rule, Fail> {
     Ok(Rule::Divide { net, by, body })
 }
 
+/// The steps of a window.
+fn steps(word: &str) -> Result<u16, Fail> {
+    match word.parse::<u16>() {
+        Ok(steps) => Ok(steps),
+        Err(_fault) => Err("no steps")?,
+    }
+}
+
+/// The rule that a net gets a body, before which stand the steps of a window.
+fn narrowing(alloc: Global, net: &str, words: &str) -> Result<Rule, Fail> {
+    let (down, rest) = words.split_once(' ').ok_or("no steps up")?;
+    let (up, lines) = rest.split_once(' ').ok_or("no body")?;
+    let net = name(alloc, net)?;
+    let d = steps(down)?;
+    let u = steps(up)?;
+    let body = body(alloc, lines)?;
+    Ok(Rule::Narrow { net, d, u, body })
+}
+
 /// The rule that a net's table gets the values whose digits stand in the word as its default.
 fn filling(alloc: Global, net: &str, digits: &str) -> Result<Rule, Fail> {
     let net = name(alloc, net)?;
@@ -98,6 +117,7 @@ pub fn rule(alloc: Global, text: &str) -> Result<Rule, Fail> {
     match rest.split_once(' ') {
         Some((net, words)) if what == "add" => addition(alloc, net, words),
         Some((net, digits)) if what == "fill" => filling(alloc, net, digits),
+        Some((net, words)) if what == "narrow" => narrowing(alloc, net, words),
         Some((net, words)) => division(alloc, net, words),
         None => short_rule(alloc, what, rest),
     }

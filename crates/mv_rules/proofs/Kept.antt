@@ -1,7 +1,7 @@
 -- What every rule keeps: that the network is well formed, and its latches.
 use Rattle.std.proofs.Common.{◌≡◌, Bool, ap}
 use Rattle.mv_entry.specs.declared.rule.Rule.{Rule}
-use Rattle.mv_entry.specs.declared.rule.Rule.TheVariants.{Remove, Add, Divide, Wire, Collapse, Fill}
+use Rattle.mv_entry.specs.declared.rule.Rule.TheVariants.{Remove, Add, Divide, Wire, Collapse, Narrow, Fill}
 use Rattle.mv_net.specs.declared.parts.NetParts.{NetParts}
 use Rattle.mv_net.specs.Changes.{with_nets}
 use Rattle.mv_net.specs.Formed.{WellFormed}
@@ -12,6 +12,7 @@ use Rattle.mv_rules.proofs.Divided.{divided_is_formed}
 use Rattle.mv_rules.proofs.Wired.{wired_is_formed}
 use Rattle.mv_rules.proofs.Collapsed.{collapses_formed}
 use Rattle.mv_rules.proofs.Filled.{filled_formed}
+use Rattle.mv_rules.proofs.Narrowed.{narrows_formed}
 
 pub kept_formed : (free : Bool) (rule : Rule) (old new : NetParts) → WellFormed old → Applies free rule old new → WellFormed new
 kept_formed free (Remove w) old new formed p = removed_formed old w new formed p
@@ -19,6 +20,7 @@ kept_formed free (Add w body) old new formed p = added_is_formed old w body new 
 kept_formed free (Divide w by body) old new formed p = divided_is_formed old w by body new formed p
 kept_formed free (Wire w) old new formed p = wired_is_formed old w new formed p
 kept_formed free (Collapse w) old new formed p = collapses_formed old w new formed p
+kept_formed free (Narrow w d u body) old new formed p = narrows_formed old w d u body new formed p
 kept_formed free (Fill w out) old new formed p = filled_formed free old w out new formed p
 kept_formed free _ old new formed p = absurd p
 
@@ -29,5 +31,6 @@ kept_latches free (Add w body) old new p = ap (λ (n : NetParts). n.latches) p.n
 kept_latches free (Divide w by body) old new p = ap (λ (n : NetParts). n.latches) p.new_is
 kept_latches free (Wire w) old new p = ap (λ (n : NetParts). n.latches) p.new_is
 kept_latches free (Collapse w) old new p = ap (λ (n : NetParts). n.latches) p.new_is
+kept_latches free (Narrow w d u body) old new p = ap (λ (n : NetParts). n.latches) p.new_is
 kept_latches free (Fill w out) old new p = ap (λ (n : NetParts). n.latches) p.new_is
 kept_latches free _ old new p = absurd p

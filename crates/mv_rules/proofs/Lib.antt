@@ -20,5 +20,7 @@ pub mod Replayed
 pub mod Spoken
 pub mod Built
 pub mod Filled
+pub mod Narrowed
+mod Fanins
 pub mod Strict
 pub mod Staying

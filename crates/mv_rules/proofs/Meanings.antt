@@ -4,7 +4,7 @@ use Rattle.std.proofs.lemmas.Bool.{false≢true}
 use Rattle.mv_base.proofs.Meanings.{Refines-from_same}
 use Rattle.mv_base.specs.Meaning.{Refines, SameMeaning}
 use Rattle.mv_entry.specs.declared.rule.Rule.{Rule}
-use Rattle.mv_entry.specs.declared.rule.Rule.TheVariants.{Remove, Add, Divide, Wire, Collapse, Fill}
+use Rattle.mv_entry.specs.declared.rule.Rule.TheVariants.{Remove, Add, Divide, Wire, Collapse, Narrow, Fill}
 use Rattle.mv_net.specs.declared.parts.NetParts.{NetParts}
 use Rattle.mv_net.specs.Allowed.{of_net}
 use Rattle.mv_net.specs.Formed.{WellFormed}
@@ -15,6 +15,7 @@ use Rattle.mv_rules.proofs.Divided.{divided_is_same}
 use Rattle.mv_rules.proofs.Wired.{wired_is_same}
 use Rattle.mv_rules.proofs.Collapsed.{collapsed_means_same}
 use Rattle.mv_rules.proofs.Filled.{filled_refines}
+use Rattle.mv_rules.proofs.Narrowed.{narrows_refines}
 
 pub applied_means : (free : Bool) (rule : Rule) (old new : NetParts) → WellFormed old → keeps_choices rule ≡ true → Applies free rule old new → SameMeaning (of_net new) (of_net old)
 applied_means free (Remove w) old new formed keeps p = removed_means old w new formed p
@@ -33,5 +34,6 @@ applied_refines free (Add w body) old new formed p = same_refines free (Add w bo
 applied_refines free (Divide w by body) old new formed p = same_refines free (Divide w by body) old new formed refl p
 applied_refines free (Wire w) old new formed p = same_refines free (Wire w) old new formed refl p
 applied_refines free (Collapse w) old new formed p = same_refines free (Collapse w) old new formed refl p
+applied_refines free (Narrow w d u body) old new formed p = narrows_refines old w d u body new formed p free
 applied_refines free (Fill w out) old new formed p = filled_refines free old w out new formed p
 applied_refines free _ old new formed p = absurd p

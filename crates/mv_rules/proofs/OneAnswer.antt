@@ -9,7 +9,7 @@ use Rattle.mv_cover.specs.Literal.{Lit}
 use Rattle.mv_cover.specs.declared.line.Line.{Line}
 use Rattle.mv_entry.specs.declared.rule.Body.{Body}
 use Rattle.mv_entry.specs.declared.rule.Rule.{Rule}
-use Rattle.mv_entry.specs.declared.rule.Rule.TheVariants.{Remove, Add, Divide, Wire, Collapse, Fill}
+use Rattle.mv_entry.specs.declared.rule.Rule.TheVariants.{Remove, Add, Divide, Wire, Collapse, Narrow, Fill}
 use Rattle.mv_entry.specs.declared.fault.RuleFault.{RuleFault}
 use Rattle.mv_meaning.specs.Rewriting.{rewritten, with_net_table}
 use Rattle.mv_net.specs.declared.parts.FlatNet.{FlatNet}
@@ -25,8 +25,11 @@ use Rattle.mv_rules.specs.Completing.{IsLess, IsCompleted, with_zero}
 use Rattle.mv_rules.specs.Wiring.{Wires}
 use Rattle.mv_rules.specs.Collapsing.{Collapses, collapsed}
 use Rattle.mv_rules.specs.Filling.{Fills, with_default}
+use Rattle.mv_rules.specs.Narrowing.{Narrows}
 use Rattle.mv_rules.proofs.Named.{one_named, one_tabled}
 use Rattle.mv_rules.proofs.Collapsed.{one_test, one_inner}
+use Rattle.mv_narrow.proofs.Judging.{over_fanins}
+use Rattle.mv_rules.proofs.Narrowed.{keeps_choices_of, narrow_inside}
 use Rattle.mv_rules.proofs.Rows.{HasOneFault, passed_one, unless_one, with_one, FailsNever, passed_never, unless_never, with_never}
 
 -- one net has one table
@@ -87,12 +90,17 @@ filled_one free old w out one other formed p q =
     p.new_is ∙ (ap (λ c. with_nets old (with_net_table old.nets p.number (with_default c out))) tables
     ∙ (ap (λ n. with_nets old (with_net_table old.nets n (with_default q.table out))) same ∙ sym q.new_is))
 
+narrowed_one : (old : NetParts) (w : List ℕ) (d u : ℕ) (body : Body) (one other : NetParts) → WellFormed old → Narrows old w d u body one → Narrows old w d u body other → one ≡ other
+narrowed_one old w d u body one other formed p q =
+    p.new_is ∙ (ap (λ n. with_nets old (with_net_table old.nets n (cover_said old.nets body))) (one_tabled old w p.number q.number formed p.net q.net) ∙ sym q.new_is)
+
 pub one_network : (free : Bool) (rule : Rule) (old one other : NetParts) → WellFormed old → Applies free rule old one → Applies free rule old other → one ≡ other
 one_network free (Remove w) old one other formed p q = removed_one old w one other formed p q
 one_network free (Add w body) old one other formed p q = p.new_is ∙ sym q.new_is
 one_network free (Divide w by body) old one other formed p q = divided_one old w by body one other formed p q
 one_network free (Wire w) old one other formed p q = wired_one old w one other formed p q
 one_network free (Collapse w) old one other formed p q = collapsed_one old w one other formed p q
+one_network free (Narrow w d u body) old one other formed p q = narrowed_one old w d u body one other formed p q
 one_network free (Fill w out) old one other formed p q = filled_one free old w out one other formed p q
 one_network free _ old one other formed p q = absurd p
 
@@ -109,6 +117,10 @@ row_one free (Divide w by body) old formed =
 row_one free (Wire w) old formed = with_one _ _ (λ n m. one_tabled old w n m formed) (λ n. unless_one _ _ _ (unless_one _ _ _ passed_one))
 row_one free (Collapse w) old formed =
     with_one _ _ (λ n m. one_tabled old w n m formed) (λ n. unless_one _ _ _ (unless_one _ _ _ (unless_one _ _ _ (unless_one _ _ _ passed_one))))
+row_one free (Narrow w d u body) old formed =
+    with_one _ _ (λ n m. one_tabled old w n m formed) (λ n.
+    unless_one _ _ _ (unless_one _ _ _ (unless_one _ _ _ (
+    unless_one _ _ _ (unless_one _ _ _ (unless_one _ _ _ (unless_one _ _ _ passed_one)))))))
 row_one free (Fill w out) old formed =
     with_one _ _ (λ n m. one_tabled old w n m formed) (λ n. unless_one _ _ _ (unless_one _ _ _ (unless_one _ _ _ (unless_one _ _ _ passed_one))))
 row_one free _ old formed = record { one = λ f g p q. absurd p }
@@ -134,6 +146,12 @@ row_never free (Wire w) old new formed p =
 row_never free (Collapse w) old new formed p =
     with_never _ _ p.number p.net (λ m. one_tabled old w p.number m formed p.net)
     (unless_never _ _ _ p.unseen (unless_never _ _ _ p.read (unless_never _ _ _ p.unshared (unless_never _ _ _ p.composites passed_never))))
+row_never free (Narrow w d u body) old new formed p =
+    let said = cover_said old.nets body in
+    with_never _ _ p.number p.net (λ m. one_tabled old w p.number m formed p.net)
+    (unless_never _ _ _ p.known (unless_never _ _ _ p.form (unless_never _ _ _ (over_fanins old p.number p.table said p.table_is p.reads)
+    (unless_never _ _ _ p.below (unless_never _ _ _ (narrow_inside old p.number d u said p.inside) (unless_never _ _ _ p.inside
+    (unless_never _ _ _ (keeps_choices_of old.nets p.number p.table said p.table_is p.keeps) passed_never)))))))
 row_never free (Fill w out) old new formed p =
     with_never _ _ p.number p.net (λ m. one_tabled old w p.number m formed p.net)
     (unless_never _ _ _ p.asked (unless_never _ _ _ p.form (unless_never _ _ _ p.partial (unless_never _ _ _ p.plain passed_never))))

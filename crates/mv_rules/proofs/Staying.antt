@@ -16,12 +16,13 @@ use Rattle.mv_cover.specs.Covering.{IsPoint}
 use Rattle.mv_cover.proofs.Local.{allowed-local}
 use Rattle.mv_entry.specs.declared.rule.Body.{Body}
 use Rattle.mv_entry.specs.declared.rule.Rule.{Rule}
-use Rattle.mv_entry.specs.declared.rule.Rule.TheVariants.{Remove, Add, Divide, Wire, Collapse, Fill}
+use Rattle.mv_entry.specs.declared.rule.Rule.TheVariants.{Remove, Add, Divide, Wire, Collapse, Narrow, Fill}
 use Rattle.mv_meaning.specs.Rewriting.{IsReader, rewritten, with_net_table}
 use Rattle.mv_meaning.proofs.Adding.{IsWritten-added}
 use Rattle.mv_meaning.proofs.OneTable.{IsReformed-given, slot-there, table-here}
 use Rattle.mv_meaning.proofs.Rewired.{IsReformed-rewritten, IsMadeOf, HasStayed, cover_at, rewritten_from}
 use Rattle.mv_meaning.proofs.Wiring.{buffer_reads}
+use Rattle.mv_narrow.proofs.Windows.{window_keeps}
 use Rattle.mv_net.specs.declared.parts.FlatNet.{FlatNet}
 use Rattle.mv_net.specs.declared.parts.NetParts.{NetParts}
 use Rattle.mv_net.specs.Changes.{with_nets}
@@ -39,6 +40,7 @@ use Rattle.mv_rules.specs.Collapsing.{Collapses, IsInnerOf}
 use Rattle.mv_rules.specs.Completing.{IsLess, with_zero}
 use Rattle.mv_rules.specs.Dividing.{Divides}
 use Rattle.mv_rules.specs.Filling.{Fills, with_default}
+use Rattle.mv_rules.specs.Narrowing.{Narrows}
 use Rattle.mv_rules.specs.Removing.{Removes}
 use Rattle.mv_rules.specs.Replaying.{Replays}
 use Rattle.mv_rules.specs.Staying.{AreTotal, AreBinary}
@@ -233,6 +235,13 @@ filled_total : (free : Bool) (old : NetParts) (w : List ℕ) (out : ℕ) (new : 
 filled_total free old w out new formed total p =
     given_total old new p.number p.table (with_default p.table out) formed (nets_are old new (with_net_table old.nets p.number (with_default p.table out)) p.new_is) p.table_is total (inr (out, refl))
 
+narrowed_total : (old : NetParts) (w : List ℕ) (d u : ℕ) (body : Body) (new : NetParts) → WellFormed old → WellFormed new → AreTotal old.nets → Narrows old w d u body new → AreTotal new.nets
+narrowed_total old w d u body new was formed total p =
+    let said = cover_said old.nets body in
+    let some = window_keeps old p.number d u p.inside.window was p.inside.is p.table said p.table_is p.keeps in
+    given_total old new p.number p.table said formed (nets_are old new (with_net_table old.nets p.number said) p.new_is) p.table_is total
+    (inl (record { some = λ at point. some.each at point ((total.each p.number p.table p.table_is).some at point) }))
+
 -- ---- readers of a buffer
 
 module _ (old : NetParts) (n s : ℕ) (was : WellFormed old) (total : AreTotal old.nets) (buffer : IsPlainBuffer old.nets n s) where
@@ -321,6 +330,7 @@ stays_total free (Add w body) old new formed total p = added_total old w body ne
 stays_total free (Divide w by body) old new formed total p = divided_total old w by body new formed (kept_formed free (Divide w by body) old new formed p) total p
 stays_total free (Wire w) old new formed total p = wired_total old w new formed (kept_formed free (Wire w) old new formed p) total p
 stays_total free (Collapse w) old new formed total p = collapsed_total old w new formed (kept_formed free (Collapse w) old new formed p) total p
+stays_total free (Narrow w d u body) old new formed total p = narrowed_total old w d u body new formed (kept_formed free (Narrow w d u body) old new formed p) total p
 stays_total free (Fill w out) old new formed total p = filled_total free old w out new (kept_formed free (Fill w out) old new formed p) total p
 stays_total free _ old new formed total p = absurd p
 
@@ -386,6 +396,7 @@ stays_binary free (Add w body) old new binary p = added_binary old w body new bi
 stays_binary free (Divide w by body) old new binary p = given_binary old new p.number p.same.old p.table binary p.new_is p.same.table
 stays_binary free (Wire w) old new binary p = wired_binary old w new binary p
 stays_binary free (Collapse w) old new binary p = collapsed_binary old w new binary p
+stays_binary free (Narrow w d u body) old new binary p = given_binary old new p.number p.table (cover_said old.nets body) binary p.new_is p.table_is
 stays_binary free (Fill w out) old new binary p = given_binary old new p.number p.table (with_default p.table out) binary p.new_is p.table_is
 stays_binary free _ old new binary p = absurd p
 

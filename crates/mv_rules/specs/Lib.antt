@@ -11,5 +11,6 @@ pub mod Plans
 pub mod Orders
 pub mod Expanding
 pub mod Filling
+pub mod Narrowing
 pub mod Completing
 pub mod Staying

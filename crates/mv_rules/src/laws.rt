@@ -15,7 +15,7 @@ ghost use Rattle.mv_net.specs.Allowed.{of_net};
 ghost use Rattle.mv_net.specs.Behind.{literals_at};
 ghost use Rattle.mv_net.specs.Formed.{WellFormed};
 ghost use Rattle.mv_net.specs.Nets.{literals_in, reads_in};
-ghost use Rattle.mv_rules.specs.Applies.{Applies, Fails, LeavesLiterals, keeps_choices};
+ghost use Rattle.mv_rules.specs.Applies.{Applies, Fails, LacksNodes, LeavesLiterals, keeps_choices};
 ghost use Rattle.mv_rules.specs.Checks.{IsTabled};
 ghost use Rattle.mv_rules.specs.Collapsing.{IsInnerOf, CanCollapse, Collapses, FailsCollapse, collapsed};
 ghost use Rattle.mv_rules.specs.Composites.{HasCompositeLiterals, HasWideComposite, composite_count};
@@ -41,6 +41,12 @@ pub fn at_most_one_fault()
 pub fn never_both()
     ensures { (free : Bool) (rule : Rule) (old new : NetParts) (f : RuleFault) → WellFormed old → Applies free rule old new
         → Fails free rule old f → ⊥ }
+{}
+
+/// No rule lacks nodes: diagrams aren't built in this version, and no pool of nodes is ever full.
+#[tactic(auto, using(crate::proofs::Narrowed::nodes_never))]
+pub fn nodes_suffice()
+    ensures { (budget : ℕ) (rule : Rule) (net : NetParts) → LacksNodes budget rule net → ⊥ }
 {}
 
 /// A rule names nets that are there, or a lawful name for a new one: its names can be seen.

@@ -2,9 +2,9 @@
 use Rattle.std.proofs.Common.{◌≡◌, ◌∙◌, ℕ, ◌≤◌, Bool, true, List, [], ◌∷◌, map, All, Option, Some, None, refl, sym, arith}
 use Rattle.std.specs.List.{flat_map}
 use Rattle.std.specs.Option.{option_to_list}
-use Rattle.std.proofs.lemmas.Bool.{ltb-true}
+use Rattle.std.proofs.lemmas.Bool.{and_from, lt-ltb, ltb-true}
 use Rattle.std.proofs.lemmas.List.Elements.{All-nil, All-cons, All-head, All-tail, All-append, All-push}
-use Rattle.mv_base.specs.declared.limits.TheConstants.{MAX_VALUES}
+use Rattle.mv_base.specs.declared.limits.TheConstants.{MAX_VALUES, MAX_WINDOW_STEPS}
 use Rattle.mv_base.proofs.Sets.{has-full}
 use Rattle.mv_cover.specs.Lines.{IsOutput}
 use Rattle.mv_body.specs.Bodies.{literals_said, IsTidy, IsTidyLine}
@@ -13,13 +13,13 @@ use Rattle.mv_entry.specs.declared.rule.BodyLit.{BodyLit}
 use Rattle.mv_entry.specs.declared.rule.BodyLine.{BodyLine}
 use Rattle.mv_entry.specs.declared.rule.Body.{Body}
 use Rattle.mv_entry.specs.declared.rule.Rule.{Rule}
-use Rattle.mv_entry.specs.declared.rule.Rule.TheVariants.{Remove, Add, Divide, Wire, Collapse, Fill}
+use Rattle.mv_entry.specs.declared.rule.Rule.TheVariants.{Remove, Add, Divide, Wire, Collapse, Narrow, Fill}
 use Rattle.mv_net.specs.declared.parts.NetParts.{NetParts}
 use Rattle.mv_net.specs.Formed.{IsLiteral, WellFormed}
 use Rattle.mv_net.specs.Nets.{slot, values_in}
 use Rattle.mv_net.proofs.Known.{values_few}
 use Rattle.mv_rules.specs.Applies.{Applies}
-use Rattle.mv_step.specs.Printed.{IsSayable, is_sayable_form}
+use Rattle.mv_step.specs.Printed.{IsSayable, is_sayable_form, is_sayable_number}
 use Rattle.mv_entries_back.specs.Printable.{line_sets, body_sets, rule_sets}
 
 -- some of the values of a net
@@ -28,6 +28,10 @@ output values set few is = record {
   some = is.some;
   small = record { below = λ v h. let low = ltb-true v values (sym (has-full values v) ∙ is.within v h) in omega (arith, low, few) };
 }
+
+-- the steps of a window are few
+few_steps : (d : ℕ) → d ≤ MAX_WINDOW_STEPS → is_sayable_number d ≡ true
+few_steps d few = lt-ltb d 65536 (omega (arith, few))
 
 module _ (net : NetParts) (formed : WellFormed net) where
   lits : (ls : List BodyLit) → All (IsLiteral net.nets) (literals_said net.nets ls) → All IsSayable (map (λ (m : BodyLit). m.set) ls)
@@ -59,16 +63,18 @@ module _ (net : NetParts) (formed : WellFormed net) where
   rule_sayable free (Divide w by b) new p = body (values_in (slot net.nets p.number)) (values_few net p.number formed) b p.form
   rule_sayable free (Wire w) new p = All-nil IsSayable
   rule_sayable free (Collapse w) new p = All-nil IsSayable
+  rule_sayable free (Narrow w d u b) new p = body (values_in (slot net.nets p.number)) (values_few net p.number formed) b p.form.tidy
   rule_sayable free (Fill w out) new p =
       All-cons IsSayable out [] (output (values_in (slot net.nets p.number)) out (values_few net p.number formed) p.form.output) (All-nil IsSayable)
   rule_sayable free _ new p = absurd p
 
-  -- its numbers and codes too: the rules that are built have none
+  -- its numbers too, which those of a narrowing's window are; a rule that is built has no codes
   pub rule_formed : (free : Bool) (rule : Rule) (new : NetParts) → Applies free rule net new → is_sayable_form rule ≡ true
   rule_formed free (Remove w) new p = refl
   rule_formed free (Add w b) new p = refl
   rule_formed free (Divide w by b) new p = refl
   rule_formed free (Wire w) new p = refl
   rule_formed free (Collapse w) new p = refl
+  rule_formed free (Narrow w d u b) new p = and_from (is_sayable_number d) (is_sayable_number u) (few_steps d p.form.down) (few_steps u p.form.up)
   rule_formed free (Fill w out) new p = refl
   rule_formed free _ new p = absurd p

@@ -8,7 +8,7 @@ use Rattle.mv_composite.specs.Composite.{composed}
 use Rattle.mv_composite.specs.Wired.{wired}
 use Rattle.mv_cover.specs.declared.cover.Cover.{Cover}
 use Rattle.mv_entry.specs.declared.rule.Rule.{Rule}
-use Rattle.mv_entry.specs.declared.rule.Rule.TheVariants.{Remove, Add, Divide, Wire, Collapse, Fill}
+use Rattle.mv_entry.specs.declared.rule.Rule.TheVariants.{Remove, Add, Divide, Wire, Collapse, Narrow, Fill}
 use Rattle.mv_body.specs.Bodies.{cover_said}
 use Rattle.mv_meaning.specs.Rewriting.{given_table, with_net_table, rewritten, IsReformed}
 use Rattle.mv_meaning.proofs.Adding.{IsWritten-added}
@@ -89,6 +89,11 @@ words_kept free (Collapse w) old new names p =
     let table = composed (map values_in old.nets) inner in
     subst (λ (m : NetParts). HasWordNames m.nets) (sym p.new_is)
     (gone_short (rewritten table inner.net.0 old.nets) inner.net.0 (rewritten_short table inner.net.0 old.nets names))
+words_kept free (Narrow w d u body) old new names p =
+    let table = cover_said old.nets body in
+    let given = given_table table (slot old.nets p.number) in
+    subst (λ (m : NetParts). HasWordNames m.nets) (sym p.new_is)
+    (written_short old.nets p.number given (with_net_table old.nets p.number table) (IsWritten-given old.nets p.number table) (given_short table (slot old.nets p.number) (names.short p.number)) names)
 words_kept free (Fill w out) old new names p =
     let table = with_default p.table out in
     let given = given_table table (slot old.nets p.number) in

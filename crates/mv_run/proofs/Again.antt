@@ -14,6 +14,7 @@ use Rattle.mv_cert.specs.Certificates.{IsCertificate, Certifies, steps_in}
 use Rattle.mv_cert.specs.Replay.{FailsAt, rules_in}
 use Rattle.mv_cert.proofs.Replayed.{never_both, one_outcome}
 use Rattle.mv_text.specs.Text.{text_of}
+use Rattle.mv_rules.specs.declared.terms.Terms.{Terms}
 use Rattle.mv_task.specs.Faults.{RefusesNetwork, TellsFault}
 use Rattle.mv_task.specs.Inputs.{File, named}
 use Rattle.mv_task.specs.Made.{IsNetOfText, WasPrepared, Prepared}
@@ -180,8 +181,8 @@ gained_is had noted text before after b a g =
     let gained : after ≡ Some (had ++ text) = subst (λ z. IfSome z (λ h. after ≡ Some (h ++ text))) b g in
     append_cancel_left had text noted (same_content (had ++ text) (had ++ noted) (sym gained ∙ a))
 
-module _ (free : Bool) (net script certificate : List ℕ) (files files' later later' : Stored) (out out' notes notes' : Written)
-    (optimised : IsOptimised free (named net script) files files' out out' notes notes') (holds : HoldsNoted net certificate files later notes notes') where
+module _ (terms : Terms) (net script certificate : List ℕ) (files files' later later' : Stored) (out out' notes notes' : Written)
+    (optimised : IsOptimised terms (named net script) files files' out out' notes notes') (holds : HoldsNoted net certificate files later notes notes') where
   -- the later run's network file says the same network
   network_again : IsTaken (λ text. IsNetOfText text optimised.first) net holds.now
   network_again =
@@ -189,37 +190,37 @@ module _ (free : Bool) (net script certificate : List ℕ) (files files' later l
       record { content = taken.content; named = holds.network ∙ taken.named; accepted = taken.accepted }
 
   -- and its certificate leads to what the earlier run left
-  leads_again : Certifies free holds.noted optimised.first optimised.net
+  leads_again : Certifies terms.free holds.noted optimised.first optimised.net
   leads_again =
       let all = all_notes optimised.told.entries optimised.first optimised.net in
       let same = gained_is holds.had holds.noted all notes.told notes'.told holds.first holds.gained optimised.told.noted in
-      let P : List ℕ → Type 0 = λ n. length n ≤ MAX_CERTIFICATE_BYTES → Certifies free n optimised.first optimised.net in
+      let P : List ℕ → Type 0 = λ n. length n ≤ MAX_CERTIFICATE_BYTES → Certifies terms.free n optimised.first optimised.net in
       let certified : P holds.noted = subst P same optimised.told.certified in
       certified holds.short
 
-  status_again : (again again' told told' : Written) (status : ℕ) → Checks free net certificate later later' again again' told told' status → (status ≡ 0) ⊎ (status ≡ 4) ⊎ (status ≡ 5) ⊎ (status ≡ 6)
+  status_again : (again again' told told' : Written) (status : ℕ) → Checks terms.free net certificate later later' again again' told told' status → (status ≡ 0) ⊎ (status ≡ 4) ⊎ (status ≡ 5) ⊎ (status ≡ 6)
   status_again again again' told told' status checks =
-      led_status free net certificate later later' again again' told told' holds.now holds.tell optimised.first network_again holds.noted holds.named optimised.net leads_again status checks
+      led_status terms.free net certificate later later' again again' told told' holds.now holds.tell optimised.first network_again holds.noted holds.named optimised.net leads_again status checks
 
-  same_again : (again again' told told' : Written) → Checks free net certificate later later' again again' told told' 0 → WriteSame out out' again again'
+  same_again : (again again' told told' : Written) → Checks terms.free net certificate later later' again again' told told' 0 → WriteSame out out' again again'
   same_again again again' told told' checks =
       let done = checks.done refl in
-      let led = leads free net certificate later later' again again' told told' holds.now holds.tell optimised.first network_again holds.noted holds.named done.first done.net done.certified in
-      let same = one_outcome free holds.noted optimised.first done.net optimised.net network_again.accepted.formed led leads_again in
+      let led = leads terms.free net certificate later later' again again' told told' holds.now holds.tell optimised.first network_again holds.noted holds.named done.first done.net done.certified in
+      let same = one_outcome terms.free holds.noted optimised.first done.net optimised.net network_again.accepted.formed led leads_again in
       record {
         text = text_of optimised.net;
         first = optimised.replaces.gained;
         second = subst (λ n. Gained again again' (text_of n)) same done.replaced.gained;
       }
 
-pub writes_same : (free : Bool) (net script certificate : List ℕ) (files files' later later' : Stored) (out out' notes notes' again again' told told' : Written)
-    → Optimises free (named net script) files files' out out' notes notes' 0 → HoldsNoted net certificate files later notes notes'
-    → Checks free net certificate later later' again again' told told' 0 → WriteSame out out' again again'
-writes_same free net script certificate files files' later later' out out' notes notes' again again' told told' optimises holds checks =
-    same_again free net script certificate files files' later later' out out' notes notes' (optimises.done refl) holds again again' told told' checks
+pub writes_same : (terms : Terms) (net script certificate : List ℕ) (files files' later later' : Stored) (out out' notes notes' again again' told told' : Written)
+    → Optimises terms (named net script) files files' out out' notes notes' 0 → HoldsNoted net certificate files later notes notes'
+    → Checks terms.free net certificate later later' again again' told told' 0 → WriteSame out out' again again'
+writes_same terms net script certificate files files' later later' out out' notes notes' again again' told told' optimises holds checks =
+    same_again terms net script certificate files files' later later' out out' notes notes' (optimises.done refl) holds again again' told told' checks
 
-pub is_accepted : (free : Bool) (net script certificate : List ℕ) (files files' later later' : Stored) (out out' notes notes' again again' told told' : Written) (status : ℕ)
-    → Optimises free (named net script) files files' out out' notes notes' 0 → HoldsNoted net certificate files later notes notes'
-    → Checks free net certificate later later' again again' told told' status → (status ≡ 0) ⊎ (status ≡ 4) ⊎ (status ≡ 5) ⊎ (status ≡ 6)
-is_accepted free net script certificate files files' later later' out out' notes notes' again again' told told' status optimises holds checks =
-    status_again free net script certificate files files' later later' out out' notes notes' (optimises.done refl) holds again again' told told' status checks
+pub is_accepted : (terms : Terms) (net script certificate : List ℕ) (files files' later later' : Stored) (out out' notes notes' again again' told told' : Written) (status : ℕ)
+    → Optimises terms (named net script) files files' out out' notes notes' 0 → HoldsNoted net certificate files later notes notes'
+    → Checks terms.free net certificate later later' again again' told told' status → (status ≡ 0) ⊎ (status ≡ 4) ⊎ (status ≡ 5) ⊎ (status ≡ 6)
+is_accepted terms net script certificate files files' later later' out out' notes notes' again again' told told' status optimises holds checks =
+    status_again terms net script certificate files files' later later' out out' notes notes' (optimises.done refl) holds again again' told told' status checks

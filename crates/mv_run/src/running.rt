@@ -2,7 +2,7 @@ ghost use Rattle.std.specs.Prelude.{◌≡◌, ◌≤◌, map, string_bytes, Non
 ghost use Rattle.mv_base.specs.Outside.{Rose};
 ghost use Rattle.mv_task.specs.Lines.{TellsLine};
 ghost use Rattle.mv_command_line.specs.CommandLine.{task_of};
-ghost use Rattle.mv_run.specs.Doing.{EndsAsked, starts_behind};
+ghost use Rattle.mv_run.specs.Doing.{EndsAsked, starts_behind, terms_of};
 ghost use Rattle.mv_run.specs.Replacing.{IsReplaced, network_asked};
 
 use mv_base::{Files, Sink};
@@ -24,8 +24,7 @@ fn tell<E: Sink>(line: &[u8], notes: &mut E)
 
 /// The terms that the options ask for.
 fn terms(options: Options) -> Terms
-    ensures free { result.free ≡ options.free }
-    ensures budget { result.budget ≡ options.budget }
+    ensures { result ≡ terms_of options.free options.budget }
 {
     let Options { free, budget } = options;
     Terms { free, budget }

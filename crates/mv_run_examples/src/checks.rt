@@ -70,7 +70,7 @@ remove (a); | 1 NoNet
 add k;line a 1 -> 1;end; | 1 Form
 add (a);default 0;end; | 1 NotFresh
 add k;line -> 0 -> 1;default 0;end; | 1 NoNet
-# begin simplify 1 0;narrow z 1 0;end; | 2 NotBuilt
+# begin simplify 1 0;narrow z 1 0;end; | 2 Lost
 merge z 1; | 1 NotBuilt
 encode | 1 Syntax
 add k;line a 1 -> 1; | 1 Syntax

@@ -97,6 +97,41 @@ RUN - DONE;DONE - IDLE;.end; | \
 # begin sweep;# end 10;# begin eliminate;collapse working;# end 9;# done 10 9;
 ";
 
+/// The same of one whose script looks at what readers can tell.
+const SIMPLIFIED: &str = "\
+-- A net that is looked at in one phase alone, and a table with a row that the rest makes shorter.
+# A traffic light with a button for those who walk.;.model light;.inputs button timer;\
+.outputs cars walkers;.mv phase, next 4 GREEN YELLOW RED WALK;.mv timer 2 RUNS OVER;\
+.mv cars 3 GREEN YELLOW RED;.mv walkers 2 STOP GO;.latch next phase;.latch keeps asked;;\
+# while cars have green somebody may ask them to stop;.table button asked phase -> request;\
+.default 0;1 - GREEN 1;- 1 GREEN 1;;# that somebody asked is kept until the walk begins;\
+.table button asked phase -> keeps;.default 0;1 - !WALK 1;- 1 !WALK 1;;\
+# each phase lasts until its time is over, and green until somebody asks besides;\
+.table request timer phase -> next;0 - GREEN GREEN;1 RUNS GREEN GREEN;1 OVER GREEN YELLOW;\
+- RUNS YELLOW YELLOW;- OVER YELLOW RED;- RUNS RED RED;- OVER RED WALK;- RUNS WALK WALK;\
+- OVER WALK GREEN;;.table phase -> cars;.default RED;GREEN GREEN;YELLOW YELLOW;;\
+.table phase -> walkers;.default STOP;WALK GO;;.reset phase;GREEN;.reset asked;0;.end; | \
+.model light;.inputs button timer;.outputs cars walkers;.mv timer 2 RUNS OVER;\
+.mv phase 4 GREEN YELLOW RED WALK;.mv next 4 GREEN YELLOW RED WALK;.mv cars 3 GREEN YELLOW RED;\
+.mv walkers 2 STOP GO;.latch next phase;.latch keeps asked;.table button asked -> request;\
+.default 0;1 - 1;- 1 1;.table button phase asked -> keeps;.default 0;1 (GREEN,YELLOW,RED) - 1;\
+- (GREEN,YELLOW,RED) 1 1;.table timer phase request -> next;- GREEN 0 GREEN;RUNS GREEN - GREEN;\
+OVER GREEN 1 YELLOW;RUNS YELLOW - YELLOW;OVER YELLOW - RED;RUNS RED - RED;OVER RED - WALK;\
+RUNS WALK - WALK;OVER WALK - GREEN;.table phase -> cars;.default RED;GREEN GREEN;YELLOW YELLOW;\
+.table phase -> walkers;.default STOP;WALK GO;.reset -> phase;GREEN;.reset -> asked;0;.end; | \
+# begin simplify 1 0;narrow request 1 0;line button 1 -> 1;line asked 1 -> 1;default 0;end;\
+narrow next 1 0;line phase 0 request 0 -> 0;line timer 0 phase 0 -> 0;\
+line timer 1 phase 0 request 1 -> 1;line timer 0 phase 1 -> 1;line timer 1 phase 1 -> 2;\
+line timer 0 phase 2 -> 2;line timer 1 phase 2 -> 3;line timer 0 phase 3 -> 3;\
+line timer 1 phase 3 -> 0;end;# end 28;# done 31 28;
+";
+
+#[test]
+fn a_simplified_example_is_written_as_worked_out(rt: HostRuntime) -> Result<(), Fail> {
+    let script = b"simplify 1 0 # as far as the readers of each net\n";
+    all_end(&rt, rt.alloc(), Form::Written(script), SIMPLIFIED)
+}
+
 #[test]
 fn a_swept_example_is_written_as_worked_out(rt: HostRuntime) -> Result<(), Fail> {
     let script = b"sweep; eliminate # what modules leave between them\n";

@@ -28,6 +28,8 @@ mod refusals;
 #[cfg(test)]
 mod runs;
 #[cfg(test)]
+mod simplified;
+#[cfg(test)]
 mod standard_input;
 #[cfg(test)]
 mod states;

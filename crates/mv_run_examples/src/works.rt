@@ -38,10 +38,10 @@ fn runs_on_drawn_networks_are_summed_up(rt: HostRuntime) -> Result<(), Fail> {
 }
 
 /// A script of which the drawn network below leaves 64 nets.
-const SCRIPT: &[u8] = b"sweep; eliminate";
+const SCRIPT: &[u8] = b"sweep; eliminate; simplify 0 0; kernel; cube";
 
 /// What is told of that run.
-const SUMMARY: &[u8] = b"nets 64\nliterals 1249 90\ncommands 2\nrules 252\ndropped 0\n";
+const SUMMARY: &[u8] = b"nets 64\nliterals 1249 13\ncommands 5\nrules 285\ndropped 0\n";
 
 #[test]
 fn a_drawn_network_is_worked_on_as_its_text_is(rt: HostRuntime) -> Result<(), Fail> {

@@ -1,7 +1,8 @@
 -- The commands of scripts, and those that are built in this version.
-use Rattle.std.specs.Prelude.{◌≡◌, Bool, true, false, ◌&&◌, ◌||◌}
+use Rattle.std.specs.Prelude.{◌≡◌, ◌≤◌, nat_le, Bool, true, false, ◌&&◌, ◌||◌}
+use Rattle.mv_base.specs.declared.limits.TheConstants.{MAX_WINDOW_STEPS}
 use Rattle.mv_entry.specs.declared.note.Command.{Command}
-use Rattle.mv_entry.specs.declared.note.Command.TheVariants.{Drop, Sweep, Eliminate, Collapse, Kernel, Cube, Fill}
+use Rattle.mv_entry.specs.declared.note.Command.TheVariants.{Drop, Sweep, Eliminate, Collapse, Kernel, Cube, Simplify, Fill}
 use Rattle.mv_entry.specs.declared.note.Note.TheVariants.{Begin}
 use Rattle.mv_entry.specs.Entries.{Noted, HasVisibleNames, is_visible_name}
 use Rattle.mv_script.specs.Scripts.{Items, End, Do, Repeat, Better}
@@ -14,6 +15,7 @@ is_built Eliminate = true
 is_built (Collapse net) = true
 is_built Kernel = true
 is_built Cube = true
+is_built (Simplify down up) = true
 is_built Fill = true
 is_built _ = false
 
@@ -35,18 +37,26 @@ has_command (Better inside rest) = has_command inside || has_command rest
 abbrev pub are_built : Items → Bool
 are_built items = all_commands is_built items
 
--- ---- names
+-- ---- names and numbers
 
--- a command whose name, if it has one, has at least one byte and can be seen
-abbrev pub is_named : Command → Bool
-is_named (Collapse net) = is_visible_name net
-is_named _ = true
+-- a command as scripts say it: its name, if it has one, has at least one byte and can be seen, and a window that it names goes no
+-- more steps than one may
+abbrev pub is_lawful : Command → Bool
+is_lawful (Collapse net) = is_visible_name net
+is_lawful (Simplify down up) = nat_le down MAX_WINDOW_STEPS && nat_le up MAX_WINDOW_STEPS
+is_lawful _ = true
 
--- all names in items are such
-abbrev pub are_named : Items → Bool
-are_named items = all_commands is_named items
+-- all commands in items are such
+abbrev pub are_lawful : Items → Bool
+are_lawful items = all_commands is_lawful items
 
--- a command as it runs in this version: the note that it begins can be printed
+-- a window that the command names goes no more steps than one may
+abbrev pub HasFewSteps : Command → Type 0
+HasFewSteps (Simplify down up) = (down ≤ MAX_WINDOW_STEPS) × (up ≤ MAX_WINDOW_STEPS)
+HasFewSteps _ = Unit {0}
+
+-- a command as it runs in this version: the note that it begins can be printed, and its window may be asked for
 pub record IsCommand (command : Command) : Type 0 where
   pub built : is_built command ≡ true
   pub names : HasVisibleNames (Noted (Begin command))
+  pub steps : HasFewSteps command

@@ -14,6 +14,7 @@ pub fn is_command_built(command: &Command) -> bool
         | Command::Collapse(_)
         | Command::Kernel
         | Command::Cube
+        | Command::Simplify(_, _)
         | Command::Fill => true,
         _ => false,
     }

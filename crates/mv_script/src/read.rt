@@ -1,7 +1,7 @@
 ghost use Rattle.std.specs.Prelude.{◌≡◌, true, Err, IfOk, List, Result, position};
 ghost use Rattle.mv_script.specs.declared.part.Part.{Part as PartValue};
 ghost use Rattle.mv_script.specs.declared.fault.TextFault.{TextFault};
-ghost use Rattle.mv_script.specs.Commands.{are_named};
+ghost use Rattle.mv_script.specs.Commands.{are_lawful};
 ghost use Rattle.mv_script.specs.Faults.{IsFirstFault, earlier, parts_in};
 ghost use Rattle.mv_script.specs.Grammar.{IsScript};
 ghost use Rattle.mv_script.specs.Reading.{Answers, fault};
@@ -61,7 +61,7 @@ fn parts_in(alloc: Global, said: &[u8]) -> Result<Items<Part>, ScriptFault>
 #[tactic(auto, using(crate::proofs::Judging::judges))]
 pub fn read_script(alloc: Global, text: &[u8]) -> Result<Script, ScriptFault>
     ensures script { IfOk result (λ script. IsScript text.now (items_of script)) }
-    ensures named { IfOk result (λ script. are_named (items_of script) ≡ true) }
+    ensures lawful { IfOk result (λ script. are_lawful (items_of script) ≡ true) }
     ensures fault { (f : TextFault) → result ≡ Err (ScriptFault.Text f) → IsFirstFault text.now f }
 {
     if text.len() as u64 > MAX_SCRIPT_BYTES {

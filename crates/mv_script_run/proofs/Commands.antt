@@ -6,10 +6,11 @@ use Rattle.mv_net.specs.declared.parts.NetParts.{NetParts}
 use Rattle.mv_pass.specs.declared.stop.Stop.{Stop}
 use Rattle.mv_pass.specs.Passing.{Passes}
 use Rattle.mv_pass.proofs.Stepped.{passes_as}
+use Rattle.mv_rules.specs.declared.terms.Terms.{Terms}
 use Rattle.mv_script.specs.Commands.{is_built}
 use Rattle.mv_script_run.specs.Commands.{DoesCommand, BegunCommand, PassesCommand, RunsCommand, StopsCommand}
 
-pub command_passes : (free : Bool) (c : Command) (a b : NetParts) (j k : Journaled) (result : Result (Unit {0}) Stop) → is_built c ≡ true → PassesCommand free c a b j k result → Passes free (RunsCommand free c) (StopsCommand free c) a b j k result
-command_passes free c a b j k result built p =
-    passes_as free (DoesCommand free c) (BegunCommand free c) (RunsCommand free c) (StopsCommand free c) a b j k result
+pub command_passes : (terms : Terms) (c : Command) (a b : NetParts) (j k : Journaled) (result : Result (Unit {0}) Stop) → is_built c ≡ true → PassesCommand terms c a b j k result → Passes terms.free (RunsCommand terms c) (StopsCommand terms c) a b j k result
+command_passes terms c a b j k result built p =
+    passes_as terms.free (DoesCommand terms c) (BegunCommand terms c) (RunsCommand terms c) (StopsCommand terms c) a b j k result
     (λ es d. record { built = built; does = d }) (λ es d. record { built = built; begun = d }) p

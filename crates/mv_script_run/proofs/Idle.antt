@@ -3,6 +3,7 @@ use Rattle.std.proofs.Common.{◌≡◌, ℕ, zero, suc, Bool, true, false, List
 use Rattle.std.proofs.lemmas.Bool.{and_from, or_parts, false≢true}
 use Rattle.mv_entry.specs.Entries.{Entry}
 use Rattle.mv_net.specs.declared.parts.NetParts.{NetParts}
+use Rattle.mv_rules.specs.declared.terms.Terms.{Terms}
 use Rattle.mv_script.specs.Commands.{all_commands, has_command}
 use Rattle.mv_script.specs.Scripts.{Items, End, Do, Repeat, Better}
 use Rattle.mv_pass.specs.Courses.{Course, Nothing, InTurn, Rounds}
@@ -22,19 +23,19 @@ idle_better : (Round : Course) → ((a : NetParts) → Round a [] a) → (a : Ne
 idle_better Round each a =
     record { gained = 0; rounds = in_turn (Rounds 0 (Gains Round)) (GainsNot Round) a (refl, refl) (each a, omega arith) }
 
-pub idle : (free : Bool) (items : Items) (a : NetParts) → has_command items ≡ false → Runs free items a [] a
-idle free End a none = (refl, refl)
-idle free (Do c rest) a none = absurd (false≢true (sym none))
-idle free (Repeat times inside rest) a none =
+pub idle : (terms : Terms) (items : Items) (a : NetParts) → has_command items ≡ false → Runs terms items a [] a
+idle terms End a none = (refl, refl)
+idle terms (Do c rest) a none = absurd (false≢true (sym none))
+idle terms (Repeat times inside rest) a none =
     let both = or_parts (has_command inside) (has_command rest) none in
-    in_turn (Rounds times (Runs free inside)) (Runs free rest) a (idle_rounds (Runs free inside) (λ m. idle free inside m both.0) times a) (idle free rest a both.1)
-idle free (Better inside rest) a none =
+    in_turn (Rounds times (Runs terms inside)) (Runs terms rest) a (idle_rounds (Runs terms inside) (λ m. idle terms inside m both.0) times a) (idle terms rest a both.1)
+idle terms (Better inside rest) a none =
     let both = or_parts (has_command inside) (has_command rest) none in
-    in_turn (RunsBetter (Runs free inside)) (Runs free rest) a (idle_better (Runs free inside) (λ m. idle free inside m both.0) a) (idle free rest a both.1)
+    in_turn (RunsBetter (Runs terms inside)) (Runs terms rest) a (idle_better (Runs terms inside) (λ m. idle terms inside m both.0) a) (idle terms rest a both.1)
 
 -- so many rounds of it
-pub rounds_idle : (free : Bool) (items : Items) (n : ℕ) (a : NetParts) → has_command items ≡ false → Rounds n (Runs free items) a [] a
-rounds_idle free items n a none = idle_rounds (Runs free items) (λ m. idle free items m none) n a
+pub rounds_idle : (terms : Terms) (items : Items) (n : ℕ) (a : NetParts) → has_command items ≡ false → Rounds n (Runs terms items) a [] a
+rounds_idle terms items n a none = idle_rounds (Runs terms items) (λ m. idle terms items m none) n a
 
 -- ---- it does nothing else
 
@@ -51,6 +52,6 @@ no_command (Better inside rest) none =
 nothing_then : (a b c : NetParts) (xs ys : List Entry) → Nothing a xs b → Nothing b ys c → Nothing a (xs ++ ys) c
 nothing_then a b c xs ys p q = (ap (λ z. z ++ ys) p.0 ∙ q.0, q.1 ∙ p.1)
 
-pub only_idle : (free : Bool) (items : Items) (a b : NetParts) (es : List Entry) → has_command items ≡ false → Runs free items a es b → Nothing a es b
-only_idle free items a b es none r =
-    of_items free Nothing (λ n. (refl, refl)) nothing_then (λ c. false) (λ c never. absurd (false≢true never)) items (no_command items none) a es b r
+pub only_idle : (terms : Terms) (items : Items) (a b : NetParts) (es : List Entry) → has_command items ≡ false → Runs terms items a es b → Nothing a es b
+only_idle terms items a b es none r =
+    of_items terms Nothing (λ n. (refl, refl)) nothing_then (λ c. false) (λ c never. absurd (false≢true never)) items (no_command items none) a es b r

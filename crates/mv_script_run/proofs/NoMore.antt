@@ -19,6 +19,7 @@ use Rattle.mv_locality.proofs.Steps.{names_itself}
 use Rattle.mv_pass.specs.Courses.{Course}
 use Rattle.mv_pass.proofs.Going.{goes_no_more}
 use Rattle.mv_pass.proofs.Turns.{Implies, of_visits}
+use Rattle.mv_pass.proofs.Visiting.{all_visits}
 use Rattle.mv_rules.specs.Applies.{Applies}
 use Rattle.mv_rules.specs.Checks.{IsTabled}
 use Rattle.mv_rules.specs.Collapsing.{Collapses}
@@ -28,8 +29,11 @@ use Rattle.mv_rules.proofs.Replayed.{replayed_formed}
 use Rattle.mv_fill.proofs.Filled.{fills_no_more}
 use Rattle.mv_sweep.specs.Drops.{IsDropStep}
 use Rattle.mv_sweep.specs.Sweeps.{IsSweepStep}
+use Rattle.mv_rules.specs.declared.terms.Terms.{Terms}
 use Rattle.mv_script.specs.Commands.{all_commands}
 use Rattle.mv_script.specs.Scripts.{Items}
+use Rattle.mv_simplify.specs.Simplifies.{SimplifiesNet}
+use Rattle.mv_simplify.proofs.Simplified.{some_no_more}
 use Rattle.mv_script_run.specs.Commands.{WholeOf, DoesCommand, RunsCommand, leaves_no_more}
 use Rattle.mv_script_run.specs.Runs.{Runs}
 use Rattle.mv_script_run.proofs.Inductions.{of_items}
@@ -110,22 +114,22 @@ collapse_no_more free name a b steps formed (Remains why stays is same) =
 
 -- ---- commands
 
-whole_no_more : (free : Bool) (c : Command) (a b : NetParts) (steps : List Entry) → leaves_no_more c ≡ true → WellFormed a → WholeOf free c a steps b → NoMore a b
-whole_no_more free Drop a b steps frugal formed g = goes_no_more free IsDropStep (drop_no_more free) a b steps formed g.steps
-whole_no_more free Sweep a b steps frugal formed g = goes_no_more free IsSweepStep (sweep_no_more free) a b steps formed g.steps
-whole_no_more free Eliminate a b steps frugal formed e = eliminates_no_more free a b steps formed e
-whole_no_more free (Collapse name) a b steps frugal formed g = collapse_no_more free name a b steps formed g
-whole_no_more free Kernel a b steps frugal formed g = kernels_no_more free a b steps formed g
-whole_no_more free Cube a b steps frugal formed g = cubes_no_more free a b steps formed g
-whole_no_more free (Simplify down up) a b steps frugal formed g = absurd g
-whole_no_more free Merge a b steps frugal formed g = absurd g
-whole_no_more free Default a b steps frugal formed g = absurd g
-whole_no_more free Determinize a b steps frugal formed g = absurd (false≢true frugal)
-whole_no_more free Encode a b steps frugal formed g = absurd (false≢true frugal)
-whole_no_more free Fill a b steps frugal formed g = fills_no_more free a b steps g.tables
+whole_no_more : (terms : Terms) (c : Command) (a b : NetParts) (steps : List Entry) → leaves_no_more c ≡ true → WellFormed a → WholeOf terms c a steps b → NoMore a b
+whole_no_more terms Drop a b steps frugal formed g = goes_no_more terms.free IsDropStep (drop_no_more terms.free) a b steps formed g.steps
+whole_no_more terms Sweep a b steps frugal formed g = goes_no_more terms.free IsSweepStep (sweep_no_more terms.free) a b steps formed g.steps
+whole_no_more terms Eliminate a b steps frugal formed e = eliminates_no_more terms.free a b steps formed e
+whole_no_more terms (Collapse name) a b steps frugal formed g = collapse_no_more terms.free name a b steps formed g
+whole_no_more terms Kernel a b steps frugal formed g = kernels_no_more terms.free a b steps formed g
+whole_no_more terms Cube a b steps frugal formed g = cubes_no_more terms.free a b steps formed g
+whole_no_more terms (Simplify down up) a b steps frugal formed g = some_no_more terms down up a b steps formed (all_visits (SimplifiesNet terms down up) a b steps g)
+whole_no_more terms Merge a b steps frugal formed g = absurd g
+whole_no_more terms Default a b steps frugal formed g = absurd g
+whole_no_more terms Determinize a b steps frugal formed g = absurd (false≢true frugal)
+whole_no_more terms Encode a b steps frugal formed g = absurd (false≢true frugal)
+whole_no_more terms Fill a b steps frugal formed g = fills_no_more terms.free a b steps g.tables
 
-pub does_no_more : (free : Bool) (c : Command) (a b : NetParts) (es : List Entry) → leaves_no_more c ≡ true → WellFormed a → DoesCommand free c a es b → literals_in b.nets ≤ literals_in a.nets
-does_no_more free c a b es frugal formed d = whole_no_more free c a b d.steps frugal formed d.course
+pub does_no_more : (terms : Terms) (c : Command) (a b : NetParts) (es : List Entry) → leaves_no_more c ≡ true → WellFormed a → DoesCommand terms c a es b → literals_in b.nets ≤ literals_in a.nets
+does_no_more terms c a b es frugal formed d = whole_no_more terms c a b d.steps frugal formed d.course
 
 -- ---- scripts
 
@@ -139,10 +143,10 @@ few_then a b c xs ys p q formed =
     let second = q first.0 in
     (second.0, omega (arith, first.1, second.1))
 
-command_few : (free : Bool) (c : Command) → leaves_no_more c ≡ true → (a : NetParts) (es : List Entry) (b : NetParts) → RunsCommand free c a es b → StaysFew a es b
-command_few free c frugal a es b r formed =
-    (replayed_formed free (rules_of es) a b formed (does_replays free c a b es r.does), does_no_more free c a b es frugal formed r.does)
+command_few : (terms : Terms) (c : Command) → leaves_no_more c ≡ true → (a : NetParts) (es : List Entry) (b : NetParts) → RunsCommand terms c a es b → StaysFew a es b
+command_few terms c frugal a es b r formed =
+    (replayed_formed terms.free (rules_of es) a b formed (does_replays terms c a b es r.does), does_no_more terms c a b es frugal formed r.does)
 
-pub runs_no_more : (free : Bool) (items : Items) (a b : NetParts) (es : List Entry) → all_commands leaves_no_more items ≡ true → WellFormed a → Runs free items a es b → literals_in b.nets ≤ literals_in a.nets
-runs_no_more free items a b es frugal formed r =
-    (of_items free StaysFew (λ n formed'. (formed', omega arith)) few_then leaves_no_more (command_few free) items frugal a es b r formed).1
+pub runs_no_more : (terms : Terms) (items : Items) (a b : NetParts) (es : List Entry) → all_commands leaves_no_more items ≡ true → WellFormed a → Runs terms items a es b → literals_in b.nets ≤ literals_in a.nets
+runs_no_more terms items a b es frugal formed r =
+    (of_items terms StaysFew (λ n formed'. (formed', omega arith)) few_then leaves_no_more (command_few terms) items frugal a es b r formed).1

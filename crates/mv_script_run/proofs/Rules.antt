@@ -13,11 +13,15 @@ use Rattle.mv_pass.specs.Courses.{Course, Perhaps, Still, Through, VisitsSome, S
 use Rattle.mv_pass.specs.Going.{Before, Within, Behind}
 use Rattle.mv_pass.proofs.Going.{goes_replays, rules_of-append, ReplaysRules, replays_then}
 use Rattle.mv_pass.proofs.Turns.{Implies, of_turn, of_visits}
+use Rattle.mv_pass.proofs.Visiting.{all_visits}
 use Rattle.mv_rules.specs.Replaying.{Replays}
+use Rattle.mv_rules.specs.declared.terms.Terms.{Terms}
 use Rattle.mv_script.specs.Scripts.{Items}
 use Rattle.mv_fill.proofs.Filled.{fills_replays}
 use Rattle.mv_sweep.specs.Drops.{IsDropStep}
 use Rattle.mv_sweep.specs.Sweeps.{IsSweepStep}
+use Rattle.mv_simplify.specs.Simplifies.{SimplifiesNet}
+use Rattle.mv_simplify.proofs.Simplified.{some_replays}
 use Rattle.mv_script_run.specs.Commands.{WholeOf, PartOf, DoesCommand, BegunCommand}
 use Rattle.mv_script_run.specs.Runs.{Runs, RunsTo}
 use Rattle.mv_script_run.proofs.Inductions.{of_items, of_stopped, any_commands}
@@ -48,57 +52,57 @@ collapse_replays free name a b steps (Still still) = subst (λ es. Replays free 
 collapse_replays free name a b steps (Through c) = collapses_replays free name a b steps c
 
 -- the rules among the steps of a command that has come a part of its way apply in turn
-part_replays : (free : Bool) (c : Command) (a b : NetParts) (steps : List Entry) → PartOf free c a steps b → Replays free (rules_of steps) a b
-part_replays free Drop a b steps g = goes_replays free IsDropStep a b steps g
-part_replays free Sweep a b steps g = goes_replays free IsSweepStep a b steps g
-part_replays free Eliminate a b steps e = eliminates_replays free a steps b e
-part_replays free (Collapse name) a b steps g = collapse_replays free name a b steps g
-part_replays free Kernel a b steps g = kernels_replay free a steps b g
-part_replays free Cube a b steps g = cubes_replay free a steps b g
-part_replays free (Simplify down up) a b steps g = absurd g
-part_replays free Merge a b steps g = absurd g
-part_replays free Default a b steps g = absurd g
-part_replays free Determinize a b steps g = absurd g
-part_replays free Encode a b steps g = absurd g
-part_replays free Fill a b steps g = fills_replays free a b steps g
+part_replays : (terms : Terms) (c : Command) (a b : NetParts) (steps : List Entry) → PartOf terms c a steps b → Replays terms.free (rules_of steps) a b
+part_replays terms Drop a b steps g = goes_replays terms.free IsDropStep a b steps g
+part_replays terms Sweep a b steps g = goes_replays terms.free IsSweepStep a b steps g
+part_replays terms Eliminate a b steps e = eliminates_replays terms.free a steps b e
+part_replays terms (Collapse name) a b steps g = collapse_replays terms.free name a b steps g
+part_replays terms Kernel a b steps g = kernels_replay terms.free a steps b g
+part_replays terms Cube a b steps g = cubes_replay terms.free a steps b g
+part_replays terms (Simplify down up) a b steps g = some_replays terms.free terms down up a b steps g
+part_replays terms Merge a b steps g = absurd g
+part_replays terms Default a b steps g = absurd g
+part_replays terms Determinize a b steps g = absurd g
+part_replays terms Encode a b steps g = absurd g
+part_replays terms Fill a b steps g = fills_replays terms.free a b steps g
 
 -- the whole way is a part of it too
-whole_part : (free : Bool) (c : Command) (a b : NetParts) (steps : List Entry) → WholeOf free c a steps b → PartOf free c a steps b
-whole_part free Drop a b steps g = g.steps
-whole_part free Sweep a b steps g = g.steps
-whole_part free Eliminate a b steps e = all_some free a b steps e
-whole_part free (Collapse name) a b steps g = Through g
-whole_part free Kernel a b steps g = kernels_all_some free a steps b g
-whole_part free Cube a b steps g = cubes_all_some free a steps b g
-whole_part free (Simplify down up) a b steps g = absurd g
-whole_part free Merge a b steps g = absurd g
-whole_part free Default a b steps g = absurd g
-whole_part free Determinize a b steps g = absurd g
-whole_part free Encode a b steps g = absurd g
-whole_part free Fill a b steps g = g.tables
+whole_part : (terms : Terms) (c : Command) (a b : NetParts) (steps : List Entry) → WholeOf terms c a steps b → PartOf terms c a steps b
+whole_part terms Drop a b steps g = g.steps
+whole_part terms Sweep a b steps g = g.steps
+whole_part terms Eliminate a b steps e = all_some terms.free a b steps e
+whole_part terms (Collapse name) a b steps g = Through g
+whole_part terms Kernel a b steps g = kernels_all_some terms.free a steps b g
+whole_part terms Cube a b steps g = cubes_all_some terms.free a steps b g
+whole_part terms (Simplify down up) a b steps g = all_visits (SimplifiesNet terms down up) a b steps g
+whole_part terms Merge a b steps g = absurd g
+whole_part terms Default a b steps g = absurd g
+whole_part terms Determinize a b steps g = absurd g
+whole_part terms Encode a b steps g = absurd g
+whole_part terms Fill a b steps g = g.tables
 
-pub whole_replays : (free : Bool) (c : Command) (a b : NetParts) (steps : List Entry) → WholeOf free c a steps b → Replays free (rules_of steps) a b
-whole_replays free c a b steps g = part_replays free c a b steps (whole_part free c a b steps g)
+pub whole_replays : (terms : Terms) (c : Command) (a b : NetParts) (steps : List Entry) → WholeOf terms c a steps b → Replays terms.free (rules_of steps) a b
+whole_replays terms c a b steps g = part_replays terms c a b steps (whole_part terms c a b steps g)
 
 -- ---- whole commands, and those that stop
 
-module _ (free : Bool) (c : Command) (a b : NetParts) (es : List Entry) where
+module _ (terms : Terms) (c : Command) (a b : NetParts) (es : List Entry) where
   -- the notes of a command's beginning and end are no rules
-  pub does_replays : DoesCommand free c a es b → Replays free (rules_of es) a b
+  pub does_replays : DoesCommand terms c a es b → Replays terms.free (rules_of es) a b
   does_replays d =
-      subst (λ rs. Replays free rs a b) (sym (ap rules_of d.entries_are ∙ (rules_of-append d.steps _ ∙ append-nil (rules_of d.steps)))) (whole_replays free c a b d.steps d.course)
+      subst (λ rs. Replays terms.free rs a b) (sym (ap rules_of d.entries_are ∙ (rules_of-append d.steps _ ∙ append-nil (rules_of d.steps)))) (whole_replays terms c a b d.steps d.course)
 
-  begun_replays : BegunCommand free c a es b → Replays free (rules_of es) a b
-  begun_replays (Before none same) = subst (λ xs. Replays free (rules_of xs) a b) (sym none) same
-  begun_replays (Within p) = subst (λ rs. Replays free rs a b) (sym (ap rules_of p.entries_are)) (part_replays free c a b p.steps p.course)
+  begun_replays : BegunCommand terms c a es b → Replays terms.free (rules_of es) a b
+  begun_replays (Before none same) = subst (λ xs. Replays terms.free (rules_of xs) a b) (sym none) same
+  begun_replays (Within p) = subst (λ rs. Replays terms.free rs a b) (sym (ap rules_of p.entries_are)) (part_replays terms c a b p.steps p.course)
   begun_replays (Behind d) = does_replays d
 
 -- ---- scripts
 
-pub runs_replays : (free : Bool) (items : Items) (a b : NetParts) (es : List Entry) → Runs free items a es b → Replays free (rules_of es) a b
-runs_replays free items a b es r =
-    of_items free (ReplaysRules free) (λ n. refl) (replays_then free) (λ c. true) (λ c h m fs n d. does_replays free c m n fs d.does) items (any_commands items) a es b r
+pub runs_replays : (terms : Terms) (items : Items) (a b : NetParts) (es : List Entry) → Runs terms items a es b → Replays terms.free (rules_of es) a b
+runs_replays terms items a b es r =
+    of_items terms (ReplaysRules terms.free) (λ n. refl) (replays_then terms.free) (λ c. true) (λ c h m fs n d. does_replays terms c m n fs d.does) items (any_commands items) a es b r
 
-pub stops_replays : (free : Bool) (items : Items) (a b : NetParts) (es : List Entry) → RunsTo free items a es b → Replays free (rules_of es) a b
-stops_replays free items a b es r =
-    of_stopped free (ReplaysRules free) (λ n. refl) (replays_then free) (λ c. true) (λ c h m fs n d. does_replays free c m n fs d.does) (λ c h m fs n d. begun_replays free c m n fs d.begun) items (any_commands items) a es b r
+pub stops_replays : (terms : Terms) (items : Items) (a b : NetParts) (es : List Entry) → RunsTo terms items a es b → Replays terms.free (rules_of es) a b
+stops_replays terms items a b es r =
+    of_stopped terms (ReplaysRules terms.free) (λ n. refl) (replays_then terms.free) (λ c. true) (λ c h m fs n d. does_replays terms c m n fs d.does) (λ c h m fs n d. begun_replays terms c m n fs d.begun) items (any_commands items) a es b r

@@ -3,7 +3,7 @@ use Rattle.std.specs.Prelude.{◌≡◌, Bool, true, false, List, Result}
 use Rattle.mv_collapse.specs.Collapses.{CollapsesNet}
 use Rattle.mv_eliminate.specs.Eliminates.{Eliminates, EliminatesAll}
 use Rattle.mv_entry.specs.declared.note.Command.{Command}
-use Rattle.mv_entry.specs.declared.note.Command.TheVariants.{Drop, Sweep, Eliminate, Collapse, Kernel, Cube, Determinize, Encode, Fill}
+use Rattle.mv_entry.specs.declared.note.Command.TheVariants.{Drop, Sweep, Eliminate, Collapse, Kernel, Cube, Simplify, Determinize, Encode, Fill}
 use Rattle.mv_entry.specs.Entries.{Entry}
 use Rattle.mv_entry.specs.Tallies.{Journaled}
 use Rattle.mv_extract.specs.Extracts.{KernelsAll, KernelsSome, CubesAll, CubesSome}
@@ -12,44 +12,48 @@ use Rattle.mv_pass.specs.declared.stop.Stop.{Stop}
 use Rattle.mv_pass.specs.Courses.{Course, Perhaps}
 use Rattle.mv_pass.specs.Going.{Does, Begun}
 use Rattle.mv_pass.specs.Passing.{Passes}
+use Rattle.mv_rules.specs.declared.terms.Terms.{Terms}
 use Rattle.mv_script.specs.Commands.{is_built}
+use Rattle.mv_simplify.specs.Simplifies.{SimplifiesAll, SimplifiesSome}
 use Rattle.mv_sweep.specs.Drops.{DropsAll, DropsSome}
 use Rattle.mv_fill.specs.Fills.{FillsAll, FillsTables}
 use Rattle.mv_sweep.specs.Sweeps.{SweepsAll, SweepsSome}
 
 -- the steps of a whole command: a course from the old network to the new one
-abbrev pub WholeOf : Bool → Command → NetParts → List Entry → NetParts → Type 0
-WholeOf free Drop old steps new = DropsAll free old steps new
-WholeOf free Sweep old steps new = SweepsAll free old steps new
-WholeOf free Eliminate old steps new = EliminatesAll free old steps new
-WholeOf free (Collapse name) old steps new = CollapsesNet free name old steps new
-WholeOf free Kernel old steps new = KernelsAll free old steps new
-WholeOf free Cube old steps new = CubesAll free old steps new
-WholeOf free Fill old steps new = FillsAll free old steps new
-WholeOf free _ old steps new = ⊥
+abbrev pub WholeOf : Terms → Command → NetParts → List Entry → NetParts → Type 0
+WholeOf terms Drop old steps new = DropsAll terms.free old steps new
+WholeOf terms Sweep old steps new = SweepsAll terms.free old steps new
+WholeOf terms Eliminate old steps new = EliminatesAll terms.free old steps new
+WholeOf terms (Collapse name) old steps new = CollapsesNet terms.free name old steps new
+WholeOf terms Kernel old steps new = KernelsAll terms.free old steps new
+WholeOf terms Cube old steps new = CubesAll terms.free old steps new
+WholeOf terms (Simplify down up) old steps new = SimplifiesAll terms down up old steps new
+WholeOf terms Fill old steps new = FillsAll terms.free old steps new
+WholeOf terms _ old steps new = ⊥
 
 -- the steps of a command that has come a part of its way
-abbrev pub PartOf : Bool → Command → NetParts → List Entry → NetParts → Type 0
-PartOf free Drop old steps new = DropsSome free old steps new
-PartOf free Sweep old steps new = SweepsSome free old steps new
-PartOf free Eliminate old steps new = Eliminates free old steps new
-PartOf free (Collapse name) old steps new = Perhaps (CollapsesNet free name) old steps new
-PartOf free Kernel old steps new = KernelsSome free old steps new
-PartOf free Cube old steps new = CubesSome free old steps new
-PartOf free Fill old steps new = FillsTables free old steps new
-PartOf free _ old steps new = ⊥
+abbrev pub PartOf : Terms → Command → NetParts → List Entry → NetParts → Type 0
+PartOf terms Drop old steps new = DropsSome terms.free old steps new
+PartOf terms Sweep old steps new = SweepsSome terms.free old steps new
+PartOf terms Eliminate old steps new = Eliminates terms.free old steps new
+PartOf terms (Collapse name) old steps new = Perhaps (CollapsesNet terms.free name) old steps new
+PartOf terms Kernel old steps new = KernelsSome terms.free old steps new
+PartOf terms Cube old steps new = CubesSome terms.free old steps new
+PartOf terms (Simplify down up) old steps new = SimplifiesSome terms down up old steps new
+PartOf terms Fill old steps new = FillsTables terms.free old steps new
+PartOf terms _ old steps new = ⊥
 
 -- a whole command, with its entries
-abbrev pub DoesCommand : Bool → Command → Course
-DoesCommand free c = Does (WholeOf free c) c
+abbrev pub DoesCommand : Terms → Command → Course
+DoesCommand terms c = Does (WholeOf terms c) c
 
 -- a command that stops, with the entries that came
-abbrev pub BegunCommand : Bool → Command → Course
-BegunCommand free c = Begun (WholeOf free c) (PartOf free c) c
+abbrev pub BegunCommand : Terms → Command → Course
+BegunCommand terms c = Begun (WholeOf terms c) (PartOf terms c) c
 
 -- how a command answers
-abbrev pub PassesCommand : Bool → Command → NetParts → NetParts → Journaled → Journaled → Result (Unit {0}) Stop → Type 0
-PassesCommand free c old new journal journal' result = Passes free (DoesCommand free c) (BegunCommand free c) old new journal journal' result
+abbrev pub PassesCommand : Terms → Command → NetParts → NetParts → Journaled → Journaled → Result (Unit {0}) Stop → Type 0
+PassesCommand terms c old new journal journal' result = Passes terms.free (DoesCommand terms c) (BegunCommand terms c) old new journal journal' result
 
 -- a command that never leaves more literals than there were: any but `determinize` and `encode`
 abbrev pub leaves_no_more : Command → Bool
@@ -60,11 +64,11 @@ leaves_no_more _ = true
 -- ---- as it stands in a script
 
 -- the command is built, and a whole one
-pub record RunsCommand (free : Bool) (c : Command) (old : NetParts) (entries : List Entry) (new : NetParts) : Type 0 where
+pub record RunsCommand (terms : Terms) (c : Command) (old : NetParts) (entries : List Entry) (new : NetParts) : Type 0 where
   pub built : is_built c ≡ true
-  pub does : DoesCommand free c old entries new
+  pub does : DoesCommand terms c old entries new
 
 -- the command is built, and stops
-pub record StopsCommand (free : Bool) (c : Command) (old : NetParts) (entries : List Entry) (new : NetParts) : Type 0 where
+pub record StopsCommand (terms : Terms) (c : Command) (old : NetParts) (entries : List Entry) (new : NetParts) : Type 0 where
   pub built : is_built c ≡ true
-  pub begun : BegunCommand free c old entries new
+  pub begun : BegunCommand terms c old entries new

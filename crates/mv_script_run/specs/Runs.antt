@@ -1,9 +1,10 @@
 -- What a script does to a network: its items, one after the other, those with braces in rounds.
-use Rattle.std.specs.Prelude.{ℕ, ◌<◌, ◌≤◌, Bool, List}
+use Rattle.std.specs.Prelude.{ℕ, ◌<◌, ◌≤◌, List}
 use Rattle.mv_entry.specs.Entries.{Entry}
 use Rattle.mv_net.specs.declared.parts.NetParts.{NetParts}
 use Rattle.mv_net.specs.Nets.{literals_in}
 use Rattle.mv_pass.specs.Courses.{Course, Nothing, InTurn, Rounds}
+use Rattle.mv_rules.specs.declared.terms.Terms.{Terms}
 use Rattle.mv_script.specs.Scripts.{Items, End, Do, Repeat, Better}
 use Rattle.mv_script_run.specs.Commands.{RunsCommand, StopsCommand}
 
@@ -37,11 +38,11 @@ pub record StopsBetter (Round Stops : Course) (old : NetParts) (entries : List E
 
 -- the items lead from the old network to the new one. Braces with no command inside take no round of their own: rounds of nothing
 -- leave no entry and the same network, and of `better` the first is the last
-abbrev pub Runs : Bool → Items → Course
-Runs free End = Nothing
-Runs free (Do command rest) = InTurn (RunsCommand free command) (Runs free rest)
-Runs free (Repeat times inside rest) = InTurn (Rounds times (Runs free inside)) (Runs free rest)
-Runs free (Better inside rest) = InTurn (RunsBetter (Runs free inside)) (Runs free rest)
+abbrev pub Runs : Terms → Items → Course
+Runs terms End = Nothing
+Runs terms (Do command rest) = InTurn (RunsCommand terms command) (Runs terms rest)
+Runs terms (Repeat times inside rest) = InTurn (Rounds times (Runs terms inside)) (Runs terms rest)
+Runs terms (Better inside rest) = InTurn (RunsBetter (Runs terms inside)) (Runs terms rest)
 
 -- an item isn't begun, or stops, or is whole and those behind it stop
 pub data StopsAt (Stops Whole Behind : Course) (old : NetParts) (entries : List Entry) (new : NetParts) : Type 0 where
@@ -50,10 +51,10 @@ pub data StopsAt (Stops Whole Behind : Course) (old : NetParts) (entries : List 
   Later : InTurn Whole Behind old entries new → StopsAt Stops Whole Behind old entries new
 
 -- the items stop: some first ones run whole, and the next one, if there is one, isn't begun or stops within
-abbrev pub RunsTo : Bool → Items → Course
-RunsTo free End = Nothing
-RunsTo free (Do command rest) = StopsAt (StopsCommand free command) (RunsCommand free command) (RunsTo free rest)
-RunsTo free (Repeat times inside rest) =
-    StopsAt (StopsRepeat times (Runs free inside) (RunsTo free inside)) (Rounds times (Runs free inside)) (RunsTo free rest)
-RunsTo free (Better inside rest) =
-    StopsAt (StopsBetter (Runs free inside) (RunsTo free inside)) (RunsBetter (Runs free inside)) (RunsTo free rest)
+abbrev pub RunsTo : Terms → Items → Course
+RunsTo terms End = Nothing
+RunsTo terms (Do command rest) = StopsAt (StopsCommand terms command) (RunsCommand terms command) (RunsTo terms rest)
+RunsTo terms (Repeat times inside rest) =
+    StopsAt (StopsRepeat times (Runs terms inside) (RunsTo terms inside)) (Rounds times (Runs terms inside)) (RunsTo terms rest)
+RunsTo terms (Better inside rest) =
+    StopsAt (StopsBetter (Runs terms inside) (RunsTo terms inside)) (RunsBetter (Runs terms inside)) (RunsTo terms rest)

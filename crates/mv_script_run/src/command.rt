@@ -1,6 +1,6 @@
 ghost use Rattle.std.specs.Prelude.{◌≡◌, true};
 ghost use Rattle.mv_pass.specs.Passing.{Passes};
-ghost use Rattle.mv_script.specs.Commands.{IsCommand, is_built, is_named};
+ghost use Rattle.mv_script.specs.Commands.{IsCommand, is_built, is_lawful};
 ghost use Rattle.mv_script_run.specs.Commands.{PassesCommand, RunsCommand, StopsCommand};
 
 use mv_collapse::collapse;
@@ -11,6 +11,7 @@ use mv_fill::fill;
 use mv_net::Network;
 use mv_pass::Stop;
 use mv_rules::Terms;
+use mv_simplify::simplify;
 use mv_sweep::{remove_unread, sweep};
 use std::alloc::Global;
 
@@ -23,7 +24,7 @@ fn run_built<J: Journal>(
     journal: &mut J,
 ) -> Result<(), Stop>
     requires { IsCommand command.now }
-    ensures { PassesCommand terms.free command.now net.old net.new (J.state journal.old) (J.state journal.new) result }
+    ensures { PassesCommand terms command.now net.old net.new (J.state journal.old) (J.state journal.new) result }
 {
     match command {
         Command::Drop => remove_unread(alloc, net, journal, terms),
@@ -32,6 +33,7 @@ fn run_built<J: Journal>(
         Command::Collapse(name) => collapse(alloc, net, name, journal, terms),
         Command::Kernel => kernel(alloc, net, journal, terms),
         Command::Cube => cube(alloc, net, journal, terms),
+        Command::Simplify(down, up) => simplify(alloc, net, *down, *up, journal, terms),
         Command::Fill => fill(alloc, net, journal, terms),
         _ => unreachable!(),
     }
@@ -46,8 +48,8 @@ pub fn run_command<J: Journal>(
     journal: &mut J,
 ) -> Result<(), Stop>
     requires built { is_built command.now ≡ true }
-    requires named { is_named command.now ≡ true }
-    ensures { Passes terms.free (RunsCommand terms.free command.now) (StopsCommand terms.free command.now) net.old net.new
+    requires lawful { is_lawful command.now ≡ true }
+    ensures { Passes terms.free (RunsCommand terms command.now) (StopsCommand terms command.now) net.old net.new
         (J.state journal.old) (J.state journal.new) result }
 {
     run_built(alloc, net, command, terms, journal)

@@ -1,7 +1,7 @@
 ghost use Rattle.std.specs.Prelude.{◌≡◌, true};
 ghost use Rattle.mv_pass.specs.Courses.{Rounds};
 ghost use Rattle.mv_pass.specs.Passing.{Passes};
-ghost use Rattle.mv_script.specs.Commands.{are_built, are_named};
+ghost use Rattle.mv_script.specs.Commands.{are_built, are_lawful};
 ghost use Rattle.mv_script.specs.Scripts.{items_of};
 ghost use Rattle.mv_script_run.specs.Runs.{Runs, RunsBetter, RunsTo, StopsBetter, StopsRepeat};
 
@@ -24,8 +24,8 @@ pub fn run_script<J: Journal>(
     journal: &mut J,
 ) -> Result<(), Stop>
     requires built { are_built (items_of script.now) ≡ true }
-    requires named { are_named (items_of script.now) ≡ true }
-    ensures { Passes terms.free (Runs terms.free (items_of script.now)) (RunsTo terms.free (items_of script.now)) net.old net.new
+    requires lawful { are_lawful (items_of script.now) ≡ true }
+    ensures { Passes terms.free (Runs terms (items_of script.now)) (RunsTo terms (items_of script.now)) net.old net.new
         (J.state journal.old) (J.state journal.new) result }
 {
     let mut items = script;
@@ -68,9 +68,9 @@ fn run_repeat<J: Journal>(
     journal: &mut J,
 ) -> Result<(), Stop>
     requires built { are_built (items_of inside.now) ≡ true }
-    requires named { are_named (items_of inside.now) ≡ true }
-    ensures { Passes terms.free (Rounds times (Runs terms.free (items_of inside.now)))
-        (StopsRepeat times (Runs terms.free (items_of inside.now)) (RunsTo terms.free (items_of inside.now))) net.old net.new
+    requires lawful { are_lawful (items_of inside.now) ≡ true }
+    ensures { Passes terms.free (Rounds times (Runs terms (items_of inside.now)))
+        (StopsRepeat times (Runs terms (items_of inside.now)) (RunsTo terms (items_of inside.now))) net.old net.new
         (J.state journal.old) (J.state journal.new) result }
 {
     if !has_command(inside) {
@@ -95,9 +95,9 @@ fn run_better<J: Journal>(
     journal: &mut J,
 ) -> Result<(), Stop>
     requires built { are_built (items_of inside.now) ≡ true }
-    requires named { are_named (items_of inside.now) ≡ true }
-    ensures { Passes terms.free (RunsBetter (Runs terms.free (items_of inside.now)))
-        (StopsBetter (Runs terms.free (items_of inside.now)) (RunsTo terms.free (items_of inside.now))) net.old net.new
+    requires lawful { are_lawful (items_of inside.now) ≡ true }
+    ensures { Passes terms.free (RunsBetter (Runs terms (items_of inside.now)))
+        (StopsBetter (Runs terms (items_of inside.now)) (RunsTo terms (items_of inside.now))) net.old net.new
         (J.state journal.old) (J.state journal.new) result }
 {
     'rounds: loop {

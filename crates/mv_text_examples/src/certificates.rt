@@ -103,8 +103,8 @@ add x;default 000000;end|Syntax 2
 add x;default 4294967296;end|Syntax 2
 add x;default -;end|Syntax 2
 add x;default +1;end|Syntax 2
-narrow b 0 0;end|NotBuilt 1
-narrow b 65535 00009;line a 1 -> 0;default 1;end|NotBuilt 1
+narrow b 0 0;end|1 narrow b 0 0;end;
+narrow b 65535 00009;line a 1 -> 0;default 1;end|1 narrow b 65535 9;line a 1 -> 0;default 1;end;
 narrow b 0 0;end;x|Syntax 3
 narrow b 0 0|Syntax 1
 narrow b 65536 0;end|Syntax 1

@@ -17,10 +17,10 @@ loop-step-preserved c =
 
 pub returns-in-Err-clause-stops : goal.returns-in-Err-clause-stops
 returns-in-Err-clause-stops c =
-    let P : NetParts → Type 0 = λ n. EndsEarly c.args.terms.free c.args.steps.now c.args.net.now n c.refusal.result in
+    let P : NetParts → Type 0 = λ n. EndsEarly c.args.terms.free c.args.terms.budget c.args.steps.now c.args.net.now n c.refusal.result in
     let fails = rw c.step-item.is at c.in-Err.ensures.fails in
     subst P (sym c.in-Err.ensures.err)
-    (stops_here c.args.terms.free c.args.steps.now c.loop-step.step-index c.args.net.now c.loop-step.net c.loop-step.invariant.ran c.step-item.result _ _ _ c.loop-step-test.true (ap (λ (s : Step). s.line) c.step-item.is) fails c.refusal.ensures.memory c.refusal.ensures.rule)
+    (stops_here c.args.terms.free c.args.steps.now c.loop-step.step-index c.args.net.now c.loop-step.net c.loop-step.invariant.ran c.args.terms.budget c.step-item.result _ _ _ c.loop-step-test.true (ap (λ (s : Step). s.line) c.step-item.is) fails c.refusal.ensures.memory c.refusal.ensures.rule)
 
 pub apply_on-requires : goal.apply_on-requires
 apply_on-requires c =

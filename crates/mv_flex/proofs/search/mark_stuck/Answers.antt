@@ -1,23 +1,26 @@
--- One point more: where the other tables agree its pair gets a mark.
-use Rattle.std.proofs.Common.{◌∙◌, ◌+◌, ◌<◌, Bool, Vec, Global, sym, ap, subst, refl}
-use Rattle.mv_flex.specs.Plans.{all_agree, pair_at, IsPairBelow, Adds}
-use Rattle.mv_flex.proofs.Marking.{adds_none, adds_one}
-use Rattle.mv_flex.proofs.search.mark_stuck.Goals.{then-all_agree+in_ok-pair, else-all_agree}
+-- One point more, and the next point.
+use Rattle.std.proofs.Common.{◌≡◌, ◌∙◌, refl, sym, subst, arith}
+use Rattle.mv_flex.specs.Spaces.{AreBelow}
+use Rattle.mv_flex.specs.Plans.{counts_of}
+use Rattle.mv_flex.proofs.Numbering.{point_long, next_point}
+use Rattle.mv_flex.proofs.Marking.{adds_point, adds_bad}
 use Rattle.mv_flex.proofs.search.mark_stuck.Goals as goal
 
+pub mark_point-requires-clause-point : goal.mark_point-requires-clause-point
+mark_point-requires-clause-point c =
+    subst (AreBelow (counts_of c.args.net.now.nets c.args.plan.now.nets)) (sym (c.as_slice-point.ensures.value ∙ c.loop-hidden.invariant.values)) (c.requires.ready.ranged c.args.start.now c.loop-hidden.hidden c.requires.start)
+
+pub step-requires : goal.step-requires
+step-requires c = point_long c.args.plan.now.hidden.counts c.args.start.now c.loop-hidden.values.items c.loop-hidden.hidden c.loop-hidden.invariant.values
+
 pub loop-hidden-preserved : goal.loop-hidden-preserved
-loop-hidden-preserved c =
-    let vs = c.as_slice-in-loop-hidden-2.result.now in
-    let here = c.as_slice-in-loop-hidden-2.ensures.value ∙ c.in_ok-put_point.ensures in
-    let test = sym (λ i. all_agree c.args.net.now.nets (c.as_slice.ensures i) (c.as_slice-in-loop-hidden.ensures i) vs) ∙ sym c.all_agree.ensures in
-    let P : Vec Bool Global → Type 0 = λ m. Adds (IsPairBelow c.args.net.now.nets c.args.plan.now c.args.shown (c.loop-hidden.hidden + 1)) c.args.marks.now.items m.items in
-    elim c.if-all_agree.branch [
-      | then-all_agree+in_ok-pair w ↦
-          subst P (sym w.marks-is)
-          (adds_one c.args.net.now.nets c.args.plan.now c.args.shown c.loop-hidden.hidden vs c.args.marks.now.items c.loop-hidden.marks.items _ w.in_ok-pair.pair here (test ∙ w.if-all_agree.true)
-          (w.in_ok-pair.ensures.value ∙ ap (pair_at c.args.plan.now) (w.as_slice-then-all_agree.ensures.value ∙ sym c.as_slice-in-loop-hidden-2.ensures.value))
-          (subst (λ k. w.in_ok-pair.pair < k) (sym (c.loop-hidden.invariant.long ∙ c.requires.long)) w.in_ok-pair.ensures.low)
-          refl c.loop-hidden.invariant)
-      | else-all_agree w ↦
-          subst P (sym w.marks-is) (adds_none c.args.net.now.nets c.args.plan.now c.args.shown c.loop-hidden.hidden vs c.args.marks.now.items c.loop-hidden.marks.items here (test ∙ w.if-all_agree.false) c.loop-hidden.invariant)
-    ]
+loop-hidden-preserved c = record {
+  values = next_point c.args.plan.now.hidden.counts c.args.start.now c.loop-hidden.values.items _ _ c.loop-hidden.hidden c.counted.ensures.some c.loop-hidden.invariant.values refl c.step.ensures;
+  adds =
+      adds_point c.args.net.now.nets c.args.plan.now c.args.start.now c.loop-hidden.hidden c.as_slice-point.result.now c.args.marks.now.items c.loop-hidden.marks.items _ (c.as_slice-point.ensures.value ∙ c.loop-hidden.invariant.values) c.loop-hidden.invariant.adds c.mark_point.ensures;
+}
+
+pub returns : goal.returns
+returns c =
+    let end : c.loop-hidden.hidden ≡ c.args.plan.now.hidden.size = omega arith in
+    adds_bad c.args.net.now.nets c.args.plan.now c.args.start.now c.loop-hidden.hidden c.args.marks.now.items c.loop-hidden.marks.items end c.requires.stuck c.loop-hidden.invariant.adds

@@ -5,10 +5,10 @@ use Rattle.mv_pass.proofs.taking.take.Goals as goal
 pub apply_on-requires : goal.apply_on-requires
 apply_on-requires g c = applied_built c.args.terms.free c.args.rule.now c.args.net.now c.requires.new c.requires.applies
 
-pub returns-in-Ok-rule-clause-means : goal.returns-in-Ok-rule-clause-means
-returns-in-Ok-rule-clause-means g c =
+pub returns-in-Ok-note_rule-clause-means : goal.returns-in-Ok-note_rule-clause-means
+returns-in-Ok-note_rule-clause-means g c =
     λ keeps. c.same_meaning.ensures.one c.args.terms.free c.args.rule.now c.args.net.now c.apply_on.new.net c.well_formed-2.ensures keeps c.in-Ok.ensures.applies
 
-pub returns-in-Err-rule-clause-means : goal.returns-in-Err-rule-clause-means
-returns-in-Err-rule-clause-means g c =
+pub returns-in-Err-note_rule-clause-means : goal.returns-in-Err-note_rule-clause-means
+returns-in-Err-note_rule-clause-means g c =
     λ keeps. c.same_meaning.ensures.one c.args.terms.free c.args.rule.now c.args.net.now c.apply_on.new.net c.well_formed-2.ensures keeps c.in-Ok.ensures.applies

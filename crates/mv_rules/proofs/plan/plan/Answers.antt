@@ -1,5 +1,5 @@
--- The rule is a division.
+-- The rule is a narrowing.
 use Rattle.mv_rules.proofs.plan.plan.Goals as goal
 
-pub returns-in-Divide : goal.returns-in-Divide
-returns-in-Divide c = rw c.in-Divide.is c.plan_divide.ensures
+pub returns-in-Narrow : goal.returns-in-Narrow
+returns-in-Narrow c = rw c.in-Narrow.is c.plan_narrow.ensures

@@ -12,4 +12,4 @@ work-requires-clause-most g c = (sizes _ _ (rw c.in-Ok-Work.field-0-is at c.in-O
 pub returns-in-Err-Memory-clause-does : goal.returns-in-Err-Memory-clause-does
 returns-in-Err-Memory-clause-does g c =
     let told = c.tell-in-Err-Memory.ensures in
-    short_at_once _ _ _ _ _ (λ free given. c.short_at_once.ensures free given _ _ _ _ told) (λ free net certificate. c.short_at_once-in-Err-Memory.ensures free net certificate _ _ _ _ told) told
+    short_at_once _ _ _ _ _ (λ terms given. c.short_at_once.ensures terms given _ _ _ _ told) (λ free net certificate. c.short_at_once-in-Err-Memory.ensures free net certificate _ _ _ _ told) told

@@ -3,7 +3,7 @@ use Rattle.std.proofs.Common.{◌∙◌, sym, arith}
 use Rattle.mv_script.specs.Grammar.{IsScript}
 use Rattle.mv_script.specs.Scripts.{items_of}
 use Rattle.mv_script.proofs.Judging.{parts_balanced, judged}
-use Rattle.mv_script.proofs.Seen.{script_named}
+use Rattle.mv_script.proofs.Seen.{script_lawful}
 use Rattle.mv_script.proofs.read.read_script.Goals as goal
 use Rattle.mv_script.proofs.read.read_script.Goals.{In-None}
 
@@ -23,5 +23,5 @@ here c =
 pub returns-in-None-clause-script : goal.returns-in-None-clause-script
 returns-in-None-clause-script c = here (goal.at.returns-in-None-clause-script c).In-None
 
-pub returns-in-None-clause-named : goal.returns-in-None-clause-named
-returns-in-None-clause-named c = script_named c.args.text.now _ (here (goal.at.returns-in-None-clause-named c).In-None)
+pub returns-in-None-clause-lawful : goal.returns-in-None-clause-lawful
+returns-in-None-clause-lawful c = script_lawful c.args.text.now _ (here (goal.at.returns-in-None-clause-lawful c).In-None)

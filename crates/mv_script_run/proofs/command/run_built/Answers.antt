@@ -1,20 +1,31 @@
--- `collapse NET`, `kernel` and `cube` pass as the commands that they are.
+-- `collapse NET`, `kernel`, `cube` and `simplify D U` pass as the commands that they are.
 use Rattle.std.proofs.Common.{sym, subst}
 use Rattle.mv_entry.specs.declared.note.Command.{Command}
+use Rattle.mv_script.specs.Commands.{HasFewSteps}
 use Rattle.mv_script_run.specs.Commands.{PassesCommand}
 use Rattle.mv_script_run.proofs.command.run_built.Goals as goal
 
 pub returns-in-Collapse : goal.returns-in-Collapse
 returns-in-Collapse g c =
-    let P : Command → Type 0 = λ k. PassesCommand c.args.terms.free k c.args.net.now c.collapse.new.net (g.J.Journal.state c.args.journal.now) (g.J.Journal.state c.collapse.new.journal) c.collapse.result in
+    let P : Command → Type 0 = λ k. PassesCommand c.args.terms k c.args.net.now c.collapse.new.net (g.J.Journal.state c.args.journal.now) (g.J.Journal.state c.collapse.new.journal) c.collapse.result in
     subst P (sym c.in-Collapse.is) c.collapse.ensures.passes
 
 pub returns-in-Kernel : goal.returns-in-Kernel
 returns-in-Kernel g c =
-    let P : Command → Type 0 = λ k. PassesCommand c.args.terms.free k c.args.net.now c.kernel.new.net (g.J.Journal.state c.args.journal.now) (g.J.Journal.state c.kernel.new.journal) c.kernel.result in
+    let P : Command → Type 0 = λ k. PassesCommand c.args.terms k c.args.net.now c.kernel.new.net (g.J.Journal.state c.args.journal.now) (g.J.Journal.state c.kernel.new.journal) c.kernel.result in
     subst P (sym c.in-Kernel.is) c.kernel.ensures.passes
 
 pub returns-in-Cube : goal.returns-in-Cube
 returns-in-Cube g c =
-    let P : Command → Type 0 = λ k. PassesCommand c.args.terms.free k c.args.net.now c.cube.new.net (g.J.Journal.state c.args.journal.now) (g.J.Journal.state c.cube.new.journal) c.cube.result in
+    let P : Command → Type 0 = λ k. PassesCommand c.args.terms k c.args.net.now c.cube.new.net (g.J.Journal.state c.args.journal.now) (g.J.Journal.state c.cube.new.journal) c.cube.result in
     subst P (sym c.in-Cube.is) c.cube.ensures.passes
+
+pub simplify-requires : goal.simplify-requires
+simplify-requires g c =
+    let few = subst HasFewSteps c.in-Simplify.is c.requires.steps in
+    record { down = few.0; up = few.1 }
+
+pub returns-in-Simplify : goal.returns-in-Simplify
+returns-in-Simplify g c =
+    let P : Command → Type 0 = λ k. PassesCommand c.args.terms k c.args.net.now c.simplify.new.net (g.J.Journal.state c.args.journal.now) (g.J.Journal.state c.simplify.new.journal) c.simplify.result in
+    subst P (sym c.in-Simplify.is) c.simplify.ensures.passes

@@ -1,0 +1,4 @@
+pub mod Values
+pub mod Tables
+pub mod Nets
+pub mod Verdicts

@@ -1,0 +1,11 @@
+//! When values of a net may be merged, so that there is one less, what the tables of the net and of its readers become, and why
+//! the network then means the same.
+#![tactic(auto)]
+
+mod law;
+mod merging;
+mod verdict;
+
+pub use law::merging_laws;
+pub use merging::Merging;
+pub use verdict::MergeVerdict;

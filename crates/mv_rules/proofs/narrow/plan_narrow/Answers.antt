@@ -1,0 +1,20 @@
+-- The first check that fails, or the change that gives the net the body.
+use Rattle.mv_rules.proofs.Narrowed.{body_fails, judged_fails, planned}
+use Rattle.mv_rules.proofs.narrow.plan_narrow.Goals as goal
+
+pub judged-requires-clause-reads : goal.judged-requires-clause-reads
+judged-requires-clause-reads c = rw c.in-Ok.ensures.1 c.in-Ok.ensures.0.reads
+
+pub returns-in-Err : goal.returns-in-Err
+returns-in-Err c =
+    body_fails c.args.budget c.args.net.now c.args.name.now c.args.d c.args.u c.in-Some.n.0 c.args.body.now c.in-Err.fault c.in-Some.ensures c.in-Err.ensures
+
+pub returns-in-Err-judged : goal.returns-in-Err-judged
+returns-in-Err-judged c =
+    judged_fails c.args.net.now c.args.name.now c.args.d c.args.u c.in-Some.n c.args.body.now c.well_formed-2.ensures c.few.ensures c.in-Some.ensures c.in-Ok.ensures.0
+    c.args.budget c.in-Ok.table c.in-Err-judged.fault c.in-Ok.ensures.1 c.in-Err-judged.ensures
+
+pub returns-in-Ok-getting : goal.returns-in-Ok-getting
+returns-in-Ok-getting c =
+    planned c.args.net.now c.args.name.now c.args.d c.args.u c.in-Some.n c.args.body.now c.well_formed-2.ensures c.few.ensures c.in-Some.ensures c.in-Ok.ensures.0
+    c.in-Ok.table c.in-Ok-getting.change c.in-Ok.ensures.1 c.in-Ok-judged.ensures c.in-Ok-getting.ensures

@@ -1,0 +1,23 @@
+-- The first check that fails, or the change that gives the net the body.
+use Rattle.std.proofs.Common.{Ok, Err}
+use Rattle.mv_rules.proofs.Narrowed.{body_fails, hand_answers, judged_fails, planned}
+use Rattle.mv_rules.proofs.narrow.plan_narrow_with.Goals as goal
+
+pub returns-in-Err : goal.returns-in-Err
+returns-in-Err c = λ budget hand.
+    body_fails budget c.args.net.now c.args.name.now c.args.d c.args.u c.in-Some.n.0 c.args.body.now c.in-Err.fault c.in-Some.ensures c.in-Err.ensures
+
+pub returns-in-Err-judged_with : goal.returns-in-Err-judged_with
+returns-in-Err-judged_with c = λ budget hand.
+    judged_fails c.args.net.now c.args.name.now c.args.d c.args.u c.in-Some.n c.args.body.now c.well_formed-2.ensures c.few.ensures c.in-Some.ensures c.in-Ok.ensures.0
+    budget c.in-Ok.table c.in-Err-judged_with.fault c.in-Ok.ensures.1
+    (hand_answers c.args.net.now c.args.name.now c.args.d c.args.u c.in-Some.n c.args.body.now c.well_formed-2.ensures c.few.ensures c.in-Some.ensures c.in-Ok.ensures.0
+    budget c.args.flexibility.now c.in-Ok.table (Err c.in-Err-judged_with.fault) c.in-Ok.ensures.1 hand c.in-Err-judged_with.ensures)
+
+pub returns-in-Ok-getting : goal.returns-in-Ok-getting
+returns-in-Ok-getting c = λ budget hand.
+    planned c.args.net.now c.args.name.now c.args.d c.args.u c.in-Some.n c.args.body.now c.well_formed-2.ensures c.few.ensures c.in-Some.ensures c.in-Ok.ensures.0
+    c.in-Ok.table c.in-Ok-getting.change c.in-Ok.ensures.1
+    (hand_answers c.args.net.now c.args.name.now c.args.d c.args.u c.in-Some.n c.args.body.now c.well_formed-2.ensures c.few.ensures c.in-Some.ensures c.in-Ok.ensures.0
+    budget c.args.flexibility.now c.in-Ok.table (Ok tt) c.in-Ok.ensures.1 hand c.in-Ok-judged_with.ensures)
+    c.in-Ok-getting.ensures

@@ -1,0 +1,4 @@
+pub mod Marking
+pub mod Keeping
+pub mod Simplified
+pub mod Taking

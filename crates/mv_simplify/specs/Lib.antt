@@ -1,0 +1,3 @@
+pub mod Simplifies
+-- what private functions alone cite
+pub mod Simplifying

@@ -1,0 +1,3 @@
+pub mod Tight
+-- what private functions alone cite
+pub mod Growing
