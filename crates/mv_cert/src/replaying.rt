@@ -9,7 +9,7 @@ ghost use Rattle.mv_cert.specs.Replay.{EndsEarly, rules_in};
 use crate::ReplayFault;
 use mv_entry::RuleFault;
 use mv_net::Network;
-use mv_rules::{Terms, apply_on};
+use mv_rules::{Terms, apply_next};
 use mv_step::Step;
 use std::alloc::Global;
 
@@ -39,8 +39,9 @@ pub fn replay(
     ensures stops { IfErr result (EndsEarly terms.free terms.budget steps.now net.old net.new) }
     ensures refines { Refines terms.free (of_net net.new) (of_net net.old) }
 {
+    let mut known = None;
     for step in steps {
-        match apply_on(alloc, net, &step.rule, terms) {
+        match apply_next(alloc, net, &step.rule, terms, &mut known) {
             Ok(()) => {}
             Err(fault) => return Err(refusal(step.line, fault)),
         }

@@ -154,21 +154,25 @@ short_at_once free net_name certificate_name files out notes notes' tells =
 -- ---- the work was begun
 
 module _ (free : Bool) (net_name certificate_name : List ℕ) (old new : Stored) (steps : List Step) (first : NetParts) (made : Prepared (File net_name) old new first) (has : HasSteps certificate_name old steps) (began : BeganTwo old new) where
+  replays_named : (net : NetParts) → Replays free (rules_in steps) first net → Replays free (rules_in (steps_in has.content)) first net
+  replays_named net replays = subst (λ ss. Replays free (rules_in ss) first net) has.steps_are replays
+
   certifies : (net : NetParts) → Replays free (rules_in steps) first net → IsCertified free net_name certificate_name old new first net
   certifies net replays = record {
     made = made;
     certificate = has.content;
     named = has.named;
-    certifies = record { accepted = has.accepted; replays = subst (λ ss. Replays free (rules_in ss) first net) has.steps_are replays };
+    certifies = record { accepted = has.accepted; replays = replays_named net replays };
   }
 
   pub tried_all : (out out' notes notes' : Written) → HasTried free steps first out out' notes notes' → Checks free net_name certificate_name old new out out' notes notes' 0
+  unfolding certifies
   tried_all out out' notes notes' w = record {
     done = λ e. record {
       first = first;
       net = w.net;
       certified = certifies w.net w.replays;
-      replaced = replaced free net_name old new first w.net out out' made w.gained w.back w.refines;
+      replaced = replaced free (rules_in (steps_in has.content)) net_name old new first w.net out out' made w.gained w.back (replays_named w.net w.replays) w.refines;
       noted = w.noted;
     };
     network = λ e. absurd (omega arith);

@@ -10,7 +10,7 @@ use Rattle.mv_net.specs.Nets.{literals_in}
 use Rattle.mv_text.specs.Text.{text_of}
 use Rattle.mv_text_back.specs.Back.{ReadsBack}
 use Rattle.mv_rules.specs.Replaying.{Replays}
-use Rattle.mv_rules.proofs.Narrowed.{nodes_never}
+use Rattle.mv_rules.proofs.Nodes.{nodes_never}
 use Rattle.mv_step.specs.declared.step.Step.{Step}
 use Rattle.mv_cert.specs.declared.fault.ReplayFault.TheVariants.{Rule}
 use Rattle.mv_cert.specs.Replay.{EndsEarly, rules_in}

@@ -8,7 +8,7 @@ use Rattle.mv_net.specs.Nets.{literals_in}
 use Rattle.mv_read.specs.Reads.{IsNetOf}
 use Rattle.mv_text.specs.Text.{text_of}
 use Rattle.mv_cert.specs.Certificates.{IsCertificate, Certifies, steps_in}
-use Rattle.mv_cert.specs.Replay.{FailsAt}
+use Rattle.mv_cert.specs.Replay.{FailsAt, rules_in}
 use Rattle.mv_files.specs.FileReading.{BeganOne, BeganTwo}
 use Rattle.mv_task.specs.Begun.{BeginsFiles}
 use Rattle.mv_task.specs.Ending.{IsEndCut, done_line}
@@ -36,7 +36,7 @@ pub record IsChecked (free : Bool) (net_name certificate_name : List ℕ) (old n
   pub first : NetParts
   pub net : NetParts
   pub certified : IsCertified free net_name certificate_name old new first net
-  pub replaced : Replaced free net_name old new first net out out'
+  pub replaced : Replaced free (rules_in (steps_in certified.certificate)) net_name old new first net out out'
   pub noted : Gained notes notes' (done_line (literals_in first.nets) (literals_in net.nets))
 
 -- the named certificate is refused for a fault of its bytes or of its lines, before the network is begun, and the notes tell it

@@ -16,7 +16,7 @@ use Rattle.mv_net.specs.declared.parts.NetParts.{NetParts}
 use Rattle.mv_net.specs.Nets.{literals_in}
 use Rattle.mv_pass.specs.Taking.{CanApply}
 use Rattle.mv_rules.specs.Applies.{Applies, Fails, LacksNodes, LeavesLiterals, Stops}
-use Rattle.mv_rules.specs.Collapsing.{FailsCollapse}
+use Rattle.mv_plans.specs.Collapsing.{FailsCollapse}
 use Rattle.mv_collapse.specs.Collapses.{CollapsesFreely, StaysFor, CollapsesNet, Collapsed, Remains}
 use Rattle.mv_collapse.specs.Reasons.{why_for}
 

@@ -9,7 +9,7 @@ use Rattle.mv_entry.specs.Entries.{Entry, Applied, Noted}
 use Rattle.mv_net.specs.declared.parts.NetParts.{NetParts}
 use Rattle.mv_net.specs.Nets.{literals_in}
 use Rattle.mv_rules.specs.Applies.{Applies, LeavesLiterals}
-use Rattle.mv_rules.specs.Collapsing.{Collapses, FailsCollapse}
+use Rattle.mv_plans.specs.Collapsing.{Collapses, FailsCollapse}
 
 -- the net with this name can go into its readers, and the literals are no more then
 pub record CollapsesFreely (net : NetParts) (name : List ℕ) : Type 0 where

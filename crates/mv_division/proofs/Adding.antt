@@ -25,9 +25,9 @@ use Rattle.mv_net.proofs.Known.{reads_readable, readable_below}
 use Rattle.mv_pass.specs.Taking.{CanApply}
 use Rattle.mv_rule_body.specs.Named.{line_named, body_of}
 use Rattle.mv_rule_body.proofs.Said.{body_known, body_tidy, cover_back}
-use Rattle.mv_rules.specs.Adding.{divisor_net}
+use Rattle.mv_plans.specs.Adding.{divisor_net}
 use Rattle.mv_rules.specs.Applies.{Applies}
-use Rattle.mv_rules.specs.Checks.{HasRoom, IsNewName}
+use Rattle.mv_plans.specs.Checks.{HasRoom, IsNewName}
 use Rattle.mv_division.specs.Divisors.{IsDivisorOver, HasDivisor, add_rule, divisor_cover, with_divisor}
 use Rattle.mv_division.proofs.Covers.{divisor_is_cover}
 use Rattle.mv_division.proofs.Lists.{each_of}

@@ -25,11 +25,11 @@ use Rattle.mv_pass.specs.Taking.{CanApply}
 use Rattle.mv_rule_body.specs.Named.{body_of}
 use Rattle.mv_rule_body.proofs.Said.{body_known, body_tidy, cover_back}
 use Rattle.mv_rules.specs.Applies.{Applies}
-use Rattle.mv_rules.specs.Checks.{IsTabled}
-use Rattle.mv_rules.specs.Completing.{IsCompleted}
-use Rattle.mv_rules.specs.Dividing.{Divides}
-use Rattle.mv_rules.specs.Expanding.{IsDivisorNet, IsDivided}
-use Rattle.mv_rules.specs.Orders.{KeepsOrder}
+use Rattle.mv_plans.specs.Checks.{IsTabled}
+use Rattle.mv_plans.specs.Completing.{IsCompleted}
+use Rattle.mv_plans.specs.Dividing.{Divides}
+use Rattle.mv_plans.specs.Expanding.{IsDivisorNet, IsDivided}
+use Rattle.mv_plans.specs.Orders.{KeepsOrder}
 use Rattle.mv_rules.proofs.OneAnswer.{one_network}
 use Rattle.mv_division.specs.Divisors.{HasDivisor, divisor_cover}
 use Rattle.mv_division.specs.Divided.{IsDivision, HasLines, divide_rule, divided_cover}

@@ -21,7 +21,7 @@ use Rattle.mv_net.specs.Changes.{with_nets}
 use Rattle.mv_net.specs.Nets.{slot, table_in, table_literals, literals_in}
 use Rattle.mv_net.proofs.Named.{held_below}
 use Rattle.mv_net.proofs.Tallied.{literals-append, literals-set}
-use Rattle.mv_rules.specs.Adding.{divisor_net}
+use Rattle.mv_plans.specs.Adding.{divisor_net}
 use Rattle.mv_saving.specs.Saving.{AreCubes, literals}
 use Rattle.mv_division.specs.Divisors.{IsDivisorOver, divisor_cover, with_divisor}
 use Rattle.mv_division.proofs.Covers.{ascend_apart}

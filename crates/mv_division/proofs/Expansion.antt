@@ -12,7 +12,7 @@ use Rattle.mv_cover.specs.declared.line.Line.{Line}
 use Rattle.mv_kernels.proofs.Lists.{Contains-first, Contains-map, Contains-from_map}
 use Rattle.mv_divide.specs.declared.quotient.Quotient.{Quotient}
 use Rattle.mv_divide.specs.Tables.{IsDivided}
-use Rattle.mv_rules.specs.Expanding.{line_expanded, expanded, AreSameLines}
+use Rattle.mv_plans.specs.Expanding.{line_expanded, expanded, AreSameLines}
 use Rattle.mv_division.proofs.Lists.{only_one, Contains-flat_map, Contains-from_flat_map, same_answer}
 use Rattle.mv_division.proofs.Joins.{IsBefore, met_join, nothing_at, one_at, without_one}
 use Rattle.mv_division.proofs.Parts.{new_line, joined, quotient_cube, quotient_apart, line_from, line_stays, line_new}

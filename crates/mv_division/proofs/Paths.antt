@@ -24,7 +24,7 @@ use Rattle.mv_net.specs.declared.parts.Kind.TheVariants.{Table, Latch}
 use Rattle.mv_net.specs.Formed.{IsKind, WellFormed}
 use Rattle.mv_net.specs.Index.{kind_in}
 use Rattle.mv_net.specs.Nets.{slot, table_in, table_reads, reads_in}
-use Rattle.mv_rules.specs.Orders.{KeepsOrder}
+use Rattle.mv_plans.specs.Orders.{KeepsOrder}
 use Rattle.mv_division.specs.Divisors.{divisor_cover, HasDivisor}
 use Rattle.mv_division.specs.Divided.{IsDivision, divided_cover}
 use Rattle.mv_division.proofs.Lists.{only_one}

@@ -15,7 +15,7 @@ use Rattle.mv_net.specs.Nets.{values_in}
 use Rattle.mv_net.specs.Total.{IsTotal}
 use Rattle.mv_net.proofs.Known.{counts_at, lines_readable, values_some}
 use Rattle.mv_net.proofs.Totals.{IsTotal-covered, IsTotal-default, not_total}
-use Rattle.mv_rules.specs.Completing.{IsCompleted, with_zero}
+use Rattle.mv_plans.specs.Completing.{IsCompleted, with_zero}
 
 -- ---- cubes
 

@@ -14,7 +14,7 @@ use Rattle.mv_net.specs.declared.parts.NetParts.{NetParts}
 use Rattle.mv_net.specs.Changes.{with_nets}
 use Rattle.mv_net.specs.Nets.{slot, name_in, table_in}
 use Rattle.mv_rule_body.specs.Named.{body_of}
-use Rattle.mv_rules.specs.Completing.{IsCompleted}
+use Rattle.mv_plans.specs.Completing.{IsCompleted}
 use Rattle.mv_division.specs.Divisors.{HasDivisor}
 
 -- the table `old` of the net n, divided by the net d, has these lines; d stands for the divisor,

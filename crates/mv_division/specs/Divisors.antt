@@ -14,7 +14,7 @@ use Rattle.mv_net.specs.Changes.{with_nets}
 use Rattle.mv_net.specs.Formed.{IsLiteral}
 use Rattle.mv_net.specs.Nets.{slot}
 use Rattle.mv_rule_body.specs.Named.{body_of}
-use Rattle.mv_rules.specs.Adding.{divisor_net}
+use Rattle.mv_plans.specs.Adding.{divisor_net}
 
 -- the table of a divisor: 1 where one of its cubes holds, and else 0
 abbrev pub divisor_cover : List (List Lit) → Cover

@@ -17,7 +17,7 @@ ghost use Rattle.mv_net.specs.Fresh.{IsFreshName};
 ghost use Rattle.mv_net.specs.Nets.{literals_in, slot, table_in, values_in};
 ghost use Rattle.mv_pass.specs.Taking.{CanApply};
 ghost use Rattle.mv_rules.specs.Applies.{Applies};
-ghost use Rattle.mv_rules.specs.Checks.{HasRoom, IsNewName};
+ghost use Rattle.mv_plans.specs.Checks.{HasRoom, IsNewName};
 ghost use Rattle.mv_saving.specs.Saving.{AreCubes, literals};
 
 /// The rule that adds a net for a divisor applies, and what it leaves: the nets that were there, and behind them that net,

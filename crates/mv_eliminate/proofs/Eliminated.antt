@@ -22,8 +22,8 @@ use Rattle.mv_pass.specs.Courses.{Short, Past}
 use Rattle.mv_pass.specs.Taking.{CanApply}
 use Rattle.mv_pass.proofs.Visiting.{all_visits}
 use Rattle.mv_rules.specs.Applies.{Applies}
-use Rattle.mv_rules.specs.Checks.{IsTabled}
-use Rattle.mv_rules.specs.Collapsing.{collapsed}
+use Rattle.mv_plans.specs.Checks.{IsTabled}
+use Rattle.mv_plans.specs.Collapsing.{collapsed}
 use Rattle.mv_gain.specs.Savings.{IsSaving, IsLeastSaving, NoneSaves}
 use Rattle.mv_gain.proofs.Going.{named_itself}
 use Rattle.mv_eliminate.specs.Eliminates.{Eliminates, EliminatesAll, IsEliminateStep, NotesWide}

@@ -3,7 +3,7 @@ use Rattle.std.specs.Prelude.{◌≡◌, ℕ, List}
 use Rattle.mv_agenda.specs.Agenda.{AllWaitBut}
 use Rattle.mv_net.specs.declared.parts.NetParts.{NetParts}
 use Rattle.mv_net.specs.Formed.{WellFormed}
-use Rattle.mv_rules.specs.Collapsing.{Collapses}
+use Rattle.mv_plans.specs.Collapsing.{Collapses}
 use Rattle.mv_gain.specs.Savings.{IsSaving, IsLeastSaving}
 
 -- the net at n is the least that saves, and each other that saves waits

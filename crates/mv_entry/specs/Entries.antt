@@ -108,6 +108,7 @@ is_built (Wire net) = true
 is_built (Collapse net) = true
 is_built (Narrow net d u body) = true
 is_built (Fill net out) = true
+is_built (MergeValue net gone into) = true
 is_built _ = false
 
 -- ---- notes

@@ -173,7 +173,8 @@ impl Rule {
             | Rule::Wire { .. }
             | Rule::Collapse { .. }
             | Rule::Narrow { .. }
-            | Rule::Fill { .. } => true,
+            | Rule::Fill { .. }
+            | Rule::Merge { .. } => true,
             _ => false,
         }
     }

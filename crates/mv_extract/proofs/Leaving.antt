@@ -28,7 +28,7 @@ use Rattle.mv_net.specs.Changes.{with_nets}
 use Rattle.mv_net.specs.Formed.{WellFormed}
 use Rattle.mv_net.specs.Nets.{slot, table_in, literals_in}
 use Rattle.mv_pass.specs.Courses.{Visits, VisitsAll}
-use Rattle.mv_rules.specs.Adding.{divisor_net}
+use Rattle.mv_plans.specs.Adding.{divisor_net}
 use Rattle.mv_rules.proofs.Kept.{kept_formed}
 use Rattle.mv_saving.specs.Saving.{AreCubes, literals}
 use Rattle.mv_extract.specs.Dividing.{IsReady}

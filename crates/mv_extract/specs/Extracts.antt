@@ -10,7 +10,7 @@ use Rattle.mv_net.specs.declared.parts.NetParts.{NetParts}
 use Rattle.mv_net.specs.Fresh.{IsFreshName}
 use Rattle.mv_net.specs.Nets.{slot, name_in}
 use Rattle.mv_pass.specs.Courses.{Course, Nothing, InTurn, Perhaps, Repeated, VisitsAll, VisitsSome, Onward}
-use Rattle.mv_rules.specs.Checks.{HasRoom}
+use Rattle.mv_plans.specs.Checks.{HasRoom}
 use Rattle.mv_extract.specs.Steps.{TakesBest, TakesBestSome}
 
 -- a divisor would be the next one, but the network has no number left for its net, which was to have this name, a lawful one

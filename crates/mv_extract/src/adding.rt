@@ -6,7 +6,7 @@ ghost use Rattle.mv_extract.specs.Steps.{AddsDivisor};
 ghost use Rattle.mv_net.specs.Allowed.{of_net};
 ghost use Rattle.mv_pass.specs.Courses.{Perhaps};
 ghost use Rattle.mv_pass.specs.Passing.{Passes};
-ghost use Rattle.mv_rules.specs.Checks.{HasRoom};
+ghost use Rattle.mv_plans.specs.Checks.{HasRoom};
 
 use crate::Stop;
 use mv_base::{Items, Memory, Name, PackedSet, Value, ValueSet};

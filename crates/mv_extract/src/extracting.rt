@@ -11,7 +11,7 @@ ghost use Rattle.mv_net.specs.Nets.{literals_in};
 ghost use Rattle.mv_pass.specs.Courses.{Perhaps};
 ghost use Rattle.mv_pass.specs.Going.{Begun, Does};
 ghost use Rattle.mv_pass.specs.Passing.{Passes};
-ghost use Rattle.mv_rules.specs.Checks.{HasRoom};
+ghost use Rattle.mv_plans.specs.Checks.{HasRoom};
 
 use crate::Stop;
 use crate::adding::add_divisor;

@@ -3,7 +3,7 @@ ghost use Rattle.mv_extract.specs.Extracts.{EndsBy, NotesKernels};
 ghost use Rattle.mv_gains.specs.Candidates.{HasManyKernels, IsBest};
 ghost use Rattle.mv_pass.specs.Courses.{Perhaps, VisitsAll, VisitsSome};
 ghost use Rattle.mv_pass.specs.Passing.{Passes};
-ghost use Rattle.mv_rules.specs.Checks.{HasRoom};
+ghost use Rattle.mv_plans.specs.Checks.{HasRoom};
 
 use crate::Stop;
 use crate::kind::Divisors;

@@ -26,7 +26,7 @@ use Rattle.mv_pass.proofs.Going.{ReplaysRules, replays_then}
 use Rattle.mv_pass.proofs.Turns.{of_visits, of_nothing, visits_more}
 use Rattle.mv_pass.proofs.Visiting.{some_more}
 use Rattle.mv_rules.specs.Applies.{Applies}
-use Rattle.mv_rules.specs.Filling.{Fills, with_default}
+use Rattle.mv_plans.specs.Filling.{Fills, with_default}
 use Rattle.mv_rules.specs.Replaying.{Replays}
 use Rattle.mv_rules.proofs.Kept.{kept_formed}
 use Rattle.mv_fill.specs.Fills.{IsUnfilled, StaysFor, note_of, rule_of, FillsNet, LetBe, Stays, Filled, FillsTables, FillsAll, IsNoted}

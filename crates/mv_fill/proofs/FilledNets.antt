@@ -19,7 +19,7 @@ use Rattle.mv_net.specs.Nets.{slot, values_in, table_in, table_reads, reads_in}
 use Rattle.mv_net.specs.Plain.{IsPlainNet}
 use Rattle.mv_net.specs.Total.{IsTotal, IsTotalNet}
 use Rattle.mv_net.proofs.Totals.{default_total, IsTotal-before}
-use Rattle.mv_rules.specs.Filling.{IsPartial, ArePlainAbove, with_default}
+use Rattle.mv_plans.specs.Filling.{IsPartial, ArePlainAbove, with_default}
 use Rattle.mv_fill.specs.Fills.{IsUnfilled}
 use Rattle.mv_fill.specs.Filling.{KeepsPlain}
 

@@ -19,7 +19,7 @@ use Rattle.mv_net.specs.Nets.{slot, table_in, net_reads, reads_in}
 use Rattle.mv_net.specs.Order.{IsOrder}
 use Rattle.mv_net.specs.Plain.{IsPlainNet}
 use Rattle.mv_net.proofs.Known.{reads_readable, is_held_below}
-use Rattle.mv_rules.specs.Filling.{ArePlainAbove}
+use Rattle.mv_plans.specs.Filling.{ArePlainAbove}
 use Rattle.mv_fill.specs.Filling.{AreMarked, HasMarks, IsPlainTable, IsPlainTo, IsVariedMark}
 
 -- ---- the table of one net

@@ -28,7 +28,7 @@ use Rattle.mv_pass.specs.declared.stop.Stop.TheVariants.{Note, Memory}
 use Rattle.mv_pass.specs.Taking.{CanApply, TookRulePart}
 use Rattle.mv_pass.proofs.Stepped.{Is}
 use Rattle.mv_rules.specs.Applies.{Applies}
-use Rattle.mv_rules.specs.Filling.{ArePlainAbove, with_default}
+use Rattle.mv_plans.specs.Filling.{ArePlainAbove, with_default}
 use Rattle.mv_rules.proofs.Spoken.{held_visible}
 use Rattle.mv_fill.specs.Fills.{IsUnfilled, StaysFor, note_of, rule_of, FillsNet, Stays, Filled}
 use Rattle.mv_fill.specs.Filling.{HasMarks, IsVariedMark, KeepsPlain}

@@ -10,7 +10,7 @@ use Rattle.mv_net.specs.Index.{is_held}
 use Rattle.mv_net.specs.Nets.{slot, table_in}
 use Rattle.mv_net.specs.Plain.{IsPlainNet}
 use Rattle.mv_pass.specs.Courses.{Visits}
-use Rattle.mv_rules.specs.Filling.{ArePlainAbove}
+use Rattle.mv_plans.specs.Filling.{ArePlainAbove}
 use Rattle.mv_fill.specs.Fills.{FillsNet, IsUnfilled, IsNoted}
 
 -- the net's table, if it has one, is plainly deterministic

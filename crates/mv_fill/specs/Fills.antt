@@ -12,7 +12,7 @@ use Rattle.mv_net.specs.declared.parts.NetParts.{NetParts}
 use Rattle.mv_net.specs.Nets.{slot, name_in, table_in}
 use Rattle.mv_pass.specs.Courses.{Course, Nothing, VisitsSome}
 use Rattle.mv_rules.specs.Applies.{Applies}
-use Rattle.mv_rules.specs.Filling.{IsPartial, ArePlainAbove}
+use Rattle.mv_plans.specs.Filling.{IsPartial, ArePlainAbove}
 
 -- the net has a table, which allows nothing somewhere
 pub record IsUnfilled (nets : List (Option FlatNet)) (n : ℕ) : Type 0 where

@@ -4,7 +4,7 @@ ghost use Rattle.mv_pass.specs.Courses.{Perhaps};
 ghost use Rattle.mv_pass.specs.Going.{Begun, Does};
 ghost use Rattle.mv_pass.specs.Passing.{Passes};
 ghost use Rattle.mv_net.specs.Index.{is_held};
-ghost use Rattle.mv_rules.specs.Filling.{ArePlainAbove};
+ghost use Rattle.mv_plans.specs.Filling.{ArePlainAbove};
 ghost use Rattle.mv_fill.specs.Fills.{FillsAll, FillsNet, FillsTables, IsUnfilled, StaysFor, rule_of};
 ghost use Rattle.mv_fill.specs.Filling.{HasMarks, KeepsPlain};
 

@@ -17,9 +17,9 @@ use Rattle.mv_net.specs.declared.parts.NetParts.{NetParts}
 use Rattle.mv_net.specs.Changes.{with_nets}
 use Rattle.mv_net.specs.Nets.{slot, values_in, table_in, table_literals, net_reads, reads_in}
 use Rattle.mv_net.proofs.Patches.{IsWritten-gone}
-use Rattle.mv_rules.specs.Collapsing.{Collapses}
-use Rattle.mv_rules.specs.Removing.{Removes}
-use Rattle.mv_rules.specs.Wiring.{Wires}
+use Rattle.mv_plans.specs.Collapsing.{Collapses}
+use Rattle.mv_plans.specs.Removing.{Removes}
+use Rattle.mv_plans.specs.Wiring.{Wires}
 use Rattle.mv_gain.specs.declared.kept.KeptComposites.{KeptComposites}
 use Rattle.mv_gain.specs.declared.row.Pair.{Pair}
 use Rattle.mv_gain.specs.Kept.{IsComposite, IsPair, AreRight, LeavesAlone, RightBehind}

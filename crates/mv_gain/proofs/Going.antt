@@ -11,9 +11,9 @@ use Rattle.mv_net.specs.declared.parts.NetParts.{NetParts}
 use Rattle.mv_net.specs.Formed.{WellFormed}
 use Rattle.mv_net.specs.Index.{is_seen}
 use Rattle.mv_net.specs.Nets.{slot, name_in, table_in, net_reads}
-use Rattle.mv_rules.proofs.Named.{listed_reader}
-use Rattle.mv_rules.specs.Checks.{IsTabled}
-use Rattle.mv_rules.specs.Collapsing.{IsUnshared, HasComposites, CanCollapse, CollapseRow, FailsCollapse}
+use Rattle.mv_plans.proofs.Named.{listed_reader}
+use Rattle.mv_plans.specs.Checks.{IsTabled}
+use Rattle.mv_plans.specs.Collapsing.{IsUnshared, HasComposites, CanCollapse, CollapseRow, FailsCollapse}
 use Rattle.mv_gain.specs.Judging.{CanGo}
 use Rattle.mv_gain.specs.Savings.{IsSaving, IsWideNet}
 

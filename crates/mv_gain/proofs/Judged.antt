@@ -12,10 +12,10 @@ use Rattle.mv_net.specs.declared.parts.NetParts.{NetParts}
 use Rattle.mv_net.specs.Behind.{literals_at}
 use Rattle.mv_net.specs.Formed.{WellFormed}
 use Rattle.mv_net.specs.Nets.{slot, name_in, table_in, table_literals, literals_in, reads_in}
-use Rattle.mv_rules.specs.Checks.{IsTabled}
-use Rattle.mv_rules.specs.Collapsing.{AreNarrow, HasComposites, CanCollapse, collapsed}
-use Rattle.mv_rules.specs.Composites.{HasCompositeLiterals, composite_count}
-use Rattle.mv_rules.proofs.CompositeLiterals.{inner_same, counted_is, not_wide, wide_collapse_fails, collapsed_literals}
+use Rattle.mv_plans.specs.Checks.{IsTabled}
+use Rattle.mv_plans.specs.Collapsing.{AreNarrow, HasComposites, CanCollapse, collapsed}
+use Rattle.mv_plans.specs.Composites.{HasCompositeLiterals, composite_count}
+use Rattle.mv_plans.proofs.CompositeLiterals.{inner_same, counted_is, not_wide, wide_collapse_fails, collapsed_literals}
 use Rattle.mv_gain.specs.declared.judging.Verdict.{Verdict}
 use Rattle.mv_gain.specs.declared.judging.Verdict.TheVariants.{Saves, Wide, Stays}
 use Rattle.mv_gain.specs.declared.kept.KeptComposites.{KeptComposites}

@@ -11,8 +11,8 @@ use Rattle.mv_net.specs.declared.parts.NetParts.{NetParts}
 use Rattle.mv_net.specs.Behind.{literals_at}
 use Rattle.mv_net.specs.Formed.{WellFormed}
 use Rattle.mv_net.specs.Nets.{slot, table_in, table_literals, reads_in}
-use Rattle.mv_rules.specs.Composites.{composite_count}
-use Rattle.mv_rules.proofs.CompositeLiterals.{counted_is, collapsed_literals}
+use Rattle.mv_plans.specs.Composites.{composite_count}
+use Rattle.mv_plans.proofs.CompositeLiterals.{counted_is, collapsed_literals}
 use Rattle.mv_gain.specs.declared.kept.KeptComposites.{KeptComposites}
 use Rattle.mv_gain.specs.declared.row.Pair.{Pair}
 use Rattle.mv_gain.specs.declared.row.Row.{Row}

@@ -8,7 +8,7 @@ use Rattle.mv_net.specs.declared.parts.FlatNet.{FlatNet}
 use Rattle.mv_net.specs.declared.parts.NetParts.{NetParts}
 use Rattle.mv_net.specs.Behind.{literals_at}
 use Rattle.mv_net.specs.Nets.{slot, table_in, reads_in}
-use Rattle.mv_rules.specs.Collapsing.{IsInnerOf, CanCollapse}
+use Rattle.mv_plans.specs.Collapsing.{IsInnerOf, CanCollapse}
 use Rattle.mv_gain.specs.declared.judging.Verdict.{Verdict}
 use Rattle.mv_gain.specs.declared.judging.Verdict.TheVariants.{Saves, Wide, Stays}
 use Rattle.mv_gain.specs.declared.kept.KeptComposites.{KeptComposites}

@@ -4,8 +4,8 @@ use Rattle.mv_composite.specs.declared.inner.Inner.{Inner}
 use Rattle.mv_net.specs.declared.parts.FlatNet.{FlatNet}
 use Rattle.mv_net.specs.declared.parts.NetParts.{NetParts}
 use Rattle.mv_net.specs.Nets.{slot, values_in, table_in, table_literals, reads_in}
-use Rattle.mv_rules.specs.Collapsing.{IsInnerOf}
-use Rattle.mv_rules.specs.Composites.{HasCompositeLiterals, HasWideComposite}
+use Rattle.mv_plans.specs.Collapsing.{IsInnerOf}
+use Rattle.mv_plans.specs.Composites.{HasCompositeLiterals, HasWideComposite}
 use Rattle.mv_gain.specs.declared.judging.Verdict.{Verdict}
 use Rattle.mv_gain.specs.declared.judging.Verdict.TheVariants.{Saves, Wide, Stays}
 use Rattle.mv_gain.specs.declared.kept.KeptComposites.{KeptComposites}

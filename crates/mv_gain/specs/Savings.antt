@@ -3,7 +3,7 @@ use Rattle.std.specs.Prelude.{◌≡◌, ℕ, ◌<◌, ◌≤◌, true, is_some}
 use Rattle.mv_entry.specs.declared.fault.RuleFault.TheVariants.{Wide}
 use Rattle.mv_net.specs.declared.parts.NetParts.{NetParts}
 use Rattle.mv_net.specs.Nets.{slot, name_in, table_in, literals_in}
-use Rattle.mv_rules.specs.Collapsing.{CanCollapse, HasComposites, FailsCollapse, collapsed}
+use Rattle.mv_plans.specs.Collapsing.{CanCollapse, HasComposites, FailsCollapse, collapsed}
 
 -- the net at n can go into its readers, and their composites leave the literals no higher
 pub record IsSaving (net : NetParts) (n : ℕ) : Type 0 where

@@ -1,8 +1,8 @@
 ghost use Rattle.std.specs.Prelude.{◌≡◌, ℕ, List};
 ghost use Rattle.mv_net.specs.declared.parts.NetParts.{NetParts};
-ghost use Rattle.mv_rules.specs.Collapsing.{Collapses};
-ghost use Rattle.mv_rules.specs.Removing.{Removes};
-ghost use Rattle.mv_rules.specs.Wiring.{Wires};
+ghost use Rattle.mv_plans.specs.Collapsing.{Collapses};
+ghost use Rattle.mv_plans.specs.Removing.{Removes};
+ghost use Rattle.mv_plans.specs.Wiring.{Wires};
 ghost use Rattle.mv_gain.specs.declared.kept.KeptComposites.{KeptComposites};
 ghost use Rattle.mv_gain.specs.Kept.{AreRight, RightBehind};
 

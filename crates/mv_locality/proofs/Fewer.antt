@@ -16,9 +16,9 @@ use Rattle.mv_net.specs.Nets.{slot, values_in, table_in, table_literals, literal
 use Rattle.mv_net.specs.Plain.{IsPlainNet, IsPlainConstant}
 use Rattle.mv_net.specs.Total.{IsTotalNet}
 use Rattle.mv_net.proofs.Plainness.{constant_gives}
-use Rattle.mv_rules.specs.Collapsing.{Collapses}
-use Rattle.mv_rules.specs.Removing.{Removes}
-use Rattle.mv_rules.specs.Wiring.{Wires}
+use Rattle.mv_plans.specs.Collapsing.{Collapses}
+use Rattle.mv_plans.specs.Removing.{Removes}
+use Rattle.mv_plans.specs.Wiring.{Wires}
 use Rattle.mv_locality.proofs.FewerLines.{fewer_wired}
 use Rattle.mv_locality.proofs.FewerConstants.{IsSteady, steady, steady_allows, steady_plain, fewer_composed}
 

@@ -13,10 +13,10 @@ use Rattle.mv_net.specs.Nets.{table_in, net_reads, reads_in}
 use Rattle.mv_net.specs.Total.{IsRemovable}
 use Rattle.mv_entry.specs.declared.fault.RuleFault.{RuleFault}
 use Rattle.mv_entry.specs.declared.fault.RuleFault.TheVariants.{Visible, Read, Partial, Unread, Shared, Wide, NotSame}
-use Rattle.mv_rules.specs.Checks.{IsUnseen, IsUnread, IsRead}
-use Rattle.mv_rules.specs.Collapsing.{IsInnerOf, AreNarrow, HasComposites, IsUnshared, CanCollapse, CollapseRow}
-use Rattle.mv_rules.specs.Removing.{RemoveRow}
-use Rattle.mv_rules.specs.Wiring.{WireRow}
+use Rattle.mv_plans.specs.Checks.{IsUnseen, IsUnread, IsRead}
+use Rattle.mv_plans.specs.Collapsing.{IsInnerOf, AreNarrow, HasComposites, IsUnshared, CanCollapse, CollapseRow}
+use Rattle.mv_plans.specs.Removing.{RemoveRow}
+use Rattle.mv_plans.specs.Wiring.{WireRow}
 use Rattle.mv_agenda.specs.Near.{IsNear}
 use Rattle.mv_locality.specs.Local.{KeepsValues, IsStill, StaysAround}
 use Rattle.mv_locality.specs.Same.{StaysAt, KeepsNet, KeepsReaders, KeepsPlace}

@@ -18,9 +18,9 @@ use Rattle.mv_net.specs.declared.parts.NetParts.{NetParts}
 use Rattle.mv_net.specs.Behind.{literals_at}
 use Rattle.mv_net.specs.Formed.{WellFormed}
 use Rattle.mv_net.specs.Nets.{values_in, table_in, table_literals, literals_in, net_reads, reads_in}
-use Rattle.mv_rules.specs.Collapsing.{IsInnerOf, collapsed}
-use Rattle.mv_rules.specs.Composites.{composite_count}
-use Rattle.mv_rules.proofs.CompositeLiterals.{collapsed_literals}
+use Rattle.mv_plans.specs.Collapsing.{IsInnerOf, collapsed}
+use Rattle.mv_plans.specs.Composites.{composite_count}
+use Rattle.mv_plans.proofs.CompositeLiterals.{collapsed_literals}
 use Rattle.mv_locality.specs.Same.{StaysAt, KeepsNet, KeepsReaders}
 use Rattle.mv_locality.proofs.Tables.{composed_kept, IsInnerOf-same}
 use Rattle.mv_locality.proofs.Places.{reads-same, readers_back, place_kept}

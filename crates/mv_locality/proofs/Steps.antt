@@ -27,10 +27,10 @@ use Rattle.mv_net.specs.Index.{is_held}
 use Rattle.mv_net.specs.Nets.{slot, values_in, name_in, table_in, table_reads, net_reads, reads_in}
 use Rattle.mv_net.proofs.Named.{held_below}
 use Rattle.mv_net.proofs.Patches.{IsWritten-gone}
-use Rattle.mv_rules.specs.Checks.{IsTabled}
-use Rattle.mv_rules.specs.Collapsing.{IsInnerOf, Collapses}
-use Rattle.mv_rules.specs.Removing.{Removes}
-use Rattle.mv_rules.specs.Wiring.{Wires}
+use Rattle.mv_plans.specs.Checks.{IsTabled}
+use Rattle.mv_plans.specs.Collapsing.{IsInnerOf, Collapses}
+use Rattle.mv_plans.specs.Removing.{Removes}
+use Rattle.mv_plans.specs.Wiring.{Wires}
 use Rattle.mv_locality.proofs.StepsReading.{composed_on}
 
 -- ---- a net goes into its readers

@@ -16,9 +16,9 @@ use Rattle.mv_net.specs.Nets.{slot, values_in, table_in, table_reads, net_reads}
 use Rattle.mv_net.specs.Plain.{IsPlainNet, IsPlainConstant, IsPlainBuffer}
 use Rattle.mv_net.specs.Total.{IsTotal, IsTotalNet}
 use Rattle.mv_net.proofs.Known.{counts_at, reads_readable}
-use Rattle.mv_rules.specs.Checks.{IsTabled}
-use Rattle.mv_rules.specs.Collapsing.{IsInnerOf}
-use Rattle.mv_rules.specs.Wiring.{IsBuffer}
+use Rattle.mv_plans.specs.Checks.{IsTabled}
+use Rattle.mv_plans.specs.Collapsing.{IsInnerOf}
+use Rattle.mv_plans.specs.Wiring.{IsBuffer}
 use Rattle.mv_locality.specs.Local.{KeepsValues}
 use Rattle.mv_locality.specs.Same.{SameCounts, KeepsNet}
 use Rattle.mv_locality.proofs.Counts.{composed-same, IsTooWide-same}

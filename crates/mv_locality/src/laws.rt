@@ -14,8 +14,8 @@ ghost use Rattle.mv_net.specs.Formed.{WellFormed};
 ghost use Rattle.mv_net.specs.Nets.{slot, values_in, table_in, literals_in, reads_in};
 ghost use Rattle.mv_net.specs.Plain.{IsPlainNet, IsPlainBuffer, IsPlainConstant};
 ghost use Rattle.mv_net.specs.Total.{IsTotalNet, IsRemovable};
-ghost use Rattle.mv_rules.specs.Checks.{IsTabled, IsUnseen, IsUnread, IsRead};
-ghost use Rattle.mv_rules.specs.Collapsing.{
+ghost use Rattle.mv_plans.specs.Checks.{IsTabled, IsUnseen, IsUnread, IsRead};
+ghost use Rattle.mv_plans.specs.Collapsing.{
   collapsed,
   AreNarrow,
   CanCollapse,
@@ -24,8 +24,8 @@ ghost use Rattle.mv_rules.specs.Collapsing.{
   IsInnerOf,
   IsUnshared,
 };
-ghost use Rattle.mv_rules.specs.Removing.{RemoveRow};
-ghost use Rattle.mv_rules.specs.Wiring.{IsBuffer, WireRow};
+ghost use Rattle.mv_plans.specs.Removing.{RemoveRow};
+ghost use Rattle.mv_plans.specs.Wiring.{IsBuffer, WireRow};
 ghost use Rattle.mv_locality.specs.Local.{KeepsValues, StaysAround};
 ghost use Rattle.mv_locality.specs.Same.{SameCounts, StaysAt};
 

@@ -4,10 +4,10 @@ ghost use Rattle.mv_net.specs.Formed.{WellFormed};
 ghost use Rattle.mv_net.specs.Index.{is_held};
 ghost use Rattle.mv_net.specs.Nets.{slot, name_in, literals_in};
 ghost use Rattle.mv_net.specs.Plain.{IsPlainConstant};
-ghost use Rattle.mv_rules.specs.Checks.{IsTabled};
-ghost use Rattle.mv_rules.specs.Collapsing.{Collapses};
-ghost use Rattle.mv_rules.specs.Removing.{Removes};
-ghost use Rattle.mv_rules.specs.Wiring.{Wires};
+ghost use Rattle.mv_plans.specs.Checks.{IsTabled};
+ghost use Rattle.mv_plans.specs.Collapsing.{Collapses};
+ghost use Rattle.mv_plans.specs.Removing.{Removes};
+ghost use Rattle.mv_plans.specs.Wiring.{Wires};
 ghost use Rattle.mv_locality.specs.Local.{StaysAround};
 
 /// Where a net goes, or goes into its readers, nothing changes but near it.

@@ -1,13 +1,10 @@
 -- The net's own table behind a merge: what it allows, that it is a cover, and what it reads.
-use Rattle.std.proofs.Common.{◌≡◌, ◌∙◌, ◌⊎◌, ℕ, ◌+◌, ◌<◌, ◌≤◌, Bool, true, false, ◌&&◌, ◌||◌, not, nat_eq, Option, Some, None, All, List, [], ◌∷◌, map, inl, inr, refl, sym, ap, subst, ⊎_elim, eqb-true, eq-eqb, arith}
+use Rattle.std.proofs.Common.{◌≡◌, ◌∙◌, ℕ, ◌<◌, Bool, true, false, ◌&&◌, ◌||◌, not, nat_eq, Option, Some, None, All, List, [], ◌∷◌, map, inl, inr, refl, sym, ap, subst, ⊎_elim, eq-eqb}
 use Rattle.std.specs.List.{list_any}
-use Rattle.std.proofs.Math.Bool.{or-false}
-use Rattle.std.proofs.lemmas.Bool.{cases_Bool, false≢true, or_parts, or_cases, or_left, or_right, or_from, and_parts, and_right, ltb-true, ne_eqb}
+use Rattle.std.proofs.lemmas.Bool.{or_parts, or_cases, or_left, or_right, or_from, and_parts, and_right, ltb-true, ne_eqb}
 use Rattle.std.proofs.lemmas.List.Elements.{All-nil, All-cons, All-head, All-tail}
-use Rattle.mv_base.specs.Set.{has, empty, full}
+use Rattle.mv_base.specs.Set.{has, empty}
 use Rattle.mv_base.proofs.Sets.{has-full}
-use Rattle.mv_base.specs.declared.number.Value.{Value}
-use Rattle.mv_cover.specs.Absorb.{absorbed}
 use Rattle.mv_cover.specs.Covers.{some_matches, some_gives, default_gives, allowed, cube_reads, cover_reads}
 use Rattle.mv_cover.specs.Cubes.{matches, IsCube}
 use Rattle.mv_cover.specs.Lines.{IsOutput}
@@ -20,9 +17,9 @@ use Rattle.mv_net.specs.declared.parts.FlatNet.{FlatNet}
 use Rattle.mv_net.specs.Formed.{IsLiteral, AllLiterals, IsCover}
 use Rattle.mv_merging.specs.declared.merging.Merging.{Merging}
 use Rattle.mv_merging.specs.Tables.{output_merged, default_merged, own_merged}
-use Rattle.mv_merging.specs.Values.{before, takes_place, merged_has, merged_set}
+use Rattle.mv_merging.specs.Values.{before, takes_place, merged_set}
 use Rattle.mv_merging.specs.Verdicts.{cover_has}
-use Rattle.mv_merging.proofs.Sets.{StandsFor, HasNumber, has_number, has-merged, merged_output}
+use Rattle.mv_merging.proofs.Sets.{StandsFor, has-merged, merged_output}
 use Rattle.mv_merging.proofs.Shapes.{IsLineOver, cover_over, absorbed_cover, absorbed_reads}
 
 -- ---- what it allows

@@ -1,9 +1,8 @@
 -- The tables behind a merge are covers over nets that are as before but for the merged one, and read no net besides.
-use Rattle.std.proofs.Common.{◌≡◌, ◌∙◌, ℕ, ◌+◌, ◌<◌, ◌≤◌, Bool, true, false, ◌||◌, nat_eq, nat_lt, Option, Some, None, All, List, [], ◌∷◌, ◌++◌, map, refl, sym, ap, subst, ⊎_elim, eqb-true, eq-eqb, arith}
-use Rattle.std.specs.List.{flat_map, list_any}
-use Rattle.std.proofs.lemmas.Bool.{cases_Bool, cases_lt, cases_eq, cond-true, cond-false, eqb-false, false≢true, or_parts, or_cases, or_left, or_right, lt-ltb, ltb-true, ne_eqb}
+use Rattle.std.proofs.Common.{◌≡◌, ◌∙◌, ℕ, ◌<◌, ◌≤◌, Bool, true, false, ◌||◌, nat_eq, nat_lt, Option, All, List, [], ◌∷◌, ◌++◌, refl, sym, ap, subst, ⊎_elim, eqb-true, arith}
+use Rattle.std.specs.List.{flat_map}
+use Rattle.std.proofs.lemmas.Bool.{cases_Bool, cases_lt, cond-true, cond-false, eqb-false, false≢true, or_parts, or_cases, or_left, or_right, lt-ltb, ltb-true}
 use Rattle.std.proofs.lemmas.List.Folds.{list_any-append}
-use Rattle.std.proofs.lemmas.List.Elements.{All-nil, All-cons, All-head, All-tail}
 use Rattle.mv_base.specs.Set.{has, empty, full, Within}
 use Rattle.mv_base.specs.declared.number.NetId.{NetId}
 use Rattle.mv_base.proofs.Sets.{has-full, same_set}
@@ -16,11 +15,12 @@ use Rattle.mv_net.specs.declared.parts.FlatNet.{FlatNet}
 use Rattle.mv_net.specs.Nets.{slot, values_in}
 use Rattle.mv_net.specs.Formed.{IsReadable, IsLiteral, AllLiterals, IsCover}
 use Rattle.mv_net.proofs.Stays.{KeepsNet}
+use Rattle.mv_composite.proofs.Cubes.{All-flat_map}
 use Rattle.mv_merging.specs.declared.merging.Merging.{Merging}
-use Rattle.mv_merging.specs.Tables.{asked_of, literal_merged, cube_merged, some_empty, line_unless, line_merged, reader_merged}
+use Rattle.mv_merging.specs.Tables.{asked_of, literal_merged, cube_merged, some_empty, line_merged, reader_merged}
 use Rattle.mv_merging.specs.Values.{merged_set}
 use Rattle.mv_merging.proofs.Sets.{merged_within, has-merged_past}
-use Rattle.mv_merging.proofs.Shapes.{IsLineOver, All-flat_map, cover_over, absorbed_cover, absorbed_reads}
+use Rattle.mv_merging.proofs.Shapes.{IsLineOver, cover_over, absorbed_cover, absorbed_reads}
 use Rattle.mv_merging.proofs.Readers.{merged_cube, unless_all}
 
 -- nets that are as the old ones but at n, where one is that can be read and has the values that are left, or more

@@ -1,7 +1,7 @@
 -- What it says of the values, the tables and the net that a verdict is lawful.
-use Rattle.std.proofs.Common.{◌≡◌, ◌∙◌, ◌⊎◌, ℕ, ◌+◌, ◌-◌, ◌<◌, ◌≤◌, Bool, true, false, ◌&&◌, ◌||◌, not, nat_eq, Option, Some, None, List, [], ◌∷◌, inl, inr, refl, sym, ap, subst, ⊎_elim, eqb-true, eq-eqb, arith}
+use Rattle.std.proofs.Common.{◌≡◌, ◌∙◌, ◌⊎◌, ℕ, ◌+◌, ◌≤◌, Bool, true, false, ◌&&◌, ◌||◌, not, Option, Some, None, List, [], ◌∷◌, inl, inr, refl, sym, ap, subst, ⊎_elim, eqb-true, eq-eqb, arith}
 use Rattle.std.specs.List.{list_any}
-use Rattle.std.proofs.lemmas.Bool.{cases_Bool, cases_eq, false≢true, or_parts, and_parts}
+use Rattle.std.proofs.lemmas.Bool.{cases_eq, false≢true, or_parts}
 use Rattle.mv_base.specs.Set.{has}
 use Rattle.mv_base.specs.declared.number.Value.{Value}
 use Rattle.mv_cover.specs.Literal.{Lit}
@@ -12,8 +12,8 @@ use Rattle.mv_net.specs.Nets.{slot, values_in, table_in}
 use Rattle.mv_merging.specs.declared.merging.Merging.{Merging}
 use Rattle.mv_merging.specs.Nets.{merging_at}
 use Rattle.mv_merging.specs.Values.{before, takes_place}
-use Rattle.mv_merging.specs.Verdicts.{IsOther, AreMergeable, splits, literal_splits, cover_splits, AreAlike, cover_has, IsNeverGiven, IsMergeLossless}
-use Rattle.mv_merging.proofs.Sets.{StandsFor, IsAlike, HasNumber, has_number}
+use Rattle.mv_merging.specs.Verdicts.{IsOther, AreMergeable, splits, literal_splits, AreAlike, cover_has, IsNeverGiven, IsMergeLossless}
+use Rattle.mv_merging.proofs.Sets.{StandsFor, IsAlike, has_number}
 use Rattle.mv_merging.proofs.Giving.{StandsForAll}
 use Rattle.mv_merging.proofs.Readers.{LiteralsAlike, LinesAlike}
 

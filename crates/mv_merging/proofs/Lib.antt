@@ -6,3 +6,7 @@ pub mod Giving
 pub mod Recounted
 pub mod Lawful
 pub mod Merged
+pub mod Moving
+pub mod Looking
+pub mod Written
+pub mod Changing

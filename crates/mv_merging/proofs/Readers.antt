@@ -1,27 +1,26 @@
 -- A reader's table behind a merge: what it allows, that it is a cover, and what it reads.
-use Rattle.std.proofs.Common.{◌≡◌, ◌∙◌, ◌⊎◌, ℕ, ◌+◌, ◌<◌, ◌≤◌, Bool, true, false, ◌&&◌, ◌||◌, not, nat_eq, nat_lt, Option, Some, None, All, List, [], ◌∷◌, ◌++◌, refl, sym, ap, subst, ⊎_elim, eqb-true, eq-eqb, arith}
+use Rattle.std.proofs.Common.{◌≡◌, ◌∙◌, ℕ, ◌+◌, ◌<◌, ◌≤◌, Bool, true, false, ◌&&◌, ◌||◌, not, nat_eq, All, List, [], ◌∷◌, ◌++◌, refl, sym, ap, subst, ⊎_elim, eqb-true, arith}
 use Rattle.std.specs.List.{flat_map, list_all, list_any}
 use Rattle.std.proofs.Math.Bool.{and-true, or-false}
-use Rattle.std.proofs.lemmas.Bool.{cases_Bool, cases_lt, cond-true, cond-false, eqb-false, false≢true, or_parts, or_cases, or_left, or_right, and_parts, and_from, lt-ltb}
+use Rattle.std.proofs.lemmas.Bool.{cases_Bool, cond-true, cond-false, eqb-false, false≢true, or_parts, or_cases, and_from, lt-ltb}
 use Rattle.std.proofs.lemmas.List.Folds.{list_any-append}
-use Rattle.std.proofs.lemmas.List.Elements.{All-nil, All-cons, All-head, All-tail}
-use Rattle.mv_base.specs.Set.{has, empty, full, Within}
+use Rattle.std.proofs.lemmas.List.Elements.{All-nil, All-cons}
+use Rattle.mv_base.specs.Set.{has, empty, full}
 use Rattle.mv_base.specs.declared.number.NetId.{NetId}
-use Rattle.mv_base.proofs.Sets.{has-empty, has-full, same_set}
-use Rattle.mv_cover.specs.Absorb.{absorbed}
-use Rattle.mv_cover.specs.Covers.{some_matches, some_gives, default_gives, allowed, cube_reads, cover_reads}
+use Rattle.mv_base.proofs.Sets.{has-empty, has-full}
+use Rattle.mv_cover.specs.Covers.{some_matches, some_gives, default_gives, allowed}
 use Rattle.mv_cover.specs.Cubes.{holds, matches, IsCube}
 use Rattle.mv_cover.specs.Literal.{Lit}
 use Rattle.mv_cover.specs.declared.cover.Cover.{Cover}
 use Rattle.mv_cover.specs.declared.line.Line.{Line}
-use Rattle.mv_cover.proofs.Absorbing.{gives-any, matches-any, allowed-absorbed}
+use Rattle.mv_cover.proofs.Absorbing.{gives-any, allowed-absorbed}
 use Rattle.mv_cover.proofs.Meets.{Rises, Rises-cube, ascend-Rises}
 use Rattle.mv_cover.proofs.Points.{matches-append}
+use Rattle.mv_composite.proofs.Cubes.{All-flat_map}
 use Rattle.mv_merging.specs.declared.merging.Merging.{Merging}
 use Rattle.mv_merging.specs.Tables.{asked_of, literal_merged, cube_merged, some_empty, line_unless, line_merged, reader_merged}
 use Rattle.mv_merging.specs.Values.{merged_set}
 use Rattle.mv_merging.proofs.Sets.{StandsFor, IsAlike, has-behind}
-use Rattle.mv_merging.proofs.Shapes.{All-flat_map}
 
 -- ---- assignments of the two networks
 

@@ -1,11 +1,9 @@
 -- Sets behind a merge, value by value, and which old value a new one stands for.
-use Rattle.std.proofs.Common.{◌≡◌, ◌∙◌, ◌⊎◌, ℕ, zero, suc, ◌+◌, ◌-◌, ◌<◌, ◌≤◌, Bool, true, false, ◌&&◌, ◌||◌, nat_eq, nat_lt, cond, Option, Some, None, IsTrue, inl, inr, refl, sym, ap, subst, ⊎_elim, eqb-true, eq-eqb, arith}
-use Rattle.std.specs.Prelude.{◌==◌}
+use Rattle.std.proofs.Common.{◌≡◌, ◌∙◌, ◌⊎◌, ℕ, zero, suc, ◌+◌, ◌-◌, ◌<◌, ◌≤◌, Bool, true, false, ◌&&◌, ◌||◌, nat_eq, nat_lt, inl, inr, refl, sym, ap, ⊎_elim, eq-eqb, arith}
 use Rattle.std.proofs.lemmas.Bool.{cases_Bool, cases_eq, cases_lt, cond-true, cond-false, false≢true, ltb-true, lt-ltb, ne_eqb, or_left, or_right}
 use Rattle.std.proofs.Math.Bool.{or-false}
-use Rattle.mv_base.specs.Set.{has, empty, one, full, join, Within}
-use Rattle.mv_base.specs.declared.number.Value.{Value}
-use Rattle.mv_base.proofs.Sets.{has-empty, has-one, has-full, has-join, same_set}
+use Rattle.mv_base.specs.Set.{has, one, full, join, Within}
+use Rattle.mv_base.proofs.Sets.{has-empty, has-one, has-full, has-join}
 use Rattle.mv_cover.specs.Lines.{IsOutput}
 use Rattle.mv_merging.specs.declared.merging.Merging.{Merging}
 use Rattle.mv_merging.specs.Values.{before, takes_place, merged_has, members_below, merged_set}

@@ -1,23 +1,16 @@
 -- Lines over the nets of a network: of a cover, and of what absorbing leaves of one.
-use Rattle.std.proofs.Common.{◌≡◌, ℕ, Bool, true, false, refl, Option, Some, None, All, List, [], ◌∷◌, ◌++◌, filter, not, ⊎_elim}
-use Rattle.std.specs.List.{flat_map, list_any}
-use Rattle.std.proofs.lemmas.Bool.{cases_Bool, or_left, or_right, or_cases, false≢true, cond-true, cond-false}
-use Rattle.std.proofs.lemmas.List.Elements.{All-nil, All-cons, All-head, All-tail, All-append, All-filter}
-use Rattle.mv_cover.specs.Absorb.{firsts, left_of, swallowed_by, some_bare, default_beside, absorbed}
+use Rattle.std.proofs.Common.{◌≡◌, ℕ, Bool, true, false, refl, Option, Some, None, All, List, [], ◌∷◌, ⊎_elim}
+use Rattle.std.proofs.lemmas.Bool.{cases_Bool, or_left, or_right, or_cases, false≢true}
+use Rattle.std.proofs.lemmas.List.Elements.{All-nil, All-cons, All-head, All-tail}
+use Rattle.mv_cover.specs.Absorb.{left_of, some_bare, default_beside, absorbed}
 use Rattle.mv_cover.specs.Covers.{cube_reads, lines_read, cover_reads}
 use Rattle.mv_cover.specs.Cubes.{IsCube}
-use Rattle.mv_cover.specs.Lines.{IsOutput, lines_differ}
+use Rattle.mv_cover.specs.Lines.{IsOutput}
 use Rattle.mv_cover.specs.declared.cover.Cover.{Cover}
 use Rattle.mv_cover.specs.declared.line.Line.{Line}
-use Rattle.mv_cover.proofs.Absorbing.{all-firsts}
-use Rattle.mv_cover.proofs.Differing.{differ-filtered, differ-firsts}
+use Rattle.mv_composite.proofs.Formed.{all_left, differ_left}
 use Rattle.mv_net.specs.declared.parts.FlatNet.{FlatNet}
 use Rattle.mv_net.specs.Formed.{AllCubes, AllLiterals, AllLines, IsCover}
-
--- what holds of each that each element gives holds of all
-pub All-flat_map : {X Y : Type 0} (P : X → Type 0) (Q : Y → Type 0) (g : X → List Y) → ((x : X) → P x → All Q (g x)) → (xs : List X) → All P xs → All Q (flat_map g xs)
-All-flat_map P Q g each [] all = All-nil Q
-All-flat_map P Q g each (x ∷ xs) all = All-append Q (g x) (flat_map g xs) (each x (All-head P x xs all)) (All-flat_map P Q g each xs (All-tail P x xs all))
 
 -- a line over the nets, for so many values, that reads such nets alone
 pub record IsLineOver (nets : List (Option FlatNet)) (values : ℕ) (reads : ℕ → Bool) (l : Line) : Type 0 where
@@ -60,14 +53,6 @@ read_from nets values reads (l ∷ ls) all k h =
     (or_cases (cube_reads l.cube k) (lines_read ls k) h)
 
 -- ---- what absorbing leaves
-
-all_left : (P : Line → Type 0) (ls : List Line) → All P ls → All P (left_of ls)
-unfolding left_of
-all_left P ls all = All-filter (λ (l : Line). not (list_any (swallowed_by l) (firsts ls))) P (firsts ls) (all-firsts P ls all)
-
-differ_left : (ls : List Line) → lines_differ (left_of ls) ≡ true
-unfolding left_of
-differ_left ls = differ-filtered (λ (l : Line). not (list_any (swallowed_by l) (firsts ls))) (firsts ls) (differ-firsts ls)
 
 default_from : (ls : List Line) (d : Option ℕ) (out : ℕ) → default_beside ls d ≡ Some out → d ≡ Some out
 default_from ls d out e =

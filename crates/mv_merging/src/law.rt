@@ -23,7 +23,7 @@ pub fn merging_laws()
     ensures total { (net : NetParts) (n : ℕ) (gone : Value) (into : Option Value) (k : ℕ) → WellFormed net
         → is_some (table_in (slot net.nets n)) ≡ true → IsMergeVerdict net n gone into Lawful
         → IsTotalNet net.nets k → IsTotalNet (net_behind net n gone into).nets k }
-    ensures few { (net : NetParts) (n : ℕ) (gone : Value) (into : Option Value) (k : ℕ) → WellFormed net
+    ensures few { (net : NetParts) (n : ℕ) (gone : Value) (into : Option Value) (k : ℕ)
         → is_some (table_in (slot net.nets n)) ≡ true → IsMergeVerdict net n gone into Lawful
         → values_in (slot (net_behind net n gone into).nets k) ≤ values_in (slot net.nets k) }
 {}

@@ -2,10 +2,13 @@
 //! the network then means the same.
 #![tactic(auto)]
 
+mod change;
 mod law;
 mod merging;
+mod tables;
 mod verdict;
 
+pub use change::merge_change;
 pub use law::merging_laws;
 pub use merging::Merging;
-pub use verdict::MergeVerdict;
+pub use verdict::{MergeVerdict, merge_verdict};

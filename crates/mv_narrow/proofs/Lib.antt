@@ -2,3 +2,4 @@ pub mod Windows
 pub mod Judging
 pub mod OneWindow
 pub mod Less
+mod OverFanins

@@ -47,10 +47,28 @@ pub fn narrow_verdict(
     ensures { IfOk result (λ verdict. (old : Cover) → table_in (slot net.now.nets n.0) ≡ Some old
         → IsNarrowVerdict net.now n.0 d u budget old new.now verdict) }
 {
-    net.well_formed();
     if !are_total_below(alloc, net, n)? {
         return Ok(NarrowVerdict::Partial);
     }
+    verdict_above_total(net, n, d, u, new, budget)
+}
+
+/// The same of a net below which each table is total. It looks at no table but those of the window.
+pub fn verdict_above_total(
+    net: &Network,
+    n: NetId,
+    d: u8,
+    u: u8,
+    new: &Cover,
+    budget: u32,
+) -> Result<NarrowVerdict, Memory>
+    requires table { IsTrue (is_some (table_in (slot net.now.nets n.0))) }
+    requires reads { (old : Cover) → table_in (slot net.now.nets n.0) ≡ Some old → ReadsWithin old new.now }
+    requires below { AreTotalBelow net.now.nets n.0 }
+    ensures { IfOk result (λ verdict. (old : Cover) → table_in (slot net.now.nets n.0) ≡ Some old
+        → IsNarrowVerdict net.now n.0 d u budget old new.now verdict) }
+{
+    net.well_formed();
     let window = net.window(n, d, u)?;
     match flex(net, &window, n, budget) {
         Ok(flexibility) => verdict_with(&flexibility, new),

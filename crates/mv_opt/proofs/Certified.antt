@@ -47,6 +47,9 @@ use Rattle.mv_script.specs.Scripts.{Items}
 use Rattle.mv_script.proofs.Commands.{built_lawful}
 use Rattle.mv_simplify.specs.Simplifies.{IsTightNow, LetBe as BareNet, Narrowed, SimplifiesAll, SimplifiesNet, Stays as KeepsTable, rule_of as narrow_of}
 use Rattle.mv_sweep.specs.Drops.{IsDropStep}
+use Rattle.mv_values.specs.Defaults.{Defaulting}
+use Rattle.mv_visit.specs.Visits.{GivesWay, HasNone, IsLet, StaysFor, Treatment, Treats}
+use Rattle.mv_visit.proofs.Visited.{lessened_formed}
 use Rattle.mv_fill.specs.Fills.{Filled, FillsNet, FillsTables, LetBe, Stays, rule_of}
 use Rattle.mv_sweep.specs.Sweeps.{IsSweepStep}
 use Rattle.mv_opt.specs.Noted.{IsCertificateOf, all_notes}
@@ -169,6 +172,20 @@ narrows_seen terms d u n a es b (Narrowed table body table_is applies tight grow
 simplifies_seen : (terms : Terms) (d u : ℕ) → Implies (SimplifiesAll terms d u) StaysSeen
 simplifies_seen terms d u a es b v = of_visits StaysSeen (λ n f. (f, All-nil IsSeenNote)) seen_then (SimplifiesNet terms d u) (narrows_seen terms d u) (length a.nets) a es b v
 
+-- a visit that may give a table way to another
+treat_seen : (t : Treatment) (n : ℕ) → Implies (Treats t n) StaysSeen
+treat_seen t n a es b (HasNone none still) formed = (subst WellFormed (sym still.1) formed, subst AreSeen (sym still.0) (All-nil IsSeenNote))
+treat_seen t n a es b (IsLet table is lets still) formed = (subst WellFormed (sym still.1) formed, subst AreSeen (sym still.0) (All-nil IsSeenNote))
+treat_seen t n a es b (StaysFor why table is notes noted) formed =
+    let name = name_in (slot a.nets n) in
+    let seen = visible-one (Noted (Dropped why name)) name refl (tabled_visible a n formed (ap (λ o. is_some o) is)) in
+    (subst WellFormed (sym noted.same) formed, subst AreSeen (sym noted.entries_are) (All-cons IsSeenNote (Dropped why name) [] seen (All-nil IsSeenNote)))
+treat_seen t n a es b (GivesWay table less is gives lessens) formed =
+    (lessened_formed a b n table less es formed is lessens, subst AreSeen (sym lessens.entries_are) (All-nil IsSeenNote))
+
+treats_seen : (t : Treatment) → Implies (VisitsAll (Treats t)) StaysSeen
+treats_seen t a es b v = of_visits StaysSeen (λ n f. (f, All-nil IsSeenNote)) seen_then (Treats t) (treat_seen t) (length a.nets) a es b v
+
 whole_seen : (terms : Terms) (c : Command) (a b : NetParts) (steps : List Entry) → IsCommand c → WellFormed a → WellFormed b → WholeOf terms c a steps b → AreSeen steps
 whole_seen terms Drop a b steps is formed formed' g = goes_seen terms.free IsDropStep (λ net note never. absurd never) a b steps g.steps
 whole_seen terms Sweep a b steps is formed formed' g = goes_seen terms.free IsSweepStep (λ net note never. absurd never) a b steps g.steps
@@ -178,7 +195,7 @@ whole_seen terms Kernel a b steps is formed formed' g = (extracts_seen terms.fre
 whole_seen terms Cube a b steps is formed formed' g = (extracts_seen terms.free IsCubeCandidate Nothing (of_nothing StaysSeen (λ n f. (f, All-nil IsSeenNote)) seen_then) a steps b g formed).1
 whole_seen terms (Simplify down up) a b steps is formed formed' g = (simplifies_seen terms down up a steps b g formed).1
 whole_seen terms Merge a b steps is formed formed' g = absurd g
-whole_seen terms Default a b steps is formed formed' g = absurd g
+whole_seen terms Default a b steps is formed formed' g = (treats_seen Defaulting a steps b g formed).1
 whole_seen terms Determinize a b steps is formed formed' g = absurd g
 whole_seen terms Encode a b steps is formed formed' g = absurd g
 whole_seen terms Fill a b steps is formed formed' g = fills_seen terms.free a b steps formed g.tables

@@ -3,11 +3,14 @@ use Rattle.std.proofs.Common.{Bool, ◌≡◌, ◌⊎◌, ℕ, ◌≤◌, List, 
 use Rattle.std.specs.Prelude.{IfSome}
 use Rattle.mv_base.specs.Meaning.{Refines}
 use Rattle.mv_base.specs.Outside.{Stored, Written, Gained, Rose}
-use Rattle.mv_entry.specs.Entries.{Entry, print}
+use Rattle.mv_entry.specs.Entries.{Entry, print, rules_of}
 use Rattle.mv_net.specs.declared.parts.NetParts.{NetParts}
 use Rattle.mv_net.specs.Allowed.{of_net}
 use Rattle.mv_text_back.specs.Back.{ReadsBack}
 use Rattle.mv_rules.specs.declared.terms.Terms.{Terms}
+use Rattle.mv_rules.specs.Replaying.{Replays}
+use Rattle.mv_rules.proofs.Replayed.{replayed_means}
+use Rattle.mv_script_run.proofs.Rules.{runs_replays}
 use Rattle.mv_script.specs.Scripts.{Items}
 use Rattle.mv_task.specs.declared.fault.FileFault.{FileFault}
 use Rattle.mv_task.specs.declared.fault.SourceStop.TheVariants.{Fault, Read as unread, Memory as short_source}
@@ -134,9 +137,13 @@ short_at_once terms given files out notes notes' tells = early_of terms given fi
 -- ---- the work was begun
 
 -- the network of a file is replaced by the text that was written, which is the output; of another no more is said
-replaces : (free : Bool) (source : Origin) (old new : Stored) (first net : NetParts) (entries : List Entry) (out out' : Written) → Prepared source old new first → Gained out out' (output_of (output_for source) first entries net) → ReadsBack net → Refines free (of_net net) (of_net first) → Replaces free source old new first net out out'
-replaces free (File name) old new first net entries out out' made gained back refines = replaced free name old new first net out out' made gained back refines
-replaces free (Text text) old new first net entries out out' made gained back refines = refines
+replaces : (free : Bool) (source : Origin) (old new : Stored) (first net : NetParts) (entries : List Entry) (out out' : Written) → Prepared source old new first
+    → Gained out out' (output_of (output_for source) first entries net) → ReadsBack net → Replays free (rules_of entries) first net → Refines free (of_net net) (of_net first)
+    → Replaces free (rules_of entries) source old new first net out out'
+replaces free (File name) old new first net entries out out' made gained back replays refines =
+    replaced free (rules_of entries) name old new first net out out' made gained back replays refines
+replaces free (Text text) old new first net entries out out' made gained back replays refines =
+    record { refines = refines; same = λ keep. replayed_means free (rules_of entries) first net made.formed keep replays }
 
 module _ (terms : Terms) (given : Inputs) (old new : Stored) (items : Items) (first : NetParts) (made : Prepared given.network old new first) (script : IfSome old.held (IsTaken IsScript given.second)) (taken : IfSome old.held (TakesItems given.second items)) (began : BeganAll given.network old new) where
   pub worked : (out out' notes notes' : Written) → HasWorked terms (output_for given.network) items first out out' notes notes' → Optimises terms given old new out out' notes notes' 0
@@ -145,7 +152,7 @@ module _ (terms : Terms) (given : Inputs) (old new : Stored) (items : Items) (fi
       first = first;
       made = made;
       net = w.net;
-      replaces = replaces terms.free given.network old new first w.net w.entries out out' made w.gained w.back w.refines;
+      replaces = replaces terms.free given.network old new first w.net w.entries out out' made w.gained w.back (runs_replays terms items first w.net w.entries w.runs) w.refines;
       output = w.gained;
       told = record { items = items; taken = taken; entries = w.entries; runs = w.runs; noted = w.noted; certified = w.certified; no_more = w.no_more };
     };

@@ -1,8 +1,8 @@
 -- How a run ends that is asked to optimise a network by a script: one that it reads from a file, or one that it draws itself.
 use Rattle.std.specs.Prelude.{◌≡◌, ◌⊎◌, ℕ, ◌≤◌, Bool, true, IfSome, List}
-use Rattle.mv_base.specs.Meaning.{Refines}
 use Rattle.mv_base.specs.Outside.{Stored, Written, Gained, Rose}
-use Rattle.mv_entry.specs.Entries.{Entry}
+use Rattle.mv_entry.specs.declared.rule.Rule.{Rule}
+use Rattle.mv_entry.specs.Entries.{Entry, rules_of}
 use Rattle.mv_net.specs.declared.parts.NetParts.{NetParts}
 use Rattle.mv_net.specs.Nets.{literals_in}
 use Rattle.mv_rules.specs.declared.terms.Terms.{Terms}
@@ -17,7 +17,7 @@ use Rattle.mv_task.specs.Faults.{TellsFault}
 use Rattle.mv_task.specs.Inputs.{Source, File, Text, Inputs}
 use Rattle.mv_task.specs.Lines.{TellsLine, read_line}
 use Rattle.mv_task.specs.Made.{Prepared}
-use Rattle.mv_task.specs.Replaced.{Replaced}
+use Rattle.mv_task.specs.Replaced.{Replaced, TakesPlace}
 use Rattle.mv_task.specs.Taken.{IsTaken, IsRefused}
 use Rattle.mv_net.specs.Allowed.{of_net}
 use Rattle.mv_opt.specs.Outcomes.{EndsCut, EndsShort}
@@ -37,19 +37,19 @@ pub record Told (terms : Terms) (script : List ℕ) (files : Stored) (first net 
   -- without `determinize` and `encode` it ends with no more literals than it began with
   pub no_more : all_commands leaves_no_more items ≡ true → literals_in net.nets ≤ literals_in first.nets
 
--- the network that was left takes the place of the first one. That of a file was written, and reads back so
-abbrev pub Replaces : Bool → Source → Stored → Stored → NetParts → NetParts → Written → Written → Type 0
-Replaces free (File name) old new first net out out' = Replaced free name old new first net out out'
-Replaces free (Text text) old new first net out out' = Refines free (of_net net) (of_net first)
+-- the network that these rules left takes the place of the first one. That of a file was written, and reads back so
+abbrev pub Replaces : Bool → List Rule → Source → Stored → Stored → NetParts → NetParts → Written → Written → Type 0
+Replaces free rules (File name) old new first net out out' = Replaced free rules name old new first net out out'
+Replaces free rules (Text text) old new first net out out' = TakesPlace free rules (of_net net) (of_net first)
 
 -- the work is done: the network came from where it was to; the script led from it to another one, and told what it did; that
--- one takes its place, where free with any meaning under values under which the first allows nothing; and the output was written
+-- one takes its place, as the rules that are told leave it; and the output was written
 pub record IsOptimised (terms : Terms) (given : Inputs) (old new : Stored) (out out' notes notes' : Written) : Type 0 where
   pub first : NetParts
   pub made : Prepared given.network old new first
   pub net : NetParts
-  pub replaces : Replaces terms.free given.network old new first net out out'
   pub told : Told terms given.second old first net notes notes'
+  pub replaces : Replaces terms.free (rules_of told.entries) given.network old new first net out out'
   pub output : Gained out out' (output_of (output_for given.network) first told.entries net)
 
 -- each status and what it says: 0 the work is done; 2 the network is refused, behind a script that was taken, and the notes tell

@@ -4,6 +4,7 @@ ghost use Rattle.mv_base.specs.Outside.{Gained, GainedPart, Rose};
 ghost use Rattle.mv_entry.specs.Entries.{Applied, HasVisibleNames, entry_text};
 ghost use Rattle.mv_entry.specs.Tallies.{with_entry};
 ghost use Rattle.mv_net.specs.Allowed.{of_net};
+ghost use Rattle.mv_partial.specs.Partial.{ArePartial};
 ghost use Rattle.mv_rules.specs.Applies.{IsAtHand, LiesWithin, keeps_choices};
 ghost use Rattle.mv_pass.specs.Taking.{CanApply, GoesOn, TookRule, TookRulePart};
 
@@ -11,6 +12,7 @@ use crate::Stop;
 use mv_entry::{Journal, Rule, RuleFault};
 use mv_flex::Flexibility;
 use mv_net::Network;
+use mv_partial::PartialNets;
 use mv_rules::{
     Terms, apply_on, apply_with, apply_within, names_are_visible, never_both, nodes_suffice,
     same_meaning,
@@ -104,16 +106,19 @@ pub fn take_with<J: Journal>(
     }
 }
 
-/// Applies a narrowing that does apply on these terms, to a table that allows less, and notes it. It answers as `take`.
+/// Applies a narrowing that does apply on these terms, to a table that allows less, and notes it, where it
+/// is known from which nets on some table isn't total. It answers as `take`.
 pub fn take_within<J: Journal>(
     alloc: Global,
     net: &mut Network,
     rule: &Rule,
     terms: Terms,
+    partial: &PartialNets,
     journal: &mut J,
 ) -> Result<(), Stop>
     requires can { CanApply terms.free rule.now net.old }
     requires within { LiesWithin net.old rule.now }
+    requires right { ArePartial net.old.nets partial.now }
     ensures ok { OnOk result (TookRule terms.free rule.now net.old net.new (J.state journal.old) (J.state journal.new)) }
     ensures note { result ≡ Err Stop.Note
         → TookRulePart terms.free rule.now net.old net.new (J.state journal.old) (J.state journal.new) }
@@ -126,7 +131,7 @@ pub fn take_within<J: Journal>(
     net.well_formed();
     names_are_visible();
     never_both();
-    match apply_within(alloc, net, rule, terms) {
+    match apply_within(alloc, net, rule, terms, partial) {
         Ok(()) => {}
         Err(RuleFault::Memory) => return Err(Stop::Memory),
         Err(_fault) => unreachable!(),

@@ -62,6 +62,17 @@ narrow n 9 0 q=0:0 / narrow n 9 0 a=0:0 / narrow n 0 9 a=0:0 / narrow n 0 0 a=0:
 Form=Form Form=Form Form=Form Outside=Outside Partial=Partial Outside=Outside Lost=Lost 9=9 | .model h;.inputs a \
 b;.outputs z y;.mv n 3;.table a -> n;0 0;1 1;.table n -> z;0 0;(1,2) 1;.table n -> y;0 1;(1,2) 0;.table -> c;-;.table \
 c -> d;0 0;.table a -> e;0 0;1 1;.end;
+.model h;.inputs a b;.outputs z y;.mv n 3;.table a b -> n;0 - 0;1 0 1;1 1 2;.table n -> z;0 0;(1,2) 1;.table n -> \
+y;0 1;(1,2) 0;.end; | merge q 0 / merge a 0 / merge z 0 1 / merge n 3 / merge n 3 0 / merge n 0 3 / merge n 300 0 / \
+merge n 2 2 / merge n 0 1 / merge n 2 0 / merge n 2 / merge n 2 1 / merge n 1 | NoNet=NoNet NoNet=NoNet \
+Visible=Visible Form=Form Form=Form Form=Form Form=Form Form=Form NotSame=NotSame NotSame=NotSame NotSame=NotSame 9=9 \
+NotSame=NotSame | .model h;.inputs a b;.outputs z y;.table a b -> n;0 - 0;1 0 1;1 1 1;.table n -> z;0 0;1 1;\
+.table n -> y;0 1;1 0;.end;
+.model g;.inputs a;.outputs z y;.mv n 3;.table a -> n;0 0;1 1;.table n -> z;0 0;1 1;2 0;.table n -> y;.default 0;(0,1) \
+1;.end; | merge n 2 1 / merge n 1 / merge n 2 | NotSame=NotSame NotSame=NotSame 4=4 | .model g;.inputs a;.outputs z \
+y;.table a -> n;0 0;1 1;.table n -> z;0 0;1 1;.table -> y;1;.end;
+.model j;.inputs a b;.outputs z;.mv n 3;.table a b -> n;.default 0;1 0 1;1 1 2;.table n -> z;1 0;(0,2) 1;.end; | merge \
+n 0 2 | 6=6 | .model j;.inputs a b;.outputs z;.table a b -> n;.default 1;1 0 0;1 1 1;.table n -> z;0 0;1 1;.end;
 ";
 
 /// The network, the rules, and what is answered, of a case.

@@ -1,4 +1,5 @@
-//! Rules from texts: `remove k`, `wire k`, `collapse k`, `fill k 01`, `add k BODY`, `divide k by BODY` and `narrow k 1 0 BODY`,
+//! Rules from texts: `remove k`, `wire k`, `collapse k`, `fill k 01`, `merge k 2`, `merge k 2 1`, `add k BODY`, `divide k by BODY`
+//! and `narrow k 1 0 BODY`,
 //! where a body is words such as `a=1&b=02:1`, which are its lines, and `else:0`, which is its default.
 use mv_base::{Items, Name, PackedSet, Value, ValueSet};
 use mv_rules::{Body, BodyLine, BodyLit, Rule};
@@ -93,6 +94,31 @@ fn narrowing(alloc: Global, net: &str, words: &str) -> Result<Rule, Fail> {
     Ok(Rule::Narrow { net, d, u, body })
 }
 
+/// The value of a number.
+fn value(word: &str) -> Result<Value, Fail> {
+    match word.parse::<u16>() {
+        Ok(number) => Ok(Value(number)),
+        Err(_fault) => Err("no value")?,
+    }
+}
+
+/// The rule that a value of a net goes, into the one that stands behind it, if one does.
+fn merging(alloc: Global, net: &str, words: &str) -> Result<Rule, Fail> {
+    let net = name(alloc, net)?;
+    match words.split_once(' ') {
+        Some((gone, into)) => Ok(Rule::Merge {
+            net,
+            gone: value(gone)?,
+            into: Some(value(into)?),
+        }),
+        None => Ok(Rule::Merge {
+            net,
+            gone: value(words)?,
+            into: None,
+        }),
+    }
+}
+
 /// The rule that a net's table gets the values whose digits stand in the word as its default.
 fn filling(alloc: Global, net: &str, digits: &str) -> Result<Rule, Fail> {
     let net = name(alloc, net)?;
@@ -118,6 +144,7 @@ pub fn rule(alloc: Global, text: &str) -> Result<Rule, Fail> {
         Some((net, words)) if what == "add" => addition(alloc, net, words),
         Some((net, digits)) if what == "fill" => filling(alloc, net, digits),
         Some((net, words)) if what == "narrow" => narrowing(alloc, net, words),
+        Some((net, words)) if what == "merge" => merging(alloc, net, words),
         Some((net, words)) => division(alloc, net, words),
         None => short_rule(alloc, what, rest),
     }

@@ -3,7 +3,7 @@ use Rattle.std.proofs.Common.{◌≡◌, Bool, true, List, [], ◌∷◌, refl}
 use Rattle.std.specs.List.{list_all}
 use Rattle.std.proofs.lemmas.Bool.{and_from}
 use Rattle.mv_entry.specs.declared.rule.Rule.{Rule}
-use Rattle.mv_entry.specs.declared.rule.Rule.TheVariants.{Remove, Add, Divide, Wire, Collapse, Narrow, Fill}
+use Rattle.mv_entry.specs.declared.rule.Rule.TheVariants.{Remove, Add, Divide, Wire, Collapse, Narrow, Fill, Merge}
 use Rattle.mv_entry.specs.Entries.{is_built}
 use Rattle.mv_net.specs.declared.parts.NetParts.{NetParts}
 use Rattle.mv_rules.specs.Applies.{Applies}
@@ -17,6 +17,7 @@ applied_built free (Wire w) old new p = refl
 applied_built free (Collapse w) old new p = refl
 applied_built free (Narrow w d u body) old new p = refl
 applied_built free (Fill w out) old new p = refl
+applied_built free (Merge w gone into) old new p = refl
 applied_built free _ old new p = absurd p
 
 pub replayed_built : (free : Bool) (rules : List Rule) (old new : NetParts) → Replays free rules old new → list_all is_built rules ≡ true

@@ -4,18 +4,19 @@ use Rattle.std.proofs.lemmas.Bool.{false≢true}
 use Rattle.mv_base.proofs.Meanings.{Refines-from_same}
 use Rattle.mv_base.specs.Meaning.{Refines, SameMeaning}
 use Rattle.mv_entry.specs.declared.rule.Rule.{Rule}
-use Rattle.mv_entry.specs.declared.rule.Rule.TheVariants.{Remove, Add, Divide, Wire, Collapse, Narrow, Fill}
+use Rattle.mv_entry.specs.declared.rule.Rule.TheVariants.{Remove, Add, Divide, Wire, Collapse, Narrow, Fill, Merge}
 use Rattle.mv_net.specs.declared.parts.NetParts.{NetParts}
 use Rattle.mv_net.specs.Allowed.{of_net}
 use Rattle.mv_net.specs.Formed.{WellFormed}
 use Rattle.mv_rules.specs.Applies.{Applies, keeps_choices}
-use Rattle.mv_rules.proofs.Removed.{removed_means}
-use Rattle.mv_rules.proofs.Added.{added_is_same}
-use Rattle.mv_rules.proofs.Divided.{divided_is_same}
-use Rattle.mv_rules.proofs.Wired.{wired_is_same}
-use Rattle.mv_rules.proofs.Collapsed.{collapsed_means_same}
-use Rattle.mv_rules.proofs.Filled.{filled_refines}
-use Rattle.mv_rules.proofs.Narrowed.{narrows_refines}
+use Rattle.mv_plans.proofs.Removed.{removed_means}
+use Rattle.mv_plans.proofs.Added.{added_is_same}
+use Rattle.mv_plans.proofs.Divided.{divided_is_same}
+use Rattle.mv_plans.proofs.Wired.{wired_is_same}
+use Rattle.mv_plans.proofs.Collapsed.{collapsed_means_same}
+use Rattle.mv_plans.proofs.Filled.{filled_refines}
+use Rattle.mv_plans.proofs.Narrowed.{narrows_refines}
+use Rattle.mv_plans.proofs.Merged.{merged_means}
 
 pub applied_means : (free : Bool) (rule : Rule) (old new : NetParts) → WellFormed old → keeps_choices rule ≡ true → Applies free rule old new → SameMeaning (of_net new) (of_net old)
 applied_means free (Remove w) old new formed keeps p = removed_means old w new formed p
@@ -23,6 +24,7 @@ applied_means free (Add w body) old new formed keeps p = added_is_same old w bod
 applied_means free (Divide w by body) old new formed keeps p = divided_is_same old w by body new formed p
 applied_means free (Wire w) old new formed keeps p = wired_is_same old w new formed p
 applied_means free (Collapse w) old new formed keeps p = collapsed_means_same old w new formed p
+applied_means free (Merge w gone into) old new formed keeps p = merged_means old w gone into new formed p
 applied_means free _ old new formed keeps p = absurd (false≢true keeps)
 
 same_refines : (free : Bool) (rule : Rule) (old new : NetParts) → WellFormed old → keeps_choices rule ≡ true → Applies free rule old new → Refines free (of_net new) (of_net old)
@@ -36,4 +38,5 @@ applied_refines free (Wire w) old new formed p = same_refines free (Wire w) old 
 applied_refines free (Collapse w) old new formed p = same_refines free (Collapse w) old new formed refl p
 applied_refines free (Narrow w d u body) old new formed p = narrows_refines old w d u body new formed p free
 applied_refines free (Fill w out) old new formed p = filled_refines free old w out new formed p
+applied_refines free (Merge w gone into) old new formed p = same_refines free (Merge w gone into) old new formed refl p
 applied_refines free _ old new formed p = absurd p

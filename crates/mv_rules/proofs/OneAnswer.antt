@@ -9,7 +9,7 @@ use Rattle.mv_cover.specs.Literal.{Lit}
 use Rattle.mv_cover.specs.declared.line.Line.{Line}
 use Rattle.mv_entry.specs.declared.rule.Body.{Body}
 use Rattle.mv_entry.specs.declared.rule.Rule.{Rule}
-use Rattle.mv_entry.specs.declared.rule.Rule.TheVariants.{Remove, Add, Divide, Wire, Collapse, Narrow, Fill}
+use Rattle.mv_entry.specs.declared.rule.Rule.TheVariants.{Remove, Add, Divide, Wire, Collapse, Narrow, Fill, Merge}
 use Rattle.mv_entry.specs.declared.fault.RuleFault.{RuleFault}
 use Rattle.mv_meaning.specs.Rewriting.{rewritten, with_net_table}
 use Rattle.mv_net.specs.declared.parts.FlatNet.{FlatNet}
@@ -19,17 +19,20 @@ use Rattle.mv_net.specs.Formed.{WellFormed}
 use Rattle.mv_net.specs.Nets.{slot, table_in}
 use Rattle.mv_net.specs.Plain.{IsPlainBuffer, IsCopy, copy_line}
 use Rattle.mv_rules.specs.Applies.{Applies, Fails}
-use Rattle.mv_rules.specs.Removing.{Removes}
-use Rattle.mv_rules.specs.Dividing.{Divides}
-use Rattle.mv_rules.specs.Completing.{IsLess, IsCompleted, with_zero}
-use Rattle.mv_rules.specs.Wiring.{Wires}
-use Rattle.mv_rules.specs.Collapsing.{Collapses, collapsed}
-use Rattle.mv_rules.specs.Filling.{Fills, with_default}
-use Rattle.mv_rules.specs.Narrowing.{Narrows}
-use Rattle.mv_rules.proofs.Named.{one_named, one_tabled}
-use Rattle.mv_rules.proofs.Collapsed.{one_test, one_inner}
+use Rattle.mv_plans.specs.Removing.{Removes}
+use Rattle.mv_plans.specs.Dividing.{Divides}
+use Rattle.mv_plans.specs.Completing.{IsLess, IsCompleted, with_zero}
+use Rattle.mv_plans.specs.Wiring.{Wires}
+use Rattle.mv_plans.specs.Collapsing.{Collapses, collapsed}
+use Rattle.mv_plans.specs.Filling.{Fills, with_default}
+use Rattle.mv_plans.specs.Narrowing.{Narrows}
+use Rattle.mv_plans.specs.Merging.{Merges}
+use Rattle.mv_merging.specs.Nets.{net_behind}
+use Rattle.mv_base.specs.declared.number.Value.{Value}
+use Rattle.mv_plans.proofs.Named.{one_named, one_tabled}
+use Rattle.mv_plans.proofs.Collapsed.{one_test, one_inner}
 use Rattle.mv_narrow.proofs.Judging.{over_fanins}
-use Rattle.mv_rules.proofs.Narrowed.{keeps_choices_of, narrow_inside}
+use Rattle.mv_plans.proofs.Narrowed.{keeps_choices_of, narrow_inside}
 use Rattle.mv_rules.proofs.Rows.{HasOneFault, passed_one, unless_one, with_one, FailsNever, passed_never, unless_never, with_never}
 
 -- one net has one table
@@ -94,6 +97,9 @@ narrowed_one : (old : NetParts) (w : List ℕ) (d u : ℕ) (body : Body) (one ot
 narrowed_one old w d u body one other formed p q =
     p.new_is ∙ (ap (λ n. with_nets old (with_net_table old.nets n (cover_said old.nets body))) (one_tabled old w p.number q.number formed p.net q.net) ∙ sym q.new_is)
 
+merged_one : (old : NetParts) (w : List ℕ) (gone : Value) (into : Option Value) (one other : NetParts) → WellFormed old → Merges old w gone into one → Merges old w gone into other → one ≡ other
+merged_one old w gone into one other formed p q = p.new_is ∙ (ap (λ n. net_behind old n gone into) (one_tabled old w p.number q.number formed p.net q.net) ∙ sym q.new_is)
+
 pub one_network : (free : Bool) (rule : Rule) (old one other : NetParts) → WellFormed old → Applies free rule old one → Applies free rule old other → one ≡ other
 one_network free (Remove w) old one other formed p q = removed_one old w one other formed p q
 one_network free (Add w body) old one other formed p q = p.new_is ∙ sym q.new_is
@@ -102,6 +108,7 @@ one_network free (Wire w) old one other formed p q = wired_one old w one other f
 one_network free (Collapse w) old one other formed p q = collapsed_one old w one other formed p q
 one_network free (Narrow w d u body) old one other formed p q = narrowed_one old w d u body one other formed p q
 one_network free (Fill w out) old one other formed p q = filled_one free old w out one other formed p q
+one_network free (Merge w gone into) old one other formed p q = merged_one old w gone into one other formed p q
 one_network free _ old one other formed p q = absurd p
 
 -- ---- faults
@@ -123,6 +130,8 @@ row_one free (Narrow w d u body) old formed =
     unless_one _ _ _ (unless_one _ _ _ (unless_one _ _ _ (unless_one _ _ _ passed_one)))))))
 row_one free (Fill w out) old formed =
     with_one _ _ (λ n m. one_tabled old w n m formed) (λ n. unless_one _ _ _ (unless_one _ _ _ (unless_one _ _ _ (unless_one _ _ _ passed_one))))
+row_one free (Merge w gone into) old formed =
+    with_one _ _ (λ n m. one_tabled old w n m formed) (λ n. unless_one _ _ _ (unless_one _ _ _ (unless_one _ _ _ passed_one)))
 row_one free _ old formed = record { one = λ f g p q. absurd p }
 
 pub one_fault : (free : Bool) (rule : Rule) (old : NetParts) (f g : RuleFault) → WellFormed old → Fails free rule old f → Fails free rule old g → f ≡ g
@@ -155,6 +164,9 @@ row_never free (Narrow w d u body) old new formed p =
 row_never free (Fill w out) old new formed p =
     with_never _ _ p.number p.net (λ m. one_tabled old w p.number m formed p.net)
     (unless_never _ _ _ p.asked (unless_never _ _ _ p.form (unless_never _ _ _ p.partial (unless_never _ _ _ p.plain passed_never))))
+row_never free (Merge w gone into) old new formed p =
+    with_never _ _ p.number p.net (λ m. one_tabled old w p.number m formed p.net)
+    (unless_never _ _ _ p.unseen (unless_never _ _ _ p.form (unless_never _ _ _ p.lossless passed_never)))
 row_never free _ old new formed p = absurd p
 
 pub not_both : (free : Bool) (rule : Rule) (old new : NetParts) (f : RuleFault) → WellFormed old → Applies free rule old new → Fails free rule old f → ⊥

@@ -44,3 +44,5 @@ replayed_means free (r ∷ rs) old new formed keep (mid, (applies, rest)) =
 pub replayed_then : (free : Bool) (rules behind : List Rule) (old mid new : NetParts) → Replays free rules old mid → Replays free behind mid new → Replays free (rules ++ behind) old new
 replayed_then free [] behind old mid new p q = subst (λ m. Replays free behind m new) p q
 replayed_then free (r ∷ rs) behind old mid new (first, (applies, rest)) q = (first, (applies, replayed_then free rs behind first mid new rest q))
+
+pub ruleset replay_facts = (replayed_one, replayed_formed, replayed_latches, replayed_refines)

@@ -1,7 +1,7 @@
 -- Rows of checks: at most one fault is that of the first check that fails, and none is where all hold.
 use Rattle.std.proofs.Common.{◌≡◌, ◌∙◌, ℕ, sym, subst, inl, inr}
 use Rattle.mv_entry.specs.declared.fault.RuleFault.{RuleFault}
-use Rattle.mv_rules.specs.Checks.{Passed, Unless, With}
+use Rattle.mv_plans.specs.Checks.{Passed, Unless, With}
 
 -- ---- at most one fault
 

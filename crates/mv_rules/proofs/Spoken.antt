@@ -15,7 +15,7 @@ use Rattle.mv_entry.specs.declared.rule.BodyLit.{BodyLit}
 use Rattle.mv_entry.specs.declared.rule.BodyLine.{BodyLine}
 use Rattle.mv_entry.specs.declared.rule.Body.{Body}
 use Rattle.mv_entry.specs.declared.rule.Rule.{Rule}
-use Rattle.mv_entry.specs.declared.rule.Rule.TheVariants.{Remove, Add, Divide, Wire, Collapse, Narrow, Fill}
+use Rattle.mv_entry.specs.declared.rule.Rule.TheVariants.{Remove, Add, Divide, Wire, Collapse, Narrow, Fill, Merge}
 use Rattle.mv_entry.proofs.Visible.{visible-net}
 use Rattle.mv_net.specs.declared.parts.FlatNet.{FlatNet}
 use Rattle.mv_net.specs.declared.parts.FlatLatch.{FlatLatch}
@@ -26,7 +26,7 @@ use Rattle.mv_net.specs.Formed.{IsKind, IsResetNet, AllLatches, with_reset, latc
 use Rattle.mv_net.specs.Index.{HasName}
 use Rattle.mv_net.specs.Nets.{slot}
 use Rattle.mv_rules.specs.Applies.{Applies}
-use Rattle.mv_rules.specs.Checks.{IsNewName}
+use Rattle.mv_plans.specs.Checks.{IsNewName}
 
 -- ---- reset nets
 
@@ -113,6 +113,7 @@ module _ (pass : List ℕ → Bool) (net : NetParts) (formed : WellFormed net) (
   rule_passes free (Collapse w) new p = and_from (pass w) true (named_passes p.number w p.net.named) refl
   rule_passes free (Narrow w d u body) new p = and_from (pass w) (list_all pass (body_names body)) (named_passes p.number w p.net.named) (body_passes body p.known)
   rule_passes free (Fill w out) new p = and_from (pass w) true (named_passes p.number w p.net.named) refl
+  rule_passes free (Merge w gone into) new p = and_from (pass w) true (named_passes p.number w p.net.named) refl
   rule_passes free _ new p = absurd p
 
 -- ---- names that can be seen

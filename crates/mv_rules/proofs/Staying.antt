@@ -16,7 +16,7 @@ use Rattle.mv_cover.specs.Covering.{IsPoint}
 use Rattle.mv_cover.proofs.Local.{allowed-local}
 use Rattle.mv_entry.specs.declared.rule.Body.{Body}
 use Rattle.mv_entry.specs.declared.rule.Rule.{Rule}
-use Rattle.mv_entry.specs.declared.rule.Rule.TheVariants.{Remove, Add, Divide, Wire, Collapse, Narrow, Fill}
+use Rattle.mv_entry.specs.declared.rule.Rule.TheVariants.{Remove, Add, Divide, Wire, Collapse, Narrow, Fill, Merge}
 use Rattle.mv_meaning.specs.Rewriting.{IsReader, rewritten, with_net_table}
 use Rattle.mv_meaning.proofs.Adding.{IsWritten-added}
 use Rattle.mv_meaning.proofs.OneTable.{IsReformed-given, slot-there, table-here}
@@ -34,20 +34,24 @@ use Rattle.mv_net.proofs.Known.{counts_at, reads_readable, values_few, values_so
 use Rattle.mv_net.proofs.Named.{held_below}
 use Rattle.mv_net.proofs.Patches.{IsWritten-gone, put, put_same, put_other}
 use Rattle.mv_net.proofs.Totals.{IsTotal-covered, IsTotal-default, not_total, allowed_below}
-use Rattle.mv_rules.specs.Adding.{Adds, divisor_net}
+use Rattle.mv_plans.specs.Adding.{Adds, divisor_net}
 use Rattle.mv_rules.specs.Applies.{Applies}
-use Rattle.mv_rules.specs.Collapsing.{Collapses, IsInnerOf}
-use Rattle.mv_rules.specs.Completing.{IsLess, with_zero}
-use Rattle.mv_rules.specs.Dividing.{Divides}
-use Rattle.mv_rules.specs.Filling.{Fills, with_default}
-use Rattle.mv_rules.specs.Narrowing.{Narrows}
-use Rattle.mv_rules.specs.Removing.{Removes}
+use Rattle.mv_plans.specs.Collapsing.{Collapses, IsInnerOf}
+use Rattle.mv_plans.specs.Completing.{IsLess, with_zero}
+use Rattle.mv_plans.specs.Dividing.{Divides}
+use Rattle.mv_plans.specs.Filling.{Fills, with_default}
+use Rattle.mv_plans.specs.Narrowing.{Narrows}
+use Rattle.mv_plans.specs.Merging.{Merges}
+use Rattle.mv_plans.proofs.Merged.{merged_few, merged_keeps_total, merged_tabled}
+use Rattle.mv_merging.proofs.Merged.{total_net}
+use Rattle.mv_base.specs.declared.number.Value.{Value}
+use Rattle.mv_plans.specs.Removing.{Removes}
 use Rattle.mv_rules.specs.Replaying.{Replays}
 use Rattle.mv_rules.specs.Staying.{AreTotal, AreBinary}
-use Rattle.mv_rules.specs.Wiring.{Wires}
-use Rattle.mv_rules.proofs.Collapsed.{is_composite}
+use Rattle.mv_plans.specs.Wiring.{Wires}
+use Rattle.mv_plans.proofs.Collapsed.{is_composite}
 use Rattle.mv_rules.proofs.Kept.{kept_formed}
-use Rattle.mv_rules.proofs.Wired.{cubes}
+use Rattle.mv_plans.proofs.Wired.{cubes}
 
 -- ---- points of some nets as points of others
 
@@ -324,6 +328,19 @@ collapsed_total old w new was formed total p =
     (λ m. ((IsReformed-rewritten made n old.nets).each m).values)
     (λ m d e. composed_tables old inner was total p.composites.known m d (rewritten_from made n old.nets m d e))
 
+-- ---- values of a net that are merged
+
+merged_total : (old : NetParts) (w : List ℕ) (gone : Value) (into : Option Value) (new : NetParts) → WellFormed old → AreTotal old.nets → Merges old w gone into new → AreTotal new.nets
+merged_total old w gone into new formed total p = record {
+  each = λ k c e.
+      let was = merged_tabled old w gone into new p k c e in
+      let t = merged_keeps_total old w gone into new formed p k (total_net old.nets k was.0 was.1 (total.each k was.0 was.1)) in
+      subst (IsTotal new.nets) (same_Some t.cover c (sym (ap table_in t.held ∙ t.table) ∙ e)) t.total;
+}
+
+merged_binary : (old : NetParts) (w : List ℕ) (gone : Value) (into : Option Value) (new : NetParts) → AreBinary old.nets → Merges old w gone into new → AreBinary new.nets
+merged_binary old w gone into new binary p = record { each = λ k. omega (arith, merged_few old w gone into new p k, binary.each k) }
+
 pub stays_total : (free : Bool) (rule : Rule) (old new : NetParts) → WellFormed old → AreTotal old.nets → Applies free rule old new → AreTotal new.nets
 stays_total free (Remove w) old new formed total p = removed_total old w new (kept_formed free (Remove w) old new formed p) total p
 stays_total free (Add w body) old new formed total p = added_total old w body new formed (kept_formed free (Add w body) old new formed p) total p
@@ -332,6 +349,7 @@ stays_total free (Wire w) old new formed total p = wired_total old w new formed 
 stays_total free (Collapse w) old new formed total p = collapsed_total old w new formed (kept_formed free (Collapse w) old new formed p) total p
 stays_total free (Narrow w d u body) old new formed total p = narrowed_total old w d u body new formed (kept_formed free (Narrow w d u body) old new formed p) total p
 stays_total free (Fill w out) old new formed total p = filled_total free old w out new (kept_formed free (Fill w out) old new formed p) total p
+stays_total free (Merge w gone into) old new formed total p = merged_total old w gone into new formed total p
 stays_total free _ old new formed total p = absurd p
 
 pub replays_total : (free : Bool) (rules : List Rule) (old new : NetParts) → WellFormed old → AreTotal old.nets → Replays free rules old new → AreTotal new.nets
@@ -398,8 +416,11 @@ stays_binary free (Wire w) old new binary p = wired_binary old w new binary p
 stays_binary free (Collapse w) old new binary p = collapsed_binary old w new binary p
 stays_binary free (Narrow w d u body) old new binary p = given_binary old new p.number p.table (cover_said old.nets body) binary p.new_is p.table_is
 stays_binary free (Fill w out) old new binary p = given_binary old new p.number p.table (with_default p.table out) binary p.new_is p.table_is
+stays_binary free (Merge w gone into) old new binary p = merged_binary old w gone into new binary p
 stays_binary free _ old new binary p = absurd p
 
 pub replays_binary : (free : Bool) (rules : List Rule) (old new : NetParts) → AreBinary old.nets → Replays free rules old new → AreBinary new.nets
 replays_binary free [] old new binary p = subst (λ (net : NetParts). AreBinary net.nets) (sym p) binary
 replays_binary free (r ∷ rs) old new binary (mid, (applies, rest)) = replays_binary free rs mid new (stays_binary free r old mid binary applies) rest
+
+pub ruleset staying = (stays_total, replays_total, stays_binary, replays_binary)

@@ -1,19 +1,20 @@
 -- When a rule applies to a network, what it leaves, and which of its checks fails first.
 use Rattle.std.specs.Prelude.{◌≡◌, ◌⊎◌, ℕ, Bool, true, false}
 use Rattle.mv_entry.specs.declared.rule.Rule.{Rule}
-use Rattle.mv_entry.specs.declared.rule.Rule.TheVariants.{Remove, Add, Divide, Wire, Collapse, Narrow, Fill}
+use Rattle.mv_entry.specs.declared.rule.Rule.TheVariants.{Remove, Add, Divide, Wire, Collapse, Narrow, Fill, Merge}
 use Rattle.mv_entry.specs.declared.fault.RuleFault.{RuleFault}
 use Rattle.mv_entry.specs.declared.fault.RuleFault.TheVariants.{Nodes}
 use Rattle.mv_flex.specs.declared.flexibility.Flexibility.{Flexibility}
 use Rattle.mv_net.specs.declared.parts.NetParts.{NetParts}
 use Rattle.mv_net.specs.Nets.{literals_in}
-use Rattle.mv_rules.specs.Removing.{Removes, FailsRemove}
-use Rattle.mv_rules.specs.Adding.{Adds, FailsAdd}
-use Rattle.mv_rules.specs.Dividing.{Divides, FailsDivide}
-use Rattle.mv_rules.specs.Wiring.{Wires, FailsWire}
-use Rattle.mv_rules.specs.Collapsing.{Collapses, FailsCollapse}
-use Rattle.mv_rules.specs.Filling.{Fills, FailsFill}
-use Rattle.mv_rules.specs.Narrowing.{Narrows, FailsNarrow, NarrowLacksNodes, HasFlexibility, NarrowsWithin}
+use Rattle.mv_plans.specs.Removing.{Removes, FailsRemove}
+use Rattle.mv_plans.specs.Adding.{Adds, FailsAdd}
+use Rattle.mv_plans.specs.Dividing.{Divides, FailsDivide}
+use Rattle.mv_plans.specs.Wiring.{Wires, FailsWire}
+use Rattle.mv_plans.specs.Collapsing.{Collapses, FailsCollapse}
+use Rattle.mv_plans.specs.Filling.{Fills, FailsFill}
+use Rattle.mv_plans.specs.Narrowing.{Narrows, FailsNarrow, NarrowLacksNodes, HasFlexibility, NarrowsWithin}
+use Rattle.mv_plans.specs.Merging.{Merges, FailsMerge}
 
 -- every check of the rule holds in the old network, and the rule makes the new one of it. Where free, values under which the network
 -- allows nothing may be given any meaning; only `fill` asks for it. A rule that isn't built in this version makes none
@@ -25,6 +26,7 @@ Applies free (Wire net) old new = Wires old net new
 Applies free (Collapse net) old new = Collapses old net new
 Applies free (Narrow net d u body) old new = Narrows old net d u body new
 Applies free (Fill net out) old new = Fills free old net out new
+Applies free (Merge net gone into) old new = Merges old net gone into new
 Applies free _ old new = ⊥
 
 -- this is the fault of the first check of the rule that fails. A rule that isn't built has no checks
@@ -36,6 +38,7 @@ Fails free (Wire net) old f = FailsWire old net f
 Fails free (Collapse net) old f = FailsCollapse old net f
 Fails free (Narrow net d u body) old f = FailsNarrow old net d u body f
 Fails free (Fill net out) old f = FailsFill free old net out f
+Fails free (Merge net gone into) old f = FailsMerge old net gone into f
 Fails free _ old f = ⊥
 
 -- the rule is a narrowing
@@ -69,6 +72,7 @@ keeps_choices (Add net body) = true
 keeps_choices (Divide net by body) = true
 keeps_choices (Wire net) = true
 keeps_choices (Collapse net) = true
+keeps_choices (Merge net gone into) = true
 keeps_choices _ = false
 
 -- the rule applies, also where nothing is free, and leaves so many literals

@@ -1,16 +1,3 @@
-pub mod Checks
-pub mod Removing
-pub mod Adding
-pub mod Dividing
-pub mod Wiring
-pub mod Collapsing
-pub mod Composites
 pub mod Applies
 pub mod Replaying
-pub mod Plans
-pub mod Orders
-pub mod Expanding
-pub mod Filling
-pub mod Narrowing
-pub mod Completing
 pub mod Staying

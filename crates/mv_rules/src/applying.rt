@@ -1,23 +1,33 @@
-ghost use Rattle.std.specs.Prelude.{◌≡◌, ◌⊎◌, true, false, OnOk, OnErr, IfErr};
+ghost use Rattle.std.specs.Prelude.{◌≡◌, ◌⊎◌, true, false, IfErr, OnOk, OnErr};
 ghost use Rattle.mv_base.specs.Meaning.{Refines};
 ghost use Rattle.mv_entry.specs.declared.fault.RuleFault.TheVariants.{Memory as out_of_memory};
 ghost use Rattle.mv_entry.specs.Entries.{is_built};
 ghost use Rattle.mv_net.specs.Allowed.{of_net};
-ghost use Rattle.mv_rules.specs.Applies.{Applies, Fails, IsAtHand, LeavesLiterals, LiesWithin, Stops};
-ghost use Rattle.mv_rules.specs.Checks.{Answers};
+ghost use Rattle.mv_partial.specs.Partial.{ArePartial};
+ghost use Rattle.mv_plans.specs.Checks.{Answers};
+ghost use Rattle.mv_rules.specs.Applies.{
+  Applies,
+  Fails,
+  IsAtHand,
+  LeavesLiterals,
+  LiesWithin,
+  Stops,
+};
 
 use crate::plan::{plan, plan_with, plan_within};
 use crate::terms::Terms;
 use mv_entry::{Rule, RuleFault};
 use mv_flex::Flexibility;
 use mv_net::Network;
+use mv_partial::PartialNets;
 use std::alloc::Global;
 
-/// Applies the rule, which has to be built in this version, on these terms: at Ok the network is as the rule leaves it, and may
-/// take the old one's place, as the terms have it. Else, but for want of memory or of nodes, the fault is that of the rule's first
-/// check that fails, and the network is as before. It costs the tables that the rule names, those of their readers, the search for
-/// a loop, for a filling the tables above, and for a narrowing those below and the points of the window. The budget is that of
-/// nodes of diagrams.
+/// Applies the rule, which has to be built in this version, on these terms: at Ok the network is as the
+/// rule leaves it, and may take the old one's place, as the terms have it. Else, but for want of memory or
+/// of nodes, the fault is that of the rule's first check that fails, and the network is as before. It costs
+/// the tables that the rule names, those of their readers, the search for a loop, for a filling the tables
+/// above, and for a narrowing those below and the points of the window. The budget is that of nodes of
+/// diagrams.
 pub fn apply_on(
     alloc: Global,
     net: &mut Network,
@@ -26,7 +36,8 @@ pub fn apply_on(
 ) -> Result<(), RuleFault>
     requires { is_built rule.now ≡ true }
     ensures applies { OnOk result (Applies terms.free rule.now net.old net.new) }
-    ensures fails { IfErr result (λ f. (f ≡ out_of_memory) ⊎ Stops terms.free terms.budget rule.now net.old f) }
+    ensures fails { IfErr result (λ f. (f ≡ out_of_memory)
+        ⊎ Stops terms.free terms.budget rule.now net.old f) }
     ensures refines { Refines terms.free (of_net net.new) (of_net net.old) }
     ensures err { OnErr result (net.new ≡ net.old) }
 {
@@ -38,8 +49,8 @@ pub fn apply_on(
     }
 }
 
-/// Applies a narrowing whose flexibility is at hand, below whose net each table is total. It answers as `apply_on`, and costs the
-/// table and what the flexibility has to be asked, and no other table.
+/// Applies a narrowing whose flexibility is at hand, below whose net each table is total. It answers as
+/// `apply_on`, and costs the table and what the flexibility has to be asked, and no other table.
 pub fn apply_with(
     alloc: Global,
     net: &mut Network,
@@ -49,7 +60,8 @@ pub fn apply_with(
 ) -> Result<(), RuleFault>
     requires { IsAtHand net.old rule.now terms.budget flexibility.now }
     ensures applies { OnOk result (Applies terms.free rule.now net.old net.new) }
-    ensures fails { IfErr result (λ f. (f ≡ out_of_memory) ⊎ Stops terms.free terms.budget rule.now net.old f) }
+    ensures fails { IfErr result (λ f. (f ≡ out_of_memory)
+        ⊎ Stops terms.free terms.budget rule.now net.old f) }
     ensures refines { Refines terms.free (of_net net.new) (of_net net.old) }
     ensures err { OnErr result (net.new ≡ net.old) }
 {
@@ -61,29 +73,34 @@ pub fn apply_with(
     }
 }
 
-/// Applies a narrowing to a table that allows less. It answers as `apply_on`, and never for want of nodes: it asks for no
-/// flexibility.
+/// Applies a narrowing to a table that allows less, where it is known from which nets on some table isn't
+/// total. It answers as `apply_on`, and never for want of nodes: it asks for no flexibility, and looks at
+/// no table below.
 pub fn apply_within(
     alloc: Global,
     net: &mut Network,
     rule: &Rule,
     terms: Terms,
+    partial: &PartialNets,
 ) -> Result<(), RuleFault>
-    requires { LiesWithin net.old rule.now }
+    requires within { LiesWithin net.old rule.now }
+    requires right { ArePartial net.old.nets partial.now }
     ensures applies { OnOk result (Applies terms.free rule.now net.old net.new) }
-    ensures fails { IfErr result (λ f. (f ≡ out_of_memory) ⊎ Fails terms.free rule.now net.old f) }
+    ensures fails { IfErr result (λ f. (f ≡ out_of_memory)
+        ⊎ Fails terms.free rule.now net.old f) }
     ensures refines { Refines terms.free (of_net net.new) (of_net net.old) }
     ensures err { OnErr result (net.new ≡ net.old) }
 {
     net.well_formed();
-    let change = plan_within(alloc, net, rule, terms)?;
+    let change = plan_within(alloc, net, rule, terms, partial)?;
     match net.change(change) {
         Ok(()) => Ok(()),
         Err(_memory) => Err(RuleFault::Memory),
     }
 }
 
-/// Applies the rule where nothing is free: the network allows nothing that it didn't, and something wherever it did.
+/// Applies the rule where nothing is free: the network allows nothing that it didn't, and something
+/// wherever it did.
 pub fn apply(alloc: Global, net: &mut Network, rule: &Rule, budget: u32) -> Result<(), RuleFault>
     requires { is_built rule.now ≡ true }
     ensures applies { OnOk result (Applies false rule.now net.old net.new) }
@@ -118,7 +135,8 @@ pub fn apply_free(
     apply_on(alloc, net, rule, Terms { free: true, budget })
 }
 
-/// The literals of the network that `apply` would leave, with the same condition. It is refused as `apply` is, and changes nothing.
+/// The literals of the network that `apply` would leave, with the same condition. It is refused as `apply`
+/// is, and changes nothing.
 pub fn literals_after(
     alloc: Global,
     net: &Network,

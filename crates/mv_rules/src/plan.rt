@@ -1,27 +1,27 @@
 ghost use Rattle.std.specs.Prelude.{◌≡◌, true, false};
 ghost use Rattle.mv_entry.specs.Entries.{is_built};
+ghost use Rattle.mv_partial.specs.Partial.{ArePartial};
+ghost use Rattle.mv_plans.specs.Checks.{Answers};
+ghost use Rattle.mv_plans.specs.Plans.{IsPlanned};
 ghost use Rattle.mv_rules.specs.Applies.{Applies, Fails, IsAtHand, LiesWithin, Stops, is_narrowing};
-ghost use Rattle.mv_rules.specs.Checks.{Answers};
-ghost use Rattle.mv_rules.specs.Plans.{IsPlanned};
 
-use crate::add::plan_add;
-use crate::collapse::plan_collapse;
-use crate::divide::plan_divide;
-use crate::fill::plan_fill;
-use crate::narrow::{plan_narrow, plan_narrow_with, plan_narrow_within};
-use crate::remove::plan_remove;
 use crate::terms::Terms;
-use crate::wire::plan_wire;
 use mv_entry::{Rule, RuleFault};
 use mv_flex::Flexibility;
 use mv_net::{Change, Network};
+use mv_partial::PartialNets;
+use mv_plans::{
+    plan_add, plan_collapse, plan_divide, plan_fill, plan_merge, plan_narrow, plan_narrow_next,
+    plan_narrow_with, plan_narrow_within, plan_remove, plan_wire,
+};
 use std::alloc::Global;
 
-/// The change that carries the rule out, or the fault of the first check that fails, or that there are too few nodes. The rule has
-/// to be built in this version.
+/// The change that carries the rule out, or the fault of the first check that fails, or that there are
+/// too few nodes. The rule has to be built in this version.
 pub fn plan(alloc: Global, net: &Network, rule: &Rule, terms: Terms) -> Result<Change, RuleFault>
     requires { is_built rule.now ≡ true }
-    ensures { Answers result (IsPlanned net.now (Applies terms.free rule.now net.now)) (Stops terms.free terms.budget rule.now net.now) }
+    ensures { Answers result (IsPlanned net.now (Applies terms.free rule.now net.now))
+        (Stops terms.free terms.budget rule.now net.now) }
 {
     match rule {
         Rule::Narrow {
@@ -38,7 +38,8 @@ pub fn plan(alloc: Global, net: &Network, rule: &Rule, terms: Terms) -> Result<C
 fn plan_other(alloc: Global, net: &Network, rule: &Rule, free: bool) -> Result<Change, RuleFault>
     requires built { is_built rule.now ≡ true }
     requires other { is_narrowing rule.now ≡ false }
-    ensures { Answers result (IsPlanned net.now (Applies free rule.now net.now)) (Fails free rule.now net.now) }
+    ensures { Answers result (IsPlanned net.now (Applies free rule.now net.now))
+        (Fails free rule.now net.now) }
 {
     match rule {
         Rule::Remove { net: name } => plan_remove(alloc, net, name),
@@ -51,12 +52,42 @@ fn plan_other(alloc: Global, net: &Network, rule: &Rule, free: bool) -> Result<C
         Rule::Wire { net: name } => plan_wire(alloc, net, name),
         Rule::Collapse { net: name } => plan_collapse(alloc, net, name),
         Rule::Fill { net: name, out } => plan_fill(alloc, net, free, name, out),
+        Rule::Merge {
+            net: name,
+            gone,
+            into,
+        } => plan_merge(alloc, net, name, *gone, *into),
         _ => unreachable!(),
     }
 }
 
-/// The change that carries a narrowing out whose flexibility is at hand, or the fault of the first check that fails, or that there
-/// are too few nodes.
+/// The change that carries a narrowing out, where it is known from which nets on some table isn't
+/// total, or the fault of the first check that fails, or that there are too few nodes.
+pub fn plan_next(
+    alloc: Global,
+    net: &Network,
+    rule: &Rule,
+    terms: Terms,
+    partial: &PartialNets,
+) -> Result<Change, RuleFault>
+    requires narrows { is_narrowing rule.now ≡ true }
+    requires right { ArePartial net.now.nets partial.now }
+    ensures { Answers result (IsPlanned net.now (Applies terms.free rule.now net.now))
+        (Stops terms.free terms.budget rule.now net.now) }
+{
+    match rule {
+        Rule::Narrow {
+            net: name,
+            d,
+            u,
+            body,
+        } => plan_narrow_next(alloc, net, name, *d, *u, body, terms.budget, partial),
+        _ => unreachable!(),
+    }
+}
+
+/// The change that carries a narrowing out whose flexibility is at hand, or the fault of the first
+/// check that fails, or that there are too few nodes.
 pub fn plan_with(
     alloc: Global,
     net: &Network,
@@ -65,7 +96,8 @@ pub fn plan_with(
     flexibility: &Flexibility,
 ) -> Result<Change, RuleFault>
     requires { IsAtHand net.now rule.now terms.budget flexibility.now }
-    ensures { Answers result (IsPlanned net.now (Applies terms.free rule.now net.now)) (Stops terms.free terms.budget rule.now net.now) }
+    ensures { Answers result (IsPlanned net.now (Applies terms.free rule.now net.now))
+        (Stops terms.free terms.budget rule.now net.now) }
 {
     let _ = terms;
     match rule {
@@ -79,15 +111,19 @@ pub fn plan_with(
     }
 }
 
-/// The change that carries a narrowing to a table out that allows less, or the fault of the first check that fails.
+/// The change that carries a narrowing to a table out that allows less, where it is known from which
+/// nets on some table isn't total, or the fault of the first check that fails.
 pub fn plan_within(
     alloc: Global,
     net: &Network,
     rule: &Rule,
     terms: Terms,
+    partial: &PartialNets,
 ) -> Result<Change, RuleFault>
-    requires { LiesWithin net.now rule.now }
-    ensures { Answers result (IsPlanned net.now (Applies terms.free rule.now net.now)) (Fails terms.free rule.now net.now) }
+    requires within { LiesWithin net.now rule.now }
+    requires right { ArePartial net.now.nets partial.now }
+    ensures { Answers result (IsPlanned net.now (Applies terms.free rule.now net.now))
+        (Fails terms.free rule.now net.now) }
 {
     let _ = terms;
     match rule {
@@ -96,7 +132,7 @@ pub fn plan_within(
             d,
             u,
             body,
-        } => plan_narrow_within(alloc, net, name, *d, *u, body),
+        } => plan_narrow_within(alloc, net, name, *d, *u, body, partial),
         _ => unreachable!(),
     }
 }

@@ -1,5 +1,5 @@
 -- The sets of a rule that applies can be said: each is some of the values of a net.
-use Rattle.std.proofs.Common.{◌≡◌, ◌∙◌, ℕ, ◌≤◌, Bool, true, List, [], ◌∷◌, map, All, Option, Some, None, refl, sym, arith}
+use Rattle.std.proofs.Common.{◌≡◌, ◌∙◌, ℕ, ◌<◌, ◌≤◌, Bool, true, List, [], ◌∷◌, map, All, Option, Some, None, refl, sym, arith}
 use Rattle.std.specs.List.{flat_map}
 use Rattle.std.specs.Option.{option_to_list}
 use Rattle.std.proofs.lemmas.Bool.{and_from, lt-ltb, ltb-true}
@@ -13,7 +13,7 @@ use Rattle.mv_entry.specs.declared.rule.BodyLit.{BodyLit}
 use Rattle.mv_entry.specs.declared.rule.BodyLine.{BodyLine}
 use Rattle.mv_entry.specs.declared.rule.Body.{Body}
 use Rattle.mv_entry.specs.declared.rule.Rule.{Rule}
-use Rattle.mv_entry.specs.declared.rule.Rule.TheVariants.{Remove, Add, Divide, Wire, Collapse, Narrow, Fill}
+use Rattle.mv_entry.specs.declared.rule.Rule.TheVariants.{Remove, Add, Divide, Wire, Collapse, Narrow, Fill, Merge}
 use Rattle.mv_net.specs.declared.parts.NetParts.{NetParts}
 use Rattle.mv_net.specs.Formed.{IsLiteral, WellFormed}
 use Rattle.mv_net.specs.Nets.{slot, values_in}
@@ -32,6 +32,10 @@ output values set few is = record {
 -- the steps of a window are few
 few_steps : (d : ℕ) → d ≤ MAX_WINDOW_STEPS → is_sayable_number d ≡ true
 few_steps d few = lt-ltb d 65536 (omega (arith, few))
+
+-- the values of a net are few
+few_value : (v values : ℕ) → v < values → values ≤ MAX_VALUES → is_sayable_number v ≡ true
+few_value v values low few = lt-ltb v 65536 (omega (arith, low, few))
 
 module _ (net : NetParts) (formed : WellFormed net) where
   lits : (ls : List BodyLit) → All (IsLiteral net.nets) (literals_said net.nets ls) → All IsSayable (map (λ (m : BodyLit). m.set) ls)
@@ -66,6 +70,7 @@ module _ (net : NetParts) (formed : WellFormed net) where
   rule_sayable free (Narrow w d u b) new p = body (values_in (slot net.nets p.number)) (values_few net p.number formed) b p.form.tidy
   rule_sayable free (Fill w out) new p =
       All-cons IsSayable out [] (output (values_in (slot net.nets p.number)) out (values_few net p.number formed) p.form.output) (All-nil IsSayable)
+  rule_sayable free (Merge w gone into) new p = All-nil IsSayable
   rule_sayable free _ new p = absurd p
 
   -- its numbers too, which those of a narrowing's window are; a rule that is built has no codes
@@ -77,4 +82,9 @@ module _ (net : NetParts) (formed : WellFormed net) where
   rule_formed free (Collapse w) new p = refl
   rule_formed free (Narrow w d u b) new p = and_from (is_sayable_number d) (is_sayable_number u) (few_steps d p.form.down) (few_steps u p.form.up)
   rule_formed free (Fill w out) new p = refl
+  rule_formed free (Merge w gone None) new p = few_value gone.0 (values_in (slot net.nets p.number)) p.form.low (values_few net p.number formed)
+  rule_formed free (Merge w gone (Some into)) new p =
+      let few = values_few net p.number formed in
+      let values = values_in (slot net.nets p.number) in
+      and_from (is_sayable_number gone.0) (is_sayable_number into.0) (few_value gone.0 values p.form.low few) (few_value into.0 values p.form.other.0 few)
   rule_formed free _ new p = absurd p

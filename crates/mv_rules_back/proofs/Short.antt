@@ -8,7 +8,7 @@ use Rattle.mv_composite.specs.Composite.{composed}
 use Rattle.mv_composite.specs.Wired.{wired}
 use Rattle.mv_cover.specs.declared.cover.Cover.{Cover}
 use Rattle.mv_entry.specs.declared.rule.Rule.{Rule}
-use Rattle.mv_entry.specs.declared.rule.Rule.TheVariants.{Remove, Add, Divide, Wire, Collapse, Narrow, Fill}
+use Rattle.mv_entry.specs.declared.rule.Rule.TheVariants.{Remove, Add, Divide, Wire, Collapse, Narrow, Fill, Merge}
 use Rattle.mv_body.specs.Bodies.{cover_said}
 use Rattle.mv_meaning.specs.Rewriting.{given_table, with_net_table, rewritten, IsReformed}
 use Rattle.mv_meaning.proofs.Adding.{IsWritten-added}
@@ -19,9 +19,10 @@ use Rattle.mv_net.specs.declared.parts.NetParts.{NetParts}
 use Rattle.mv_net.specs.Changes.{with_nets}
 use Rattle.mv_net.specs.Nets.{slot, name_in, values_in}
 use Rattle.mv_net.proofs.Patches.{IsWritten, IsWritten-gone}
-use Rattle.mv_rules.specs.Adding.{divisor_net}
+use Rattle.mv_plans.specs.Adding.{divisor_net}
 use Rattle.mv_rules.specs.Applies.{Applies}
-use Rattle.mv_rules.specs.Filling.{with_default}
+use Rattle.mv_plans.specs.Filling.{with_default}
+use Rattle.mv_plans.proofs.Merged.{merged_named}
 use Rattle.mv_rules.specs.Replaying.{Replays}
 use Rattle.mv_rules_back.specs.Names.{HasWordNames}
 
@@ -99,6 +100,8 @@ words_kept free (Fill w out) old new names p =
     let given = given_table table (slot old.nets p.number) in
     subst (λ (m : NetParts). HasWordNames m.nets) (sym p.new_is)
     (written_short old.nets p.number given (with_net_table old.nets p.number table) (IsWritten-given old.nets p.number table) (given_short table (slot old.nets p.number) (names.short p.number)) names)
+words_kept free (Merge w gone into) old new names p =
+    record { short = λ k. subst (λ v. length v ≤ MAX_WORD_BYTES) (sym (merged_named old w gone into new p k)) (names.short k) }
 words_kept free _ old new names p = absurd p
 
 pub replayed_words : (free : Bool) (rules : List Rule) (old new : NetParts) → HasWordNames old.nets → Replays free rules old new → HasWordNames new.nets

@@ -5,9 +5,14 @@ use Rattle.mv_base.specs.declared.limits.TheConstants.{MAX_CERTIFICATE_BYTES}
 use Rattle.mv_entry.specs.declared.fault.RuleFault.{RuleFault}
 use Rattle.mv_net.specs.declared.parts.NetParts.{NetParts}
 use Rattle.mv_cert.specs.Certificates.{IsCertificate, steps_in}
+use Rattle.mv_command_line.specs.CommandLine.{Files}
 use Rattle.mv_cert.specs.Replay.{FailsAt}
 use Rattle.mv_task.specs.Made.{IsNetOfText}
 use Rattle.mv_task.specs.Taken.{IsTaken, IsRefused}
+
+-- the same options and network file, with a certificate in the place of the script
+abbrev pub checking : Files → List ℕ → Files
+checking f certificate = record f { other = certificate }
 
 -- the files of a later run, which tell of themselves as those of an earlier one did, have the same network file, and by the name of
 -- a certificate what the notes of the earlier run gained, which isn't longer than a certificate may be

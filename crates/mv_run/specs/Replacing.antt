@@ -1,6 +1,7 @@
 -- The headline of a run.
 use Rattle.std.specs.Prelude.{ℕ, Bool, List, Option, Some, None}
 use Rattle.mv_base.specs.Outside.{Stored, Written}
+use Rattle.mv_entry.specs.declared.rule.Rule.{Rule}
 use Rattle.mv_net.specs.declared.parts.NetParts.{NetParts}
 use Rattle.mv_task.specs.Replaced.{Replaced}
 use Rattle.mv_command_line.specs.CommandLine.{Asked, opt, check, work}
@@ -21,8 +22,9 @@ network_asked (Some (check f)) = Some (file_with f.net f.free)
 network_asked (Some (work d)) = None
 network_asked None = None
 
--- what was written reads back as a design that may take the place of the one that was read from this file
+-- what was written reads back as a design that takes the place of the one that was read from this file, as some rules leave it
 pub record IsReplaced (old new : Stored) (out out' : Written) (file : NetworkFile) : Type 0 where
   pub first : NetParts
   pub net : NetParts
-  pub replaced : Replaced file.free file.name old new first net out out'
+  pub rules : List Rule
+  pub replaced : Replaced file.free rules file.name old new first net out out'

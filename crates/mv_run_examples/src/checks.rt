@@ -25,6 +25,11 @@ wire b;remove b;# whoever reads this; | \
 add k;line a (2,00001,2) -> 001;default (0);end; | \
 .model v;.inputs a;.outputs z;.mv a 3;.table a -> z;.default 0;1 1;2 1;\
 .table a -> k;.default 0;(1,2) 1;.end; | # done 2 3;
+-- A value goes into one that no literal tells from it.
+.model h;.inputs a b;.outputs z y;.mv n 3;.table a b -> n;0 - 0;1 0 1;1 1 2;.table n -> z;0 0;(1,2) 1;\
+.table n -> y;0 1;(1,2) 0;.end; | merge n 2 1; | \
+.model h;.inputs a b;.outputs z y;.table a b -> n;0 - 0;1 0 1;1 1 1;.table n -> z;0 0;1 1;\
+.table n -> y;0 1;1 0;.end; | # done 9 9;
 ";
 
 #[test]
@@ -57,6 +62,10 @@ add k;default 0;end;divide n k;line a 0 -> 0;line a 1 b 0 -> 1;line a 1 b 1 -> 2
 wire n; | 1 NotSame
 wire e; | 1 Unread
 collapse e; | 1 Unread
+merge z 0 1; | 1 Visible
+merge n 3 0; | 1 Form
+merge n 0 1; | 1 NotSame
+merge n 2; | 1 NotSame
 remove; | 1 Syntax
 line a 0 -> 0; | 1 Syntax
 add k;line b 2000 -> 1;default 0;end; | 2 Syntax
@@ -71,7 +80,8 @@ add k;line a 1 -> 1;end; | 1 Form
 add (a);default 0;end; | 1 NotFresh
 add k;line -> 0 -> 1;default 0;end; | 1 NoNet
 # begin simplify 1 0;narrow z 1 0;end; | 2 Lost
-merge z 1; | 1 NotBuilt
+merge z 1; | 1 Visible
+encode z 1 k 0 1; | 1 NotBuilt
 encode | 1 Syntax
 add k;line a 1 -> 1; | 1 Syntax
 ;add k;default 0;line a 1 -> 1; | 4 Syntax

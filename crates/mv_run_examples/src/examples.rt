@@ -126,6 +126,38 @@ line timer 0 phase 2 -> 2;line timer 1 phase 2 -> 3;line timer 0 phase 3 -> 3;\
 line timer 1 phase 3 -> 0;end;# end 28;# done 31 28;
 ";
 
+/// The same of one whose script looks for what several tables can share.
+const EXTRACTED: &str = "\
+-- Two divisors, the first of three tables.
+# A vending machine: coins or a card pay for crisps and soda.;.model vending;\
+.inputs coins card choice crisps soda;.outputs drop_crisps drop_soda give_back;\
+.mv coins 3 NONE PART FULL;.mv card 3 NONE ASKED GOOD;.mv choice 4 NOTHING CRISPS SODA BACK;\
+.mv crisps, soda 2 GONE THERE;;# who has paid gets crisps, as long as there are some;\
+.table coins card choice crisps -> drop_crisps;.default 0;FULL - CRISPS THERE 1;\
+- GOOD CRISPS THERE 1;;# and soda;.table coins card choice soda -> drop_soda;.default 0;\
+FULL - SODA THERE 1;- GOOD SODA THERE 1;;# or what was paid, and also for what is gone;\
+.table coins card choice crisps soda -> give_back;.default 0;FULL - BACK - - 1;- GOOD BACK - - 1;\
+FULL - CRISPS GONE - 1;- GOOD CRISPS GONE - 1;FULL - SODA - GONE 1;- GOOD SODA - GONE 1;.end; | \
+.model vending;.inputs coins card choice crisps soda;.outputs drop_crisps drop_soda give_back;\
+.mv coins 3 NONE PART FULL;.mv card 3 NONE ASKED GOOD;.mv choice 4 NOTHING CRISPS SODA BACK;\
+.mv crisps 2 GONE THERE;.mv soda 2 GONE THERE;.table choice crisps _m1 -> drop_crisps;.default 0;\
+CRISPS THERE 1 1;.table choice soda _m1 -> drop_soda;.default 0;SODA THERE 1 1;\
+.table _m1 _m2 -> give_back;.default 0;1 1 1;.table coins card -> _m1;.default 0;FULL - 1;- GOOD 1;\
+.table choice crisps soda -> _m2;.default 0;CRISPS GONE - 1;SODA - GONE 1;BACK - - 1;.end; | \
+# begin kernel;add _m1;line coins 2 -> 1;line card 2 -> 1;default 0;end;divide drop_crisps _m1;\
+line choice 1 crisps 1 _m1 1 -> 1;default 0;end;divide drop_soda _m1;\
+line choice 2 soda 1 _m1 1 -> 1;default 0;end;divide give_back _m1;\
+line choice 1 crisps 0 _m1 1 -> 1;line choice 2 soda 0 _m1 1 -> 1;line choice 3 _m1 1 -> 1;\
+default 0;end;add _m2;line choice 1 crisps 0 -> 1;line choice 2 soda 0 -> 1;line choice 3 -> 1;\
+default 0;end;divide give_back _m2;line _m1 1 _m2 1 -> 1;default 0;end;# end 15;# done 28 15;
+";
+
+#[test]
+fn an_example_with_divisors_is_written_as_worked_out(rt: HostRuntime) -> Result<(), Fail> {
+    let script = b"kernel # what several tables can share\n";
+    all_end(&rt, rt.alloc(), Form::Written(script), EXTRACTED)
+}
+
 #[test]
 fn a_simplified_example_is_written_as_worked_out(rt: HostRuntime) -> Result<(), Fail> {
     let script = b"simplify 1 0 # as far as the readers of each net\n";

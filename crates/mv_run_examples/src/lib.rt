@@ -8,6 +8,8 @@ mod checks;
 #[cfg(test)]
 mod commands;
 #[cfg(test)]
+mod defaulted;
+#[cfg(test)]
 mod examples;
 #[cfg(test)]
 mod extractions;

@@ -101,7 +101,7 @@ repeat 10 { repeat 1000 { drop } } ; drop | 6 TooMany 37
 drop; repeat 101 { better { repeat 99 { drop } drop } } | 6 TooMany 6
 merge | 8 NotBuilt
 drop; encode | 8 NotBuilt
-default | 8 NotBuilt
+determinize | 8 NotBuilt
 sweep; eliminate; better { simplify 08 1; merge } | 8 NotBuilt
 ";
 

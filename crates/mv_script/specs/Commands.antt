@@ -2,7 +2,7 @@
 use Rattle.std.specs.Prelude.{◌≡◌, ◌≤◌, nat_le, Bool, true, false, ◌&&◌, ◌||◌}
 use Rattle.mv_base.specs.declared.limits.TheConstants.{MAX_WINDOW_STEPS}
 use Rattle.mv_entry.specs.declared.note.Command.{Command}
-use Rattle.mv_entry.specs.declared.note.Command.TheVariants.{Drop, Sweep, Eliminate, Collapse, Kernel, Cube, Simplify, Fill}
+use Rattle.mv_entry.specs.declared.note.Command.TheVariants.{Drop, Sweep, Eliminate, Collapse, Kernel, Cube, Simplify, Default, Fill}
 use Rattle.mv_entry.specs.declared.note.Note.TheVariants.{Begin}
 use Rattle.mv_entry.specs.Entries.{Noted, HasVisibleNames, is_visible_name}
 use Rattle.mv_script.specs.Scripts.{Items, End, Do, Repeat, Better}
@@ -16,6 +16,7 @@ is_built (Collapse net) = true
 is_built Kernel = true
 is_built Cube = true
 is_built (Simplify down up) = true
+is_built Default = true
 is_built Fill = true
 is_built _ = false
 

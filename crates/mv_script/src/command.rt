@@ -15,6 +15,7 @@ pub fn is_command_built(command: &Command) -> bool
         | Command::Kernel
         | Command::Cube
         | Command::Simplify(_, _)
+        | Command::Default
         | Command::Fill => true,
         _ => false,
     }

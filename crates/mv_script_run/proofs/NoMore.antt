@@ -21,9 +21,9 @@ use Rattle.mv_pass.proofs.Going.{goes_no_more}
 use Rattle.mv_pass.proofs.Turns.{Implies, of_visits}
 use Rattle.mv_pass.proofs.Visiting.{all_visits}
 use Rattle.mv_rules.specs.Applies.{Applies}
-use Rattle.mv_rules.specs.Checks.{IsTabled}
-use Rattle.mv_rules.specs.Collapsing.{Collapses}
-use Rattle.mv_rules.proofs.CompositeLiterals.{collapse_leaves}
+use Rattle.mv_plans.specs.Checks.{IsTabled}
+use Rattle.mv_plans.specs.Collapsing.{Collapses}
+use Rattle.mv_plans.proofs.CompositeLiterals.{collapse_leaves}
 use Rattle.mv_rules.proofs.OneAnswer.{one_network}
 use Rattle.mv_rules.proofs.Replayed.{replayed_formed}
 use Rattle.mv_fill.proofs.Filled.{fills_no_more}
@@ -34,6 +34,9 @@ use Rattle.mv_script.specs.Commands.{all_commands}
 use Rattle.mv_script.specs.Scripts.{Items}
 use Rattle.mv_simplify.specs.Simplifies.{SimplifiesNet}
 use Rattle.mv_simplify.proofs.Simplified.{some_no_more}
+use Rattle.mv_values.specs.Defaults.{Defaulting}
+use Rattle.mv_values.proofs.Defaulted.{defaults_no_more}
+use Rattle.mv_visit.specs.Visits.{Treats}
 use Rattle.mv_script_run.specs.Commands.{WholeOf, DoesCommand, RunsCommand, leaves_no_more}
 use Rattle.mv_script_run.specs.Runs.{Runs}
 use Rattle.mv_script_run.proofs.Inductions.{of_items}
@@ -123,7 +126,7 @@ whole_no_more terms Kernel a b steps frugal formed g = kernels_no_more terms.fre
 whole_no_more terms Cube a b steps frugal formed g = cubes_no_more terms.free a b steps formed g
 whole_no_more terms (Simplify down up) a b steps frugal formed g = some_no_more terms down up a b steps formed (all_visits (SimplifiesNet terms down up) a b steps g)
 whole_no_more terms Merge a b steps frugal formed g = absurd g
-whole_no_more terms Default a b steps frugal formed g = absurd g
+whole_no_more terms Default a b steps frugal formed g = defaults_no_more a b steps formed (all_visits (Treats Defaulting) a b steps g)
 whole_no_more terms Determinize a b steps frugal formed g = absurd (false≢true frugal)
 whole_no_more terms Encode a b steps frugal formed g = absurd (false≢true frugal)
 whole_no_more terms Fill a b steps frugal formed g = fills_no_more terms.free a b steps g.tables

@@ -22,6 +22,9 @@ use Rattle.mv_sweep.specs.Drops.{IsDropStep}
 use Rattle.mv_sweep.specs.Sweeps.{IsSweepStep}
 use Rattle.mv_simplify.specs.Simplifies.{SimplifiesNet}
 use Rattle.mv_simplify.proofs.Simplified.{some_replays}
+use Rattle.mv_values.specs.Defaults.{Defaulting}
+use Rattle.mv_values.proofs.Defaulted.{defaults_replay}
+use Rattle.mv_visit.specs.Visits.{Treats}
 use Rattle.mv_script_run.specs.Commands.{WholeOf, PartOf, DoesCommand, BegunCommand}
 use Rattle.mv_script_run.specs.Runs.{Runs, RunsTo}
 use Rattle.mv_script_run.proofs.Inductions.{of_items, of_stopped, any_commands}
@@ -61,7 +64,7 @@ part_replays terms Kernel a b steps g = kernels_replay terms.free a steps b g
 part_replays terms Cube a b steps g = cubes_replay terms.free a steps b g
 part_replays terms (Simplify down up) a b steps g = some_replays terms.free terms down up a b steps g
 part_replays terms Merge a b steps g = absurd g
-part_replays terms Default a b steps g = absurd g
+part_replays terms Default a b steps g = defaults_replay terms.free a b steps g
 part_replays terms Determinize a b steps g = absurd g
 part_replays terms Encode a b steps g = absurd g
 part_replays terms Fill a b steps g = fills_replays terms.free a b steps g
@@ -76,7 +79,7 @@ whole_part terms Kernel a b steps g = kernels_all_some terms.free a steps b g
 whole_part terms Cube a b steps g = cubes_all_some terms.free a steps b g
 whole_part terms (Simplify down up) a b steps g = all_visits (SimplifiesNet terms down up) a b steps g
 whole_part terms Merge a b steps g = absurd g
-whole_part terms Default a b steps g = absurd g
+whole_part terms Default a b steps g = all_visits (Treats Defaulting) a b steps g
 whole_part terms Determinize a b steps g = absurd g
 whole_part terms Encode a b steps g = absurd g
 whole_part terms Fill a b steps g = g.tables

@@ -3,7 +3,7 @@ use Rattle.std.specs.Prelude.{◌≡◌, Bool, true, false, List, Result}
 use Rattle.mv_collapse.specs.Collapses.{CollapsesNet}
 use Rattle.mv_eliminate.specs.Eliminates.{Eliminates, EliminatesAll}
 use Rattle.mv_entry.specs.declared.note.Command.{Command}
-use Rattle.mv_entry.specs.declared.note.Command.TheVariants.{Drop, Sweep, Eliminate, Collapse, Kernel, Cube, Simplify, Determinize, Encode, Fill}
+use Rattle.mv_entry.specs.declared.note.Command.TheVariants.{Drop, Sweep, Eliminate, Collapse, Kernel, Cube, Simplify, Default, Determinize, Encode, Fill}
 use Rattle.mv_entry.specs.Entries.{Entry}
 use Rattle.mv_entry.specs.Tallies.{Journaled}
 use Rattle.mv_extract.specs.Extracts.{KernelsAll, KernelsSome, CubesAll, CubesSome}
@@ -18,6 +18,7 @@ use Rattle.mv_simplify.specs.Simplifies.{SimplifiesAll, SimplifiesSome}
 use Rattle.mv_sweep.specs.Drops.{DropsAll, DropsSome}
 use Rattle.mv_fill.specs.Fills.{FillsAll, FillsTables}
 use Rattle.mv_sweep.specs.Sweeps.{SweepsAll, SweepsSome}
+use Rattle.mv_values.specs.Defaults.{DefaultsAll, DefaultsSome}
 
 -- the steps of a whole command: a course from the old network to the new one
 abbrev pub WholeOf : Terms → Command → NetParts → List Entry → NetParts → Type 0
@@ -28,6 +29,7 @@ WholeOf terms (Collapse name) old steps new = CollapsesNet terms.free name old s
 WholeOf terms Kernel old steps new = KernelsAll terms.free old steps new
 WholeOf terms Cube old steps new = CubesAll terms.free old steps new
 WholeOf terms (Simplify down up) old steps new = SimplifiesAll terms down up old steps new
+WholeOf terms Default old steps new = DefaultsAll old steps new
 WholeOf terms Fill old steps new = FillsAll terms.free old steps new
 WholeOf terms _ old steps new = ⊥
 
@@ -40,6 +42,7 @@ PartOf terms (Collapse name) old steps new = Perhaps (CollapsesNet terms.free na
 PartOf terms Kernel old steps new = KernelsSome terms.free old steps new
 PartOf terms Cube old steps new = CubesSome terms.free old steps new
 PartOf terms (Simplify down up) old steps new = SimplifiesSome terms down up old steps new
+PartOf terms Default old steps new = DefaultsSome old steps new
 PartOf terms Fill old steps new = FillsTables terms.free old steps new
 PartOf terms _ old steps new = ⊥
 

@@ -13,6 +13,7 @@ use mv_pass::Stop;
 use mv_rules::Terms;
 use mv_simplify::simplify;
 use mv_sweep::{remove_unread, sweep};
+use mv_values::choose_default;
 use std::alloc::Global;
 
 /// Runs a command as it is built.
@@ -34,6 +35,7 @@ fn run_built<J: Journal>(
         Command::Kernel => kernel(alloc, net, journal, terms),
         Command::Cube => cube(alloc, net, journal, terms),
         Command::Simplify(down, up) => simplify(alloc, net, *down, *up, journal, terms),
+        Command::Default => choose_default(alloc, net, journal, terms),
         Command::Fill => fill(alloc, net, journal, terms),
         _ => unreachable!(),
     }

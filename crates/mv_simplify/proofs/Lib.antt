@@ -1,4 +1,2 @@
-pub mod Marking
-pub mod Keeping
 pub mod Simplified
 pub mod Taking

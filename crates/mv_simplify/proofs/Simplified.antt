@@ -27,7 +27,7 @@ use Rattle.mv_pass.proofs.Going.{ReplaysRules, replays_then}
 use Rattle.mv_pass.proofs.Turns.{Implies, of_visits}
 use Rattle.mv_pass.proofs.Visiting.{all_visits}
 use Rattle.mv_rules.specs.declared.terms.Terms.{Terms}
-use Rattle.mv_rules.specs.Narrowing.{Narrows}
+use Rattle.mv_plans.specs.Narrowing.{Narrows}
 use Rattle.mv_rules.specs.Replaying.{Replays}
 use Rattle.mv_rules.proofs.Kept.{kept_formed}
 use Rattle.mv_rules.proofs.Replayed.{replayed_refines}

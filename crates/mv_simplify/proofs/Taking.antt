@@ -16,10 +16,8 @@ use Rattle.mv_flex.specs.declared.stop.FlexStop.{FlexStop}
 use Rattle.mv_flex.specs.declared.stop.FlexStop.TheVariants.{Window as IsWide, Nodes, Memory}
 use Rattle.mv_flex.specs.Flex.{CoverInFlex, IsFlexStop, IsLaterStop, KeepsChoice, TooWide}
 use Rattle.mv_flex.specs.Flexibilities.{IsFlex}
-use Rattle.mv_graph.specs.Marks.{is_marked}
 use Rattle.mv_meaning.specs.Narrowing.{AreTotalBelow, ReadsWithin}
 use Rattle.mv_meaning.specs.Rewriting.{with_net_table}
-use Rattle.mv_narrow.proofs.Windows.{window_keeps}
 use Rattle.mv_net.specs.declared.parts.FlatNet.{FlatNet}
 use Rattle.mv_net.specs.declared.parts.NetParts.{NetParts}
 use Rattle.mv_net.specs.declared.window.Window.{Window}
@@ -29,6 +27,7 @@ use Rattle.mv_net.specs.Index.{is_held, HasName}
 use Rattle.mv_net.specs.Nets.{slot, values_in, name_in, table_in}
 use Rattle.mv_net.specs.Total.{IsTotalNet}
 use Rattle.mv_net.specs.Window.{IsWindow}
+use Rattle.mv_partial.specs.Partial.{ArePartial, IsPartialMark}
 use Rattle.mv_pass.specs.declared.stop.Stop.{Stop}
 use Rattle.mv_pass.specs.declared.stop.Stop.TheVariants.{Memory as Short}
 use Rattle.mv_pass.specs.Courses.{Perhaps, Through}
@@ -38,14 +37,12 @@ use Rattle.mv_pass.proofs.Coming.{came_as, came_stuck}
 use Rattle.mv_rule_body.specs.Named.{AreHeld, body_of}
 use Rattle.mv_rule_body.proofs.Said.{body_known, body_tidy, cover_back, cover_held}
 use Rattle.mv_rules.specs.Applies.{Applies, IsAtHand}
-use Rattle.mv_rules.specs.Checks.{IsTabled}
-use Rattle.mv_rules.specs.Narrowing.{Narrows}
+use Rattle.mv_plans.specs.Checks.{IsTabled}
+use Rattle.mv_rules.proofs.Partials.{narrowed_partial}
 use Rattle.mv_rules.proofs.Spoken.{held_visible}
 use Rattle.mv_simplify.specs.declared.asked.Asked.{Asked}
 use Rattle.mv_simplify.specs.Simplifies.{IsTightIn, IsTightNow, KeepsFor, Narrowed, Stays, rule_of}
-use Rattle.mv_simplify.specs.Simplifying.{HasMarks, IsPartialMark, IsToTake, IsWithin, KeepsBy, KeepsTotal, Visit}
-use Rattle.mv_simplify.proofs.Keeping.{keeps_total}
-use Rattle.mv_simplify.proofs.Simplified.{narrows_number}
+use Rattle.mv_simplify.specs.Simplifying.{IsToTake, IsWithin, KeepsBy, Visit}
 use Rattle.mv_tight.specs.Tight.{IsGrown, IsMadeTight}
 use Rattle.mv_tight.proofs.Some.{reads_within}
 
@@ -190,32 +187,15 @@ module _ (asked : Asked) (net : NetParts) (n : ℕ) (c : Cover) (f : Flexibility
   narrowed_so after taken is applies =
       subst (λ r. Visit asked n net (Applied r ∷ []) after) (sym is) (narrowed after (subst (λ r. Applies asked.terms.free r net after) is applies))
 
-  -- where the old table was total, it keeps total what was
-  kept : (after : NetParts) → Narrows net (name_in (slot net.nets n)) asked.down asked.up body after → IsTotalNet net.nets n → KeepsTotal net.nets after.nets
-  unfolding with_nets
-  kept after p total =
-      let number = narrows_number net after asked.down asked.up n new.table body formed new.table_is p in
-      let nets_are : after.nets ≡ with_net_table net.nets n c =
-      ap (λ (q : NetParts). q.nets) p.new_is ∙ (ap (λ k. with_net_table net.nets k (cover_said net.nets body)) number ∙ ap (λ k. with_net_table net.nets n k) said) in
-      subst (KeepsTotal net.nets) (sym nets_are)
-      (keeps_total net.nets n new.table c new.table_is (reads_within new.table c new.made.grown)
-      (window_keeps net n asked.down asked.up new.window formed new.is new.table c new.table_is new.made.tight.lawful.keeps) total new.below)
-
-  pub narrowed_keeps : (after : NetParts) (taken : Rule) → taken ≡ rule → Applies asked.terms.free taken net after → IsTotalNet net.nets n → KeepsTotal net.nets after.nets
-  narrowed_keeps after taken is applies total = kept after (subst (λ r. Applies asked.terms.free r net after) is applies) total
+  -- where the old table was total, from the same nets on some table isn't
+  pub narrowed_keeps : (after : NetParts) (taken : Rule) → taken ≡ rule → Applies asked.terms.free taken net after → IsTotalNet net.nets n → (marks : List Bool) → ArePartial net.nets marks → ArePartial after.nets marks
+  narrowed_keeps after taken is applies total marks right =
+      narrowed_partial asked.terms.free (name_in (slot net.nets n)) asked.down asked.up body net after n marks formed (subst (λ r. Applies asked.terms.free r net after) is applies) (its_table net.nets n tabled) total right
 
 -- ---- the marks
 
 pub held_to_take : (asked : Asked) (net : NetParts) (n : ℕ) (c : Cover) (f : Flexibility) → IsToTake asked net n c f → is_held net.nets n ≡ true
 held_to_take asked net n c f new = tabled_held net.nets n (ap (λ t. is_some t) new.table_is)
-
--- where from the same nets on all tables are total, the marks stay right
-pub marks_kept : (old new : List (Option FlatNet)) (marks : List Bool) → KeepsTotal old new → HasMarks old marks → HasMarks new marks
-marks_kept old new marks keeps marked = record { each = λ n held. by n (is_marked marks n) (marked.each n (keeps.held n held)) }
-  where
-    by : (n : ℕ) (mark : Bool) → IsPartialMark old n mark → IsPartialMark new n mark
-    by n true partial = λ d. partial (keeps.down n d)
-    by n false total = keeps.up n total
 
 -- a net that is marked has a table that isn't total, where all below it are; another has a total one
 pub unmarked_here : (nets : List (Option FlatNet)) (n : ℕ) (mark : Bool) → mark ≡ false → IsPartialMark nets n mark → IsTotalNet nets n

@@ -3,7 +3,6 @@
 
 mod asked;
 mod laws;
-mod partial;
 mod simplifying;
 mod visiting;
 

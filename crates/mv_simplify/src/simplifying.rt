@@ -3,18 +3,19 @@ ghost use Rattle.mv_base.specs.declared.limits.TheConstants.{MAX_WINDOW_STEPS};
 ghost use Rattle.mv_base.specs.Meaning.{Refines};
 ghost use Rattle.mv_entry.specs.declared.note.Command.TheVariants.{Simplify as simplify_command};
 ghost use Rattle.mv_net.specs.Allowed.{of_net};
+ghost use Rattle.mv_partial.specs.Partial.{ArePartial};
 ghost use Rattle.mv_pass.specs.Going.{Begun, Does};
 ghost use Rattle.mv_pass.specs.Passing.{Passes};
 ghost use Rattle.mv_simplify.specs.Simplifies.{SimplifiesAll, SimplifiesSome};
-ghost use Rattle.mv_simplify.specs.Simplifying.{HasMarks, IsWithin};
+ghost use Rattle.mv_simplify.specs.Simplifying.{IsWithin};
 
 use crate::Stop;
 use crate::asked::Asked;
-use crate::partial::partial_nets;
 use crate::visiting::visit;
-use mv_base::{Items, NetId};
+use mv_base::NetId;
 use mv_entry::{Command, Journal, Note};
 use mv_net::Network;
+use mv_partial::{PartialNets, partial_nets};
 use mv_pass::end;
 use mv_rules::Terms;
 use std::alloc::Global;
@@ -23,18 +24,18 @@ use std::alloc::Global;
 fn visit_each<J: Journal>(
     alloc: Global,
     net: &mut Network,
-    marks: &mut Items<bool>,
+    partial: &mut PartialNets,
     asked: Asked,
     journal: &mut J,
 ) -> Result<(), Stop>
     requires within { IsWithin asked }
-    requires marks { HasMarks net.old.nets marks.old }
+    requires right { ArePartial net.old.nets partial.old }
     ensures { Passes asked.terms.free (SimplifiesAll asked.terms asked.down asked.up)
         (SimplifiesSome asked.terms asked.down asked.up) net.old net.new
         (J.state journal.old) (J.state journal.new) result }
 {
     for number in 0..net.next_number() {
-        match visit(alloc, net, marks, NetId(number), asked, journal) {
+        match visit(alloc, net, partial, NetId(number), asked, journal) {
             Ok(()) => {}
             Err(stop) => return Err(stop),
         }
@@ -56,11 +57,11 @@ fn simplify_tables<J: Journal>(
     ensures refines { Refines false (of_net net.new) (of_net net.old) }
 {
     net.well_formed();
-    let mut marks = match partial_nets(alloc, net) {
-        Ok(marks) => marks,
+    let mut partial = match partial_nets(alloc, net) {
+        Ok(partial) => partial,
         Err(_memory) => return Err(Stop::Memory),
     };
-    match visit_each(alloc, net, &mut marks, asked, journal) {
+    match visit_each(alloc, net, &mut partial, asked, journal) {
         Ok(()) => Ok(()),
         Err(stop) => Err(stop),
     }

@@ -1,23 +1,24 @@
 //! One visit: a net's table stays, with a note why, or is made tight.
-ghost use Rattle.std.specs.Prelude.{◌≡◌, true, is_some, IfOk, OnOk, IsTrue};
+ghost use Rattle.std.specs.Prelude.{◌≡◌, Bool, true, List, is_some, IfOk, OnOk, IsTrue};
 ghost use Rattle.mv_entry.specs.declared.rule.Rule.TheVariants.{Narrow};
 ghost use Rattle.mv_meaning.specs.Narrowing.{AreTotalBelow};
 ghost use Rattle.mv_net.specs.Nets.{slot, name_in, table_in};
 ghost use Rattle.mv_net.specs.Total.{IsTotalNet};
+ghost use Rattle.mv_partial.specs.Partial.{ArePartial};
 ghost use Rattle.mv_pass.specs.Courses.{Perhaps};
 ghost use Rattle.mv_pass.specs.Passing.{Passes};
 ghost use Rattle.mv_rule_body.specs.Named.{AreHeld, body_of as body_named};
 ghost use Rattle.mv_simplify.specs.Simplifies.{KeepsFor, rule_of};
-ghost use Rattle.mv_simplify.specs.Simplifying.{HasMarks, IsToTake, IsWithin, KeepsBy, KeepsTotal, Visit};
+ghost use Rattle.mv_simplify.specs.Simplifying.{IsToTake, IsWithin, KeepsBy, Visit};
 
 use crate::Stop;
 use crate::asked::Asked;
-use crate::partial::{has_mark, is_partial_below, partial_nets};
-use mv_base::{Items, Memory, Name, NetId};
+use mv_base::{Memory, Name, NetId};
 use mv_cover::Cover;
 use mv_entry::{Journal, Note, Rule, Why};
 use mv_flex::{FlexStop, Flexibility, flex};
 use mv_net::Network;
+use mv_partial::{PartialNets, partial_nets};
 use mv_pass::take_with;
 use mv_rule_body::body_of;
 use mv_tight::make_tight;
@@ -114,7 +115,8 @@ fn narrow_one<J: Journal>(
     requires within { IsWithin asked }
     requires new { IsToTake asked net.old n.0 table.now flexibility.now }
     ensures keeps { OnOk result
-        (IsTotalNet net.old.nets n.0 → KeepsTotal net.old.nets net.new.nets) }
+        (IsTotalNet net.old.nets n.0 → (marks : List Bool) → ArePartial net.old.nets marks
+        → ArePartial net.new.nets marks) }
     ensures passes { Passes asked.terms.free (Visit asked n.0) (Perhaps (Visit asked n.0))
         net.old net.new (J.state journal.old) (J.state journal.new) result }
 {
@@ -129,12 +131,12 @@ fn narrow_one<J: Journal>(
     }
 }
 
-/// Gives the net the table, and notes the rule. The marks are made anew where the old table wasn't total: only then may the new one
-/// leave others from which on all tables are total.
+/// Gives the net the table, and notes the rule. From which nets on some table isn't total is told anew where the old table wasn't
+/// total: only then may the new one leave other such nets.
 fn narrow<J: Journal>(
     alloc: Global,
     net: &mut Network,
-    marks: &mut Items<bool>,
+    partial: &mut PartialNets,
     n: NetId,
     table: &Cover,
     flexibility: &Flexibility,
@@ -142,22 +144,22 @@ fn narrow<J: Journal>(
     journal: &mut J,
 ) -> Result<(), Stop>
     requires within { IsWithin asked }
-    requires marks { HasMarks net.old.nets marks.old }
+    requires right { ArePartial net.old.nets partial.old }
     requires new { IsToTake asked net.old n.0 table.now flexibility.now }
-    ensures marks { OnOk result (HasMarks net.new.nets marks.new) }
+    ensures right { OnOk result (ArePartial net.new.nets partial.new) }
     ensures passes { Passes asked.terms.free (Visit asked n.0) (Perhaps (Visit asked n.0))
         net.old net.new (J.state journal.old) (J.state journal.new) result }
 {
-    let partial = has_mark(marks.as_slice(), n);
+    let was_partial = partial.has(n);
     match narrow_one(alloc, net, n, table, flexibility, asked, journal) {
         Ok(()) => {}
         Err(stop) => return Err(stop),
     }
-    if !partial {
+    if !was_partial {
         return Ok(());
     }
     match partial_nets(alloc, net) {
-        Ok(made) => *marks = made,
+        Ok(made) => *partial = made,
         Err(_memory) => return Err(Stop::Memory),
     }
     Ok(())
@@ -167,16 +169,16 @@ fn narrow<J: Journal>(
 fn tighten<J: Journal>(
     alloc: Global,
     net: &mut Network,
-    marks: &mut Items<bool>,
+    partial: &mut PartialNets,
     n: NetId,
     asked: Asked,
     journal: &mut J,
 ) -> Result<(), Stop>
     requires within { IsWithin asked }
-    requires marks { HasMarks net.old.nets marks.old }
+    requires right { ArePartial net.old.nets partial.old }
     requires table { IsTrue (is_some (table_in (slot net.old.nets n.0))) }
     requires below { AreTotalBelow net.old.nets n.0 }
-    ensures marks { OnOk result (HasMarks net.new.nets marks.new) }
+    ensures right { OnOk result (ArePartial net.new.nets partial.new) }
     ensures passes { Passes asked.terms.free (Visit asked n.0) (Perhaps (Visit asked n.0))
         net.old net.new (J.state journal.old) (J.state journal.new) result }
 {
@@ -190,7 +192,7 @@ fn tighten<J: Journal>(
     };
     match make_tight(alloc, net, n, &flexibility) {
         Ok(None) => Ok(()),
-        Ok(Some(table)) => narrow(alloc, net, marks, n, &table, &flexibility, asked, journal),
+        Ok(Some(table)) => narrow(alloc, net, partial, n, &table, &flexibility, asked, journal),
         Err(stop) => note_stop(alloc, net, n, stop, asked, journal),
     }
 }
@@ -199,14 +201,14 @@ fn tighten<J: Journal>(
 pub fn visit<J: Journal>(
     alloc: Global,
     net: &mut Network,
-    marks: &mut Items<bool>,
+    partial: &mut PartialNets,
     n: NetId,
     asked: Asked,
     journal: &mut J,
 ) -> Result<(), Stop>
     requires within { IsWithin asked }
-    requires marks { HasMarks net.old.nets marks.old }
-    ensures marks { OnOk result (HasMarks net.new.nets marks.new) }
+    requires right { ArePartial net.old.nets partial.old }
+    ensures right { OnOk result (ArePartial net.new.nets partial.new) }
     ensures passes { Passes asked.terms.free (Visit asked n.0) (Perhaps (Visit asked n.0))
         net.old net.new (J.state journal.old) (J.state journal.new) result }
 {
@@ -214,8 +216,8 @@ pub fn visit<J: Journal>(
         return Ok(());
     }
     net.well_formed();
-    if is_partial_below(net, marks.as_slice(), n) {
+    if partial.is_below(net, n) {
         return note_reason(alloc, net, n, Why::Partial, asked, journal);
     }
-    tighten(alloc, net, marks, n, asked, journal)
+    tighten(alloc, net, partial, n, asked, journal)
 }

@@ -9,7 +9,7 @@ use Rattle.mv_net.specs.Formed.{WellFormed}
 use Rattle.mv_net.specs.Nets.{slot, name_in, table_in}
 use Rattle.mv_net.specs.Total.{IsRemovable}
 use Rattle.mv_rules.specs.Applies.{Applies}
-use Rattle.mv_rules.specs.Removing.{Removes}
+use Rattle.mv_plans.specs.Removing.{Removes}
 use Rattle.mv_rules.proofs.OneAnswer.{one_network}
 use Rattle.mv_pass.specs.Taking.{CanApply}
 use Rattle.mv_sweep.specs.Drops.{IsLeastRemovable, IsDropStep}

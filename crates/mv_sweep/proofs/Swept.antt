@@ -22,8 +22,8 @@ use Rattle.mv_net.proofs.Known.{is_held_below}
 use Rattle.mv_pass.specs.Taking.{CanApply}
 use Rattle.mv_rules.specs.Applies.{Applies, keeps_choices}
 use Rattle.mv_net.specs.Plain.{IsPlainBuffer, IsPlainConstant}
-use Rattle.mv_rules.specs.Checks.{IsTabled, IsUnseen, IsRead}
-use Rattle.mv_rules.specs.Collapsing.{CanCollapse, Collapses, collapsed}
+use Rattle.mv_plans.specs.Checks.{IsTabled, IsUnseen, IsRead}
+use Rattle.mv_plans.specs.Collapsing.{CanCollapse, Collapses, collapsed}
 use Rattle.mv_gain.specs.Savings.{IsSaving, IsWideNet}
 use Rattle.mv_gain.proofs.Behind.{right_removed, right_wired, right_collapsed}
 use Rattle.mv_gain.proofs.Going.{wide_net}

@@ -10,9 +10,9 @@ use Rattle.mv_net.specs.Plain.{IsPlainConstant}
 use Rattle.mv_net.specs.Total.{IsRemovable}
 use Rattle.mv_pass.specs.Courses.{Course, Until}
 use Rattle.mv_pass.specs.Going.{Goes}
-use Rattle.mv_rules.specs.Checks.{IsUnseen, IsRead}
-use Rattle.mv_rules.specs.Collapsing.{HasComposites}
-use Rattle.mv_rules.specs.Wiring.{IsBuffer}
+use Rattle.mv_plans.specs.Checks.{IsUnseen, IsRead}
+use Rattle.mv_plans.specs.Collapsing.{HasComposites}
+use Rattle.mv_plans.specs.Wiring.{IsBuffer}
 
 -- the net's table gives one value everywhere
 pub record IsConstant (nets : List (Option FlatNet)) (n : ℕ) : Type 0 where

@@ -1,6 +1,6 @@
 ghost use Rattle.std.specs.Prelude.{IsTrue, IfOk, OnOk, MatchOption};
 ghost use Rattle.mv_net.specs.Index.{is_held};
-ghost use Rattle.mv_rules.specs.Checks.{IsUnseen, IsUnread, IsRead};
+ghost use Rattle.mv_plans.specs.Checks.{IsUnseen, IsUnread, IsRead};
 ghost use Rattle.mv_gain.specs.Kept.{AreRight};
 ghost use Rattle.mv_sweep.specs.Sweeps.{IsSweptNet};
 ghost use Rattle.mv_sweep.specs.Ways.{IsWay};

@@ -111,8 +111,9 @@ narrow b 65536 0;end|Syntax 1
 narrow b 0 000000;end|Syntax 1
 narrow b 0;end|Syntax 1
 narrow b 0 0 0;end|Syntax 1
-remove a;merge b 300 0;wire c|NotBuilt 2
-merge b 0|NotBuilt 1
+remove a;merge b 300 0;wire c|1 remove a;2 merge b 300 0;3 wire c;
+merge b 00|1 merge b 0;
+remove a;encode b 1 c 0 1;wire c|NotBuilt 2
 merge|Syntax 1
 merge b|Syntax 1
 merge b x|Syntax 1
@@ -131,7 +132,7 @@ fill b (0,1)|1 fill b (0,1);
 fill b 1024|Syntax 1
 fill b|Syntax 1
 fill b 0 1|Syntax 1
-wire a;fill b 0;merge c 1|NotBuilt 3
+wire a;fill b 0;merge c 1|1 wire a;2 fill b 0;3 merge c 1;
 fill b 0;wire|Syntax 2
 x;narrow b|Syntax 1
 ";

@@ -11,8 +11,9 @@ pub loop-step-preserved : goal.loop-step-preserved
 loop-step-preserved c =
     let applies = rw c.step-item.is at c.in-Ok.ensures.applies in
     record {
-      ran = more c.args.terms.free c.args.steps.now c.loop-step.step-index c.args.net.now c.loop-step.net c.loop-step.invariant.ran c.step-item.result c.apply_on.new.net c.loop-step-test.true applies;
+      ran = more c.args.terms.free c.args.steps.now c.loop-step.step-index c.args.net.now c.loop-step.net c.loop-step.invariant.ran c.step-item.result c.apply_next.new.net c.loop-step-test.true applies;
       refines = Refines-then c.args.terms.free _ _ _ c.in-Ok.ensures.refines c.loop-step.invariant.refines;
+      right = c.in-Ok.ensures.right;
     }
 
 pub returns-in-Err-clause-stops : goal.returns-in-Err-clause-stops
@@ -22,6 +23,6 @@ returns-in-Err-clause-stops c =
     subst P (sym c.in-Err.ensures.err)
     (stops_here c.args.terms.free c.args.steps.now c.loop-step.step-index c.args.net.now c.loop-step.net c.loop-step.invariant.ran c.args.terms.budget c.step-item.result _ _ _ c.loop-step-test.true (ap (λ (s : Step). s.line) c.step-item.is) fails c.refusal.ensures.memory c.refusal.ensures.rule)
 
-pub apply_on-requires : goal.apply_on-requires
-apply_on-requires c =
+pub apply_next-requires-clause-built : goal.apply_next-requires-clause-built
+apply_next-requires-clause-built c =
     rw c.step-item.is (step_built c.args.steps.now c.loop-step.step-index c.step-item.result c.requires c.loop-step-test.true)

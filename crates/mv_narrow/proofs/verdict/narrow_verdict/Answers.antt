@@ -1,19 +1,6 @@
--- The flexibility in the net's window decides.
+-- Where no table below is partial, each is total.
 use Rattle.std.proofs.lemmas.Bool.{MatchBool-at_true}
-use Rattle.std.proofs.lemmas.Result.{IfOk-weaker}
 use Rattle.mv_narrow.proofs.verdict.narrow_verdict.Goals as goal
 
-pub returns-in-Ok : goal.returns-in-Ok
-returns-in-Ok c =
-    IfOk-weaker c.verdict_with.result _ _
-    (λ verdict is old table.
-    is c.args.net.now c.args.n.0 c.args.d c.args.u c.args.budget old
-    (record {
-      below = MatchBool-at_true _ _ c.if-not-branch.false c.in_ok-are_total_below.ensures;
-      window = c.in_ok-window.window;
-      is = c.in_ok-window.ensures;
-      narrow = c.in-Ok.ensures.narrow;
-      flex = c.in-Ok.ensures.ok;
-    })
-    table (c.requires.reads old table))
-    c.verdict_with.ensures
+pub verdict_above_total-requires-clause-below : goal.verdict_above_total-requires-clause-below
+verdict_above_total-requires-clause-below c = MatchBool-at_true _ _ c.if-not-branch.false c.in_ok-are_total_below.ensures

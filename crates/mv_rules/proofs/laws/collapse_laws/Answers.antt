@@ -1,5 +1,6 @@
 -- The literals that the rule leaves; it applies where each composite has its literals, and fails where one is too wide.
-use Rattle.mv_rules.proofs.CompositeLiterals.{left_counted, counted_collapses, wide_collapse_fails}
+use Rattle.mv_plans.proofs.CompositeLiterals.{counted_collapses, wide_collapse_fails}
+use Rattle.mv_rules.proofs.Left.{left_counted}
 use Rattle.mv_rules.proofs.laws.collapse_laws.Goals as goal
 
 pub returns-clause-left : goal.returns-clause-left

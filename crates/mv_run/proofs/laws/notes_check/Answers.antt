@@ -1,9 +1,10 @@
 -- Each law is a lemma.
 use Rattle.mv_run.proofs.Again.{writes_same, is_accepted}
+use Rattle.mv_run.specs.Doing.{terms_of}
 use Rattle.mv_run.proofs.laws.notes_check.Goals as goal
 
 pub returns-clause-same : goal.returns-clause-same
-returns-clause-same c = writes_same
+returns-clause-same c = λ f. writes_same (terms_of f.free f.budget) f.net f.other
 
 pub returns-clause-accepted : goal.returns-clause-accepted
-returns-clause-accepted c = is_accepted
+returns-clause-accepted c = λ f. is_accepted (terms_of f.free f.budget) f.net f.other

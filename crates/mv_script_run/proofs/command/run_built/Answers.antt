@@ -1,4 +1,4 @@
--- `collapse NET`, `kernel`, `cube` and `simplify D U` pass as the commands that they are.
+-- `collapse NET`, `kernel`, `cube`, `simplify D U` and `default` pass as the commands that they are.
 use Rattle.std.proofs.Common.{sym, subst}
 use Rattle.mv_entry.specs.declared.note.Command.{Command}
 use Rattle.mv_script.specs.Commands.{HasFewSteps}
@@ -29,3 +29,8 @@ pub returns-in-Simplify : goal.returns-in-Simplify
 returns-in-Simplify g c =
     let P : Command → Type 0 = λ k. PassesCommand c.args.terms k c.args.net.now c.simplify.new.net (g.J.Journal.state c.args.journal.now) (g.J.Journal.state c.simplify.new.journal) c.simplify.result in
     subst P (sym c.in-Simplify.is) c.simplify.ensures.passes
+
+pub returns-in-Default : goal.returns-in-Default
+returns-in-Default g c =
+    let P : Command → Type 0 = λ k. PassesCommand c.args.terms k c.args.net.now c.choose_default.new.net (g.J.Journal.state c.args.journal.now) (g.J.Journal.state c.choose_default.new.journal) c.choose_default.result in
+    subst P (sym c.in-Default.is) c.choose_default.ensures.passes

@@ -7,14 +7,14 @@ use Rattle.mv_simplify.proofs.simplifying.visit_each.Goals as goal
 pub loop-number-init : goal.loop-number-init
 loop-number-init g c = record {
   came = visited_none c.args.asked.terms.free (Visit c.args.asked) c.args.net.now _;
-  marks = c.requires.marks;
+  right = c.requires.right;
 }
 
 pub loop-number-preserved : goal.loop-number-preserved
 loop-number-preserved g c = record {
   came =
       visited_more c.args.asked.terms.free (Visit c.args.asked) c.args.net.now c.loop-number.net _ _ c.loop-number.number c.loop-number.invariant.came c.visit.new.net _ c.in-Ok.ensures.passes;
-  marks = c.in-Ok.ensures.marks;
+  right = c.in-Ok.ensures.right;
 }
 
 pub returns-in-Err : goal.returns-in-Err

@@ -1,13 +1,15 @@
 -- Where the old table was total the marks stay right, and else they are made anew.
 use Rattle.std.proofs.Common.{◌∙◌, sym}
-use Rattle.mv_simplify.proofs.Taking.{held_to_take, marks_kept, spent, unmarked_here}
+use Rattle.mv_simplify.proofs.Taking.{held_to_take, spent, unmarked_here}
 use Rattle.mv_simplify.proofs.visiting.narrow.Goals as goal
 
-pub returns-then-not-partial : goal.returns-then-not-partial
-returns-then-not-partial g c = record {
-  marks =
-      marks_kept c.args.net.now.nets c.narrow_one.new.net.nets c.args.marks.now
-      (c.in-Ok.ensures.keeps (unmarked_here c.args.net.now.nets c.args.n.0 _ (sym c.has_mark-partial.ensures ∙ c.if-not-partial.true) (rw c.as_slice.ensures (c.requires.marks.each c.args.n.0 (held_to_take c.args.asked c.args.net.now c.args.n.0 c.args.table.now c.args.flexibility.now c.requires.new))))) c.requires.marks;
+pub returns-then-not-was_partial : goal.returns-then-not-was_partial
+returns-then-not-was_partial g c = record {
+  right =
+      c.in-Ok.ensures.keeps
+      (unmarked_here c.args.net.now.nets c.args.n.0 _ (sym c.has-was_partial.ensures.marked ∙ c.if-not-was_partial.true)
+      (c.requires.right.each c.args.n.0 (held_to_take c.args.asked c.args.net.now c.args.n.0 c.args.table.now c.args.flexibility.now c.requires.new)))
+      c.args.partial.now c.requires.right;
   passes = c.in-Ok.ensures.passes;
 }
 

@@ -1,6 +1,6 @@
 -- A list of readers that isn't empty has one.
 use Rattle.std.proofs.Common.{◌∙◌, sym}
-use Rattle.mv_rules.proofs.Named.{listed_reader}
+use Rattle.mv_plans.proofs.Named.{listed_reader}
 use Rattle.mv_sweep.proofs.way.way_of.Goals as goal
 
 pub way_of_read-requires-clause-read : goal.way_of_read-requires-clause-read

@@ -1,0 +1,3 @@
+pub mod Taken
+-- what private functions alone cite
+pub mod Summing

@@ -1,0 +1,11 @@
+//! What two cubes of a list have in common, and which such part saves the most where it is taken out.
+#![tactic(auto)]
+
+mod common;
+mod found;
+mod groups;
+mod meeting;
+mod nodes;
+mod search;
+
+pub use search::{Answer, best_meet};

@@ -1,0 +1,17 @@
+pub mod Named
+pub mod Overs
+mod Readers
+pub mod Removed
+pub mod Added
+pub mod Wired
+pub mod Collapsed
+pub mod CompositeLiterals
+pub mod Divided
+mod Ahead
+mod Ordered
+mod Expanded
+mod Completed
+mod Found
+pub mod Filled
+pub mod Narrowed
+pub mod Merged

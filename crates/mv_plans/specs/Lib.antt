@@ -1,0 +1,14 @@
+pub mod Checks
+pub mod Removing
+pub mod Adding
+pub mod Dividing
+pub mod Wiring
+pub mod Collapsing
+pub mod Composites
+pub mod Plans
+pub mod Orders
+pub mod Expanding
+pub mod Filling
+pub mod Narrowing
+pub mod Merging
+pub mod Completing

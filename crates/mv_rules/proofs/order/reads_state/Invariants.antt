@@ -1,7 +1,0 @@
-use Rattle.mv_net.specs.declared.parts.FlatLatch.{FlatLatch}
-use Rattle.mv_rules.specs.Orders.{IsOver}
-use Rattle.mv_rules.proofs.Ahead.{IsAhead}
-use Rattle.mv_rules.proofs.order.reads_state.Given as goal
-
-abbrev pub invariant-loop-latch : goal.invariant-loop-latch
-invariant-loop-latch l = IsAhead (λ (k : FlatLatch). IsOver l.net.nets l.fanins k.output.0) l.latches l.latch-index

@@ -1,0 +1,4 @@
+pub mod Tabled
+pub mod Points
+pub mod Lesser
+pub mod Visited

@@ -1,0 +1,3 @@
+pub mod Visits
+-- what private functions alone cite
+pub mod Lessening
