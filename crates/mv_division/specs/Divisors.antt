@@ -40,5 +40,6 @@ with_divisor net name divisor =
 
 -- the net d is such a net
 pub record HasDivisor
-    (nets : List (Option FlatNet)) (d : ℕ) (name : List ℕ) (divisor : List (List Lit)) : Type 0 where
+    (nets : List (Option FlatNet)) (d : ℕ) (name : List ℕ) (divisor : List (List Lit))
+    : Type 0 where
   pub held : slot nets d ≡ Some (divisor_net name (divisor_cover divisor))

@@ -73,8 +73,10 @@ pub fn literals_law()
     ensures some { (nets : List (Option FlatNet)) (divisor : List (List Lit))
         → IsDivisorOver nets divisor → 0 < literals divisor }
     ensures added { (net : NetParts) (name : List ℕ) (divisor : List (List Lit))
-        → literals_in (with_divisor net name divisor).nets ≡ literals_in net.nets + literals divisor }
+        → literals_in (with_divisor net name divisor).nets
+        ≡ literals_in net.nets + literals divisor }
     ensures divided { (net new : NetParts) (n : ℕ) (old : Cover) (lines : List Line)
         → table_in (slot net.nets n) ≡ Some old → HasLines net n old lines new
-        → literals_in new.nets + literal_count old.lines ≡ literals_in net.nets + literal_count lines }
+        → literals_in new.nets + literal_count old.lines
+        ≡ literals_in net.nets + literal_count lines }
 {}

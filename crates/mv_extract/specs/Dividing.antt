@@ -32,8 +32,10 @@ abbrev pub behind_some : Divisors → Course
 behind_some Kernels = VisitsSome NotesKernels
 behind_some Cubes = Nothing
 
--- the net d, the last, stands for the divisor, and of the others no table from this number on reads it
-pub record IsReady (nets : List (Option FlatNet)) (divisor : List (List Lit)) (d : NetId) (from : ℕ) : Type 0 where
+-- the net d, the last, stands for the divisor, and of the others no table from this number on reads
+-- it
+pub record IsReady (nets : List (Option FlatNet)) (divisor : List (List Lit)) (d : NetId)
+    (from : ℕ) : Type 0 where
   pub some : 0 < length divisor
   pub last : length nets ≡ d.0 + 1
   pub by : List ℕ
@@ -42,7 +44,8 @@ pub record IsReady (nets : List (Option FlatNet)) (divisor : List (List Lit)) (d
       → (m : ℕ) → cover_reads c m ≡ true → m < d.0
 
 -- the rule divides the table of the net n by the net d
-pub record IsDivideRule (nets : List (Option FlatNet)) (divisor : List (List Lit)) (n d : NetId) (rule : Rule) : Type 0 where
+pub record IsDivideRule (nets : List (Option FlatNet)) (divisor : List (List Lit)) (n d : NetId)
+    (rule : Rule) : Type 0 where
   pub by : List ℕ
   pub table : Cover
   pub lines : List Line

@@ -18,9 +18,11 @@ IsSearch kinds.Cubes nets (kept.Kernels gains) = ⊥
 IsSearch kinds.Cubes nets kept.Cubes = Unit {0}
 
 -- of the tables of these nets only those of d and of the nets that read it changed or came
-pub record AreBehind (nets : List (Option FlatNet)) (d : NetId) (tables : List (List Part)) : Type 0 where
+pub record AreBehind (nets : List (Option FlatNet)) (d : NetId) (tables : List (List Part))
+    : Type 0 where
   pub more : length tables ≤ length nets
-  pub others : (n : ℕ) → (n ≡ d.0 → ⊥) → net_reads (slot nets n) d.0 ≡ false → covers_at (slot nets n) ≡ slice_index_or tables n []
+  pub others : (n : ℕ) → (n ≡ d.0 → ⊥) → net_reads (slot nets n) d.0 ≡ false
+      → covers_at (slot nets n) ≡ slice_index_or tables n []
 
 -- what is kept is of the nets before d came and tables were divided by it
 abbrev pub IsBehind : Divisors → List (Option FlatNet) → NetId → Search → Type 0

@@ -1,4 +1,5 @@
--- A step of `kernel` and `cube`: a net comes that stands for a common divisor, and the tables are divided by it.
+-- A step of `kernel` and `cube`: a net comes that stands for a common divisor, and the tables are
+-- divided by it.
 use Rattle.std.specs.Prelude.{◌≡◌, ℕ, Bool, List, [], ◌∷◌, length}
 use Rattle.mv_base.specs.declared.number.NetId.{NetId}
 use Rattle.mv_cover.specs.Literal.{Lit}
@@ -25,8 +26,8 @@ pub record AddsDivisor
   pub applies : Applies free (add_rule old.nets name divisor) old new
   pub entries_are : entries ≡ Applied (add_rule old.nets name divisor) ∷ []
 
--- a visit of the net n, where the net d stands for the divisor: it is that net, or no cover of its table has a quotient, and it
--- is let be; or its table is divided by d
+-- a visit of the net n, where the net d stands for the divisor: it is that net, or no cover of its
+-- table has a quotient, and it is let be; or its table is divided by d
 pub data DividesNet
     (free : Bool) (divisor : List (List Lit)) (d : NetId) (n : ℕ)
     (old : NetParts) (entries : List Entry) (new : NetParts) : Type 0 where
@@ -46,12 +47,14 @@ next_net net = record { 0 = length net.nets }
 -- the divisor comes as a net, and each other table, ascending, is divided by it
 abbrev pub TakesDivisor : Bool → List (List Lit) → Course
 TakesDivisor free divisor old entries new =
-    InTurn (AddsDivisor free divisor) (VisitsAll (DividesNet free divisor (next_net old))) old entries new
+    InTurn (AddsDivisor free divisor)
+    (VisitsAll (DividesNet free divisor (next_net old))) old entries new
 
 -- some of that
 abbrev pub TakesDivisorSome : Bool → List (List Lit) → Course
 TakesDivisorSome free divisor old entries new =
-    Onward Nothing (AddsDivisor free divisor) (VisitsSome (DividesNet free divisor (next_net old))) old entries new
+    Onward Nothing (AddsDivisor free divisor)
+    (VisitsSome (DividesNet free divisor (next_net old))) old entries new
 
 -- a step: the best candidate is taken out
 pub record TakesBest

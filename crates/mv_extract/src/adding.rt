@@ -59,7 +59,8 @@ pub fn add_divisor<J: Journal>(
 ) -> Result<(), Stop>
     requires over { IsDivisorOver net.old.nets divisor.now }
     requires room { HasRoom net.old.nets }
-    ensures passes { Passes terms.free (AddsDivisor terms.free divisor.now) (Perhaps (AddsDivisor terms.free divisor.now))
+    ensures passes { Passes terms.free (AddsDivisor terms.free divisor.now)
+        (Perhaps (AddsDivisor terms.free divisor.now))
         net.old net.new (J.state journal.old) (J.state journal.new) result }
     ensures comes { OnOk result (IsAdded divisor.now net.old net.new) }
     ensures means { SameMeaning (of_net net.new) (of_net net.old) }

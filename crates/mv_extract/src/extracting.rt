@@ -36,7 +36,8 @@ fn take_out<J: Journal>(
 ) -> Result<(), Stop>
     requires over { IsDivisorOver net.old.nets divisor.now }
     requires room { HasRoom net.old.nets }
-    ensures passes { Passes terms.free (TakesDivisor terms.free divisor.now) (TakesDivisorSome terms.free divisor.now)
+    ensures passes { Passes terms.free (TakesDivisor terms.free divisor.now)
+        (TakesDivisorSome terms.free divisor.now)
         net.old net.new (J.state journal.old) (J.state journal.new) result }
     ensures means { SameMeaning (of_net net.new) (of_net net.old) }
 {
@@ -61,7 +62,8 @@ fn take_out_each<J: Journal>(
     terms: Terms,
     journal: &mut J,
 ) -> Result<(), Stop>
-    ensures passes { Passes terms.free (Extracts (candidates_of divisors) (behind_of divisors) terms.free)
+    ensures passes { Passes terms.free
+        (Extracts (candidates_of divisors) (behind_of divisors) terms.free)
         (ExtractsSome (candidates_of divisors) (behind_some divisors) terms.free)
         net.old net.new (J.state journal.old) (J.state journal.new) result }
     ensures means { SameMeaning (of_net net.new) (of_net net.old) }

@@ -84,7 +84,8 @@ pub fn follow(
 /// The net, and the nets whose tables read it.
 fn changed_nets(alloc: Global, net: &Network, d: NetId) -> Result<Vec<NetId>, Memory>
     requires { IsTrue (is_held net.now.nets d.0) }
-    ensures below { IfOk result (λ list. All (λ (n : NetId). n.0 < length net.now.nets) list.items) }
+    ensures below { IfOk result
+        (λ list. All (λ (n : NetId). n.0 < length net.now.nets) list.items) }
     ensures all { IfOk result (λ list. (n : ℕ) → has_id list.items n ≡ false
         → (n ≡ d.0 → ⊥) × (net_reads (slot net.now.nets n) d.0 ≡ false)) }
 {

@@ -5,6 +5,7 @@ use Rattle.std.proofs.lemmas.List.{append-nil}
 use Rattle.std.proofs.lemmas.List.Elements.{All-nil, All-cons, All-append}
 use Rattle.mv_base.specs.declared.limits.TheConstants.{MAX_CERTIFICATE_BYTES}
 use Rattle.mv_cert.specs.Certificates.{Certifies}
+use Rattle.mv_choose.specs.Choices.{Determinizing}
 use Rattle.mv_collapse.specs.Collapses.{CollapsesNet, Collapsed, Remains}
 use Rattle.mv_eliminate.specs.Eliminates.{IsEliminateStep, EliminatesAll, NotesWide, Skips, Tells}
 use Rattle.mv_entry.specs.declared.note.Command.{Command}
@@ -23,6 +24,7 @@ use Rattle.mv_division.specs.Divided.{divide_rule}
 use Rattle.mv_gains.specs.Candidates.{Candidates, IsKernelCandidate, IsCubeCandidate}
 use Rattle.mv_cover.specs.Literal.{Lit}
 use Rattle.mv_base.specs.declared.number.NetId.{NetId}
+use Rattle.mv_merge.specs.Merges.{IsMergeStep}
 use Rattle.mv_net.specs.declared.parts.FlatNet.{FlatNet}
 use Rattle.mv_net.specs.declared.parts.NetParts.{NetParts}
 use Rattle.mv_net.specs.Formed.{WellFormed}
@@ -194,9 +196,9 @@ whole_seen terms (Collapse name) a b steps is formed formed' g = collapses_seen 
 whole_seen terms Kernel a b steps is formed formed' g = (extracts_seen terms.free IsKernelCandidate (VisitsAll NotesKernels) (λ a es b v. of_visits StaysSeen (λ n f. (f, All-nil IsSeenNote)) seen_then NotesKernels kernels_seen (length a.nets) a es b v) a steps b g formed).1
 whole_seen terms Cube a b steps is formed formed' g = (extracts_seen terms.free IsCubeCandidate Nothing (of_nothing StaysSeen (λ n f. (f, All-nil IsSeenNote)) seen_then) a steps b g formed).1
 whole_seen terms (Simplify down up) a b steps is formed formed' g = (simplifies_seen terms down up a steps b g formed).1
-whole_seen terms Merge a b steps is formed formed' g = absurd g
+whole_seen terms Merge a b steps is formed formed' g = goes_seen terms.free IsMergeStep (λ net note never. absurd never) a b steps g.steps
 whole_seen terms Default a b steps is formed formed' g = (treats_seen Defaulting a steps b g formed).1
-whole_seen terms Determinize a b steps is formed formed' g = absurd g
+whole_seen terms Determinize a b steps is formed formed' g = (treats_seen Determinizing a steps b g formed).1
 whole_seen terms Encode a b steps is formed formed' g = absurd g
 whole_seen terms Fill a b steps is formed formed' g = fills_seen terms.free a b steps formed g.tables
 

@@ -9,9 +9,11 @@ use Rattle.mv_task.specs.Ending.{done_line}
 
 -- the entries of the script, and the done line
 abbrev pub all_notes : List Entry → NetParts → NetParts → List ℕ
-all_notes entries first net = print entries ++ done_line (literals_in first.nets) (literals_in net.nets)
+all_notes entries first net = print entries
+    ++ done_line (literals_in first.nets) (literals_in net.nets)
 
 -- they are a certificate of what the script did, where they aren't longer than one may be
 abbrev pub IsCertificateOf : Bool → List Entry → NetParts → NetParts → Type 0
 IsCertificateOf free entries first net =
-    length (all_notes entries first net) ≤ MAX_CERTIFICATE_BYTES → Certifies free (all_notes entries first net) first net
+    length (all_notes entries first net) ≤ MAX_CERTIFICATE_BYTES
+    → Certifies free (all_notes entries first net) first net

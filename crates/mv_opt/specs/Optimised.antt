@@ -1,4 +1,5 @@
--- How a run ends that is asked to optimise a network by a script: one that it reads from a file, or one that it draws itself.
+-- How a run ends that is asked to optimise a network by a script: one that it reads from a file, or
+-- one that it draws itself.
 use Rattle.std.specs.Prelude.{◌≡◌, ◌⊎◌, ℕ, ◌≤◌, Bool, true, IfSome, List}
 use Rattle.mv_base.specs.Outside.{Stored, Written, Gained, Rose}
 use Rattle.mv_entry.specs.declared.rule.Rule.{Rule}
@@ -25,9 +26,10 @@ use Rattle.mv_opt.specs.Outputs.{output_of, output_for}
 use Rattle.mv_opt.specs.Noted.{all_notes, IsCertificateOf}
 use Rattle.mv_opt.specs.Scripts.{IsScript, TakesItems, TellsScript}
 
--- what the script did: the named one ran on the first network, and the notes gained its entries and the done line, which are a
--- certificate of it
-pub record Told (terms : Terms) (script : List ℕ) (files : Stored) (first net : NetParts) (notes notes' : Written) : Type 0 where
+-- what the script did: the named one ran on the first network, and the notes gained its entries and
+-- the done line, which are a certificate of it
+pub record Told (terms : Terms) (script : List ℕ) (files : Stored) (first net : NetParts)
+    (notes notes' : Written) : Type 0 where
   pub items : Items
   pub taken : IfSome files.held (TakesItems script items)
   pub entries : List Entry
@@ -35,27 +37,36 @@ pub record Told (terms : Terms) (script : List ℕ) (files : Stored) (first net 
   pub noted : Gained notes notes' (all_notes entries first net)
   pub certified : IsCertificateOf terms.free entries first net
   -- without `determinize` and `encode` it ends with no more literals than it began with
-  pub no_more : all_commands leaves_no_more items ≡ true → literals_in net.nets ≤ literals_in first.nets
+  pub no_more : all_commands leaves_no_more items ≡ true
+      → literals_in net.nets ≤ literals_in first.nets
 
--- the network that these rules left takes the place of the first one. That of a file was written, and reads back so
-abbrev pub Replaces : Bool → List Rule → Source → Stored → Stored → NetParts → NetParts → Written → Written → Type 0
-Replaces free rules (File name) old new first net out out' = Replaced free rules name old new first net out out'
-Replaces free rules (Text text) old new first net out out' = TakesPlace free rules (of_net net) (of_net first)
+-- the network that these rules left takes the place of the first one. That of a file was written,
+-- and reads back so
+abbrev pub Replaces : Bool → List Rule → Source → Stored → Stored → NetParts → NetParts → Written
+    → Written → Type 0
+Replaces free rules (File name) old new first net out out' =
+    Replaced free rules name old new first net out out'
+Replaces free rules (Text text) old new first net out out' =
+    TakesPlace free rules (of_net net) (of_net first)
 
--- the work is done: the network came from where it was to; the script led from it to another one, and told what it did; that
--- one takes its place, as the rules that are told leave it; and the output was written
-pub record IsOptimised (terms : Terms) (given : Inputs) (old new : Stored) (out out' notes notes' : Written) : Type 0 where
+-- the work is done: the network came from where it was to; the script led from it to another one,
+-- and told what it did; that one takes its place, as the rules that are told leave it; and the
+-- output was written
+pub record IsOptimised (terms : Terms) (given : Inputs) (old new : Stored)
+    (out out' notes notes' : Written) : Type 0 where
   pub first : NetParts
   pub made : Prepared given.network old new first
   pub net : NetParts
   pub told : Told terms given.second old first net notes notes'
-  pub replaces : Replaces terms.free (rules_of told.entries) given.network old new first net out out'
+  pub replaces
+      : Replaces terms.free (rules_of told.entries) given.network old new first net out out'
   pub output : Gained out out' (output_of (output_for given.network) first told.entries net)
 
--- each status and what it says: 0 the work is done; 2 the network is refused, behind a script that was taken, and the notes tell
--- why; 3 the script is refused, before the network is begun, and the notes tell why; 4 a read failed; 5 a write failed; 6 memory
--- ran out
-pub record Optimises (terms : Terms) (given : Inputs) (old new : Stored) (out out' notes notes' : Written) (status : ℕ) : Type 0 where
+-- each status and what it says: 0 the work is done; 2 the network is refused, behind a script that
+-- was taken, and the notes tell why; 3 the script is refused, before the network is begun, and the
+-- notes tell why; 4 a read failed; 5 a write failed; 6 memory ran out
+pub record Optimises (terms : Terms) (given : Inputs) (old new : Stored)
+    (out out' notes notes' : Written) (status : ℕ) : Type 0 where
   pub done : status ≡ 0 → IsOptimised terms given old new out out' notes notes'
   pub network : status ≡ 2 → TellsFault given.network old notes notes'
   pub behind : status ≡ 2 → IfSome old.held (IsTaken IsScript given.second)

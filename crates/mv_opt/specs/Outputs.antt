@@ -31,7 +31,8 @@ is_told (Some net) = is_named_kind net.kind
 abbrev pub no_tally : Tally
 no_tally = record { begun = 0; rules = 0; dropped = 0 }
 
--- the summary of a run, from the literals of the network that was read, what was counted, and the network that is left
+-- the summary of a run, from the literals of the network that was read, what was counted, and the
+-- network that is left
 unfoldable pub summary_of : ℕ → Tally → NetParts → Summing
 summary_of before tally net = record {
   nets = count_by is_told net.nets;
@@ -49,7 +50,8 @@ output_text Summary before tally net = summary_text (summary_of before tally net
 
 -- what is written of a run from a first network by these entries to the network that is left
 abbrev pub output_of : Output → NetParts → List Entry → NetParts → List ℕ
-output_of output first entries net = output_text output (literals_in first.nets) (with_entries no_tally entries) net
+output_of output first entries net =
+    output_text output (literals_in first.nets) (with_entries no_tally entries) net
 
 -- a network that is read from a file is written, and of one that the program made a summary is
 abbrev pub output_for : Source → Output

@@ -7,6 +7,7 @@ ghost use Rattle.mv_task.specs.Lines.{TellsLine, memory_line};
 /// A run for which no memory is there before it has begun ends so.
 #[tactic(auto, using(crate::proofs::Ends::short_at_once))]
 pub fn short_at_once()
-    ensures { (terms : Terms) (given : Inputs) (files : Stored) (out notes notes' : Written) → TellsLine notes notes' memory_line
+    ensures { (terms : Terms) (given : Inputs) (files : Stored) (out notes notes' : Written)
+        → TellsLine notes notes' memory_line
         → Optimises terms given files files out out notes notes' 6 }
 {}

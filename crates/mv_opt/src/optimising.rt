@@ -40,7 +40,8 @@ fn finish_run<O: Sink, E: Sink>(
     requires names { HasWordNames work.net.nets }
     requires built { are_built (items_of work.script) ≡ true }
     requires lawful { are_lawful (items_of work.script) ≡ true }
-    ensures { EndsRun terms output (items_of work.script) work.net (O.state out.old) (O.state out.new) (E.state notes.old) (E.state notes.new) result }
+    ensures { EndsRun terms output (items_of work.script) work.net (O.state out.old)
+        (O.state out.new) (E.state notes.old) (E.state notes.new) result }
 {
     match carry_out(alloc, work, terms, output, out, notes) {
         Ok(()) => 0,

@@ -76,11 +76,15 @@ fn sum_up<O: Sink, E: Sink>(
     out: &mut O,
     notes: &mut E,
 ) -> Result<(), Failed>
-    ensures written { OnOk result (Gained (O.state out.old) (O.state out.new) (summary_text (summary_of before tally net.now))) }
+    ensures written { OnOk result
+        (Gained (O.state out.old) (O.state out.new)
+        (summary_text (summary_of before tally net.now))) }
     ensures noted { OnOk result (Gained (E.state notes.old) (E.state notes.new)
         (done_line before (literals_in net.now.nets))) }
-    ensures cut { OnErr result (IsEndCut (O.state out.old) (O.state out.new) (E.state notes.old) (E.state notes.new)
-        (done_line before (literals_in net.now.nets)) (summary_text (summary_of before tally net.now))) }
+    ensures cut { OnErr result
+        (IsEndCut (O.state out.old) (O.state out.new) (E.state notes.old) (E.state notes.new)
+        (done_line before (literals_in net.now.nets))
+        (summary_text (summary_of before tally net.now))) }
 {
     match put_note(&Note::Done(before, net.literals()), notes) {
         Ok(()) => {}
@@ -99,10 +103,12 @@ pub fn end_run<O: Sink, E: Sink>(
     out: &mut O,
     notes: &mut E,
 ) -> Result<(), Failed>
-    ensures written { OnOk result (Gained (O.state out.old) (O.state out.new) (output_text output before tally net.now)) }
+    ensures written { OnOk result
+        (Gained (O.state out.old) (O.state out.new) (output_text output before tally net.now)) }
     ensures noted { OnOk result (Gained (E.state notes.old) (E.state notes.new)
         (done_line before (literals_in net.now.nets))) }
-    ensures cut { OnErr result (IsEndCut (O.state out.old) (O.state out.new) (E.state notes.old) (E.state notes.new)
+    ensures cut { OnErr result
+        (IsEndCut (O.state out.old) (O.state out.new) (E.state notes.old) (E.state notes.new)
         (done_line before (literals_in net.now.nets)) (output_text output before tally net.now)) }
 {
     match output {

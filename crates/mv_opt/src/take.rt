@@ -30,14 +30,17 @@ use std::alloc::Global;
 #[tactic(auto, using(crate::proofs::Takes::takes_script))]
 fn take_script<F: Files>(alloc: Global, name: &str, files: &mut F) -> Result<Script, Stop>
     ensures taken { OnOk result (IfSome (F.state files.old).held (IsTaken IsScript name.now)) }
-    ensures items { IfOk result (λ script. IfSome (F.state files.old).held (TakesItems name.now (items_of script))) }
+    ensures items { IfOk result
+        (λ script. IfSome (F.state files.old).held (TakesItems name.now (items_of script))) }
     ensures built { IfOk result (λ script. are_built (items_of script) ≡ true) }
     ensures lawful { IfOk result (λ script. are_lawful (items_of script) ≡ true) }
     ensures stay { Stay (F.state files.old) (F.state files.new) }
     ensures own { (fault : FileFault) → result ≡ Err (Stop.Source (faulty fault)) → ⊥ }
     ensures refused { IfErr result (IsRefusal name.now (F.state files.old)) }
     ensures starts { BeganOne (F.state files.old) (F.state files.new) }
-    ensures ended { IfErr result (λ stop. SecondEnded IsScript 3 name.now (F.state files.old) (F.state files.new) (status_of stop)) }
+    ensures ended { IfErr result
+        (λ stop. SecondEnded IsScript 3 name.now (F.state files.old) (F.state files.new)
+        (status_of stop)) }
 {
     let text = match read_file(alloc, files, name, MAX_SCRIPT_BYTES) {
         Ok(text) => text,
@@ -72,17 +75,21 @@ pub fn prepare<F: Files>(
     files: &mut F,
 ) -> Result<Work, Stop>
     ensures taken { OnOk result (IfSome (F.state files.old).held (IsTaken IsScript script.now)) }
-    ensures items { IfOk result (λ work. IfSome (F.state files.old).held (TakesItems script.now (items_of work.script))) }
+    ensures items { IfOk result
+        (λ work. IfSome (F.state files.old).held (TakesItems script.now (items_of work.script))) }
     ensures built { IfOk result (λ work. are_built (items_of work.script) ≡ true) }
     ensures lawful { IfOk result (λ work. are_lawful (items_of work.script) ≡ true) }
-    ensures made { IfOk result (λ work. Prepared (File network.now) (F.state files.old) (F.state files.new) work.net) }
+    ensures made { IfOk result
+        (λ work. Prepared (File network.now) (F.state files.old) (F.state files.new) work.net) }
     ensures names { IfOk result (λ work. HasWordNames work.net.nets) }
-    ensures starts { OnOk result (BeganAll (File network.now) (F.state files.old) (F.state files.new)) }
+    ensures starts { OnOk result
+        (BeganAll (File network.now) (F.state files.old) (F.state files.new)) }
     ensures faulty { (fault : FileFault) → result ≡ Err (Stop.Source (faulty fault))
         → IfSome (F.state files.old).held (RefusesNetwork (File network.now) fault) }
     ensures refused { IfErr result (IsRefusal script.now (F.state files.old)) }
     ensures ended { IfErr result (λ stop.
-        Ended IsScript 3 (named network.now script.now) (F.state files.old) (F.state files.new) (status_of stop)) }
+        Ended IsScript 3 (named network.now script.now) (F.state files.old) (F.state files.new)
+        (status_of stop)) }
 {
     let script = match take_script(alloc, script, files) {
         Ok(script) => script,
@@ -106,17 +113,22 @@ pub fn prepare_drawn<F: Files>(
     requires least { MIN_WORK_TABLES ≤ size }
     requires most { size ≤ MAX_WORK_TABLES }
     ensures taken { OnOk result (IfSome (F.state files.old).held (IsTaken IsScript script.now)) }
-    ensures items { IfOk result (λ work. IfSome (F.state files.old).held (TakesItems script.now (items_of work.script))) }
+    ensures items { IfOk result
+        (λ work. IfSome (F.state files.old).held (TakesItems script.now (items_of work.script))) }
     ensures built { IfOk result (λ work. are_built (items_of work.script) ≡ true) }
     ensures lawful { IfOk result (λ work. are_lawful (items_of work.script) ≡ true) }
-    ensures made { IfOk result (λ work. Prepared (Text (work_text size seed)) (F.state files.old) (F.state files.new) work.net) }
+    ensures made { IfOk result
+        (λ work. Prepared (Text (work_text size seed)) (F.state files.old)
+        (F.state files.new) work.net) }
     ensures names { IfOk result (λ work. HasWordNames work.net.nets) }
-    ensures starts { OnOk result (BeganAll (Text (work_text size seed)) (F.state files.old) (F.state files.new)) }
+    ensures starts { OnOk result
+        (BeganAll (Text (work_text size seed)) (F.state files.old) (F.state files.new)) }
     ensures faulty { (fault : FileFault) → result ≡ Err (Stop.Source (faulty fault))
         → IfSome (F.state files.old).held (RefusesNetwork (Text (work_text size seed)) fault) }
     ensures refused { IfErr result (IsRefusal script.now (F.state files.old)) }
     ensures ended { IfErr result (λ stop.
-        Ended IsScript 3 (drawn size seed script.now) (F.state files.old) (F.state files.new) (status_of stop)) }
+        Ended IsScript 3 (drawn size seed script.now) (F.state files.old) (F.state files.new)
+        (status_of stop)) }
 {
     let script = match take_script(alloc, script, files) {
         Ok(script) => script,

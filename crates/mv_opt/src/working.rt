@@ -38,12 +38,17 @@ fn run_noted<E: Sink>(
 ) -> Result<Tally, Stop>
     requires built { are_built (items_of script.now) ≡ true }
     requires lawful { are_lawful (items_of script.now) ≡ true }
-    ensures ok { IfOk result (HasRun terms (items_of script.now) net.old net.new (E.state notes.old) (E.state notes.new)) }
+    ensures ok { IfOk result
+        (HasRun terms (items_of script.now) net.old net.new (E.state notes.old)
+        (E.state notes.new)) }
     ensures memory { result ≡ Err Stop.Memory
-        → HasStopped terms (items_of script.now) net.old net.new (E.state notes.old) (E.state notes.new) }
+        → HasStopped terms (items_of script.now) net.old net.new (E.state notes.old)
+        (E.state notes.new) }
     ensures note { result ≡ Err Stop.Note
-        → IsNoteCut terms (items_of script.now) net.old net.new (E.state notes.old) (E.state notes.new) }
-    ensures cause { result ≡ Err Stop.Note → Rose (E.state notes.old).faults (E.state notes.new).faults }
+        → IsNoteCut terms (items_of script.now) net.old net.new (E.state notes.old)
+        (E.state notes.new) }
+    ensures cause { result ≡ Err Stop.Note
+        → Rose (E.state notes.old).faults (E.state notes.new).faults }
     ensures refines { Refines terms.free (of_net net.new) (of_net net.old) }
     ensures later { (E.state notes.old).faults ≤ (E.state notes.new).faults }
 {
@@ -72,9 +77,11 @@ pub fn carry_out<O: Sink, E: Sink>(
     ensures write { result ≡ Err WorkStop.Write → IsCut terms output (items_of work.script) work.net
         (O.state out.old) (O.state out.new) (E.state notes.old) (E.state notes.new) }
     ensures memory { result ≡ Err WorkStop.Memory
-        → HasStoppedAt terms (items_of work.script) work.net (E.state notes.old) (E.state notes.new) }
+        → HasStoppedAt terms (items_of work.script) work.net (E.state notes.old)
+        (E.state notes.new) }
     ensures untouched { result ≡ Err WorkStop.Memory → O.state out.new ≡ O.state out.old }
-    ensures later { result ≡ Err WorkStop.Memory → (E.state notes.old).faults ≤ (E.state notes.new).faults }
+    ensures later { result ≡ Err WorkStop.Memory
+        → (E.state notes.old).faults ≤ (E.state notes.new).faults }
 {
     let Work { mut net, script } = work;
     net.well_formed();

@@ -14,9 +14,11 @@ use Rattle.mv_task.specs.Taken.{IsTaken, IsRefused}
 abbrev pub checking : Files → List ℕ → Files
 checking f certificate = record f { other = certificate }
 
--- the files of a later run, which tell of themselves as those of an earlier one did, have the same network file, and by the name of
--- a certificate what the notes of the earlier run gained, which isn't longer than a certificate may be
-pub record HoldsNoted (net certificate : List ℕ) (earlier later : Stored) (notes notes' : Written) : Type 0 where
+-- the files of a later run, which tell of themselves as those of an earlier one did, have the same
+-- network file, and by the name of a certificate what the notes of the earlier run gained, which
+-- isn't longer than a certificate may be
+pub record HoldsNoted (net certificate : List ℕ) (earlier later : Stored) (notes notes' : Written)
+    : Type 0 where
   pub before : Held
   pub told : earlier.held ≡ Some before
   pub now : Held
@@ -35,8 +37,8 @@ pub record WriteSame (out out' again again' : Written) : Type 0 where
   pub first : Gained out out' text
   pub second : Gained again again' text
 
--- the files hold a network file that is accepted and a certificate that is one, and behind some first rules of it, which apply in
--- turn, beginning with the network, one doesn't
+-- the files hold a network file that is accepted and a certificate that is one, and behind some
+-- first rules of it, which apply in turn, beginning with the network, one doesn't
 pub record HoldsFailing (free : Bool) (net certificate : List ℕ) (held : Held) : Type 0 where
   pub first : NetParts
   pub network : IsTaken (λ text. IsNetOfText text first) net held
@@ -48,4 +50,5 @@ pub record HoldsFailing (free : Bool) (net certificate : List ℕ) (held : Held)
 
 -- the certificate is refused: its text, or a rule of it
 abbrev pub HoldsRefused : Bool → List ℕ → List ℕ → Held → Type 0
-HoldsRefused free net certificate held = IsRefused IsCertificate certificate held ⊎ HoldsFailing free net certificate held
+HoldsRefused free net certificate held = IsRefused IsCertificate certificate held
+    ⊎ HoldsFailing free net certificate held

@@ -18,7 +18,8 @@ pub fn notes_check()
         (out out' notes notes' again again' told told' : Written) (status : ℕ)
         → EndsAsked (Some (opt f)) files files' out out' notes notes' 0
         → HoldsNoted f.net certificate files later notes notes'
-        → EndsAsked (Some (check (checking f certificate))) later later' again again' told told' status
+        → EndsAsked
+        (Some (check (checking f certificate))) later later' again again' told told' status
         → (status ≡ 0) ⊎ (status ≡ 4) ⊎ (status ≡ 5) ⊎ (status ≡ 6) }
 {}
 
@@ -28,7 +29,8 @@ pub fn refused_exactly()
     ensures only { (f : Files) (files files' : Stored) (out out' notes notes' : Written)
         → EndsAsked (Some (check f)) files files' out out' notes notes' 7
         → IfSome files.held (HoldsRefused f.free f.net f.other) }
-    ensures always { (f : Files) (files files' : Stored) (out out' notes notes' : Written) (status : ℕ)
+    ensures always { (f : Files) (files files' : Stored) (out out' notes notes' : Written)
+        (status : ℕ)
         → EndsAsked (Some (check f)) files files' out out' notes notes' status
         → IsSomeAnd files.held (HoldsRefused f.free f.net f.other)
         → IsUnhindered status → status ≡ 7 }

@@ -50,9 +50,12 @@ pub fn run<F: Files, O: Sink, E: Sink>(
     ensures replaced { result ≡ 0 → IfSome (network_asked (task_of (map string_bytes words.now)))
         (IsReplaced (F.state files.old) (F.state files.new) (O.state out.old) (O.state out.new)) }
     ensures words { result ≡ 1 → task_of (map string_bytes words.now) ≡ None }
-    ensures does { EndsAsked (task_of (map string_bytes words.now)) (F.state files.old) (F.state files.new)
+    ensures does { EndsAsked (task_of (map string_bytes words.now)) (F.state files.old)
+        (F.state files.new)
         (O.state out.old) (O.state out.new) (E.state notes.old) (E.state notes.new) result }
-    ensures begun { result ≡ 0 → (F.state files.new).starts ≡ starts_behind (task_of (map string_bytes words.now)) (F.state files.old).starts }
+    ensures begun { result ≡ 0
+        → (F.state files.new).starts ≡ starts_behind (task_of
+        (map string_bytes words.now)) (F.state files.old).starts }
     ensures unread { result ≡ 1 → F.state files.new ≡ F.state files.old }
     ensures read { result ≡ 4 → Rose (F.state files.old).faults (F.state files.new).faults }
     ensures untouched { (result ≡ 0 → ⊥) → (result ≡ 5 → ⊥) → O.state out.new ≡ O.state out.old }

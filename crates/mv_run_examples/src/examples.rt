@@ -152,6 +152,47 @@ default 0;end;add _m2;line choice 1 crisps 0 -> 1;line choice 2 soda 0 -> 1;line
 default 0;end;divide give_back _m2;line _m1 1 _m2 1 -> 1;default 0;end;# end 15;# done 28 15;
 ";
 
+/// The same of one whose tables leave choices, and of whose nets one has values that nobody tells apart.
+const CHOSEN: &str = "\
+-- The first choice of each table is made, and two kinds of traffic are left of four.
+# Two caches may hold one line of a memory. Where several moves are right the tables leave the choice.;.model caches;\
+.inputs ask;.outputs fetch;.mv ask 5 NOBODY A_READS A_WRITES B_READS B_WRITES;\
+.mv a, next_a, b, next_b 3 OWNED SHARED GONE;.mv bus 4 QUIET LOAD STORE UPGRADE;;\
+# a line may be given up while it is shared, and who reads it alone may own it at once;.table ask a b -> next_a;\
+NOBODY - - =a;NOBODY SHARED - GONE;A_READS OWNED - OWNED;A_READS !OWNED !GONE SHARED;\
+A_READS !OWNED GONE (OWNED,SHARED);A_WRITES - - OWNED;B_READS OWNED - SHARED;B_READS SHARED - (SHARED,GONE);\
+B_READS GONE - GONE;B_WRITES - - GONE;.latch next_a a;.reset -> a;GONE;;# the same for the other one;\
+.table ask a b -> next_b;NOBODY - - =b;NOBODY - SHARED GONE;B_READS - OWNED OWNED;B_READS !GONE !OWNED SHARED;\
+B_READS GONE !OWNED (OWNED,SHARED);B_WRITES - - OWNED;A_READS - OWNED SHARED;A_READS - SHARED (SHARED,GONE);\
+A_READS - GONE GONE;A_WRITES - - GONE;.latch next_b b;.reset -> b;GONE;;\
+# what goes over the bus, of which the memory looks at the fetches alone;.table ask a b -> bus;.default QUIET;\
+A_READS GONE - LOAD;A_WRITES GONE - STORE;A_WRITES SHARED - UPGRADE;B_READS - GONE LOAD;B_WRITES - GONE STORE;\
+B_WRITES - SHARED UPGRADE;.table bus -> fetch;.default 0;(LOAD,STORE) 1;.end; | \
+.model caches;.inputs ask;.outputs fetch;.mv ask 5 NOBODY A_READS A_WRITES B_READS B_WRITES;.mv a 3 OWNED SHARED GONE;\
+.mv b 3 OWNED SHARED GONE;.mv next_a 3 OWNED SHARED GONE;.mv next_b 3 OWNED SHARED GONE;.latch next_a a;\
+.latch next_b b;.table ask a b -> next_a;NOBODY OWNED - OWNED;NOBODY SHARED - SHARED;NOBODY GONE - GONE;\
+A_READS OWNED - OWNED;A_READS (SHARED,GONE) (OWNED,SHARED) SHARED;A_READS (SHARED,GONE) GONE OWNED;A_WRITES - - OWNED;\
+B_READS OWNED - SHARED;B_READS SHARED - SHARED;B_READS GONE - GONE;B_WRITES - - GONE;.reset -> a;GONE;\
+.table ask a b -> next_b;NOBODY - OWNED OWNED;NOBODY - SHARED SHARED;NOBODY - GONE GONE;B_READS - OWNED OWNED;\
+B_READS (OWNED,SHARED) (SHARED,GONE) SHARED;B_READS GONE (SHARED,GONE) OWNED;B_WRITES - - OWNED;\
+A_READS - OWNED SHARED;A_READS - SHARED SHARED;A_READS - GONE GONE;A_WRITES - - GONE;.reset -> b;GONE;\
+.table ask a b -> bus;.default 0;A_READS GONE - 1;A_WRITES GONE - 1;A_WRITES SHARED - 0;B_READS - GONE 1;\
+B_WRITES - GONE 1;B_WRITES - SHARED 0;.table bus -> fetch;.default 0;1 1;.end; | \
+# begin determinize;narrow next_a 0 0;line ask 0 a 0 -> 0;line ask 0 a 1 -> 1;line ask 0 a 2 -> 2;line ask 1 a 0 -> 0;\
+line ask 1 a (1,2) b (0,1) -> 1;line ask 1 a (1,2) b 2 -> 0;line ask 2 -> 0;line ask 3 a 0 -> 1;line ask 3 a 1 -> 1;\
+line ask 3 a 2 -> 2;line ask 4 -> 2;end;narrow next_b 0 0;line ask 0 b 0 -> 0;line ask 0 b 1 -> 1;line ask 0 b 2 -> 2;\
+line ask 3 b 0 -> 0;line ask 3 a (0,1) b (1,2) -> 1;line ask 3 a 2 b (1,2) -> 0;line ask 4 -> 0;line ask 1 b 0 -> 1;\
+line ask 1 b 1 -> 1;line ask 1 b 2 -> 2;line ask 2 -> 2;end;# end 57;# begin merge;merge bus 3 0;merge bus 2 1;\
+# end 57;# done 61 57;
+";
+
+#[test]
+fn an_example_with_choices_is_written_as_worked_out(rt: HostRuntime) -> Result<(), Fail> {
+    let script =
+        b"determinize; merge # one move each time, and kinds of traffic that nobody tells apart\n";
+    all_end(&rt, rt.alloc(), Form::Written(script), CHOSEN)
+}
+
 #[test]
 fn an_example_with_divisors_is_written_as_worked_out(rt: HostRuntime) -> Result<(), Fail> {
     let script = b"kernel # what several tables can share\n";

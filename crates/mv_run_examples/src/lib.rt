@@ -10,6 +10,8 @@ mod commands;
 #[cfg(test)]
 mod defaulted;
 #[cfg(test)]
+mod determined;
+#[cfg(test)]
 mod examples;
 #[cfg(test)]
 mod extractions;
@@ -23,6 +25,8 @@ mod instances;
 mod joints;
 #[cfg(test)]
 mod limits;
+#[cfg(test)]
+mod merged;
 #[cfg(test)]
 mod networks;
 #[cfg(test)]

@@ -2,23 +2,15 @@
 use Rattle.std.specs.Prelude.{◌≡◌, ◌≤◌, nat_le, Bool, true, false, ◌&&◌, ◌||◌}
 use Rattle.mv_base.specs.declared.limits.TheConstants.{MAX_WINDOW_STEPS}
 use Rattle.mv_entry.specs.declared.note.Command.{Command}
-use Rattle.mv_entry.specs.declared.note.Command.TheVariants.{Drop, Sweep, Eliminate, Collapse, Kernel, Cube, Simplify, Default, Fill}
+use Rattle.mv_entry.specs.declared.note.Command.TheVariants.{Collapse, Simplify, Encode}
 use Rattle.mv_entry.specs.declared.note.Note.TheVariants.{Begin}
 use Rattle.mv_entry.specs.Entries.{Noted, HasVisibleNames, is_visible_name}
 use Rattle.mv_script.specs.Scripts.{Items, End, Do, Repeat, Better}
 
 -- the command is one of those that run in this version
 abbrev pub is_built : Command → Bool
-is_built Drop = true
-is_built Sweep = true
-is_built Eliminate = true
-is_built (Collapse net) = true
-is_built Kernel = true
-is_built Cube = true
-is_built (Simplify down up) = true
-is_built Default = true
-is_built Fill = true
-is_built _ = false
+is_built Encode = false
+is_built _ = true
 
 -- each command in items is such
 abbrev pub all_commands : (Command → Bool) → Items → Bool
@@ -40,8 +32,8 @@ are_built items = all_commands is_built items
 
 -- ---- names and numbers
 
--- a command as scripts say it: its name, if it has one, has at least one byte and can be seen, and a window that it names goes no
--- more steps than one may
+-- a command as scripts say it: its name, if it has one, has at least one byte and can be seen, and
+-- a window that it names goes no more steps than one may
 abbrev pub is_lawful : Command → Bool
 is_lawful (Collapse net) = is_visible_name net
 is_lawful (Simplify down up) = nat_le down MAX_WINDOW_STEPS && nat_le up MAX_WINDOW_STEPS
@@ -56,7 +48,8 @@ abbrev pub HasFewSteps : Command → Type 0
 HasFewSteps (Simplify down up) = (down ≤ MAX_WINDOW_STEPS) × (up ≤ MAX_WINDOW_STEPS)
 HasFewSteps _ = Unit {0}
 
--- a command as it runs in this version: the note that it begins can be printed, and its window may be asked for
+-- a command as it runs in this version: the note that it begins can be printed, and its window may
+-- be asked for
 pub record IsCommand (command : Command) : Type 0 where
   pub built : is_built command ≡ true
   pub names : HasVisibleNames (Noted (Begin command))

@@ -10,8 +10,8 @@ use Rattle.mv_script.specs.Reading.{fault, parts_from, at_start}
 use Rattle.mv_script.specs.Scripts.{Items, item_counts, passing}
 use Rattle.mv_script.specs.Texts.{is_strange, said, tokens_of}
 
--- the parts of the tokens, or the first fault of bytes and tokens: the one that comes first, and of two at one place the byte's,
--- which has the lowest number
+-- the parts of the tokens, or the first fault of bytes and tokens: the one that comes first, and of
+-- two at one place the byte's, which has the lowest number
 abbrev pub earlier : Option ℕ → Result (List Part) TextFault → Result (List Part) TextFault
 earlier None told = told
 earlier (Some p) (Ok parts) = Err (fault UnknownWord p)
@@ -19,7 +19,8 @@ earlier (Some p) (Err f) = Err (if nat_le p f.place then fault UnknownWord p els
 
 -- the parts of what is said, or the first fault that its bytes and its tokens tell
 unfoldable pub parts_in : List ℕ → Result (List Part) TextFault
-parts_in said = earlier (position is_strange said) (parts_from (length said) (tokens_of said) at_start)
+parts_in said =
+    earlier (position is_strange said) (parts_from (length said) (tokens_of said) at_start)
 
 -- with the item at the place the commands first pass the limit
 pub record PassesAt (parts : List Part) (place : ℕ) : Type 0 where
@@ -34,8 +35,10 @@ IsFaultOf (Ok parts) f = (f.kind ≡ TooMany) × PassesAt parts f.place
 
 -- the first fault of a text: that it is too long comes before all others
 pub data IsFirstFault (text : List ℕ) (f : TextFault) : Type 0 where
-  Long : (long : MAX_SCRIPT_BYTES < length text) → (is : f ≡ fault TooLong MAX_SCRIPT_BYTES) → IsFirstFault text f
-  Within : (short : length text ≤ MAX_SCRIPT_BYTES) → (is : IsFaultOf (parts_in (said text)) f) → IsFirstFault text f
+  Long : (long : MAX_SCRIPT_BYTES < length text) → (is : f ≡ fault TooLong MAX_SCRIPT_BYTES)
+      → IsFirstFault text f
+  Within : (short : length text ≤ MAX_SCRIPT_BYTES) → (is : IsFaultOf (parts_in (said text)) f)
+      → IsFirstFault text f
 
 -- ---- the line of a fault
 

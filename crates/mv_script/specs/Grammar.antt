@@ -31,7 +31,9 @@ SaysCommand (Collapse net) words = (words ≡ codes "collapse" ∷ net ∷ []) �
 SaysCommand Kernel words = words ≡ codes "kernel" ∷ []
 SaysCommand Cube words = words ≡ codes "cube" ∷ []
 SaysCommand (Simplify down up) words =
-    (v : List ℕ) × ((w : List ℕ) × ((words ≡ codes "simplify" ∷ v ∷ w ∷ []) × SaysNumber 0 8 down v × SaysNumber 0 8 up w))
+    (v : List ℕ)
+    × ((w : List ℕ)
+    × ((words ≡ codes "simplify" ∷ v ∷ w ∷ []) × SaysNumber 0 8 down v × SaysNumber 0 8 up w))
 SaysCommand Merge words = words ≡ codes "merge" ∷ []
 SaysCommand Default words = words ≡ codes "default" ∷ []
 SaysCommand Determinize words = words ≡ codes "determinize" ∷ []
@@ -41,7 +43,8 @@ SaysCommand Fill words = words ≡ codes "fill" ∷ []
 -- the words say the part: a command, how an item with braces begins, or how it ends
 abbrev pub SaysKind : PartKind → List (List ℕ) → Type 0
 SaysKind (Do command) words = SaysCommand command words
-SaysKind (Open (Repeat times)) words = (w : List ℕ) × ((words ≡ codes "repeat" ∷ w ∷ codes "{" ∷ []) × SaysNumber 1 1000 times w)
+SaysKind (Open (Repeat times)) words = (w : List ℕ)
+    × ((words ≡ codes "repeat" ∷ w ∷ codes "{" ∷ []) × SaysNumber 1 1000 times w)
 SaysKind (Open Better) words = words ≡ codes "better" ∷ codes "{" ∷ []
 SaysKind Close words = words ≡ codes "}" ∷ []
 
@@ -61,16 +64,21 @@ pub record SaysPart (part : Part) (own : List Token) : Type 0 where
 abbrev pub AreSemicolons : List Token → Type 0
 AreSemicolons ts = list_all (λ (t : Token). same_word t.word (codes ";")) ts ≡ true
 
--- the tokens say the parts, one after the other; `;` may stand before, between and behind them any number of times
+-- the tokens say the parts, one after the other; `;` may stand before, between and behind them any
+-- number of times
 abbrev pub SayParts : List Part → List Token → Type 0
 SayParts [] ts = AreSemicolons ts
 SayParts (part ∷ parts) ts =
-    (semicolons : List Token) × ((own : List Token) × ((others : List Token) × ((ts ≡ semicolons ++ (own ++ others)) × AreSemicolons semicolons × SaysPart part own × SayParts parts others)))
+    (semicolons : List Token)
+    × ((own : List Token)
+    × ((others : List Token)
+    × ((ts ≡ semicolons ++ (own ++ others)) × AreSemicolons semicolons × SaysPart part own
+    × SayParts parts others)))
 
 -- ---- scripts
 
--- a text is a script of these items: its bytes outside comments can be read, and its tokens say the items' parts, one after the
--- other; and it is within the limits
+-- a text is a script of these items: its bytes outside comments can be read, and its tokens say the
+-- items' parts, one after the other; and it is within the limits
 pub record IsScript (text : List ℕ) (items : Items) : Type 0 where
   pub short : length text ≤ MAX_SCRIPT_BYTES
   pub readable : is_readable text ≡ true

@@ -20,5 +20,7 @@ number_said (b ∷ bs) = (b - 48) * 10 ^ length bs + number_said bs
 -- the number that a word says, which has to be one from the first to the second
 unfoldable pub number_from : ℕ → ℕ → List ℕ → Result ℕ FaultKind
 number_from least most w =
-    if is_number w then (if nat_lt (number_said w) least || nat_lt most (number_said w) then Err NumberRange else Ok (number_said w))
+    if is_number w then
+    (if nat_lt (number_said w) least || nat_lt most (number_said w) then Err NumberRange
+    else Ok (number_said w))
     else Err Missing

@@ -13,7 +13,8 @@ use Rattle.mv_script.specs.Scripts.{Items, End, Do, Repeat, Better, items_of}
 abbrev pub parts_of : Items → List PartKind
 parts_of End = []
 parts_of (Do command rest) = DoPart command ∷ parts_of rest
-parts_of (Repeat times inside rest) = Open (RepeatBraces times) ∷ parts_of inside ++ Close ∷ parts_of rest
+parts_of (Repeat times inside rest) = Open (RepeatBraces times) ∷ parts_of inside ++ Close
+    ∷ parts_of rest
 parts_of (Better inside rest) = Open BetterBraces ∷ parts_of inside ++ Close ∷ parts_of rest
 
 -- what parts are, wherever they stand
@@ -44,7 +45,8 @@ abbrev pub braced : Braces → Items → Items → Items
 braced (RepeatBraces times) inside rest = Repeat times inside rest
 braced BetterBraces inside rest = Better inside rest
 
--- the parts of scripts of which each but the first stands behind a closing brace, the last one of these first
+-- the parts of scripts of which each but the first stands behind a closing brace, the last one of
+-- these first
 abbrev pub spread : Items → List Script → List PartKind
 spread inner outer = parts_of inner ++ flat_map (λ s. Close ∷ parts_of (items_of s)) (reverse outer)
 

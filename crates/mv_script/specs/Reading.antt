@@ -1,4 +1,5 @@
--- How a script is read, token by token: what has to stand next, how many braces are open, and the first fault.
+-- How a script is read, token by token: what has to stand next, how many braces are open, and the
+-- first fault.
 use Rattle.std.specs.Prelude.{◌≡◌, ℕ, ◌+◌, ◌-◌, Bool, ◌&&◌, ◌==◌, if◌then◌else◌, nat_lt, Option, Some, None, Result, Ok, Err, List, [], ◌∷◌, ◌++◌, length, codes}
 use Rattle.std.specs.List.{list_all}
 use Rattle.mv_base.specs.Names.{same_word}
@@ -37,12 +38,17 @@ Answers (Err Memory) told = Unit {0}
 
 -- behind the token this waits, in a part that began at the place; so many braces are open
 abbrev pub waiting : Waits → ℕ → ℕ → Turn
-waiting waits place depth = record { state = record { waits = waits; place = place; depth = depth }; part = None }
+waiting waits place depth =
+    record { state = record { waits = waits; place = place; depth = depth }; part = None }
 
 -- a part that began at the place ends with the token, and an item may begin
 abbrev pub ended : PartKind → ℕ → ℕ → Turn
 ended kind place depth =
-    record { state = record { waits = Item; place = place; depth = depth }; part = Some (record { place = place; kind = kind }) }
+    record {
+      state = record { waits = Item; place = place; depth = depth };
+      part =
+          Some (record { place = place; kind = kind });
+    }
 
 -- a name of a net: a word of letters
 abbrev pub is_name : List ℕ → Bool
@@ -80,7 +86,8 @@ begun None None place depth = Err (fault UnknownWord place)
 
 -- a `}` needs an open brace
 abbrev pub close_turn : ℕ → ℕ → Result Turn TextFault
-close_turn place depth = if depth == 0 then Err (fault Brace place) else Ok (ended Close place (depth - 1))
+close_turn place depth = if depth == 0 then Err (fault Brace place)
+    else Ok (ended Close place (depth - 1))
 
 -- a token where an item may begin
 unfoldable pub item_turn : ℕ → Token → Result Turn TextFault
@@ -92,27 +99,36 @@ item_turn depth t =
 
 -- a token where a name has to stand
 unfoldable pub name_turn : ℕ → ℕ → Token → Result Turn TextFault
-name_turn place depth t = if is_name t.word then Ok (ended (Do (Collapse t.word)) place depth) else Err (fault Missing t.place)
+name_turn place depth t = if is_name t.word then Ok (ended (Do (Collapse t.word)) place depth)
+    else Err (fault Missing t.place)
 
 -- what a number does, or its fault at the place
 abbrev pub with_number : Result ℕ FaultKind → ℕ → (ℕ → Turn) → Result Turn TextFault
 with_number (Ok number) place turn = Ok (turn number)
 with_number (Err kind) place turn = Err (fault kind place)
 
--- a token where the first number of `simplify` has to stand, the second one, or the number of `repeat`
+-- a token where the first number of `simplify` has to stand, the second one, or the number of
+-- `repeat`
 unfoldable pub down_turn : ℕ → ℕ → Token → Result Turn TextFault
-down_turn place depth t = with_number (number_from 0 8 t.word) t.place (λ down. waiting (Up down) place depth)
+down_turn place depth t =
+    with_number (number_from 0 8 t.word) t.place (λ down. waiting (Up down) place depth)
 
 unfoldable pub up_turn : ℕ → ℕ → ℕ → Token → Result Turn TextFault
-up_turn down place depth t = with_number (number_from 0 8 t.word) t.place (λ up. ended (Do (Simplify down up)) place depth)
+up_turn down place depth t =
+    with_number (number_from 0 8 t.word) t.place (λ up. ended (Do (Simplify down up)) place depth)
 
 unfoldable pub times_turn : ℕ → ℕ → Token → Result Turn TextFault
-times_turn place depth t = with_number (number_from 1 1000 t.word) t.place (λ times. waiting (OpenBrace (Repeat times)) place depth)
+times_turn place depth t =
+    with_number (number_from 1 1000 t.word) t.place
+    (λ times. waiting (OpenBrace (Repeat times)) place depth)
 
 -- a token where a `{` has to stand, of which not too many may be open
 unfoldable pub brace_turn : Braces → ℕ → ℕ → Token → Result Turn TextFault
 brace_turn braces place depth t =
-    if same_word t.word (codes "{") then (if nat_lt depth MAX_SCRIPT_BRACES then Ok (ended (Open braces) place (depth + 1)) else Err (fault TooDeep t.place))
+    if same_word t.word
+    (codes "{") then
+    (if nat_lt depth MAX_SCRIPT_BRACES then Ok (ended (Open braces) place (depth + 1))
+    else Err (fault TooDeep t.place))
     else Err (fault Brace t.place)
 
 -- a token, by what waits
@@ -154,7 +170,8 @@ behind_part part (Ok parts) = Ok (before part parts)
 behind_part part (Err f) = Err f
 
 -- what follows a turn
-abbrev pub after_turn : Result Turn TextFault → (State → Result (List Part) TextFault) → Result (List Part) TextFault
+abbrev pub after_turn : Result Turn TextFault → (State → Result (List Part) TextFault)
+    → Result (List Part) TextFault
 after_turn (Ok turn) others = behind_part turn.part (others turn.state)
 after_turn (Err f) others = Err f
 

@@ -39,8 +39,10 @@ item_counts (Do command rest) = 1 ∷ item_counts rest
 item_counts (Repeat times inside rest) = (times * commands_in inside) ∷ item_counts rest
 item_counts (Better inside rest) = commands_in inside ∷ item_counts rest
 
--- the place that stands beside the number with which these, and so many before them, first pass the limit
+-- the place that stands beside the number with which these, and so many before them, first pass the
+-- limit
 abbrev pub passing : ℕ → List ℕ → List ℕ → Option ℕ
 passing n [] places = None
 passing n (c ∷ cs) [] = None
-passing n (c ∷ cs) (p ∷ ps) = if nat_lt MAX_SCRIPT_COMMANDS (n + c) then Some p else passing (n + c) cs ps
+passing n (c ∷ cs) (p ∷ ps) = if nat_lt MAX_SCRIPT_COMMANDS (n + c) then Some p
+    else passing (n + c) cs ps

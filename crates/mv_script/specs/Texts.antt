@@ -22,7 +22,8 @@ is_strange b = not (is_blank b || is_visible b)
 
 -- ---- comments
 
--- a byte stands in a comment where the byte before it does, or where it is a `#`, but for the end of the line
+-- a byte stands in a comment where the byte before it does, or where it is a `#`, but for the end
+-- of the line
 abbrev pub in_comment : Bool → ℕ → Bool
 in_comment before b = (before || b == 35) && not (b == 10)
 
@@ -33,7 +34,8 @@ byte_said comment b = if comment then 32 else b
 -- bytes as they are said, behind a byte that stands in a comment or doesn't
 abbrev pub said_behind : Bool → List ℕ → List ℕ
 said_behind before [] = []
-said_behind before (b ∷ bs) = byte_said (in_comment before b) b ∷ said_behind (in_comment before b) bs
+said_behind before (b ∷ bs) = byte_said (in_comment before b) b
+    ∷ said_behind (in_comment before b) bs
 
 -- the text with a blank in place of each byte of a comment: what is left stands where it stood
 unfoldable pub said : List ℕ → List ℕ
@@ -48,11 +50,14 @@ is_readable text = list_all (λ b. not (is_strange b)) (said text)
 -- a token begins at this place: a mark, or a letter that no letter stands before
 abbrev pub begins : List ℕ → ℕ → Bool
 begins said p =
-    is_mark (slice_index said p) || is_letter (slice_index said p) && ((p == 0) || not (is_letter (slice_index said (p - 1))))
+    is_mark (slice_index said p)
+    || is_letter (slice_index said p)
+    && ((p == 0) || not (is_letter (slice_index said (p - 1))))
 
 -- the bytes of the token that begins at this place: the mark, or the longest run of letters
 abbrev pub word_at : List ℕ → ℕ → List ℕ
-word_at said p = if is_mark (slice_index said p) then take 1 (drop p said) else take_while is_letter (drop p said)
+word_at said p = if is_mark (slice_index said p) then take 1 (drop p said)
+    else take_while is_letter (drop p said)
 
 -- the token that begins at this place, if one does
 abbrev pub token_at : List ℕ → ℕ → List Token

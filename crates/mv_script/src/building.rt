@@ -9,7 +9,8 @@ use std::alloc::Global;
 
 /// The item with these braces, before the rest.
 pub fn braced(alloc: Global, braces: Braces, inside: Script, rest: Script) -> Result<Script, Memory>
-    ensures { IfOk result (λ script. items_of script ≡ braced braces (items_of inside) (items_of rest)) }
+    ensures { IfOk result
+        (λ script. items_of script ≡ braced braces (items_of inside) (items_of rest)) }
 {
     let inside = Box::new(alloc, inside)?;
     let rest = Box::new(alloc, rest)?;
@@ -29,7 +30,8 @@ fn put_before(
     outer: &mut Items<Script>,
 ) -> Result<Script, Memory>
     requires { CanStand kind (length outer.old) }
-    ensures spread { IfOk result (λ script. spread (items_of script) outer.new ≡ kind ∷ spread (items_of inner) outer.old) }
+    ensures spread { IfOk result
+        (λ script. spread (items_of script) outer.new ≡ kind ∷ spread (items_of inner) outer.old) }
     ensures height { OnOk result (length outer.new ≡ height_before kind (length outer.old)) }
 {
     match kind {

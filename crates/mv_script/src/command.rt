@@ -8,15 +8,7 @@ pub fn is_command_built(command: &Command) -> bool
     ensures { result ≡ is_built command.now }
 {
     match command {
-        Command::Drop
-        | Command::Sweep
-        | Command::Eliminate
-        | Command::Collapse(_)
-        | Command::Kernel
-        | Command::Cube
-        | Command::Simplify(_, _)
-        | Command::Default
-        | Command::Fill => true,
-        _ => false,
+        Command::Encode => false,
+        _ => true,
     }
 }

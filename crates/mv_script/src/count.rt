@@ -88,7 +88,8 @@ fn passing(counts: &[u64], places: &[u64]) -> Option<u64>
 /// limit. The places are those of these items.
 #[tactic(auto, using(crate::proofs::Counts::passing_capped))]
 pub fn too_many(alloc: Global, script: &Script, places: &[u64]) -> Result<Option<u64>, Memory>
-    ensures { IfOk result (λ place. place ≡ passing 0 (item_counts (items_of script.now)) places.now) }
+    ensures { IfOk result
+        (λ place. place ≡ passing 0 (item_counts (items_of script.now)) places.now) }
 {
     let counts = item_counts(alloc, script)?;
     Ok(passing(counts.as_slice(), places))

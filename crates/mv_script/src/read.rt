@@ -33,7 +33,8 @@ fn earlier(
     strange: Option<usize>,
     parts: Result<Items<Part>, ScriptFault>,
 ) -> Result<Items<Part>, ScriptFault>
-    ensures { (told : Result (List PartValue) TextFault) → Answers parts told → Answers result (earlier strange told) }
+    ensures { (told : Result (List PartValue) TextFault) → Answers parts told
+        → Answers result (earlier strange told) }
 {
     let Some(place) = strange else {
         return parts;

@@ -9,6 +9,7 @@ use Rattle.mv_entry.specs.declared.note.Command.TheVariants.{Drop, Sweep, Elimin
 use Rattle.mv_entry.specs.declared.rule.Rule.{Rule}
 use Rattle.mv_entry.specs.declared.rule.Rule.TheVariants.{Remove, Add, Divide, Wire, Collapse as CollapseNet}
 use Rattle.mv_entry.specs.Entries.{Entry, Applied, rules_of}
+use Rattle.mv_merge.proofs.Merged.{merges_no_more}
 use Rattle.mv_net.specs.declared.parts.FlatNet.{FlatNet}
 use Rattle.mv_net.specs.declared.parts.NetParts.{NetParts}
 use Rattle.mv_net.specs.Formed.{WellFormed}
@@ -125,7 +126,7 @@ whole_no_more terms (Collapse name) a b steps frugal formed g = collapse_no_more
 whole_no_more terms Kernel a b steps frugal formed g = kernels_no_more terms.free a b steps formed g
 whole_no_more terms Cube a b steps frugal formed g = cubes_no_more terms.free a b steps formed g
 whole_no_more terms (Simplify down up) a b steps frugal formed g = some_no_more terms down up a b steps formed (all_visits (SimplifiesNet terms down up) a b steps g)
-whole_no_more terms Merge a b steps frugal formed g = absurd g
+whole_no_more terms Merge a b steps frugal formed g = merges_no_more terms.free a b steps formed g.steps
 whole_no_more terms Default a b steps frugal formed g = defaults_no_more a b steps formed (all_visits (Treats Defaulting) a b steps g)
 whole_no_more terms Determinize a b steps frugal formed g = absurd (false≢true frugal)
 whole_no_more terms Encode a b steps frugal formed g = absurd (false≢true frugal)

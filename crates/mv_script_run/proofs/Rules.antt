@@ -1,6 +1,8 @@
 -- The rules among the entries of scripts apply in turn.
 use Rattle.std.proofs.Common.{◌≡◌, ◌∙◌, ℕ, Bool, true, List, [], ◌∷◌, ◌++◌, refl, sym, ap, subst}
 use Rattle.std.proofs.lemmas.List.{append-nil}
+use Rattle.mv_choose.specs.Choices.{Determinizing}
+use Rattle.mv_choose.proofs.Determinized.{determinizes_replay}
 use Rattle.mv_collapse.specs.Collapses.{CollapsesNet, Collapsed, Remains}
 use Rattle.mv_eliminate.specs.Eliminates.{IsEliminateStep, CollapsesAll, Eliminates, NotesWide, Skips, Tells}
 use Rattle.mv_eliminate.proofs.Eliminated.{all_some}
@@ -8,6 +10,7 @@ use Rattle.mv_extract.proofs.Replays.{kernels_replay, cubes_replay, kernels_all_
 use Rattle.mv_entry.specs.declared.note.Command.{Command}
 use Rattle.mv_entry.specs.declared.note.Command.TheVariants.{Drop, Sweep, Eliminate, Collapse, Kernel, Cube, Simplify, Merge, Default, Determinize, Encode, Fill}
 use Rattle.mv_entry.specs.Entries.{Entry, rules_of}
+use Rattle.mv_merge.proofs.Merged.{merges_replay}
 use Rattle.mv_net.specs.declared.parts.NetParts.{NetParts}
 use Rattle.mv_pass.specs.Courses.{Course, Perhaps, Still, Through, VisitsSome, Short, Past}
 use Rattle.mv_pass.specs.Going.{Before, Within, Behind}
@@ -63,9 +66,9 @@ part_replays terms (Collapse name) a b steps g = collapse_replays terms.free nam
 part_replays terms Kernel a b steps g = kernels_replay terms.free a steps b g
 part_replays terms Cube a b steps g = cubes_replay terms.free a steps b g
 part_replays terms (Simplify down up) a b steps g = some_replays terms.free terms down up a b steps g
-part_replays terms Merge a b steps g = absurd g
+part_replays terms Merge a b steps g = merges_replay terms.free a b steps g
 part_replays terms Default a b steps g = defaults_replay terms.free a b steps g
-part_replays terms Determinize a b steps g = absurd g
+part_replays terms Determinize a b steps g = determinizes_replay terms.free a b steps g
 part_replays terms Encode a b steps g = absurd g
 part_replays terms Fill a b steps g = fills_replays terms.free a b steps g
 
@@ -78,9 +81,9 @@ whole_part terms (Collapse name) a b steps g = Through g
 whole_part terms Kernel a b steps g = kernels_all_some terms.free a steps b g
 whole_part terms Cube a b steps g = cubes_all_some terms.free a steps b g
 whole_part terms (Simplify down up) a b steps g = all_visits (SimplifiesNet terms down up) a b steps g
-whole_part terms Merge a b steps g = absurd g
+whole_part terms Merge a b steps g = g.steps
 whole_part terms Default a b steps g = all_visits (Treats Defaulting) a b steps g
-whole_part terms Determinize a b steps g = absurd g
+whole_part terms Determinize a b steps g = all_visits (Treats Determinizing) a b steps g
 whole_part terms Encode a b steps g = absurd g
 whole_part terms Fill a b steps g = g.tables
 

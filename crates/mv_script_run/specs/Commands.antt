@@ -1,12 +1,14 @@
 -- What one command of a script does to a network.
 use Rattle.std.specs.Prelude.{◌≡◌, Bool, true, false, List, Result}
+use Rattle.mv_choose.specs.Choices.{DeterminizesAll, DeterminizesSome}
 use Rattle.mv_collapse.specs.Collapses.{CollapsesNet}
 use Rattle.mv_eliminate.specs.Eliminates.{Eliminates, EliminatesAll}
 use Rattle.mv_entry.specs.declared.note.Command.{Command}
-use Rattle.mv_entry.specs.declared.note.Command.TheVariants.{Drop, Sweep, Eliminate, Collapse, Kernel, Cube, Simplify, Default, Determinize, Encode, Fill}
+use Rattle.mv_entry.specs.declared.note.Command.TheVariants.{Drop, Sweep, Eliminate, Collapse, Kernel, Cube, Simplify, Merge, Default, Determinize, Encode, Fill}
 use Rattle.mv_entry.specs.Entries.{Entry}
 use Rattle.mv_entry.specs.Tallies.{Journaled}
 use Rattle.mv_extract.specs.Extracts.{KernelsAll, KernelsSome, CubesAll, CubesSome}
+use Rattle.mv_merge.specs.Merges.{MergesAll, MergesSome}
 use Rattle.mv_net.specs.declared.parts.NetParts.{NetParts}
 use Rattle.mv_pass.specs.declared.stop.Stop.{Stop}
 use Rattle.mv_pass.specs.Courses.{Course, Perhaps}
@@ -29,7 +31,9 @@ WholeOf terms (Collapse name) old steps new = CollapsesNet terms.free name old s
 WholeOf terms Kernel old steps new = KernelsAll terms.free old steps new
 WholeOf terms Cube old steps new = CubesAll terms.free old steps new
 WholeOf terms (Simplify down up) old steps new = SimplifiesAll terms down up old steps new
+WholeOf terms Merge old steps new = MergesAll terms.free old steps new
 WholeOf terms Default old steps new = DefaultsAll old steps new
+WholeOf terms Determinize old steps new = DeterminizesAll old steps new
 WholeOf terms Fill old steps new = FillsAll terms.free old steps new
 WholeOf terms _ old steps new = ⊥
 
@@ -42,7 +46,9 @@ PartOf terms (Collapse name) old steps new = Perhaps (CollapsesNet terms.free na
 PartOf terms Kernel old steps new = KernelsSome terms.free old steps new
 PartOf terms Cube old steps new = CubesSome terms.free old steps new
 PartOf terms (Simplify down up) old steps new = SimplifiesSome terms down up old steps new
+PartOf terms Merge old steps new = MergesSome terms.free old steps new
 PartOf terms Default old steps new = DefaultsSome old steps new
+PartOf terms Determinize old steps new = DeterminizesSome old steps new
 PartOf terms Fill old steps new = FillsTables terms.free old steps new
 PartOf terms _ old steps new = ⊥
 
@@ -55,8 +61,10 @@ abbrev pub BegunCommand : Terms → Command → Course
 BegunCommand terms c = Begun (WholeOf terms c) (PartOf terms c) c
 
 -- how a command answers
-abbrev pub PassesCommand : Terms → Command → NetParts → NetParts → Journaled → Journaled → Result (Unit {0}) Stop → Type 0
-PassesCommand terms c old new journal journal' result = Passes terms.free (DoesCommand terms c) (BegunCommand terms c) old new journal journal' result
+abbrev pub PassesCommand : Terms → Command → NetParts → NetParts → Journaled → Journaled
+    → Result (Unit {0}) Stop → Type 0
+PassesCommand terms c old new journal journal' result =
+    Passes terms.free (DoesCommand terms c) (BegunCommand terms c) old new journal journal' result
 
 -- a command that never leaves more literals than there were: any but `determinize` and `encode`
 abbrev pub leaves_no_more : Command → Bool
@@ -67,11 +75,13 @@ leaves_no_more _ = true
 -- ---- as it stands in a script
 
 -- the command is built, and a whole one
-pub record RunsCommand (terms : Terms) (c : Command) (old : NetParts) (entries : List Entry) (new : NetParts) : Type 0 where
+pub record RunsCommand (terms : Terms) (c : Command) (old : NetParts) (entries : List Entry)
+    (new : NetParts) : Type 0 where
   pub built : is_built c ≡ true
   pub does : DoesCommand terms c old entries new
 
 -- the command is built, and stops
-pub record StopsCommand (terms : Terms) (c : Command) (old : NetParts) (entries : List Entry) (new : NetParts) : Type 0 where
+pub record StopsCommand (terms : Terms) (c : Command) (old : NetParts) (entries : List Entry)
+    (new : NetParts) : Type 0 where
   pub built : is_built c ≡ true
   pub begun : BegunCommand terms c old entries new

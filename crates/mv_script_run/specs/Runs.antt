@@ -16,28 +16,35 @@ Gains Round old entries new = Round old entries new × (literals_in new.nets < l
 
 -- a round that doesn't
 abbrev pub GainsNot : Course → Course
-GainsNot Round old entries new = Round old entries new × (literals_in old.nets ≤ literals_in new.nets)
+GainsNot Round old entries new = Round old entries new
+    × (literals_in old.nets ≤ literals_in new.nets)
 
--- one or more rounds: each but the last ends with fewer literals than it began with, and the last doesn't
-pub record RunsBetter (Round : Course) (old : NetParts) (entries : List Entry) (new : NetParts) : Type 0 where
+-- one or more rounds: each but the last ends with fewer literals than it began with, and the last
+-- doesn't
+pub record RunsBetter (Round : Course) (old : NetParts) (entries : List Entry) (new : NetParts)
+    : Type 0 where
   pub gained : ℕ
   pub rounds : InTurn (Rounds gained (Gains Round)) (GainsNot Round) old entries new
 
 -- fewer than so many whole rounds, and one behind them that stops
-pub record StopsRepeat (times : ℕ) (Round Stops : Course) (old : NetParts) (entries : List Entry) (new : NetParts) : Type 0 where
+pub record StopsRepeat (times : ℕ) (Round Stops : Course) (old : NetParts) (entries : List Entry)
+    (new : NetParts) : Type 0 where
   pub whole : ℕ
   pub fewer : whole < times
   pub rounds : InTurn (Rounds whole Round) Stops old entries new
 
--- some whole rounds that each end with fewer literals than they began with, and one behind them that stops
-pub record StopsBetter (Round Stops : Course) (old : NetParts) (entries : List Entry) (new : NetParts) : Type 0 where
+-- some whole rounds that each end with fewer literals than they began with, and one behind them
+-- that stops
+pub record StopsBetter (Round Stops : Course) (old : NetParts) (entries : List Entry)
+    (new : NetParts) : Type 0 where
   pub gained : ℕ
   pub rounds : InTurn (Rounds gained (Gains Round)) Stops old entries new
 
 -- ---- scripts
 
--- the items lead from the old network to the new one. Braces with no command inside take no round of their own: rounds of nothing
--- leave no entry and the same network, and of `better` the first is the last
+-- the items lead from the old network to the new one. Braces with no command inside take no round
+-- of their own: rounds of nothing leave no entry and the same network, and of `better` the first is
+-- the last
 abbrev pub Runs : Terms → Items → Course
 Runs terms End = Nothing
 Runs terms (Do command rest) = InTurn (RunsCommand terms command) (Runs terms rest)
@@ -45,16 +52,21 @@ Runs terms (Repeat times inside rest) = InTurn (Rounds times (Runs terms inside)
 Runs terms (Better inside rest) = InTurn (RunsBetter (Runs terms inside)) (Runs terms rest)
 
 -- an item isn't begun, or stops, or is whole and those behind it stop
-pub data StopsAt (Stops Whole Behind : Course) (old : NetParts) (entries : List Entry) (new : NetParts) : Type 0 where
+pub data StopsAt (Stops Whole Behind : Course) (old : NetParts) (entries : List Entry)
+    (new : NetParts) : Type 0 where
   Unbegun : Nothing old entries new → StopsAt Stops Whole Behind old entries new
   Within : Stops old entries new → StopsAt Stops Whole Behind old entries new
   Later : InTurn Whole Behind old entries new → StopsAt Stops Whole Behind old entries new
 
--- the items stop: some first ones run whole, and the next one, if there is one, isn't begun or stops within
+-- the items stop: some first ones run whole, and the next one, if there is one, isn't begun or
+-- stops within
 abbrev pub RunsTo : Terms → Items → Course
 RunsTo terms End = Nothing
-RunsTo terms (Do command rest) = StopsAt (StopsCommand terms command) (RunsCommand terms command) (RunsTo terms rest)
+RunsTo terms (Do command rest) =
+    StopsAt (StopsCommand terms command) (RunsCommand terms command) (RunsTo terms rest)
 RunsTo terms (Repeat times inside rest) =
-    StopsAt (StopsRepeat times (Runs terms inside) (RunsTo terms inside)) (Rounds times (Runs terms inside)) (RunsTo terms rest)
+    StopsAt (StopsRepeat times (Runs terms inside) (RunsTo terms inside))
+    (Rounds times (Runs terms inside)) (RunsTo terms rest)
 RunsTo terms (Better inside rest) =
-    StopsAt (StopsBetter (Runs terms inside) (RunsTo terms inside)) (RunsBetter (Runs terms inside)) (RunsTo terms rest)
+    StopsAt (StopsBetter (Runs terms inside) (RunsTo terms inside))
+    (RunsBetter (Runs terms inside)) (RunsTo terms rest)

@@ -3,11 +3,13 @@ ghost use Rattle.mv_pass.specs.Passing.{Passes};
 ghost use Rattle.mv_script.specs.Commands.{IsCommand, is_built, is_lawful};
 ghost use Rattle.mv_script_run.specs.Commands.{PassesCommand, RunsCommand, StopsCommand};
 
+use mv_choose::determinize;
 use mv_collapse::collapse;
 use mv_eliminate::eliminate;
 use mv_entry::{Command, Journal};
 use mv_extract::{cube, kernel};
 use mv_fill::fill;
+use mv_merge::merge;
 use mv_net::Network;
 use mv_pass::Stop;
 use mv_rules::Terms;
@@ -25,7 +27,8 @@ fn run_built<J: Journal>(
     journal: &mut J,
 ) -> Result<(), Stop>
     requires { IsCommand command.now }
-    ensures { PassesCommand terms command.now net.old net.new (J.state journal.old) (J.state journal.new) result }
+    ensures { PassesCommand terms command.now net.old net.new (J.state journal.old)
+        (J.state journal.new) result }
 {
     match command {
         Command::Drop => remove_unread(alloc, net, journal, terms),
@@ -35,7 +38,9 @@ fn run_built<J: Journal>(
         Command::Kernel => kernel(alloc, net, journal, terms),
         Command::Cube => cube(alloc, net, journal, terms),
         Command::Simplify(down, up) => simplify(alloc, net, *down, *up, journal, terms),
+        Command::Merge => merge(alloc, net, journal, terms),
         Command::Default => choose_default(alloc, net, journal, terms),
+        Command::Determinize => determinize(alloc, net, journal, terms),
         Command::Fill => fill(alloc, net, journal, terms),
         _ => unreachable!(),
     }
@@ -51,7 +56,8 @@ pub fn run_command<J: Journal>(
 ) -> Result<(), Stop>
     requires built { is_built command.now ≡ true }
     requires lawful { is_lawful command.now ≡ true }
-    ensures { Passes terms.free (RunsCommand terms command.now) (StopsCommand terms command.now) net.old net.new
+    ensures { Passes terms.free (RunsCommand terms command.now)
+        (StopsCommand terms command.now) net.old net.new
         (J.state journal.old) (J.state journal.new) result }
 {
     run_built(alloc, net, command, terms, journal)

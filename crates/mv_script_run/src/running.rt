@@ -25,7 +25,8 @@ pub fn run_script<J: Journal>(
 ) -> Result<(), Stop>
     requires built { are_built (items_of script.now) ≡ true }
     requires lawful { are_lawful (items_of script.now) ≡ true }
-    ensures { Passes terms.free (Runs terms (items_of script.now)) (RunsTo terms (items_of script.now)) net.old net.new
+    ensures { Passes terms.free (Runs terms (items_of script.now))
+        (RunsTo terms (items_of script.now)) net.old net.new
         (J.state journal.old) (J.state journal.new) result }
 {
     let mut items = script;
@@ -70,7 +71,8 @@ fn run_repeat<J: Journal>(
     requires built { are_built (items_of inside.now) ≡ true }
     requires lawful { are_lawful (items_of inside.now) ≡ true }
     ensures { Passes terms.free (Rounds times (Runs terms (items_of inside.now)))
-        (StopsRepeat times (Runs terms (items_of inside.now)) (RunsTo terms (items_of inside.now))) net.old net.new
+        (StopsRepeat times (Runs terms (items_of inside.now))
+        (RunsTo terms (items_of inside.now))) net.old net.new
         (J.state journal.old) (J.state journal.new) result }
 {
     if !has_command(inside) {
@@ -97,7 +99,8 @@ fn run_better<J: Journal>(
     requires built { are_built (items_of inside.now) ≡ true }
     requires lawful { are_lawful (items_of inside.now) ≡ true }
     ensures { Passes terms.free (RunsBetter (Runs terms (items_of inside.now)))
-        (StopsBetter (Runs terms (items_of inside.now)) (RunsTo terms (items_of inside.now))) net.old net.new
+        (StopsBetter (Runs terms (items_of inside.now))
+        (RunsTo terms (items_of inside.now))) net.old net.new
         (J.state journal.old) (J.state journal.new) result }
 {
     'rounds: loop {

@@ -1,4 +1,4 @@
--- `collapse NET`, `kernel`, `cube`, `simplify D U` and `default` pass as the commands that they are.
+-- Commands whose calls say more than that they pass do so as the commands that they are.
 use Rattle.std.proofs.Common.{sym, subst}
 use Rattle.mv_entry.specs.declared.note.Command.{Command}
 use Rattle.mv_script.specs.Commands.{HasFewSteps}
@@ -34,3 +34,13 @@ pub returns-in-Default : goal.returns-in-Default
 returns-in-Default g c =
     let P : Command → Type 0 = λ k. PassesCommand c.args.terms k c.args.net.now c.choose_default.new.net (g.J.Journal.state c.args.journal.now) (g.J.Journal.state c.choose_default.new.journal) c.choose_default.result in
     subst P (sym c.in-Default.is) c.choose_default.ensures.passes
+
+pub returns-in-Merge : goal.returns-in-Merge
+returns-in-Merge g c =
+    let P : Command → Type 0 = λ k. PassesCommand c.args.terms k c.args.net.now c.merge.new.net (g.J.Journal.state c.args.journal.now) (g.J.Journal.state c.merge.new.journal) c.merge.result in
+    subst P (sym c.in-Merge.is) c.merge.ensures.passes
+
+pub returns-in-Determinize : goal.returns-in-Determinize
+returns-in-Determinize g c =
+    let P : Command → Type 0 = λ k. PassesCommand c.args.terms k c.args.net.now c.determinize.new.net (g.J.Journal.state c.args.journal.now) (g.J.Journal.state c.determinize.new.journal) c.determinize.result in
+    subst P (sym c.in-Determinize.is) c.determinize.ensures.passes

@@ -1,0 +1,3 @@
+pub mod Determinized
+pub mod Taking
+pub mod Ended

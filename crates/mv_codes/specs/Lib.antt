@@ -1,0 +1,5 @@
+pub mod Codes
+pub mod CodeCubes
+pub mod Tables
+pub mod Rewriting
+pub mod Wide

@@ -1,0 +1,3 @@
+pub mod Nets
+-- what private functions alone cite
+pub mod Changes

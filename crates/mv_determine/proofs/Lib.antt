@@ -1,0 +1,9 @@
+pub mod Least
+pub mod Reading
+pub mod Outside
+pub mod Cutting
+pub mod Growing
+pub mod Following
+pub mod Plain
+pub mod Formed
+pub mod Taken

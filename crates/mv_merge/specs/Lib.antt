@@ -1,0 +1,3 @@
+pub mod Merges
+-- what private functions alone cite
+pub mod Search
