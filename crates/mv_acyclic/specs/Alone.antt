@@ -41,18 +41,23 @@ abbrev pub IsLeastAbove : List (List NetId) → ℕ → ℕ → ℕ → Option N
 IsLeastAbove columns low high n o = IsLeast (IsFound columns low high n) o
 
 -- the same for each net
-pub record AreLeastAbove (columns : List (List NetId)) (low high : ℕ) (above : List (Option NetId)) : Type 0 where
+pub record AreLeastAbove (columns : List (List NetId)) (low high : ℕ) (above : List (Option NetId))
+    : Type 0 where
   pub long : length above ≡ length columns
-  pub each : (n : ℕ) → n < length columns → IsLeastAbove columns low high n (slice_index_or above n None)
+  pub each : (n : ℕ) → n < length columns
+      → IsLeastAbove columns low high n (slice_index_or above n None)
 
 -- for each driven net the first latch output that is the net, or above it
 abbrev pub AreLatchesAbove : FileModel → List (Option NetId) → Type 0
-AreLatchesAbove m above = AreLeastAbove (columns_by_net (drivers m) m) (length m.inputs) (length m.inputs + length m.latches) above
+AreLatchesAbove m above =
+    AreLeastAbove (columns_by_net (drivers m) m) (length m.inputs)
+    (length m.inputs + length m.latches) above
 
 -- the number k is that of a latch output, which is a column of the reset table, or above one
 abbrev pub IsNumberAbove : FileModel → FileTable → ℕ → Type 0
 IsNumberAbove m reset k =
-    IsFoundAt (IsFound (columns_by_net (drivers m) m) (length m.inputs) (length m.inputs + length m.latches)) (numbers_in (drivers m) reset.inputs) k
+    IsFoundAt (IsFound (columns_by_net (drivers m) m) (length m.inputs)
+    (length m.inputs + length m.latches)) (numbers_in (drivers m) reset.inputs) k
 
 -- the lesser of two numbers, where there are two
 abbrev pub lesser_of : Option NetId → Option NetId → Option NetId
@@ -63,9 +68,11 @@ lesser_of (Some a) (Some b) = Some (if nat_le a.0 b.0 then a else b)
 -- the least of a number and of those that stand at these nets
 abbrev pub least_from : List (Option NetId) → Option NetId → List NetId → Option NetId
 least_from above least [] = least
-least_from above least (n ∷ ns) = least_from above (lesser_of least (slice_index_or above n.0 None)) ns
+least_from above least (n ∷ ns) =
+    least_from above (lesser_of least (slice_index_or above n.0 None)) ns
 
--- the latch that a reset table names, and the first latch output, in the order of the latches, above its reset value
+-- the latch that a reset table names, and the first latch output, in the order of the latches,
+-- above its reset value
 pub record IsReading (m : FileModel) (reset : FileTable) (latch reached : List ℕ) : Type 0 where
   pub is : latch ≡ output_of reset
   pub lower : List (List ℕ)

@@ -14,7 +14,8 @@ driven_columns names t w = numbers_in names t.inputs
 abbrev pub table_columns : List (List ℕ) → FileTable → List (List NetId)
 table_columns names t = map (driven_columns names t) t.outputs
 
--- the columns of each driven net: first the inputs of the model and the outputs of its latches, which have none, and then the
--- outputs of its tables
+-- the columns of each driven net: first the inputs of the model and the outputs of its latches,
+-- which have none, and then the outputs of its tables
 abbrev pub columns_by_net : List (List ℕ) → FileModel → List (List NetId)
-columns_by_net names m = replicate (length m.inputs + length m.latches) [] ++ flat_map (table_columns names) m.tables
+columns_by_net names m = replicate (length m.inputs + length m.latches) []
+    ++ flat_map (table_columns names) m.tables

@@ -1,6 +1,7 @@
--- When a model without instances is sound: each net that it names is driven exactly once, each reset table has a latch, and
--- each latch one reset table at most, no net is above itself, and no latch above a reset value. It speaks of one such model; a
--- design's instances are made one model first.
+-- When a model without instances is sound: each net that it names is driven exactly once, each
+-- reset table has a latch, and each latch one reset table at most, no net is above itself, and no
+-- latch above a reset value. It speaks of one such model; a design's instances are made one model
+-- first.
 use Rattle.std.specs.Prelude.{◌≡◌, ◌⊎◌, ℕ, ◌≤◌, Bool, true, not, ◌&&◌, ◌==◌, nat_lt, List, [], ◌∷◌, ◌++◌, length, map, All}
 use Rattle.std.specs.List.{list_all, list_any}
 use Rattle.mv_base.specs.Names.{among, names_differ}
@@ -42,9 +43,11 @@ pub record IsAboveReset (m : FileModel) (reset : FileTable) (net : List ℕ) : T
 
 -- a latch's output isn't above a reset value
 abbrev pub StandsAlone : FileModel → FileTable → Type 0
-StandsAlone m reset = (latch : List ℕ) → among latch (latch_outputs m) ≡ true → IsAboveReset m reset latch → ⊥
+StandsAlone m reset = (latch : List ℕ) → among latch (latch_outputs m) ≡ true
+    → IsAboveReset m reset latch → ⊥
 
--- the first reset table with a latch output above its reset value, and the first such output in the order of the latches
+-- the first reset table with a latch output above its reset value, and the first such output in the
+-- order of the latches
 pub record IsFirstReading (m : FileModel) (latch reached : List ℕ) : Type 0 where
   pub reset : FileTable
   pub before : List FileTable
@@ -58,11 +61,13 @@ pub record IsFirstReading (m : FileModel) (latch reached : List ℕ) : Type 0 wh
   pub above : IsAboveReset m reset reached
   pub least : (w : List ℕ) → among w lower ≡ true → IsAboveReset m reset w → ⊥
 
--- what is told where something is above itself, or a latch above a reset value: the first net on a cycle, where the model's
--- nets stand in this order; where there is none, the first reset value with a latch above it. Of want of memory nothing is said
+-- what is told where something is above itself, or a latch above a reset value: the first net on a
+-- cycle, where the model's nets stand in this order; where there is none, the first reset value
+-- with a latch above it. Of want of memory nothing is said
 abbrev pub TellsAbove : List (List ℕ) → FileModel → FlatFault → Type 0
 TellsAbove order m (Cycle net) = IsFirstOnCycle order m net
-TellsAbove order m (ResetReadsLatch latch reached) = IsAcyclic (reads m) × IsFirstReading m latch reached
+TellsAbove order m (ResetReadsLatch latch reached) = IsAcyclic (reads m)
+    × IsFirstReading m latch reached
 TellsAbove order m Memory = Unit {0}
 TellsAbove order m _ = ⊥
 
@@ -78,12 +83,13 @@ undriven_at m net = when (drivers_of m net == 0) (Undriven net)
 abbrev pub long_at : List ℕ → List FlatFault
 long_at net = when (nat_lt MAX_FLAT_NAME_BYTES (length net)) (Limit NetName (length net))
 
--- the faults of reset tables, where these latches are in the model, and those have a reset table already: one whose output
--- is no latch, and a second one of a latch
+-- the faults of reset tables, where these latches are in the model, and those have a reset table
+-- already: one whose output is no latch, and a second one of a latch
 abbrev pub reset_owner_faults : List (List ℕ) → List (List ℕ) → List (List ℕ) → List FlatFault
 reset_owner_faults latches seen [] = []
 reset_owner_faults latches seen (w ∷ ws) =
-    when (not (among w latches)) (NoLatch w) ++ (when (among w seen) (ResetTwice w) ++ reset_owner_faults latches (seen ++ w ∷ []) ws)
+    when (not (among w latches)) (NoLatch w)
+    ++ (when (among w seen) (ResetTwice w) ++ reset_owner_faults latches (seen ++ w ∷ []) ws)
 
 -- the latches that the reset tables of a model name, in order
 abbrev pub resets_named : FileModel → List (List ℕ)
@@ -107,8 +113,8 @@ pub record HasResetsOfLatches (m : FileModel) : Type 0 where
   pub latches : list_all (λ w. among w (latch_outputs m)) (resets_named m) ≡ true
   pub differ : names_differ (resets_named m) ≡ true
 
--- a sound model: each net is driven once, each reset table has its own latch, no net is above itself, and no latch's output
--- above a reset value
+-- a sound model: each net is driven once, each reset table has its own latch, no net is above
+-- itself, and no latch's output above a reset value
 pub record IsSoundModel (m : FileModel) : Type 0 where
   pub driven : IsDrivenOnce m
   pub resets : HasResetsOfLatches m

@@ -49,7 +49,8 @@ fn add_tables(
     tables: &[FileTable],
 ) -> Result<(), Memory>
     requires { length numbers.now ≤ MAX_FLAT_NETS }
-    ensures { OnOk result (columns.new ≡ columns.old ++ flat_map (table_columns numbers.now) tables.now) }
+    ensures { OnOk result
+        (columns.new ≡ columns.old ++ flat_map (table_columns numbers.now) tables.now) }
 {
     for table in tables {
         add_table(alloc, columns, numbers, table)?;

@@ -25,7 +25,8 @@ pub fn check_resets(alloc: Global, model: &FileModel) -> Result<(), FlatFault>
 
 /// Tells the first of these reset tables whose output is no latch, or that of an earlier one.
 fn check_each(alloc: Global, latches: &NameSet, resets: &[FileTable]) -> Result<(), FlatFault>
-    ensures { TellsFirst FlatFault.Memory result (reset_owner_faults latches.now [] (map output_of resets.now)) }
+    ensures { TellsFirst FlatFault.Memory result
+        (reset_owner_faults latches.now [] (map output_of resets.now)) }
 {
     let mut seen = NameSet::new(alloc);
     for reset in resets {

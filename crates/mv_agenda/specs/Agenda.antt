@@ -1,4 +1,5 @@
--- What is asked of an agenda, and what its calls do to it. It is seen as the list of the numbers that wait.
+-- What is asked of an agenda, and what its calls do to it. It is seen as the list of the numbers
+-- that wait.
 use Rattle.std.specs.Prelude.{◌≡◌, ℕ, ◌<◌, ◌≤◌, Bool, true, false, ◌&&◌, ◌||◌, not, nat_eq, Option, List, length}
 use Rattle.std.specs.List.{list_any}
 use Rattle.mv_base.specs.declared.number.NetId.{NetId}

@@ -1,4 +1,5 @@
--- The nets for which something may have changed where a net goes into its readers, or is no more read by them.
+-- The nets for which something may have changed where a net goes into its readers, or is no more
+-- read by them.
 use Rattle.std.specs.Prelude.{◌≡◌, ℕ, true, Option, List}
 use Rattle.mv_net.specs.declared.parts.FlatNet.{FlatNet}
 use Rattle.mv_net.specs.Nets.{reads_in}

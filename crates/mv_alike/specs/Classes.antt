@@ -11,13 +11,15 @@ same classes u v = nat_eq (get_or classes u 0) (get_or classes v 0)
 -- the number of each class is its least value
 pub record AreNumbered (classes : List ℕ) : Type 0 where
   pub least : (v : ℕ) → v < length classes → get_or classes v 0 ≤ v
-  pub own : (v : ℕ) → v < length classes → get_or classes (get_or classes v 0) 0 ≡ get_or classes v 0
+  pub own : (v : ℕ) → v < length classes
+      → get_or classes (get_or classes v 0) 0 ≡ get_or classes v 0
 
 -- two values are of one class now where they were before and the test doesn't tell them apart
 pub record AreRefined (tells : ℕ → ℕ → Bool) (old new : List ℕ) : Type 0 where
   pub long : length new ≡ length old
   pub numbered : AreNumbered new
-  pub told : (u v : ℕ) → u < length old → v < length old → same new u v ≡ (same old u v && not (tells u v))
+  pub told : (u v : ℕ) → u < length old → v < length old
+      → same new u v ≡ (same old u v && not (tells u v))
 
 -- two values of the net are of one class where no table tells them apart
 pub record AreClasses (nets : List (Option FlatNet)) (n : ℕ) (classes : List ℕ) : Type 0 where

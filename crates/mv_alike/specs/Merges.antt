@@ -28,8 +28,8 @@ pub record AreFirstAlike (nets : List (Option FlatNet)) (n v w : ℕ) : Type 0 w
   pub first : (u x : ℕ) → AreAlikeInOrder nets n u x → v ≤ u
   pub second : (x : ℕ) → AreAlikeInOrder nets n v x → w ≤ x
 
--- what goes into none is the least value that is never given; where each is given, the greater of the first two alike goes into the
--- lesser
+-- what goes into none is the least value that is never given; where each is given, the greater of
+-- the first two alike goes into the lesser
 abbrev pub GoesFirst : List (Option FlatNet) → ℕ → Value → Option Value → Type 0
 GoesFirst nets n gone None = IsLeastNeverGiven nets n gone.0
 GoesFirst nets n gone (Some into) = GivesEach nets n × AreFirstAlike nets n into.0 gone.0

@@ -37,7 +37,8 @@ fn refine_by_readers(
     requires few { length classes.old.items ≤ limit }
     requires numbered { AreNumbered classes.old.items }
     ensures { OnOk result (AreRefined
-        (λ u v. list_any (λ (m : a_net). table_splits n.0 u v (table_in (slot net.now.nets m.0))) readers.now)
+        (λ u v. list_any
+        (λ (m : a_net). table_splits n.0 u v (table_in (slot net.now.nets m.0))) readers.now)
         classes.old.items classes.new.items) }
 {
     for reader in readers {
@@ -56,7 +57,8 @@ fn refine_by_table(
 ) -> Result<(), Memory>
     requires few { length classes.old.items ≤ limit }
     requires numbered { AreNumbered classes.old.items }
-    ensures { OnOk result (AreRefined (λ u v. table_splits n.0 u v (table_in (slot net.now.nets m.0)))
+    ensures { OnOk result
+        (AreRefined (λ u v. table_splits n.0 u v (table_in (slot net.now.nets m.0)))
         classes.old.items classes.new.items) }
 {
     if net.holds(m) {
@@ -76,7 +78,8 @@ fn refine_by_held(
     requires held { IsTrue (is_held net.now.nets m.0) }
     requires few { length classes.old.items ≤ limit }
     requires numbered { AreNumbered classes.old.items }
-    ensures { OnOk result (AreRefined (λ u v. table_splits n.0 u v (table_in (slot net.now.nets m.0)))
+    ensures { OnOk result
+        (AreRefined (λ u v. table_splits n.0 u v (table_in (slot net.now.nets m.0)))
         classes.old.items classes.new.items) }
 {
     match net.table(m) {
@@ -94,7 +97,9 @@ fn refine_by_lines(
 ) -> Result<(), Memory>
     requires few { length classes.old.items ≤ limit }
     requires numbered { AreNumbered classes.old.items }
-    ensures { OnOk result (AreRefined (λ u v. list_any (λ (l : a_line). list_any (literal_splits n.0 u v) l.cube) lines.now)
+    ensures { OnOk result
+        (AreRefined
+        (λ u v. list_any (λ (l : a_line). list_any (literal_splits n.0 u v) l.cube) lines.now)
         classes.old.items classes.new.items) }
 {
     for line in lines {
@@ -112,7 +117,9 @@ fn refine_by_cube(
 ) -> Result<(), Memory>
     requires few { length classes.old.items ≤ limit }
     requires numbered { AreNumbered classes.old.items }
-    ensures { OnOk result (AreRefined (λ u v. list_any (literal_splits n.0 u v) lits.now) classes.old.items classes.new.items) }
+    ensures { OnOk result
+        (AreRefined
+        (λ u v. list_any (literal_splits n.0 u v) lits.now) classes.old.items classes.new.items) }
 {
     for l in lits {
         refine_by_literal(alloc, l, n, classes)?;
@@ -124,7 +131,8 @@ fn refine_by_cube(
 fn refine_by_literal(alloc: Global, l: &Lit, n: NetId, classes: &mut Vec<u16>) -> Result<(), Memory>
     requires few { length classes.old.items ≤ limit }
     requires numbered { AreNumbered classes.old.items }
-    ensures { OnOk result (AreRefined (λ u v. literal_splits n.0 u v l.now) classes.old.items classes.new.items) }
+    ensures { OnOk result
+        (AreRefined (λ u v. literal_splits n.0 u v l.now) classes.old.items classes.new.items) }
 {
     if l.net().0 != n.0 {
         return Ok(());

@@ -13,7 +13,8 @@ use mv_cover::{Cover, Line};
 /// The least of so many values that stands in no output of the cover and not in its default, if there is one.
 pub(crate) fn least_ungiven(cover: &Cover, values: u16) -> Option<Value>
     requires { values ≤ limit }
-    ensures { MatchOption result (IsEachGiven values cover.now) (λ v. IsLeastAbsent values cover.now v.0) }
+    ensures { MatchOption result (IsEachGiven values cover.now)
+        (λ v. IsLeastAbsent values cover.now v.0) }
 {
     ValueSet::full(values).minus(given(cover)).least()
 }

@@ -9,6 +9,8 @@ ghost use Rattle.mv_net.specs.declared.parts.NetParts.{NetParts};
 pub fn next_merge_laws()
     ensures lawful { (net : NetParts) (n : ℕ) (next : a_merge) → IsNextMerge net.nets n next
         → IsMergeVerdict net n next.gone next.into Lawful }
-    ensures one { (net : NetParts) (n : ℕ) (a b : a_merge) → IsNextMerge net.nets n a → IsNextMerge net.nets n b → a ≡ b }
-    ensures none { (net : NetParts) (n : ℕ) (next : a_merge) → HasNoMerge net.nets n → IsNextMerge net.nets n next → ⊥ }
+    ensures one { (net : NetParts) (n : ℕ) (a b : a_merge) → IsNextMerge net.nets n a
+        → IsNextMerge net.nets n b → a ≡ b }
+    ensures none { (net : NetParts) (n : ℕ) (next : a_merge) → HasNoMerge net.nets n
+        → IsNextMerge net.nets n next → ⊥ }
 {}

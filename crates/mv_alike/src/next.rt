@@ -22,7 +22,8 @@ pub struct NextMerge {
 /// table or one value, and where neither is there. It fails for want of memory alone.
 pub fn next_merge(alloc: Global, net: &Network, n: NetId) -> Result<Option<NextMerge>, Memory>
     requires { IsTrue (is_held net.now.nets n.0) }
-    ensures { IfOk result (λ next. MatchOption next (HasNoMerge net.now.nets n.0) (IsNextMerge net.now.nets n.0)) }
+    ensures { IfOk result
+        (λ next. MatchOption next (HasNoMerge net.now.nets n.0) (IsNextMerge net.now.nets n.0)) }
 {
     net.well_formed();
     let values = net.values(n);
@@ -44,7 +45,8 @@ fn next_alike(alloc: Global, net: &Network, n: NetId) -> Result<Option<NextMerge
     requires table { is_some (table_in (slot net.now.nets n.0)) ≡ true }
     requires several { 1 < values_in (slot net.now.nets n.0) }
     requires given { GivesEach net.now.nets n.0 }
-    ensures { IfOk result (λ next. MatchOption next (HasNoMerge net.now.nets n.0) (IsNextMerge net.now.nets n.0)) }
+    ensures { IfOk result
+        (λ next. MatchOption next (HasNoMerge net.now.nets n.0) (IsNextMerge net.now.nets n.0)) }
 {
     let classes = classes_of(alloc, net, n)?;
     match first_pair(classes.as_slice()) {

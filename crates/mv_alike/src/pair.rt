@@ -17,7 +17,8 @@ pub(crate) struct Pair {
 pub(crate) fn first_pair(classes: &[u16]) -> Option<Pair>
     requires few { length classes.now ≤ limit }
     requires numbered { AreNumbered classes.now }
-    ensures { MatchOption result (AreAllApart classes.now (length classes.now)) (IsFirstPair classes.now (length classes.now)) }
+    ensures { MatchOption result (AreAllApart classes.now (length classes.now))
+        (IsFirstPair classes.now (length classes.now)) }
 {
     let mut first = None;
     for (at, class) in classes.iter().enumerate() {

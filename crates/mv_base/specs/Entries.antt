@@ -1,4 +1,5 @@
--- How files in memory are kept: pairs of a name and its content, the place of the current one and how far it is read.
+-- How files in memory are kept: pairs of a name and its content, the place of the current one and
+-- how far it is read.
 use Rattle.std.specs.Prelude.{◌≡◌, ℕ, ◌≤◌, ◌<◌, List, [], length, drop, Option, Some, None, slice_index_or, string_bytes}
 use Rattle.std.specs.declared.string.String.{String}
 use Rattle.std.specs.declared.vec.Vec.{Vec}

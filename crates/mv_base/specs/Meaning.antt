@@ -18,8 +18,8 @@ pub record Interface : Type 0 where
   pub outputs : List Port
   pub latches : List LatchPort
 
--- an interface, and the joint choices: `allows i s o n r` says that under input values i and latch values s
--- the outputs may be o, the latch inputs n and the reset values r, all together
+-- an interface, and the joint choices: `allows i s o n r` says that under input values i and latch
+-- values s the outputs may be o, the latch inputs n and the reset values r, all together
 pub record Meaning : Type 1 where
   pub interface : Interface
   pub allows : List ℕ → List ℕ → List ℕ → List ℕ → List ℕ → Type 0
@@ -31,13 +31,15 @@ pub record AllowsSome (m : Meaning) (i s : List ℕ) : Type 0 where
   pub r : List ℕ
   pub allowed : m.allows i s o n r
 
--- b looks like a, and allows nothing that a does not; where free, this is asked only under values where a allows some choice
+-- b looks like a, and allows nothing that a does not; where free, this is asked only under values
+-- where a allows some choice
 pub record Narrows (free : Bool) (b a : Meaning) : Type 0 where
   pub same : b.interface ≡ a.interface
-  pub only : (i s o n r : List ℕ) → (IsTrue free → AllowsSome a i s) → b.allows i s o n r → a.allows i s o n r
+  pub only : (i s o n r : List ℕ) → (IsTrue free → AllowsSome a i s) → b.allows i s o n r
+      → a.allows i s o n r
 
--- b may take the place of a: it looks like a, allows nothing that a does not (where free, under values where a allows some
--- choice), and something wherever a does
+-- b may take the place of a: it looks like a, allows nothing that a does not (where free, under
+-- values where a allows some choice), and something wherever a does
 pub record Refines (free : Bool) (b a : Meaning) : Type 0 where
   pub narrows : Narrows free b a
   pub some : (i s : List ℕ) → AllowsSome a i s → AllowsSome b i s

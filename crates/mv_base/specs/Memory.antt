@@ -6,8 +6,8 @@ use Rattle.mv_base.specs.Outside.{Held, Stored, Written, counted, file_named}
 
 -- ---- a sink
 
--- a sink in memory: the bytes that it took, how many it takes in all, the puts that fail, each by its number and how many
--- bytes it takes at most, and how many puts and faults there were
+-- a sink in memory: the bytes that it took, how many it takes in all, the puts that fail, each by
+-- its number and how many bytes it takes at most, and how many puts and faults there were
 pub record Taken : Type 0 where
   pub bytes : List ℕ
   pub room : ℕ
@@ -42,8 +42,8 @@ after_put s piece = record s {
 
 -- ---- files
 
--- files in memory: their contents by name, the current one and what is left of it, the calls that fail, and how many calls,
--- starts and faults there were
+-- files in memory: their contents by name, the current one and what is left of it, the calls that
+-- fail, and how many calls, starts and faults there were
 pub record Kept : Type 0 where
   pub files : List (List ℕ × List ℕ)
   pub current : Option (List ℕ)
@@ -55,7 +55,13 @@ pub record Kept : Type 0 where
 
 -- what the files tell: they are sound where every listed call is behind them
 abbrev pub held_of : Kept → Held
-held_of k = record { files = k.files; current = k.current; rest = k.rest; sound = list_all (λ n. nat_lt n k.calls) k.fails }
+held_of k =
+    record {
+      files = k.files;
+      current = k.current;
+      rest = k.rest;
+      sound = list_all (λ n. nat_lt n k.calls) k.fails;
+    }
 
 -- their state: they always tell of themselves
 abbrev pub stored_of : Kept → Stored
@@ -75,7 +81,8 @@ starts k name = not (is_listed k) && is_some (file_named name k.files)
 
 -- the files behind a start that fails
 abbrev pub after_failed_start : Kept → Kept
-after_failed_start k = record k { calls = counted k.calls; starts = counted k.starts; faults = counted k.faults }
+after_failed_start k =
+    record k { calls = counted k.calls; starts = counted k.starts; faults = counted k.faults }
 
 -- the files behind a start that works
 abbrev pub after_start : Kept → List ℕ → Kept

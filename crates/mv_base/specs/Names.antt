@@ -25,14 +25,17 @@ begins_with b w = nat_lt 0 (length w) && (slice_index w 0 == b)
 abbrev pub ends_with : ℕ → List ℕ → Bool
 ends_with b w = nat_lt 0 (length w) && (slice_index w (length w - 1) == b)
 
--- one single word of a file: visible bytes without a `#`, and no bracketed word. How long it may be is no matter of the
--- format
+-- one single word of a file: visible bytes without a `#`, and no bracketed word. How long it may be
+-- is no matter of the format
 unfoldable pub is_word : List ℕ → Bool
-is_word w = nat_lt 0 (length w) && list_all (λ b. is_visible b && not (b == 35)) w && not (is_bracketed w)
+is_word w = nat_lt 0 (length w) && list_all (λ b. is_visible b && not (b == 35)) w
+    && not (is_bracketed w)
 
--- a lawful name of a net: a word that isn't `->`, doesn't begin with `.`, has no comma and doesn't end in `\`
+-- a lawful name of a net: a word that isn't `->`, doesn't begin with `.`, has no comma and doesn't
+-- end in `\`
 unfoldable pub is_net_name : List ℕ → Bool
-is_net_name w = is_word w && not (same_word w (codes "->")) && not (begins_with 46 w) && not (list_any (λ b. b == 44) w) && not (ends_with 92 w)
+is_net_name w = is_word w && not (same_word w (codes "->")) && not (begins_with 46 w)
+    && not (list_any (λ b. b == 44) w) && not (ends_with 92 w)
 
 -- a lawful name of a model: besides it has no `=`
 unfoldable pub is_model_name : List ℕ → Bool
@@ -41,7 +44,8 @@ is_model_name w = is_net_name w && not (list_any (λ b. b == 61) w)
 -- a lawful name of a value: besides it isn't `-`, doesn't begin with `!` or `=`, and has no bracket
 unfoldable pub is_value_name : List ℕ → Bool
 is_value_name w =
-    is_net_name w && not (same_word w (codes "-")) && not (begins_with 33 w) && not (begins_with 61 w)
+    is_net_name w && not (same_word w (codes "-")) && not (begins_with 33 w)
+    && not (begins_with 61 w)
     && not (list_any (λ b. (b == 40) || (b == 41) || (b == 123) || (b == 125)) w)
 
 -- the word is one of these

@@ -19,11 +19,22 @@ pub word_of-number : (ws : List ℕ) → AreWords ws → (k : ℕ) → word_of (
 unfolding word_of
 word_of-number [] h k = word_of-zero k
 word_of-number (w ∷ ws) h zero = mod_low (number ws) 128 w h.0
-word_of-number (w ∷ ws) h (suc k) = ap (λ n. word_of n k) (shr_high (number ws) 128 w h.0) ∙ word_of-number ws h.1 k
+word_of-number (w ∷ ws) h (suc k) = ap (λ n. word_of n k) (shr_high (number ws) 128 w h.0)
+    ∙ word_of-number ws h.1 k
 
 -- the fields with these words
 abbrev pub set_of : ℕ → Inside
-set_of n = record { w0 = word_of n 0; w1 = word_of n 1; w2 = word_of n 2; w3 = word_of n 3; w4 = word_of n 4; w5 = word_of n 5; w6 = word_of n 6; w7 = word_of n 7 }
+set_of n = record {
+  w0 = word_of n 0;
+  w1 = word_of n 1;
+  w2 = word_of n 2;
+  w3 = word_of n 3;
+  w4 =
+      word_of n 4;
+  w5 = word_of n 5;
+  w6 = word_of n 6;
+  w7 = word_of n 7;
+}
 
 pub inverse_words : (a : Inside) → AreWords (words a) → set_of (number (words a)) ≡ a
 inverse_words a h = λ i. record {

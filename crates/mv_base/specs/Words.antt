@@ -20,7 +20,9 @@ word_of n (suc at) = word_of (n / 2 ^ 128) at
 
 -- what a hasher is fed of a set: its eight words
 abbrev pub set_fed : ℕ → HashWrites
-set_fed n = fed.u128 (word_of n 0) ++ fed.u128 (word_of n 1) ++ fed.u128 (word_of n 2) ++ fed.u128 (word_of n 3) ++ fed.u128 (word_of n 4) ++ fed.u128 (word_of n 5) ++ fed.u128 (word_of n 6) ++ fed.u128 (word_of n 7)
+set_fed n = fed.u128 (word_of n 0) ++ fed.u128 (word_of n 1) ++ fed.u128 (word_of n 2)
+    ++ fed.u128 (word_of n 3) ++ fed.u128 (word_of n 4) ++ fed.u128 (word_of n 5)
+    ++ fed.u128 (word_of n 6) ++ fed.u128 (word_of n 7)
 
 -- what a hasher is fed of a set that is kept: few bits alone, or all words
 abbrev pub kept_fed : ℕ → HashWrites

@@ -75,7 +75,16 @@ impl MemoryFiles {
     /// These files by name, of which the first with a name counts. The calls of `start` and `next` are counted together
     /// from 0, those listed in `fails` fail, and the counter ends at its greatest number.
     pub fn new(files: Vec<(String, Vec<u8>)>, fails: Vec<u64>) -> MemoryFiles
-        ensures { result ≡ record { files = map entry_of files.items; current = None; rest = []; fails = fails.items; calls = 0; starts = 0; faults = 0 } }
+        ensures { result
+            ≡ record {
+              files = map entry_of files.items;
+              current = None;
+              rest = [];
+              fails = fails.items;
+              calls = 0;
+              starts = 0;
+              faults = 0;
+            } }
     {
         MemoryFiles {
             files,
@@ -95,7 +104,8 @@ impl Files for MemoryFiles {
     ghost state = { λ k. stored_of k };
 
     fn start(&mut self, name: &str) -> Result<(), Failed>
-        ensures begun { StillTell (stored_of self.old) (stored_of self.new) (λ old new. Begins old new name.now result) }
+        ensures begun { StillTell (stored_of self.old) (stored_of self.new)
+            (λ old new. Begins old new name.now result) }
         ensures starts { self.new.starts ≡ counted self.old.starts }
         ensures cause { HasCause self.old.faults self.new.faults result }
         ensures answer { is_ok result ≡ starts self.old name.now }
@@ -120,7 +130,8 @@ impl Files for MemoryFiles {
 
     fn next(&mut self, room: &mut [u8]) -> Result<usize, Failed>
         ensures bound { IfOk result (λ n. n ≤ length room.new) }
-        ensures given { StillTell (stored_of self.old) (stored_of self.new) (λ old new. Continues old new room.new result) }
+        ensures given { StillTell (stored_of self.old) (stored_of self.new)
+            (λ old new. Continues old new room.new result) }
         ensures starts { self.new.starts ≡ self.old.starts }
         ensures cause { HasCause self.old.faults self.new.faults result }
         ensures answer { is_ok result ≡ not (is_listed self.old) }

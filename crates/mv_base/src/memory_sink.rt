@@ -43,7 +43,14 @@ impl MemorySink {
     /// An empty sink that takes `room` bytes in all. The put with the number `n`, counted from 0, takes at most `k` bytes
     /// and fails, where `(n, k)` is the first entry of `fails` for it. The counter of puts ends at its greatest number.
     pub fn new(alloc: Global, room: usize, fails: Vec<(u64, usize)>) -> Result<MemorySink, Memory>
-        ensures { IfOk result (λ s. s ≡ record { bytes = []; room = room; fails = fails.items; calls = 0; faults = 0 }) }
+        ensures { IfOk result
+            (λ s. s ≡ record {
+              bytes = [];
+              room = room;
+              fails = fails.items;
+              calls = 0;
+              faults = 0;
+            }) }
     {
         let bytes = Vec::with_capacity(alloc, room)?;
         Ok(MemorySink {

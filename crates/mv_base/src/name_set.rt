@@ -56,7 +56,9 @@ impl NameSet {
     /// Adds the name at the end unless it is there, and answers whether it was new. On an error the set is as before.
     pub fn add(&mut self, name: Name) -> Result<bool, Memory>
         ensures fresh { IfOk result (λ fresh. fresh ≡ not (among name self.old)) }
-        ensures ok { IfOk result (λ fresh. self.new ≡ (if among name self.old then self.old else self.old ++ name ∷ [])) }
+        ensures ok { IfOk result
+            (λ fresh. self.new
+            ≡ (if among name self.old then self.old else self.old ++ name ∷ [])) }
         ensures err { OnErr result (self.new ≡ self.old) }
     {
         Ok(self.set.insert(name)?)

@@ -13,14 +13,16 @@ pub trait Files {
 
     /// Begins the named file at its first byte. A missing file is a fault.
     fn start(&mut self, name: &str) -> Result<(), Failed>
-        ensures begun { StillTell (state self.old) (state self.new) (λ old new. Begins old new name.now result) }
+        ensures begun { StillTell (state self.old) (state self.new)
+            (λ old new. Begins old new name.now result) }
         ensures starts { (state self.new).starts ≡ counted (state self.old).starts }
         ensures cause { HasCause (state self.old).faults (state self.new).faults result };
 
     /// Puts the next bytes into `room` and answers how many. Zero, for room that isn't empty, is the end of the file.
     fn next(&mut self, room: &mut [u8]) -> Result<usize, Failed>
         ensures bound { IfOk result (λ n. n ≤ length room.new) }
-        ensures given { StillTell (state self.old) (state self.new) (λ old new. Continues old new room.new result) }
+        ensures given { StillTell (state self.old) (state self.new)
+            (λ old new. Continues old new room.new result) }
         ensures starts { (state self.new).starts ≡ (state self.old).starts }
         ensures cause { HasCause (state self.old).faults (state self.new).faults result };
 }

@@ -363,6 +363,7 @@ pub fn set_laws()
     ensures join { (a b v : ℕ) → set.has (set.join a b) v ≡ (set.has a v || set.has b v) }
     ensures minus { (a b v : ℕ) → set.has (set.minus a b) v ≡ (set.has a v && not (set.has b v)) }
     ensures count_none { count_ones set.empty ≡ 0 }
-    ensures count_more { (s v : ℕ) → set.has s v ≡ false → count_ones (set.join s (set.one v)) ≡ count_ones s + 1 }
+    ensures count_more { (s v : ℕ) → set.has s v ≡ false
+        → count_ones (set.join s (set.one v)) ≡ count_ones s + 1 }
     ensures same { (a b : ℕ) → ((v : ℕ) → set.has a v ≡ set.has b v) → a ≡ b }
 {}

@@ -96,7 +96,7 @@ fn apply_each(
     let mut applied: u64 = 0;
     for number in 0..count {
         let rule = rule(rt.alloc(), kind, number)?;
-        if rule.is_built() && apply(rt.alloc(), net, &rule, DEFAULT_BUDGET as u32).is_ok() {
+        if apply(rt.alloc(), net, &rule, DEFAULT_BUDGET as u32).is_ok() {
             applied = applied.saturating_add(1);
         }
     }

@@ -1,4 +1,5 @@
--- A rule's body, which names nets, as a cover over the numbers of a network, and when a rule may take it.
+-- A rule's body, which names nets, as a cover over the numbers of a network, and when a rule may
+-- take it.
 use Rattle.std.specs.Prelude.{◌≡◌, ℕ, ◌≤◌, true, nat_eq, Option, Some, None, List, [], ◌∷◌, map, position, unwrap_or, count_by, All}
 use Rattle.std.specs.List.Sorted.{IsPermutation, IsNonDecreasingBy}
 use Rattle.mv_base.specs.Set.{one}
@@ -24,7 +25,8 @@ number_named nets name = position (is_named name) nets
 
 -- a literal over numbers: on the net with the name, and on the number 0 where there is none
 abbrev pub literal_said : List (Option FlatNet) → BodyLit → Lit
-literal_said nets l = record { net = record { 0 = unwrap_or (number_named nets l.net) 0 }; set = l.set }
+literal_said nets l =
+    record { net = record { 0 = unwrap_or (number_named nets l.net) 0 }; set = l.set }
 
 -- the literals over numbers, as they stand
 abbrev pub literals_said : List (Option FlatNet) → List BodyLit → List Lit
@@ -75,7 +77,8 @@ pub record AreApart (ls : List Lit) : Type 0 where
 pub record IsOnce (nets : List (Option FlatNet)) (l : BodyLine) : Type 0 where
   pub apart : AreApart (literals_said nets l.lits)
 
--- a tidy body for a net of so many values: no line names a net twice, and the cover that it says may be that of a net
+-- a tidy body for a net of so many values: no line names a net twice, and the cover that it says
+-- may be that of a net
 pub record IsTidy (nets : List (Option FlatNet)) (values : ℕ) (b : Body) : Type 0 where
   pub once : All (IsOnce nets) b.lines
   pub cover : IsCover nets values (cover_said nets b)
@@ -93,7 +96,8 @@ pub record IsByNet (before after : List Lit) : Type 0 where
   pub up : IsNonDecreasingBy (λ (l : Lit). l.net.0) after
 
 -- these are the literals that are said, and each is one that a net may have
-pub record AreLiterals (nets : List (Option FlatNet)) (ls : List BodyLit) (said : List Lit) : Type 0 where
+pub record AreLiterals (nets : List (Option FlatNet)) (ls : List BodyLit) (said : List Lit)
+    : Type 0 where
   pub is : said ≡ literals_said nets ls
   pub each : All (IsLiteral nets) said
 
@@ -108,7 +112,8 @@ pub record IsTidyLine (nets : List (Option FlatNet)) (values : ℕ) (l : BodyLin
   pub out : IsOutput values l.out
 
 -- lines of a tidy body
-pub record AreTidyLines (nets : List (Option FlatNet)) (values : ℕ) (ls : List BodyLine) : Type 0 where
+pub record AreTidyLines (nets : List (Option FlatNet)) (values : ℕ) (ls : List BodyLine)
+    : Type 0 where
   pub each : All (IsTidyLine nets values) ls
   pub differ : lines_differ (lines_said nets ls) ≡ true
 

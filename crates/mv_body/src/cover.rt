@@ -25,7 +25,8 @@ pub fn tidy_cover(
     requires few { values ≤ MAX_VALUES }
     ensures { IfOk result (λ found. MatchOption found
         (IsTidy net.now.nets values body.now → ⊥)
-        (λ cover. IsTidy net.now.nets values body.now × (cover ≡ cover_said net.now.nets body.now))) }
+        (λ cover. IsTidy net.now.nets values body.now
+        × (cover ≡ cover_said net.now.nets body.now))) }
 {
     let Some(lines) = tidy_lines(alloc, net, values, body.lines.as_slice())? else {
         return Ok(None);
@@ -39,7 +40,8 @@ pub fn tidy_cover(
 /// Whether the default of a net of so many values may stand beside the lines.
 fn is_default_beside(default: Option<ValueSet>, values: u16, lines: &[Line]) -> bool
     requires { values ≤ MAX_VALUES }
-    ensures { MatchBool result (IsDefaultBeside values default lines.now) (IsDefaultBeside values default lines.now → ⊥) }
+    ensures { MatchBool result (IsDefaultBeside values default lines.now)
+        (IsDefaultBeside values default lines.now → ⊥) }
 {
     match default {
         Some(out) => is_output(out, values) && !some_line_is_bare(lines),

@@ -6,7 +6,8 @@ use mv_net::{Kind, Network};
 
 /// Whether each literal of the body names a held net that can be read. It takes no memory.
 pub fn is_known(net: &Network, body: &Body) -> bool
-    ensures { MatchBool result (AreKnown net.now.nets body.now) (AreKnown net.now.nets body.now → ⊥) }
+    ensures { MatchBool result (AreKnown net.now.nets body.now)
+        (AreKnown net.now.nets body.now → ⊥) }
 {
     for line in body.lines.as_slice() {
         if !are_known(net, line.lits.as_slice()) {

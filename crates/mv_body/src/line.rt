@@ -39,7 +39,8 @@ fn tidy_line(
     requires few { values ≤ MAX_VALUES }
     ensures { IfOk result (λ found. MatchOption found
         (IsTidyLine net.now.nets values line.now → ⊥)
-        (λ tidy. IsTidyLine net.now.nets values line.now × (tidy ≡ line_said net.now.nets line.now))) }
+        (λ tidy. IsTidyLine net.now.nets values line.now
+        × (tidy ≡ line_said net.now.nets line.now))) }
 {
     if !is_output(line.out.get(), values) {
         return Ok(None);
@@ -65,7 +66,8 @@ pub fn tidy_lines(
     requires few { values ≤ MAX_VALUES }
     ensures { IfOk result (λ found. MatchOption found
         (AreTidyLines net.now.nets values lines.now → ⊥)
-        (λ tidy. AreTidyLines net.now.nets values lines.now × (tidy ≡ lines_said net.now.nets lines.now))) }
+        (λ tidy. AreTidyLines net.now.nets values lines.now
+        × (tidy ≡ lines_said net.now.nets lines.now))) }
 {
     let mut distinct = IndexSet::with_capacity(alloc, lines.len())?;
     for line in lines {

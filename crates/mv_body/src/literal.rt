@@ -43,7 +43,8 @@ fn literal_said(alloc: Global, net: &Network, literal: &BodyLit) -> Result<Lit, 
 /// Whether the set of a literal on a net that can be read has some of the net's values, but not all.
 fn is_literal(net: &Network, literal: &Lit) -> bool
     requires { IsReadable net.now.nets literal.now.net.0 }
-    ensures { MatchBool result (IsLiteral net.now.nets literal.now) (IsLiteral net.now.nets literal.now → ⊥) }
+    ensures { MatchBool result (IsLiteral net.now.nets literal.now)
+        (IsLiteral net.now.nets literal.now → ⊥) }
 {
     net.well_formed();
     let values = net.values(literal.net());

@@ -2,7 +2,7 @@
 use Rattle.std.proofs.Common.{◌≡◌, ◌∙◌, ℕ, Bool, true, false, inl, inr, refl, sym, ap}
 use Rattle.std.proofs.lemmas.Bool.{false≢true}
 use Rattle.mv_entry.specs.declared.rule.Rule.{Rule}
-use Rattle.mv_entry.specs.declared.rule.Rule.TheVariants.{Remove, Add, Divide, Wire, Collapse, Narrow, Fill, Merge}
+use Rattle.mv_entry.specs.declared.rule.Rule.TheVariants.{Remove, Add, Divide, Wire, Collapse, Narrow, Fill, Merge, Encode}
 use Rattle.mv_entry.specs.declared.fault.RuleFault.{RuleFault}
 use Rattle.mv_entry.specs.declared.fault.RuleFault.TheVariants.{Memory}
 use Rattle.mv_net.specs.declared.parts.NetParts.{NetParts}
@@ -52,7 +52,10 @@ row_spares free (Narrow w d u body) net =
     unless_spares _ _ _ refl (unless_spares _ _ _ refl (unless_spares _ _ _ refl (unless_spares _ _ _ refl passed_spares)))))))
 row_spares free (Fill w out) net = with_spares _ _ (λ n. unless_spares _ _ _ refl (unless_spares _ _ _ refl (unless_spares _ _ _ refl (unless_spares _ _ _ refl passed_spares))))
 row_spares free (Merge w gone into) net = with_spares _ _ (λ n. unless_spares _ _ _ refl (unless_spares _ _ _ refl (unless_spares _ _ _ refl passed_spares)))
-row_spares free _ net = record { none = λ x. x }
+row_spares free (Encode w names codes) net =
+    with_spares _ _ (λ n.
+    unless_spares _ _ _ refl (unless_spares _ _ _ refl (unless_spares _ _ _ refl (
+    unless_spares _ _ _ refl (unless_spares _ _ _ refl (unless_spares _ _ _ refl passed_spares))))))
 
 pub never_memory : (free : Bool) (rule : Rule) (net : NetParts) → Fails free rule net Memory → ⊥
 never_memory free rule net f = (row_spares free rule net).none f

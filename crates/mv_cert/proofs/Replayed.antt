@@ -1,11 +1,8 @@
 -- Steps in turn: one more, the end, and that they don't both lead on and fail.
-use Rattle.std.proofs.Common.{◌≡◌, ◌∙◌, ◌⊎◌, ℕ, ◌+◌, ◌<◌, ◌≤◌, Bool, true, false, inl, inr, List, [], ◌∷◌, ◌++◌, length, take, drop, get_or, refl, sym, ap, subst, ⊎_elim}
+use Rattle.std.proofs.Common.{◌≡◌, ◌∙◌, ◌⊎◌, ℕ, ◌+◌, ◌<◌, ◌≤◌, Bool, inl, inr, List, [], ◌∷◌, ◌++◌, length, take, drop, get_or, refl, sym, ap, subst}
 use Rattle.std.proofs.lemmas.List.{map-append, take_more, take_all, take-append-drop, drop_more}
-use Rattle.std.proofs.lemmas.Bool.{cases_Bool, false≢true}
-use Rattle.std.proofs.lemmas.List.Folds.{list_all_at}
 use Rattle.mv_entry.specs.declared.fault.RuleFault.{RuleFault}
 use Rattle.mv_entry.specs.declared.fault.RuleFault.TheVariants.{Nodes, Memory as out_of_memory}
-use Rattle.mv_entry.specs.Entries.{is_built}
 use Rattle.mv_net.specs.declared.parts.NetParts.{NetParts}
 use Rattle.mv_net.specs.Formed.{WellFormed}
 use Rattle.mv_rules.specs.Applies.{Applies, Fails, LacksNodes, Stops}
@@ -14,7 +11,6 @@ use Rattle.mv_rules.proofs.Kept.{kept_formed}
 use Rattle.mv_rules.proofs.OneAnswer.{one_network, not_both}
 use Rattle.mv_rules.proofs.Replayed.{replayed_one, replayed_then}
 use Rattle.mv_step.specs.declared.step.Step.{Step}
-use Rattle.mv_step.specs.Certificates.{are_built}
 use Rattle.mv_cert.specs.Certificates.{Certifies, steps_in}
 use Rattle.mv_cert.specs.declared.fault.ReplayFault.{ReplayFault}
 use Rattle.mv_cert.specs.declared.fault.ReplayFault.TheVariants.{Rule as RuleFails, Memory}
@@ -82,13 +78,6 @@ module _ (free : Bool) (steps : List Step) (i : ℕ) (old mid : NetParts) (ran :
   stops_here budget d line fault answer low at (inr (inr fails)) memory rule =
       let known = rule (λ e. never_memory free (get_or steps i d).rule mid (subst (λ f. Fails free (get_or steps i d).rule mid f) e fails)) in
       subst (λ a. EndsEarly free budget steps old mid a) (sym known) (inl (fails_here d line fault low at fails))
-
--- each step of steps that are built is
-pub step_built : (steps : List Step) (i : ℕ) (d : Step) → are_built steps ≡ true → i < length steps → is_built (get_or steps i d).rule ≡ true
-step_built steps i d built low =
-    ⊎_elim (λ (y : is_built (get_or steps i d).rule ≡ true). y)
-    (λ (n : is_built (get_or steps i d).rule ≡ false). absurd (false≢true (sym (list_all_at (λ (s : Step). is_built s.rule) steps i d low n) ∙ built)))
-    (cases_Bool (is_built (get_or steps i d).rule))
 
 -- ---- certificates
 

@@ -17,7 +17,8 @@ pub record IsCertificate (bytes : List ℕ) : Type 0 where
 abbrev pub steps_in : List ℕ → List Step
 steps_in bytes = steps_of (lines_of bytes)
 
--- the bytes are a certificate whose rules apply in turn, and lead from the first network to the other
+-- the bytes are a certificate whose rules apply in turn, and lead from the first network to the
+-- other
 pub record Certifies (free : Bool) (bytes : List ℕ) (first net : NetParts) : Type 0 where
   pub accepted : IsCertificate bytes
   pub replays : Replays free (rules_in (steps_in bytes)) first net

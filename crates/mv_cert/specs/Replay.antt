@@ -21,9 +21,10 @@ pub record LeadPart (free : Bool) (steps : List Step) (old new : NetParts) : Typ
   pub steps_are : steps ≡ front ++ behind
   pub replays : Replays free (rules_in front) old new
 
--- some first steps lead from the old network to the new one, to which the rule of the next, which stands at the line, doesn't
--- apply, for this fault
-pub record FailsAt (free : Bool) (steps : List Step) (old new : NetParts) (line : ℕ) (fault : RuleFault) : Type 0 where
+-- some first steps lead from the old network to the new one, to which the rule of the next, which
+-- stands at the line, doesn't apply, for this fault
+pub record FailsAt (free : Bool) (steps : List Step) (old new : NetParts) (line : ℕ)
+    (fault : RuleFault) : Type 0 where
   pub front : List Step
   pub step : Step
   pub behind : List Step
@@ -32,9 +33,10 @@ pub record FailsAt (free : Bool) (steps : List Step) (old new : NetParts) (line 
   pub line_is : line ≡ step.line
   pub fails : Fails free step.rule new fault
 
--- some first steps lead from the old network to the new one, in which a pool of so many nodes is too small to judge the rule of the
--- next, which stands at the line
-pub record LacksAt (free : Bool) (budget : ℕ) (steps : List Step) (old new : NetParts) (line : ℕ) : Type 0 where
+-- some first steps lead from the old network to the new one, in which a pool of so many nodes is
+-- too small to judge the rule of the next, which stands at the line
+pub record LacksAt (free : Bool) (budget : ℕ) (steps : List Step) (old new : NetParts) (line : ℕ)
+    : Type 0 where
   pub front : List Step
   pub step : Step
   pub behind : List Step
@@ -43,8 +45,10 @@ pub record LacksAt (free : Bool) (budget : ℕ) (steps : List Step) (old new : N
   pub line_is : line ≡ step.line
   pub lacks : LacksNodes budget step.rule new
 
--- how a replay that ends early leaves the network. Want of nodes, as want of memory, says nothing of the rule
+-- how a replay that ends early leaves the network. Want of nodes, as want of memory, says nothing
+-- of the rule
 abbrev pub EndsEarly : Bool → ℕ → List Step → NetParts → NetParts → ReplayFault → Type 0
 EndsEarly free budget steps old new (rule_fault line fault) =
-    FailsAt free steps old new line fault ⊎ ((fault ≡ Nodes) × LacksAt free budget steps old new line)
+    FailsAt free steps old new line fault
+    ⊎ ((fault ≡ Nodes) × LacksAt free budget steps old new line)
 EndsEarly free budget steps old new Memory = LeadPart free steps old new

@@ -9,7 +9,8 @@ ghost use Rattle.mv_cert.specs.Replay.{FailsAt, rules_in};
 
 /// Steps that all apply in turn don't stop at one that doesn't.
 pub fn never_both_replays()
-    ensures { (free : Bool) (steps : List Step) (old one other : NetParts) (line : ℕ) (fault : RuleFault) → WellFormed old
+    ensures { (free : Bool) (steps : List Step) (old one other : NetParts) (line : ℕ)
+        (fault : RuleFault) → WellFormed old
         → Replays free (rules_in steps) old one → FailsAt free steps old other line fault → ⊥ }
 {}
 

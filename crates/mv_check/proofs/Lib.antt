@@ -1,4 +1,3 @@
-pub mod Takes
 pub mod Told
-pub mod Trials
-pub mod Ends
+pub mod Takes
+pub mod Works

@@ -1,5 +1,3 @@
-pub mod Certificates
 pub mod Tellings
+pub mod Certificates
 pub mod Checked
-pub mod Stops
-pub mod Trials

@@ -3,16 +3,17 @@ use Rattle.std.specs.Prelude.{ℕ, List, [], ◌∷◌, ◌++◌, codes, decimal
 use Rattle.mv_lex.specs.declared.fault.LexFault.TheVariants.{BadByte, LongWord, OpenBracket, TooLarge, Memory as short_bytes}
 use Rattle.mv_entry.specs.declared.fault.RuleFault.{RuleFault}
 use Rattle.mv_entry.specs.declared.fault.RuleFault.TheVariants.{NoNet, Visible, Read, Unread, Shared, Partial, Varied, NotFresh, NotSame, Loop, Form, Outside, Lost, Wide, Nets, Window, Strict, Total, Nodes, Memory}
-use Rattle.mv_step.specs.declared.fault.StepFault.TheVariants.{Syntax, NotBuilt, Memory as short_steps}
+use Rattle.mv_step.specs.declared.fault.StepFault.TheVariants.{Syntax, Memory as short_steps}
 use Rattle.mv_task.specs.Lines.{memory_line}
-use Rattle.mv_check.specs.declared.stop.CertificateFault.{CertificateFault}
-use Rattle.mv_check.specs.declared.stop.CertificateFault.TheVariants.{Lex, Step}
+use Rattle.mv_check.specs.declared.fault.CertificateFault.{CertificateFault}
+use Rattle.mv_check.specs.declared.fault.CertificateFault.TheVariants.{Lex, Step}
 
 -- the line that tells a cause at a line of the certificate
 abbrev pub told_line : ℕ → List ℕ → List ℕ
 told_line line cause = codes "# fault certificate " ++ decimal line ++ 32 ∷ cause ++ 10 ∷ []
 
--- the line of a fault of its bytes, which has a number, or of its lines. (Want of memory is none: no text has it.)
+-- the line of a fault of its bytes, which has a number, or of its lines. (Want of memory is none:
+-- no text has it.)
 abbrev pub text_line : CertificateFault → List ℕ
 text_line (Lex (BadByte line byte)) = told_line line (codes "Lex 1")
 text_line (Lex (LongWord line)) = told_line line (codes "Lex 2")
@@ -20,7 +21,6 @@ text_line (Lex (OpenBracket line)) = told_line line (codes "Lex 3")
 text_line (Lex (TooLarge line)) = told_line line (codes "Lex 4")
 text_line (Lex short_bytes) = memory_line
 text_line (Step (Syntax line)) = told_line line (codes "Syntax")
-text_line (Step (NotBuilt line)) = told_line line (codes "NotBuilt")
 text_line (Step short_steps) = memory_line
 
 -- the name of a fault of a rule

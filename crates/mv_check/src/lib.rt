@@ -3,12 +3,10 @@
 #![tactic(auto)]
 
 mod checking;
-mod laws;
-mod stop;
+mod fault;
 mod take;
 mod tell;
-mod trial;
+mod working;
 
 pub use checking::check;
-pub use laws::short_at_once;
-pub use stop::CertificateFault;
+pub use fault::CertificateFault;

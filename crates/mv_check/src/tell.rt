@@ -2,7 +2,7 @@ ghost use Rattle.std.specs.Prelude.{◌≡◌};
 ghost use Rattle.mv_base.specs.Outside.{Appends};
 ghost use Rattle.mv_check.specs.Tellings.{told_line, fault_name, rule_line, text_line};
 
-use crate::stop::CertificateFault;
+use crate::fault::CertificateFault;
 use itoa::Buffer;
 use mv_base::{Failed, Sink, put_both};
 use mv_cert::StepFault;
@@ -62,7 +62,6 @@ pub fn put_text_line<E: Sink>(fault: CertificateFault, notes: &mut E) -> Result<
         CertificateFault::Lex(LexFault::TooLarge { line }) => put_told(line, b"Lex 4", notes),
         CertificateFault::Lex(LexFault::Memory) => notes.put(b"# fault memory\n"),
         CertificateFault::Step(StepFault::Syntax { line }) => put_told(line, b"Syntax", notes),
-        CertificateFault::Step(StepFault::NotBuilt { line }) => put_told(line, b"NotBuilt", notes),
         CertificateFault::Step(StepFault::Memory) => notes.put(b"# fault memory\n"),
     }
 }

@@ -5,7 +5,7 @@ use Rattle.std.proofs.lemmas.Bool.{cases_lt, false≢true}
 use Rattle.std.proofs.lemmas.List.{get_or_past}
 use Rattle.std.proofs.lemmas.List.Elements.{Contains-append_left, Contains-push}
 use Rattle.std.proofs.lemmas.Option.{same_Some}
-use Rattle.mv_choose.specs.Choices.{DeterminizesAll, Determinizing, HasNote}
+use Rattle.mv_choose.specs.Choices.{DeterminizesAll, Determinizing}
 use Rattle.mv_choose.proofs.Taking.{given_plain}
 use Rattle.mv_cover.specs.Plain.{IsPlainlyDeterministic}
 use Rattle.mv_cover.specs.declared.cover.Cover.{Cover}
@@ -17,7 +17,7 @@ use Rattle.mv_net.specs.declared.parts.NetParts.{NetParts}
 use Rattle.mv_net.specs.Formed.{WellFormed}
 use Rattle.mv_net.specs.Nets.{name_in, slot, table_in}
 use Rattle.mv_pass.specs.Courses.{Visits}
-use Rattle.mv_visit.specs.Visits.{GivesWay, HasNone, IsLet, StaysFor, Treats, note_of}
+use Rattle.mv_visit.specs.Visits.{GivesWay, HasNone, HasNote, IsLet, StaysFor, Treats, note_of}
 use Rattle.mv_visit.proofs.Visited.{lessened_formed, lessened_nets}
 
 -- the net's table, if it has one, is plainly deterministic, or it is noted why it stays

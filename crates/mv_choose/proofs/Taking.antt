@@ -15,7 +15,7 @@ use Rattle.mv_net.specs.declared.parts.NetParts.{NetParts}
 use Rattle.mv_net.specs.Formed.{IsCover, IsReadable, WellFormed}
 use Rattle.mv_net.specs.Nets.{slot, table_in, values_in}
 use Rattle.mv_net.proofs.Known.{lines_readable, values_few}
-use Rattle.mv_plans.proofs.Overs.{cover_in, over_counts}
+use Rattle.mv_readers.proofs.Overs.{cover_in, over_counts}
 use Rattle.mv_visit.specs.Visits.{IsLesser}
 use Rattle.mv_visit.proofs.Points.{less_at_fanins}
 use Rattle.mv_visit.proofs.Tabled.{its_cover}

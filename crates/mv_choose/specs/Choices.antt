@@ -1,19 +1,18 @@
 -- What the command `determinize` does to a network: it visits each net, and a table that isn't
 -- plainly deterministic gives way to one that is.
-use Rattle.std.specs.Prelude.{◌≡◌, ℕ, List, map, Contains}
+use Rattle.std.specs.Prelude.{◌≡◌, ℕ, map}
 use Rattle.mv_cover.specs.declared.cover.Cover.{Cover}
 use Rattle.mv_cover.specs.Plain.{IsPlainlyDeterministic}
 use Rattle.mv_determine.specs.Determined.{IsTooLong, determined_of}
 use Rattle.mv_entry.specs.declared.note.Why.{Why}
 use Rattle.mv_entry.specs.declared.note.Why.TheVariants.{Lines, Partial, Window as IsWide}
-use Rattle.mv_entry.specs.Entries.{Entry}
 use Rattle.mv_flex.specs.Flex.{TooWide}
 use Rattle.mv_meaning.specs.Narrowing.{AreTotalBelow}
 use Rattle.mv_narrow.specs.Verdicts.{HasWindow}
 use Rattle.mv_net.specs.declared.parts.NetParts.{NetParts}
 use Rattle.mv_net.specs.Nets.{values_in}
 use Rattle.mv_pass.specs.Courses.{Course, VisitsAll, VisitsSome}
-use Rattle.mv_visit.specs.Visits.{Treatment, Treats, note_of}
+use Rattle.mv_visit.specs.Visits.{Treatment, Treats}
 
 -- the table isn't plainly deterministic, and each table below the net n is total
 pub record IsVaried (net : NetParts) (n : ℕ) (table : Cover) : Type 0 where
@@ -53,8 +52,3 @@ DeterminizesAll = VisitsAll (Treats Determinizing)
 -- some of `determinize`: the first so many nets are
 abbrev pub DeterminizesSome : Course
 DeterminizesSome = VisitsSome (Treats Determinizing)
-
--- it is noted among the entries why the net n stays
-pub record HasNote (net : NetParts) (n : ℕ) (entries : List Entry) : Type 0 where
-  pub why : Why
-  pub noted : Contains entries (note_of net n why)

@@ -1,5 +1,5 @@
 ghost use Rattle.std.specs.Prelude.{◌≡◌, ◌⊎◌, ℕ, Bool, List, Some};
-ghost use Rattle.mv_choose.specs.Choices.{DeterminizesAll, DeterminizesSome, HasNote};
+ghost use Rattle.mv_choose.specs.Choices.{DeterminizesAll, DeterminizesSome};
 ghost use Rattle.mv_cover.specs.Plain.{IsPlainlyDeterministic};
 ghost use Rattle.mv_cover.specs.declared.cover.Cover.{Cover};
 ghost use Rattle.mv_entry.specs.Entries.{Entry, rules_of};
@@ -7,6 +7,7 @@ ghost use Rattle.mv_net.specs.declared.parts.NetParts.{NetParts};
 ghost use Rattle.mv_net.specs.Formed.{WellFormed};
 ghost use Rattle.mv_net.specs.Nets.{slot, table_in};
 ghost use Rattle.mv_rules.specs.Replaying.{Replays};
+ghost use Rattle.mv_visit.specs.Visits.{HasNote};
 
 /// However far `determinize` comes, its rules apply in turn, whatever is free. At its end each table is plainly deterministic, but of
 /// nets of which it is noted why they stay.

@@ -24,7 +24,6 @@ use Rattle.mv_cover.specs.Absorb.{left_of, IsLeftOf, default_beside, absorbed}
 use Rattle.mv_cover.proofs.Absorbing.{gives-any, allowed-absorbed}
 use Rattle.mv_cover.proofs.Covering.{same_number, without-reads}
 use Rattle.mv_composite.specs.Inside.{AreCubes, AreCubesOver, AreOutputs, IsCoverOver}
-use Rattle.mv_composite.specs.Puts.{Puts}
 use Rattle.mv_composite.specs.Wide.{HasManyLines, HasManyFanins}
 use Rattle.mv_composite.proofs.Cubes.{All-flat_map, has_asked, without_none, without_unread, matches_changed, matches-mets, reads-met, over-without, over-met, cubes-met, IsCube-without}
 use Rattle.mv_composite.proofs.Formed.{all_left, over-absorbed, over-lines_for, outputs-lines_for}
@@ -222,20 +221,24 @@ coded_reads coding c are =
     in
     record { only = read_by (Coded coding c) (left_of lines) (all_left P lines all) }
 
--- ---- what the code makes of it
+-- ---- what the code makes of it, where P is known of lines that were taken
 
-pub puts_unasked : (a b : List Line) (coding : Coding) (l copy : Line) → literal_at l.cube coding.net.0 ≡ None → copy ≡ l → Puts a b (copy ∷ []) → Puts a b (line_coded coding l)
+pub gives_unasked : (P : List Line → Type 0) (coding : Coding) (l copy : Line) → literal_at l.cube coding.net.0 ≡ None → copy ≡ l → P (copy ∷ []) → P (line_coded coding l)
 unfolding line_coded
-puts_unasked a b coding l copy bare same p = subst (λ (ls : List Line). Puts a b ls) (ap (λ (x : Line). x ∷ []) same ∙ ap (line_by coding l) (sym bare)) p
+gives_unasked P coding l copy bare same p = subst P (ap (λ (x : Line). x ∷ []) same ∙ ap (line_by coding l) (sym bare)) p
 
-pub puts_asked : (a b : List Line) (coding : Coding) (set : ℕ) (l : Line) (rest : List Lit) (cubes used : List (List Lit)) → literal_at l.cube coding.net.0 ≡ Some set → rest ≡ cube_without coding.net.0 l.cube → cubes ≡ set_cubes coding set → used ≡ cubes → Puts a b (lines_for l.out (flat_map (met rest) used)) → Puts a b (line_coded coding l)
+pub gives_asked : (P : List Line → Type 0) (coding : Coding) (set : ℕ) (l : Line) (rest : List Lit) (cubes used : List (List Lit)) → literal_at l.cube coding.net.0 ≡ Some set → rest ≡ cube_without coding.net.0 l.cube → cubes ≡ set_cubes coding set → used ≡ cubes → P (lines_for l.out (flat_map (met rest) used)) → P (line_coded coding l)
 unfolding line_coded
-puts_asked a b coding set l rest cubes used asked r made seen p =
-    subst (λ (ls : List Line). Puts a b ls) ((λ i. lines_for l.out (flat_map (met (r i)) ((seen ∙ made) i))) ∙ ap (line_by coding l) (sym asked)) p
+gives_asked P coding set l rest cubes used asked r made seen p = subst P ((λ i. lines_for l.out (flat_map (met (r i)) ((seen ∙ made) i))) ∙ ap (line_by coding l) (sym asked)) p
 
 pub coded_is : (coding : Coding) (c cover : Cover) (left : List Line) → IsLeftOf (flat_map (line_coded coding) c.lines) left → cover ≡ record { lines = left; default = default_beside left c.default } → cover ≡ reader_coded coding c
 unfolding reader_coded absorbed
 coded_is coding c cover left is e = e ∙ (λ i. record { lines = is.lines i; default = default_beside (is.lines i) c.default })
+
+-- more lines are left than the table may have
+pub many_left : (coding : Coding) (c : Cover) (lines : List Line) → lines ≡ c.lines → HasManyLines (left_of (flat_map (line_coded coding) lines)) → IsTooWide (reader_coded coding c)
+unfolding reader_coded absorbed
+many_left coding c lines same many = ByLines (subst (λ (ls : List Line). HasManyLines (left_of (flat_map (line_coded coding) ls))) same many)
 
 pub many_fanins : (cover : Cover) (lines : List Line) → lines ≡ cover.lines → HasManyFanins lines → IsTooWide cover
 many_fanins cover lines same many = ByFanins (subst HasManyFanins same many)

@@ -24,8 +24,7 @@ coding_of n first codes =
       net = record { 0 = n };
       first = record { 0 = first };
       bits = bits_in codes;
-      values =
-          code_values codes (bits_in codes);
+      values = code_values codes (bits_in codes);
     }
 
 -- the value that the bits of the coding count as
@@ -67,8 +66,7 @@ unfoldable pub split_of : List Code → ℕ → Split
 split_of codes k =
     record {
       zeros = values_with codes k false (length codes);
-      ones =
-          values_with codes k true (length codes);
+      ones = values_with codes k true (length codes);
     }
 
 -- the set of the bit alone, if the two sets meet
@@ -93,6 +91,5 @@ unfoldable pub bit_table : List Code → ℕ → Cover → Cover
 bit_table codes k c =
     record {
       lines = map (line_bit (split_of codes k)) c.lines;
-      default =
-          default_bit (split_of codes k) c.default;
+      default = default_bit (split_of codes k) c.default;
     }

@@ -3,9 +3,9 @@
 #![tactic(auto)]
 
 mod bits;
+mod coder;
 mod coding;
 mod cubes;
-mod fanins;
 mod laws;
 mod reader;
 

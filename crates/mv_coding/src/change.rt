@@ -106,11 +106,9 @@ fn bits_for(
     requires few { length codes.now ≤ MAX_VALUES }
     ensures { IfOk result (λ change. change
         ≡ record {
-          add =
-              spec.bit_nets codes.now (table_in (slot net.now.nets n.0)) names.now;
+          add = spec.bit_nets codes.now (table_in (slot net.now.nets n.0)) names.now;
           set = set;
-          values =
-              [];
+          values = [];
           gone = n ∷ [];
         }) }
 {

@@ -23,8 +23,9 @@ pub record RaisesLiterals (net : NetParts) (name : List ℕ) (before after : ℕ
   pub leaves : LeavesLiterals (Collapse name) net after
   pub rises : before < after
 
--- why the net with this name stays: there is no such net with a table; or it is seen, isn't read, has several readers and may have one
--- of several values, or has a composite that is too wide, which the rule asks in this order; or the literals would rise
+-- why the net with this name stays: there is no such net with a table; or it is seen, isn't read,
+-- has several readers and may have one of several values, or has a composite that is too wide,
+-- which the rule asks in this order; or the literals would rise
 abbrev pub StaysFor : NetParts → List ℕ → Why → Type 0
 StaysFor net name Absent = FailsCollapse net name NoNet
 StaysFor net name Seen = FailsCollapse net name Visible
@@ -34,7 +35,11 @@ StaysFor net name Lines = FailsCollapse net name Wide
 StaysFor net name (Literals before after) = RaisesLiterals net name before after
 StaysFor net name _ = ⊥
 
--- `collapse NET` is one step: the net goes into its readers, with no more literals then, or it is noted why it stays
-pub data CollapsesNet (free : Bool) (name : List ℕ) (old : NetParts) (entries : List Entry) (new : NetParts) : Type 0 where
-  Collapsed : CollapsesFreely old name → Applies free (Collapse name) old new → entries ≡ Applied (Collapse name) ∷ [] → CollapsesNet free name old entries new
-  Remains : (why : Why) → StaysFor old name why → entries ≡ Noted (Dropped why name) ∷ [] → new ≡ old → CollapsesNet free name old entries new
+-- `collapse NET` is one step: the net goes into its readers, with no more literals then, or it is
+-- noted why it stays
+pub data CollapsesNet (free : Bool) (name : List ℕ) (old : NetParts) (entries : List Entry)
+    (new : NetParts) : Type 0 where
+  Collapsed : CollapsesFreely old name → Applies free (Collapse name) old new
+      → entries ≡ Applied (Collapse name) ∷ [] → CollapsesNet free name old entries new
+  Remains : (why : Why) → StaysFor old name why → entries ≡ Noted (Dropped why name) ∷ []
+      → new ≡ old → CollapsesNet free name old entries new

@@ -40,7 +40,8 @@ fn reason(
     terms: Terms,
 ) -> Result<Option<Why>, Memory>
     requires { rule.now ≡ Rule.Collapse name.now }
-    ensures { IfOk result (λ why. MatchOption why (CollapsesFreely net.now name.now) (StaysFor net.now name.now)) }
+    ensures { IfOk result
+        (λ why. MatchOption why (CollapsesFreely net.now name.now) (StaysFor net.now name.now)) }
 {
     match literals_after(alloc, net, rule, terms.budget) {
         Ok(after) => {
@@ -72,7 +73,8 @@ fn note_reason<J: Journal>(
 ) -> Result<(), Stop>
     requires visible { is_visible_name name.now ≡ true }
     requires stays { StaysFor net.now name.now why }
-    ensures { Passes terms.free (CollapsesNet terms.free name.now) (Perhaps (CollapsesNet terms.free name.now)) net.now net.now
+    ensures { Passes terms.free (CollapsesNet terms.free name.now)
+        (Perhaps (CollapsesNet terms.free name.now)) net.now net.now
         (J.state journal.old) (J.state journal.new) result }
 {
     let own = match name.copy() {
@@ -94,7 +96,8 @@ fn step<J: Journal>(
     journal: &mut J,
 ) -> Result<(), Stop>
     requires { is_visible_name name.now ≡ true }
-    ensures passes { Passes terms.free (CollapsesNet terms.free name.now) (Perhaps (CollapsesNet terms.free name.now)) net.old net.new
+    ensures passes { Passes terms.free (CollapsesNet terms.free name.now)
+        (Perhaps (CollapsesNet terms.free name.now)) net.old net.new
         (J.state journal.old) (J.state journal.new) result }
     ensures means { SameMeaning (of_net net.new) (of_net net.old) }
 {
@@ -125,8 +128,10 @@ pub fn collapse<J: Journal>(
     terms: Terms,
 ) -> Result<(), Stop>
     requires { is_visible_name name.now ≡ true }
-    ensures passes { Passes terms.free (Does (CollapsesNet terms.free name.now) (collapse_command name.now))
-        (Begun (CollapsesNet terms.free name.now) (Perhaps (CollapsesNet terms.free name.now)) (collapse_command name.now))
+    ensures passes { Passes terms.free
+        (Does (CollapsesNet terms.free name.now) (collapse_command name.now))
+        (Begun (CollapsesNet terms.free name.now) (Perhaps (CollapsesNet terms.free name.now))
+        (collapse_command name.now))
         net.old net.new (J.state journal.old) (J.state journal.new) result }
     ensures refines { Refines false (of_net net.new) (of_net net.old) }
 {

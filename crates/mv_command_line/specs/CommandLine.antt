@@ -19,8 +19,8 @@ behind [] w = Some w
 behind (a ∷ start) [] = None
 behind (a ∷ start) (b ∷ w) = if b == a then behind start w else None
 
--- what a word is, where options may stand: a positional word, `--` which ends options, `--free`, `--budget` whose value is the next
--- word, `--budget=` with its value, or a word that is refused
+-- what a word is, where options may stand: a positional word, `--` which ends options, `--free`,
+-- `--budget` whose value is the next word, `--budget=` with its value, or a word that is refused
 pub data Sort : Type 0 where
   positional : Sort
   ends : Sort
@@ -44,7 +44,8 @@ sort_of w =
     else option_sort (behind (codes "--budget") w))
     else positional
 
--- the words behind the first one: those that are positional, the values of `--budget`, and how many are `--free`
+-- the words behind the first one: those that are positional, the values of `--budget`, and how many
+-- are `--free`
 pub record Parts : Type 0 where
   pub words : List (List ℕ)
   pub values : List (List ℕ)
@@ -63,7 +64,8 @@ abbrev pub with_free : Option Parts → Option Parts
 with_free None = None
 with_free (Some p) = Some (record p { frees = suc p.frees })
 
--- what a word of this sort and the words behind it are, by what those are where options may stand, and where a value has to
+-- what a word of this sort and the words behind it are, by what those are where options may stand,
+-- and where a value has to
 abbrev pub parts_by : Sort → List ℕ → List (List ℕ) → Option Parts → Option Parts → Option Parts
 parts_by positional w ws loose held = with_word w loose
 parts_by ends w ws loose held = Some (record { words = ws; values = []; frees = 0 })
@@ -72,8 +74,8 @@ parts_by apart w ws loose held = held
 parts_by (attached v) w ws loose held = with_value v loose
 parts_by refused w ws loose held = None
 
--- the parts of these words, none where one is refused. Where the first is to be the value of `--budget` it is no dashed word,
--- since no number is
+-- the parts of these words, none where one is refused. Where the first is to be the value of
+-- `--budget` it is no dashed word, since no number is
 abbrev pub parts_of : Bool → List (List ℕ) → Option Parts
 parts_of false [] = Some (record { words = []; values = []; frees = 0 })
 parts_of true [] = None
@@ -83,7 +85,8 @@ parts_of true (w ∷ ws) = if is_dashed w then None else with_value w (parts_of 
 -- the number that a word says: of one digit up to `most`, and from `least` to `greatest`
 unfoldable pub number_of : ℕ → ℕ → ℕ → List ℕ → Option ℕ
 number_of most least greatest w =
-    if nat_lt 0 (length w) && nat_le (length w) most && list_all is_ascii_digit w && nat_le least (digits_value 10 w)
+    if nat_lt 0 (length w) && nat_le (length w) most && list_all is_ascii_digit w
+    && nat_le least (digits_value 10 w)
     && nat_le (digits_value 10 w) greatest then Some (digits_value 10 w) else None
 
 -- a budget of diagram nodes, the size of a drawn network, and the seed of its drawing
@@ -96,7 +99,8 @@ size_of = number_of 5 1 20000
 abbrev pub seed_of : List ℕ → Option ℕ
 seed_of = number_of 20 0 18446744073709551615
 
--- the budget that the values of `--budget` give: without one the usual budget; more than one are refused
+-- the budget that the values of `--budget` give: without one the usual budget; more than one are
+-- refused
 abbrev pub budget_given : List (List ℕ) → Option ℕ
 budget_given [] = Some DEFAULT_BUDGET
 budget_given (v ∷ []) = budget_of v
@@ -108,8 +112,9 @@ free_given zero = Some false
 free_given (suc zero) = Some true
 free_given (suc (suc n)) = None
 
--- two names of files, whether values under which the network allows nothing may be given any meaning, and how many nodes of diagrams
--- may be made; what is drawn, the name of a script, and the same
+-- two names of files, whether values under which the network allows nothing may be given any
+-- meaning, and how many nodes of diagrams may be made; what is drawn, the name of a script, and the
+-- same
 pub record Files : Type 0 where
   pub net : List ℕ
   pub other : List ℕ
@@ -123,8 +128,8 @@ pub record Draw : Type 0 where
   pub free : Bool
   pub budget : ℕ
 
--- what a command line asks for: that a network is optimised by a script, that a certificate is checked on it, or that a network
--- is drawn and optimised by a script
+-- what a command line asks for: that a network is optimised by a script, that a certificate is
+-- checked on it, or that a network is drawn and optimised by a script
 pub data Asked : Type 0 where
   opt : Files → Asked
   check : Files → Asked
@@ -138,7 +143,8 @@ abbrev pub files_with : List ℕ → List ℕ → Bool → ℕ → Files
 files_with net other free budget = record { net = net; other = other; free = free; budget = budget }
 
 abbrev pub draw_with : ℕ → ℕ → List ℕ → Bool → ℕ → Draw
-draw_with size seed script free budget = record { size = size; seed = seed; script = script; free = free; budget = budget }
+draw_with size seed script free budget =
+    record { size = size; seed = seed; script = script; free = free; budget = budget }
 
 -- what is made of both, where both are given
 abbrev pub of_both : {A : Type 0} → (Bool → ℕ → A) → Option Bool → Option ℕ → Option A
@@ -153,7 +159,9 @@ files_in _ free budget = None
 -- exactly a size, a seed and the name of a script
 abbrev pub draw_in : List (List ℕ) → Option Bool → Option ℕ → Option Draw
 draw_in (size ∷ seed ∷ script ∷ []) free budget =
-    option_and_then (λ n. option_and_then (λ s. of_both (draw_with n s script) free budget) (seed_of seed)) (size_of size)
+    option_and_then
+    (λ n. option_and_then (λ s. of_both (draw_with n s script) free budget) (seed_of seed))
+    (size_of size)
 draw_in _ free budget = None
 
 abbrev pub files_asked : Parts → Option Files
@@ -166,7 +174,8 @@ draw_asked p = draw_in p.words (free_given p.frees) (budget_given p.values)
 abbrev pub asked_by : List ℕ → Option Parts → Option Asked
 asked_by first parts =
     if same_word first (codes "opt") then option_map opt (option_and_then files_asked parts)
-    else if same_word first (codes "check") then option_map check (option_and_then files_asked parts)
+    else if same_word first (codes "check") then option_map check
+    (option_and_then files_asked parts)
     else if same_word first (codes "work") then option_map work (option_and_then draw_asked parts)
     else None
 

@@ -6,7 +6,8 @@ use Rattle.clap.specs.declared.builder.action.ArgAction.TheVariants.{Set, SetTru
 
 -- the options, and a positional word
 abbrev pub budget_given : Rule
-budget_given = record (new_rule (codes "budget")) { long = Some (codes "budget"); action = Some Set }
+budget_given =
+    record (new_rule (codes "budget")) { long = Some (codes "budget"); action = Some Set }
 
 abbrev pub free_given : Rule
 free_given = record (new_rule (codes "free")) { long = Some (codes "free"); action = Some SetTrue }
@@ -19,7 +20,8 @@ abbrev pub two_given : App
 two_given = record {
   top = record (new_shape (codes "mvopt")) {
     disable_help_flag = true;
-    rules = budget_given ∷ free_given ∷ word_given (codes "first") ∷ word_given (codes "second") ∷ [];
+    rules = budget_given ∷ free_given ∷ word_given (codes "first") ∷ word_given (codes "second")
+        ∷ [];
   };
   subs = [];
 }
@@ -27,5 +29,8 @@ two_given = record {
 -- the same with a third word or without
 abbrev pub command_given : Bool → App
 command_given third = record two_given {
-  top = record two_given.top { rules = two_given.top.rules ++ (if third then word_given (codes "third") ∷ [] else []) };
+  top = record two_given.top {
+    rules = two_given.top.rules
+        ++ (if third then word_given (codes "third") ∷ [] else []);
+  };
 }

@@ -1,4 +1,5 @@
--- What the calls between the words and the task speak of: the texts that arguments were given, and what they say.
+-- What the calls between the words and the task speak of: the texts that arguments were given, and
+-- what they say.
 use Rattle.std.specs.Prelude.{◌≡◌, ℕ, zero, suc, Bool, false, ◌&&◌, ◌==◌, nat_le, List, length, map, drop, codes, slice_get, string_bytes}
 use Rattle.std.specs.Prelude.{Option, Some, None, option_map, option_and_then, if◌then◌else◌, Result, MatchResult}
 use Rattle.std.specs.Borrow.{Bor}
@@ -40,17 +41,21 @@ files_by (Some net) (Some other) free value =
     else option_map (files_with net other free) (budget_by value)
 
 -- a size, a seed and the name of a script, with what the options say
-abbrev pub draw_by : Option (List ℕ) → Option (List ℕ) → Option (List ℕ) → Bool → Option (List ℕ) → Option Draw
+abbrev pub draw_by : Option (List ℕ) → Option (List ℕ) → Option (List ℕ) → Bool → Option (List ℕ)
+    → Option Draw
 draw_by None seed script free value = None
 draw_by (Some size) None script free value = None
 draw_by (Some size) (Some seed) None free value = None
 draw_by (Some size) (Some seed) (Some script) free value =
-    option_and_then (λ n. option_and_then (λ s. option_map (draw_with n s script free) (budget_by value)) (seed_of seed))
+    option_and_then
+    (λ n. option_and_then (λ s. option_map (draw_with n s script free) (budget_by value))
+    (seed_of seed))
     (size_of size)
 
 -- the parts have two positional words, or three, and each option once at most
 abbrev pub has_count : Bool → Parts → Bool
-has_count third p = (length p.words == (if third then 3 else 2)) && (nat_le (length p.values) 1 && nat_le p.frees 1)
+has_count third p = (length p.words == (if third then 3 else 2))
+    && (nat_le (length p.values) 1 && nat_le p.frees 1)
 
 -- parts of that count
 abbrev pub counted : Bool → Option Parts → Option Parts
@@ -79,4 +84,5 @@ parts_behind third words = counted third (rest_parts words)
 -- the matches give the parts of these words, or the words are refused
 abbrev pub AreMatched : Bool → List (String Global) → Result ArgMatches WordsStop → Type 0
 AreMatched third words result = MatchResult result
-    (λ m. (p : Parts) × (parts_behind third words ≡ Some p) × Gives p (found_of m)) (IsRefusedBy (parts_behind third words))
+    (λ m. (p : Parts) × (parts_behind third words ≡ Some p) × Gives p (found_of m))
+    (IsRefusedBy (parts_behind third words))

@@ -55,7 +55,8 @@ pub fn files_by<'a>(
     free: bool,
     budget: Option<&'a str>,
 ) -> Option<Files<'a>>
-    ensures { option_map files_of result ≡ files_by (text_of net.entry) (text_of other.entry) free (text_of budget.entry) }
+    ensures { option_map files_of result
+        ≡ files_by (text_of net.entry) (text_of other.entry) free (text_of budget.entry) }
 {
     let net = net?;
     let other = other?;
@@ -80,7 +81,8 @@ pub fn draw_by<'a>(
     budget: Option<&'a str>,
 ) -> Option<Draw<'a>>
     ensures { option_map draw_of result
-        ≡ draw_by (text_of size.entry) (text_of seed.entry) (text_of script.entry) free (text_of budget.entry) }
+        ≡ draw_by (text_of size.entry) (text_of seed.entry) (text_of script.entry) free
+        (text_of budget.entry) }
 {
     let size = size_of(size?.as_bytes())?;
     let seed = seed_of(seed?.as_bytes())?;

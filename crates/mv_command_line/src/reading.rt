@@ -134,7 +134,8 @@ fn opt<'a>(alloc: Global, words: &'a [String]) -> Result<Task<'a>, WordsStop>
 
 /// The task `check`.
 fn check<'a>(alloc: Global, words: &'a [String]) -> Result<Task<'a>, WordsStop>
-    ensures { Answers (option_map check (option_and_then files_asked (rest_parts words.now))) result }
+    ensures { Answers
+        (option_map check (option_and_then files_asked (rest_parts words.now))) result }
 {
     match files(alloc, words) {
         Ok(files) => Ok(Task::Check {

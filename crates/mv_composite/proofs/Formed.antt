@@ -1,5 +1,5 @@
 -- Composites are well formed over the counts.
-use Rattle.std.proofs.Common.{◌≡◌, ℕ, Bool, true, false, not, ◌&&◌, Option, Some, None, is_none, All, List, [], ◌∷◌, filter, inl, inr, refl, sym, ap, subst, ◌∙◌, if◌then◌else◌}
+use Rattle.std.proofs.Common.{◌≡◌, ℕ, Bool, true, false, not, ◌&&◌, Option, Some, None, is_none, All, List, [], ◌∷◌, filter, inl, inr, refl, if◌then◌else◌}
 use Rattle.std.specs.List.{flat_map, list_any}
 use Rattle.std.proofs.lemmas.Bool.{cases_Bool}
 use Rattle.std.proofs.lemmas.List.Elements.{All-nil, All-cons, All-append, All-head, All-tail, All-filter, All-map, All-weaker}
@@ -16,9 +16,8 @@ use Rattle.mv_cover.specs.Absorb.{firsts, left_of, swallowed_by, some_bare, defa
 use Rattle.mv_cover.proofs.Absorbing.{all-firsts}
 use Rattle.mv_cover.proofs.Differing.{differ-filtered, differ-firsts}
 use Rattle.mv_composite.specs.declared.inner.Inner.{Inner}
-use Rattle.mv_composite.specs.Inside.{AreCubes, AreCubesOver, AreOutputs, IsCoverOver, IsInner}
+use Rattle.mv_composite.specs.Inside.{AreCubesOver, AreOutputs, IsCoverOver, IsInner}
 use Rattle.mv_composite.specs.Composite.{set_meets, default_meets, cubes_giving, line_given, lines_given, default_stays, spelled, composed}
-use Rattle.mv_composite.specs.Wide.{default_asked}
 use Rattle.mv_composite.proofs.Cubes.{All-flat_map, over-without, over-met}
 use Rattle.mv_composite.proofs.Outside.{complement_over}
 
@@ -150,14 +149,6 @@ over-spelled counts inner reader are =
       | inl t ↦ rw t are
       | inr f ↦ rw f (over-spelled_of counts reader are)
     ]
-
--- the lines that are given are cubes
-pub given_cubes : (counts : List ℕ) (inner : Inner) (reader t : Cover) (outside used : List (List Lit)) (seen lines : List Line) → IsInner counts inner → AreCubesOver counts reader.lines → t ≡ spelled counts inner reader → outside ≡ (if default_asked inner seen then complement_of counts inner.cover.lines else []) → used ≡ outside → lines ≡ t.lines → AreCubes (lines_given used inner lines)
-given_cubes counts inner reader t outside used seen lines is over e o u l =
-    let asked = over-if counts (default_asked inner seen) (complement_of counts inner.cover.lines) (complement_over counts inner.cover.lines is.cover.cubes) in
-    are_cubes counts (lines_given used inner lines)
-    (over-lines_given counts used inner lines is.cover.cubes (subst (All (IsCubeOver counts)) (sym (u ∙ o)) asked)
-    (subst (AreCubesOver counts) (sym (l ∙ ap (λ (c : Cover). c.lines) e)) (over-spelled counts inner reader over)))
 
 is_over-spelled : (counts : List ℕ) (values : ℕ) (inner : Inner) (reader : Cover) → IsOver counts values reader → IsOver counts values (spelled counts inner reader)
 is_over-spelled counts values inner reader is =

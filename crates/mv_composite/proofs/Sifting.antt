@@ -4,7 +4,7 @@ use Rattle.std.specs.Prelude.{is_some}
 use Rattle.std.specs.List.{list_any}
 use Rattle.std.proofs.lemmas.Bool.{cases_Bool, false≢true, and_from, or_left, or_right, not_from_false}
 use Rattle.std.proofs.lemmas.List.{take_more}
-use Rattle.std.proofs.lemmas.List.Elements.{All-contains}
+use Rattle.std.proofs.lemmas.List.Elements.{All-nil, All-cons, All-append, All-head, All-tail, All-contains}
 use Rattle.std.proofs.lemmas.List.Folds.{list_any-append}
 use Rattle.std.proofs.lemmas.Map.Views.{All-from_any}
 use Rattle.mv_base.specs.declared.limits.TheConstants.{MAX_COMPOSED_LINES}
@@ -61,11 +61,20 @@ among_cube ls l cubes h =
 
 -- ---- a line more
 
+cubes_more : (ls : List Line) (x : Line) → AreCubes ls → IsCube x.cube → AreCubes (ls ++ x ∷ [])
+cubes_more ls x cubes is =
+    All-append (λ (l : Line). IsCube l.cube) ls (x ∷ []) cubes (All-cons (λ (l : Line). IsCube l.cube) x [] is (All-nil (λ (l : Line). IsCube l.cube)))
+
+last_cube : (ls : List Line) (x : Line) → AreCubes (ls ++ x ∷ []) → IsCube x.cube
+last_cube [] x cubes = All-head (λ (l : Line). IsCube l.cube) x [] cubes
+last_cube (l ∷ ls) x cubes = last_cube ls x (All-tail (λ (m : Line). IsCube m.cube) l (ls ++ x ∷ []) cubes)
+
 -- one that is no lighter than the cap
 pub keeps_heavy : (left : List Line) (cap : Option ℕ) (x : Line) → IsHeavy cap x → KeepsLightest left left cap cap (x ∷ [])
 keeps_heavy left None x heavy = absurd heavy
 keeps_heavy left (Some cap) x heavy = record {
   left = λ ls has. record {
+    formed = cubes_more ls x has.formed heavy.cube;
     some = has.some;
     are_left = has.are_left;
     from = λ l h. among_first ls (x ∷ []) l (has.from l h);
@@ -83,6 +92,7 @@ pub keeps_light : (old new : List Line) (cap : Option ℕ) (x : Line) → IsLigh
 keeps_light old new None x light puts = record { left = puts }
 keeps_light old new (Some cap) x light puts = record {
   left = λ ls has. record {
+    formed = cubes_more ls x has.formed (last_cube has.some x (puts has.some has.are_left).formed);
     some = has.some ++ x ∷ [];
     are_left = puts has.some has.are_left;
     from = λ l h.
@@ -190,6 +200,7 @@ still-lies old new low puts l h =
 
 lowered : (ls old new : List Line) (cap : Option ℕ) (middle : ℕ) → PutsLight (least_of cap middle) [] new old → HasLightest ls old cap → AreLightest ls new (least_of cap middle)
 lowered ls old new None low puts is = record {
+  formed = is.formed;
   some = puts.put;
   are_left = puts.left.left [] (left_none [] refl);
   from = λ l h. left-among ls l (ap (λ xs. is_among xs l) (sym is.lines) ∙ puts.from l h);
@@ -201,6 +212,7 @@ lowered ls old new (Some cap) middle puts has =
     let low = least_of (Some cap) middle in
     let lower = least-first cap middle in
     record {
+      formed = has.formed;
       some = puts.put;
       are_left = puts.left.left [] (left_none [] refl);
       from = λ l h. has.from l (left-among has.some l (ap (λ xs. is_among xs l) (sym has.are_left.lines) ∙ puts.from l h));
@@ -242,8 +254,18 @@ lightest-closed ls left cap cubes has = record {
 }
 
 -- the first lines that came
-pub sifted_first : (ls none left : List Line) (cap : Option ℕ) → none ≡ [] → KeepsLightest none left None cap ls → IsSifted ls left cap
-sifted_first ls none left cap e keeps = record { came = ls; same = record { same = λ l. refl }; lightest = keeps.left [] (left_none none e) }
+pub lightest_first : (ls none left : List Line) (from cap : Option ℕ) → none ≡ [] → from ≡ None → KeepsLightest none left from cap ls → HasLightest ls left cap
+lightest_first ls none left from cap e f keeps =
+    let begun : KeepsLightest none left None cap ls = subst (λ (o : Option ℕ). KeepsLightest none left o cap ls) f keeps in
+    begun.left [] (left_none none e)
+
+pub sifted_first : (ls left : List Line) (cap : Option ℕ) → HasLightest ls left cap → IsSifted ls left cap
+sifted_first ls left cap has = record { came = ls; same = record { same = λ l. refl }; lightest = has }
+
+-- each of them has a cube
+pub cubes_first : (ls left : List Line) (cap : Option ℕ) → HasLightest ls left cap → AreCubes ls
+cubes_first ls left None has = has.formed
+cubes_first ls left (Some cap) has = has.formed
 
 -- all once more
 pub sifted_again : (ls left next new : List Line) (cap after : Option ℕ) → next ≡ left → is_some cap ≡ true → IsSifted ls left cap → KeepsLightest next new None after ls → IsSifted ls new after
@@ -286,9 +308,9 @@ sifted_all ls left (Some cap) f sifted = absurd (false≢true (sym f))
 
 -- ---- in order
 
-pub all_left : (ls none left : List Line) (cap : Option ℕ) → none ≡ [] → is_some cap ≡ false → KeepsLightest none left None cap ls → IsLeftOf ls left
-all_left ls none left None e f keeps = keeps.left [] (left_none none e)
-all_left ls none left (Some cap) e f keeps = absurd (false≢true (sym f))
+pub all_left : (ls left : List Line) (cap : Option ℕ) → is_some cap ≡ false → HasLightest ls left cap → IsLeftOf ls left
+all_left ls left None f has = has
+all_left ls left (Some cap) f has = absurd (false≢true (sym f))
 
 -- what is left of those that are among the lines that are left
 pub picked_left : (ls keys lightest seen left : List Line) → AreCubes ls → keys ≡ firsts seen → seen ≡ lightest → HaveSameLines lightest (left_of ls) → IsLeftOf (filter (is_among keys) ls) left → IsLeftOf ls left

@@ -38,5 +38,7 @@ pub record AllowsAtEach (counts : List ℕ) (c : Cover) : Type 0 where
 -- the net's table is well formed, its output has the net's values, and what is known of it is so
 pub record IsInner (counts : List ℕ) (inner : Inner) : Type 0 where
   pub cover : IsCoverOver counts (slice_index counts inner.net.0) inner.cover
-  pub total : MatchBool inner.total (AllowsAtEach counts inner.cover) (AllowsAtEach counts inner.cover → ⊥)
-  pub plain : MatchBool inner.plain (IsPlainlyDeterministic inner.cover) (IsPlainlyDeterministic inner.cover → ⊥)
+  pub total : MatchBool inner.total (AllowsAtEach counts inner.cover)
+      (AllowsAtEach counts inner.cover → ⊥)
+  pub plain : MatchBool inner.plain (IsPlainlyDeterministic inner.cover)
+      (IsPlainlyDeterministic inner.cover → ⊥)

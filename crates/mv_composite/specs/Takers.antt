@@ -1,5 +1,5 @@
 -- What is known of those that took lines: what private functions alone cite.
-use Rattle.std.specs.Prelude.{◌≡◌, ◌⊎◌, ◌≤◌, ℕ, Bool, true, ◌||◌, Option, Some, None, List, ◌++◌, filter, nat_lt, if◌then◌else◌}
+use Rattle.std.specs.Prelude.{◌≡◌, ◌⊎◌, ◌≤◌, ℕ, Bool, true, ◌||◌, Option, Some, None, List, ◌++◌, All, filter, nat_lt, if◌then◌else◌}
 use Rattle.std.specs.List.{list_any}
 use Rattle.mv_cover.specs.declared.line.Line.{Line}
 use Rattle.mv_cover.specs.Cubes.{IsCube}
@@ -58,14 +58,16 @@ pub record LiesBeyond (cap : ℕ) (l : Line) : Type 0 where
   pub lies : is_or_lies l over ≡ true
   pub from : IsFrom cap over
 
--- left are those of some of the lines, none of which is heavier than the cap; each line is or lies in one of them, or in one
--- that is no lighter than the cap
+-- left are those of some of the lines, none of which is heavier than the cap; each line has a cube,
+-- and is or lies in one of them, or in one that is no lighter than the cap
 pub record AreLightest (ls left : List Line) (cap : ℕ) : Type 0 where
+  pub formed : All (λ (l : Line). IsCube l.cube) ls
   pub some : List Line
   pub are_left : IsLeftOf some left
   pub from : (l : Line) → is_among some l ≡ true → is_among ls l ≡ true
   pub light : (l : Line) → is_among some l ≡ true → IsUpTo cap l
-  pub covered : (l : Line) → is_among ls l ≡ true → (list_any (is_or_lies l) some ≡ true) ⊎ LiesBeyond cap l
+  pub covered : (l : Line) → is_among ls l ≡ true
+      → (list_any (is_or_lies l) some ≡ true) ⊎ LiesBeyond cap l
 
 -- what is left of all lines, or of the lightest where there is a cap
 abbrev pub HasLightest : List Line → List Line → Option ℕ → Type 0
@@ -79,7 +81,8 @@ pub record IsSifted (ls left : List Line) (cap : Option ℕ) : Type 0 where
   pub lightest : HasLightest came left cap
 
 -- more lines have come, and the lightest of all are left
-pub record KeepsLightest (old new : List Line) (before after : Option ℕ) (more : List Line) : Type 0 where
+pub record KeepsLightest (old new : List Line) (before after : Option ℕ) (more : List Line)
+    : Type 0 where
   pub left : (ls : List Line) → HasLightest ls old before → HasLightest (ls ++ more) new after
 
 -- those of the lines were put that are no heavier than the cap

@@ -1,4 +1,5 @@
--- What lines weigh, by which a line is heavier than those that it lies in: what private functions alone cite.
+-- What lines weigh, by which a line is heavier than those that it lies in: what private functions
+-- alone cite.
 use Rattle.std.specs.Prelude.{ℕ, ◌+◌, ◌-◌, ◌≤◌, List, All, sum_by, count_ones}
 use Rattle.mv_base.specs.declared.limits.TheConstants.{MAX_VALUES}
 use Rattle.mv_cover.specs.Literal.{Lit}

@@ -22,7 +22,8 @@ fanins lines = firsts_by nat_eq (flat_map (λ (l : Line). cube_nets l.cube) line
 
 -- some line asks for a value that the net's default has
 abbrev pub default_asked : Inner → List Line → Bool
-default_asked inner lines = list_any (λ (l : Line). default_meets inner.cover.default (literal_at l.cube inner.net.0)) lines
+default_asked inner lines =
+    list_any (λ (l : Line). default_meets inner.cover.default (literal_at l.cube inner.net.0)) lines
 
 -- the reader's default has to be spelled out, and its lines' complement is too wide
 pub record IsReaderWide (counts : List ℕ) (inner : Inner) (reader : Cover) : Type 0 where
@@ -46,6 +47,7 @@ pub record HasManyFanins (lines : List Line) : Type 0 where
 -- the composite is too wide
 pub data IsTooWide (counts : List ℕ) (inner : Inner) (reader : Cover) : Type 0 where
   ByReader : IsReaderWide counts inner reader → IsTooWide counts inner reader
-  ByInner : IsInnerWide counts inner (spelled counts inner reader).lines → IsTooWide counts inner reader
+  ByInner : IsInnerWide counts inner (spelled counts inner reader).lines
+      → IsTooWide counts inner reader
   ByLines : HasManyLines (composed counts inner reader).lines → IsTooWide counts inner reader
   ByFanins : HasManyFanins (composed counts inner reader).lines → IsTooWide counts inner reader

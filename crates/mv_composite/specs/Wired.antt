@@ -9,10 +9,13 @@ use Rattle.mv_cover.specs.Cofactors.{cube_without}
 use Rattle.mv_cover.specs.Complement.{lines_for}
 use Rattle.mv_cover.specs.Absorb.{absorbed}
 
--- the line, where nothing is asked of the net n; else its other literals, met with the literal that asks the same of the net m
+-- the line, where nothing is asked of the net n; else its other literals, met with the literal that
+-- asks the same of the net m
 abbrev pub line_asking : ℕ → ℕ → Line → Option ℕ → List Line
 line_asking n m l None = l ∷ []
-line_asking n m l (Some set) = lines_for l.out (met (cube_without n l.cube) (record { net = record { 0 = m }; set = set } ∷ []))
+line_asking n m l (Some set) =
+    lines_for l.out
+    (met (cube_without n l.cube) (record { net = record { 0 = m }; set = set } ∷ []))
 
 -- what the line gives once m is read in place of n
 unfoldable pub line_wired : ℕ → ℕ → Line → List Line
@@ -28,4 +31,5 @@ pub record AllowsAlong (n m : ℕ) (old new : Cover) : Type 0 where
 
 -- the new cover reads what the old one reads, but n, and m
 pub record ReadsAlong (n m : ℕ) (old new : Cover) : Type 0 where
-  pub only : (k : ℕ) → cover_reads new k ≡ true → ((cover_reads old k ≡ true) × (nat_eq k n ≡ false)) ⊎ (k ≡ m)
+  pub only : (k : ℕ) → cover_reads new k ≡ true
+      → ((cover_reads old k ≡ true) × (nat_eq k n ≡ false)) ⊎ (k ≡ m)

@@ -9,7 +9,8 @@ ghost use Rattle.mv_composite.specs.Wide.{IsReaderWide, IsInnerWide, HasManyLine
 
 use crate::Inner;
 use crate::fanins::has_many_fanins;
-use crate::given::given;
+use crate::given::left_of_given;
+use crate::insertion::Insertion;
 use crate::literal::literal_on;
 use crate::put::default_meets;
 use mv_base::MAX_COMPOSED_LINES;
@@ -31,11 +32,15 @@ pub fn compose(
 
     ensures cover { IfOk result (λ cover. cover ≡ composed counts.now inner.now reader.now) }
     ensures narrow { IfOk result (λ _. IsTooWide counts.now inner.now reader.now → ⊥) }
-    ensures wide { IfErr result (λ stop. stop ≡ CoverStop.Wide → IsTooWide counts.now inner.now reader.now) }
+    ensures wide { IfErr result
+        (λ stop. stop ≡ CoverStop.Wide → IsTooWide counts.now inner.now reader.now) }
 
-    ensures means { IfOk result (λ cover. Composes counts.now inner.now.net.0 inner.now.cover reader.now cover) }
-    ensures formed { (values : ℕ) → IsCoverOver counts.now values reader.now → IfOk result (λ cover. IsCoverOver counts.now values cover) }
-    ensures reads { IfOk result (λ cover. ReadsThrough inner.now.net.0 inner.now.cover reader.now cover) }
+    ensures means { IfOk result
+        (λ cover. Composes counts.now inner.now.net.0 inner.now.cover reader.now cover) }
+    ensures formed { (values : ℕ) → IsCoverOver counts.now values reader.now
+        → IfOk result (λ cover. IsCoverOver counts.now values cover) }
+    ensures reads { IfOk result
+        (λ cover. ReadsThrough inner.now.net.0 inner.now.cover reader.now cover) }
 {
     match composite(alloc, counts, inner, reader) {
         Ok(cover) => Ok(cover),
@@ -54,7 +59,8 @@ fn composite(
     requires reader { AreCubesOver counts.now reader.now.lines }
     ensures cover { IfOk result (λ cover. cover ≡ composed counts.now inner.now reader.now) }
     ensures narrow { IfOk result (λ _. IsTooWide counts.now inner.now reader.now → ⊥) }
-    ensures wide { IfErr result (λ stop. stop ≡ CoverStop.Wide → IsTooWide counts.now inner.now reader.now) }
+    ensures wide { IfErr result
+        (λ stop. stop ≡ CoverStop.Wide → IsTooWide counts.now inner.now reader.now) }
 {
     let spelled = match spelled(alloc, counts, inner, reader) {
         Ok(spelled) => spelled,
@@ -64,7 +70,11 @@ fn composite(
         Ok(outside) => outside,
         Err(stop) => return Err(stop),
     };
-    let left = match given(alloc, inner, outside.as_slice(), spelled.lines.as_slice()) {
+    let insertion = Insertion {
+        inner,
+        outside: outside.as_slice(),
+    };
+    let left = match left_of_given(alloc, &insertion, spelled.lines.as_slice()) {
         Ok(left) => left,
         Err(stop) => return Err(stop),
     };
@@ -83,7 +93,8 @@ fn spelled(alloc: Global, counts: &[u16], inner: &Inner, reader: &Cover) -> Resu
     requires { LinesSuit counts.now reader.now.lines }
     ensures cover { IfOk result (λ cover. cover ≡ spec.spelled counts.now inner.now reader.now) }
     ensures narrow { IfOk result (λ _. IsReaderWide counts.now inner.now reader.now → ⊥) }
-    ensures wide { IfErr result (λ stop. stop ≡ CoverStop.Wide → IsReaderWide counts.now inner.now reader.now) }
+    ensures wide { IfErr result
+        (λ stop. stop ≡ CoverStop.Wide → IsReaderWide counts.now inner.now reader.now) }
 {
     if inner.total && inner.plain {
         return Ok(reader.copy()?);
@@ -103,9 +114,11 @@ fn outside(
 ) -> Result<Vec<Cube>, CoverStop>
     requires { LinesSuit counts.now inner.now.cover.lines }
     ensures cubes { IfOk result
-        (λ cubes. cubes.items ≡ (if wide.default_asked inner.now lines.now then complement_of counts.now inner.now.cover.lines else [])) }
+        (λ cubes. cubes.items
+        ≡ (if wide.default_asked inner.now lines.now then complement_of counts.now inner.now.cover.lines else [])) }
     ensures narrow { IfOk result (λ _. IsInnerWide counts.now inner.now lines.now → ⊥) }
-    ensures wide { IfErr result (λ stop. stop ≡ CoverStop.Wide → IsInnerWide counts.now inner.now lines.now) }
+    ensures wide { IfErr result
+        (λ stop. stop ≡ CoverStop.Wide → IsInnerWide counts.now inner.now lines.now) }
 {
     if !default_asked(inner, lines) {
         return Ok(Vec::new(alloc));
@@ -125,7 +138,8 @@ fn default_asked(inner: &Inner, lines: &[Line]) -> bool
 
 /// Whether the line asks for a value that the net's default has.
 fn line_asks_default(inner: &Inner, line: &Line) -> bool
-    ensures { result ≡ spec.default_meets inner.now.cover.default (literal_at line.now.cube inner.now.net.0) }
+    ensures { result
+        ≡ spec.default_meets inner.now.cover.default (literal_at line.now.cube inner.now.net.0) }
 {
     default_meets(
         &inner.cover.default,

@@ -9,7 +9,8 @@ use std::alloc::Global;
 
 /// Whether the lines have literals on more nets than a composite may have fanins.
 pub fn has_many_fanins(alloc: Global, lines: &[Line]) -> Result<bool, Memory>
-    ensures { IfOk result (λ many. MatchBool many (HasManyFanins lines.now) (HasManyFanins lines.now → ⊥)) }
+    ensures { IfOk result
+        (λ many. MatchBool many (HasManyFanins lines.now) (HasManyFanins lines.now → ⊥)) }
 {
     let mut nets = IndexSet::new(alloc);
     for line in lines {

@@ -35,7 +35,8 @@ impl Lightest {
 
     /// Lowers the cap to a weight in the middle, and lets go of the lines that are heavier.
     fn lower(&mut self) -> Result<(), Memory>
-        ensures { OnOk result (KeepsLightest self.old.left self.new.left self.old.cap self.new.cap []) }
+        ensures { OnOk result
+            (KeepsLightest self.old.left self.new.left self.old.cap self.new.cap []) }
     {
         let left = mem::replace(&mut self.left, Absorber::new(self.alloc)).finish(None);
         let middle = middle_weight(self.alloc, left.lines.as_slice())?;

@@ -20,7 +20,8 @@ pub fn put_given<T: Taker>(
     outside: &[Cube],
     line: &Line,
 ) -> Result<(), Memory>
-    ensures { OnOk result (T.takes taker.old taker.new (line_given outside.now inner.now line.now)) }
+    ensures { OnOk result
+        (T.takes taker.old taker.new (line_given outside.now inner.now line.now)) }
 {
     let asked = literal_on(line.cube.lits(), inner.net);
     if stays_whole(inner, &asked) {
@@ -49,7 +50,8 @@ fn put_where<T: Taker>(
     out: &PackedSet,
 ) -> Result<(), Memory>
     ensures { OnOk result (T.takes taker.old taker.new
-        (lines_for out.now (flat_map (met rest.now) (cubes_giving outside.now cover.now asked.now)))) }
+        (lines_for out.now
+        (flat_map (met rest.now) (cubes_giving outside.now cover.now asked.now)))) }
 {
     put_giving(taker, rest, cover.lines.as_slice(), asked, out)?;
     if !default_meets(&cover.default, asked) {
@@ -68,7 +70,9 @@ fn put_giving<T: Taker>(
     out: &PackedSet,
 ) -> Result<(), Memory>
     ensures { OnOk result (T.takes taker.old taker.new
-        (lines_for out.now (flat_map (met rest.now) (cubes_of (filter (λ (l : a_line). spec.set_meets asked.now l.out) lines.now))))) }
+        (lines_for out.now
+        (flat_map (met rest.now)
+        (cubes_of (filter (λ (l : a_line). spec.set_meets asked.now l.out) lines.now))))) }
 {
     for line in lines {
         if set_meets(asked, &line.out) {
@@ -78,14 +82,15 @@ fn put_giving<T: Taker>(
     Ok(())
 }
 
-/// Puts the meets of the cube with each of these.
-fn put_all<T: Taker>(
+/// Puts lines of this output: the meets of the cube with each of these.
+pub fn put_all<T: Taker>(
     taker: &mut T,
     rest: &Cube,
     cubes: &[Cube],
     out: &PackedSet,
 ) -> Result<(), Memory>
-    ensures { OnOk result (T.takes taker.old taker.new (lines_for out.now (flat_map (met rest.now) cubes.now))) }
+    ensures { OnOk result
+        (T.takes taker.old taker.new (lines_for out.now (flat_map (met rest.now) cubes.now))) }
 {
     for cube in cubes {
         put_met(taker, rest, cube, out)?;
@@ -100,7 +105,8 @@ pub fn put_met<T: Taker>(
     other: &Cube,
     out: &PackedSet,
 ) -> Result<(), Memory>
-    ensures { OnOk result (T.takes taker.old taker.new (lines_for out.now (met rest.now other.now))) }
+    ensures { OnOk result
+        (T.takes taker.old taker.new (lines_for out.now (met rest.now other.now))) }
 {
     match rest.meet(other)? {
         None => Ok(()),

@@ -19,7 +19,8 @@ use std::alloc::Global;
 pub fn wire(alloc: Global, net: NetId, into: NetId, cover: &Cover) -> Result<Cover, Memory>
     ensures cover { IfOk result (λ new. new ≡ wired net.0 into.0 cover.now) }
     ensures means { IfOk result (λ new. AllowsAlong net.0 into.0 cover.now new) }
-    ensures formed { (counts : List ℕ) (values : ℕ) → slice_index counts net.0 ≡ slice_index counts into.0
+    ensures formed { (counts : List ℕ) (values : ℕ)
+        → slice_index counts net.0 ≡ slice_index counts into.0
         → IsCoverOver counts values cover.now → IfOk result (λ new. IsCoverOver counts values new) }
     ensures reads { IfOk result (λ new. ReadsAlong net.0 into.0 cover.now new) }
 {
@@ -40,7 +41,8 @@ fn rewired(alloc: Global, net: NetId, into: NetId, cover: &Cover) -> Result<Cove
 
 /// What is left of the lines that the lines give.
 fn given(alloc: Global, net: NetId, into: NetId, lines: &[Line]) -> Result<Absorber, Memory>
-    ensures left { IfOk result (λ left. IsLeftOf (flat_map (line_wired net.0 into.0) lines.now) left) }
+    ensures left { IfOk result
+        (λ left. IsLeftOf (flat_map (line_wired net.0 into.0) lines.now) left) }
     ensures formed { OnOk result (AreCubes lines.now) }
 {
     let mut left = Absorber::new(alloc);

@@ -1,4 +1,5 @@
--- Lines that a cover can do without, by the rule: equal lines, then lines within others, then a default that never counts.
+-- Lines that a cover can do without, by the rule: equal lines, then lines within others, then a
+-- default that never counts.
 use Rattle.std.specs.Prelude.{◌≡◌, ℕ, Bool, ◌&&◌, not, nat_eq, Option, None, List, [], ◌∷◌, ◌++◌, length, filter, All, if◌then◌else◌}
 use Rattle.std.specs.List.{list_any}
 use Rattle.mv_base.specs.Firsts.{firsts_by}
@@ -41,12 +42,16 @@ some_bare ls = list_any (λ l. nat_eq (length l.cube) 0) ls
 abbrev pub default_beside : List Line → Option ℕ → Option ℕ
 default_beside ls default = if some_bare ls then None else default
 
--- the cover without equal lines, then without lines that lie in others, then without a default that never counts
+-- the cover without equal lines, then without lines that lie in others, then without a default that
+-- never counts
 unfoldable pub absorbed : Cover → Cover
-absorbed c = record { lines = left_of c.lines; default = default_beside (left_of c.lines) c.default }
+absorbed c =
+    record { lines = left_of c.lines; default = default_beside (left_of c.lines) c.default }
 
 -- ---- what private functions alone cite
 
--- a line more: it goes where it lies in one that is left; else those that lie in it go, and it comes last
+-- a line more: it goes where it lies in one that is left; else those that lie in it go, and it
+-- comes last
 unfoldable pub with_line : List Line → Line → List Line
-with_line left x = if list_any (line_lies x) left then left else filter (λ l. not (line_lies l x)) left ++ x ∷ []
+with_line left x = if list_any (line_lies x) left then left
+    else filter (λ l. not (line_lies l x)) left ++ x ∷ []

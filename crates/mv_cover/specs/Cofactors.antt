@@ -61,7 +61,8 @@ cube_without n cube = filter (λ l. not (nat_eq l.net.0 n)) cube
 -- what the cubes ask of the other nets where the net has the value
 abbrev pub cofactor_of : ℕ → ℕ → List (List Lit) → List (List Lit)
 cofactor_of n value [] = []
-cofactor_of n value (c ∷ cs) = if cube_allows n value c then cube_without n c ∷ cofactor_of n value cs else cofactor_of n value cs
+cofactor_of n value (c ∷ cs) = if cube_allows n value c then cube_without n c
+    ∷ cofactor_of n value cs else cofactor_of n value cs
 
 -- the cubes of the lines
 abbrev pub cubes_of : List Line → List (List Lit)

@@ -1,4 +1,5 @@
--- The complement of lines, as cubes without common points, and a cover whose default is spelled out.
+-- The complement of lines, as cubes without common points, and a cover whose default is spelled
+-- out.
 use Rattle.std.specs.Prelude.{◌≡◌, ◌<◌, ◌≤◌, ℕ, Option, Some, None, List, [], ◌∷◌, ◌++◌, map, length, take, All}
 use Rattle.std.specs.List.{fold, flat_map}
 use Rattle.mv_base.specs.declared.limits.TheConstants.{MAX_COMPLEMENT_CUBES}
@@ -41,7 +42,8 @@ default_lines counts lines (Some out) = lines_for out (complement_of counts line
 
 -- the cover without default in which the default's lines stand behind the others
 unfoldable pub spelled_of : List ℕ → Cover → Cover
-spelled_of counts c = record { lines = c.lines ++ default_lines counts c.lines c.default; default = None }
+spelled_of counts c =
+    record { lines = c.lines ++ default_lines counts c.lines c.default; default = None }
 
 -- two covers that allow the same values at each point
 pub record AllowSame (counts : List ℕ) (a b : Cover) : Type 0 where

@@ -1,4 +1,5 @@
--- The relation of a cover, after the description of BLIF-MV: lines that match together are each allowed.
+-- The relation of a cover, after the description of BLIF-MV: lines that match together are each
+-- allowed.
 use Rattle.std.specs.Prelude.{ℕ, ◌+◌, Bool, false, ◌&&◌, ◌||◌, not, nat_eq, Option, Some, None, List, [], ◌∷◌, length}
 use Rattle.std.specs.List.{list_any}
 use Rattle.mv_base.specs.Set.{has}
@@ -24,7 +25,8 @@ default_gives (Some out) value = has out value
 
 -- the cover allows this value where the fanins have the values of the assignment
 unfoldable pub allowed : Cover → (ℕ → ℕ) → ℕ → Bool
-allowed c at value = some_gives at value c.lines || (not (some_matches at c.lines) && default_gives c.default value)
+allowed c at value = some_gives at value c.lines
+    || (not (some_matches at c.lines) && default_gives c.default value)
 
 -- the literals of the lines, each of which counts one
 abbrev pub literal_count : List Line → ℕ

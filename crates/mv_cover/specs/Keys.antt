@@ -1,4 +1,5 @@
--- The tests of equality of literals, cubes and lines decide equality: the laws by which all three can be keys.
+-- The tests of equality of literals, cubes and lines decide equality: the laws by which all three
+-- can be keys.
 use Rattle.std.proofs.Common.{◌≡◌, true, List, ap, nat_eq, Decides}
 use Rattle.std.proofs.lemmas.Bool.{and_parts, and_from}
 use Rattle.std.specs.Cmp.{IsEquivalence, IsPartialEquivalence, partial_equiv_from_equiv, decided, unsigned_Decides}
@@ -18,8 +19,10 @@ same_line a b c o = λ i. record { cube = c i; out = o i }
 pub lit_eq-Decides : (a b : Lit) → Decides (lit_eq a b) (a ≡ b)
 lit_eq-Decides a b = (
   λ h. let p = and_parts (nat_eq a.net.0 b.net.0) (nat_eq a.set b.set) h in
-      same_lit a b ((unsigned_Decides a.net.0 b.net.0).0 p.0) ((unsigned_Decides a.set b.set).0 p.1),
-  λ e. and_from (nat_eq a.net.0 b.net.0) (nat_eq a.set b.set) ((unsigned_Decides a.net.0 b.net.0).1 (ap (λ (l : Lit). l.net.0) e))
+      same_lit a b ((unsigned_Decides a.net.0 b.net.0).0 p.0)
+      ((unsigned_Decides a.set b.set).0 p.1),
+  λ e. and_from (nat_eq a.net.0 b.net.0) (nat_eq a.set b.set)
+      ((unsigned_Decides a.net.0 b.net.0).1 (ap (λ (l : Lit). l.net.0) e))
       ((unsigned_Decides a.set b.set).1 (ap (λ (l : Lit). l.set) e)),
 )
 
@@ -30,7 +33,8 @@ pub line_eq-Decides : (a b : Line) → Decides (line_eq a b) (a ≡ b)
 line_eq-Decides a b = (
   λ h. let p = and_parts (cube_eq a.cube b.cube) (nat_eq a.out b.out) h in
       same_line a b ((cube_eq-Decides a.cube b.cube).0 p.0) ((unsigned_Decides a.out b.out).0 p.1),
-  λ e. and_from (cube_eq a.cube b.cube) (nat_eq a.out b.out) ((cube_eq-Decides a.cube b.cube).1 (ap (λ (l : Line). l.cube) e))
+  λ e. and_from (cube_eq a.cube b.cube) (nat_eq a.out b.out)
+      ((cube_eq-Decides a.cube b.cube).1 (ap (λ (l : Line). l.cube) e))
       ((unsigned_Decides a.out b.out).1 (ap (λ (l : Line). l.out) e)),
 )
 

@@ -1,4 +1,5 @@
--- What the lines of a well-formed cover are like: each gives some values of its net, and none stands twice.
+-- What the lines of a well-formed cover are like: each gives some values of its net, and none
+-- stands twice.
 use Rattle.std.specs.Prelude.{◌≡◌, ℕ, Bool, true, ◌&&◌, not, List, [], ◌∷◌}
 use Rattle.std.specs.List.{list_any}
 use Rattle.mv_base.specs.Set.{empty, full, Within}

@@ -9,4 +9,5 @@ pub record Lit : Type 0 where
   pub set : ℕ
 
 abbrev pub lit_code : Coded Lit
-lit_code = code_by (ℕ × ℕ) (coded× coded_ℕ coded_ℕ) (λ l. (l.net.0, l.set)) (λ p. record { net = record { 0 = p.0 }; set = p.1 }) (λ _. refl)
+lit_code = code_by (ℕ × ℕ) (coded× coded_ℕ coded_ℕ) (λ l. (l.net.0, l.set))
+    (λ p. record { net = record { 0 = p.0 }; set = p.1 }) (λ _. refl)

@@ -1,4 +1,5 @@
--- Marks of lines, as sets of bits, which private functions alone cite: a line that lies in another has all marks of that one.
+-- Marks of lines, as sets of bits, which private functions alone cite: a line that lies in another
+-- has all marks of that one.
 use Rattle.std.specs.Prelude.{◌≡◌, ℕ, zero, suc, ◌+◌, ◌-◌, ◌*◌, ◌/◌, ◌%◌, ◌^◌, ◌≤◌, ◌<◌, Bool, false, ◌&&◌, ◌||◌, nat_eq, bit_and, count_ones, List, [], ◌∷◌, get_or, if◌then◌else◌}
 use Rattle.mv_base.specs.Set.{has, empty, one, full, meet, join, minus}
 use Rattle.mv_cover.specs.Literal.{Lit}
@@ -21,7 +22,8 @@ alone set = count_ones (set - 1)
 
 -- the bit of a set's value, if it has one alone, and all bits for the set without values
 unfoldable pub alone_mark : ℕ → ℕ → ℕ
-alone_mark set place = if nat_eq set empty then full 64 else if nat_eq set (one (alone set)) then one ((place + alone set) % 62) else empty
+alone_mark set place = if nat_eq set empty then full 64
+    else if nat_eq set (one (alone set)) then one ((place + alone set) % 62) else empty
 
 -- where the marks of a net begin
 unfoldable pub net_place : ℕ → ℕ
@@ -50,7 +52,8 @@ digest set = join (remainders 7 set) (minus (meet set (full 16)) (full 8))
 unfoldable pub window : ℕ → ℕ
 window n = 16 * (n % 4)
 
--- which of the eight remainders none of the set's values has, and which values from 8 to 15 it hasn't
+-- which of the eight remainders none of the set's values has, and which values from 8 to 15 it
+-- hasn't
 unfoldable pub wide_marks : ℕ → ℕ → ℕ
 wide_marks set n = minus (full 16) (digest set) * 2 ^ window n
 
@@ -63,7 +66,11 @@ cube_marks marks (l ∷ ls) = join (marks l.set l.net.0) (cube_marks marks ls)
 
 -- those of few values, with those of the output, and those of many
 unfoldable pub line_marks : Line → Marks
-line_marks l = record { narrow = join (cube_marks narrow_marks l.cube) (set_marks l.out 62); wide = cube_marks wide_marks l.cube }
+line_marks l =
+    record {
+      narrow = join (cube_marks narrow_marks l.cube) (set_marks l.out 62);
+      wide = cube_marks wide_marks l.cube;
+    }
 
 -- each bit of one is one of the other
 abbrev pub bits_among : ℕ → ℕ → Bool

@@ -26,7 +26,8 @@ pub record IsMet (a b c : List Lit) : Type 0 where
 unfoldable pub put_in : Lit → (List Lit → List Lit) → List Lit → List Lit
 put_in l rest [] = l ∷ rest []
 put_in l rest (m ∷ ms) =
-    if nat_lt l.net.0 m.net.0 then l ∷ rest (m ∷ ms) else if nat_lt m.net.0 l.net.0 then m ∷ put_in l rest ms
+    if nat_lt l.net.0 m.net.0 then l ∷ rest (m ∷ ms)
+    else if nat_lt m.net.0 l.net.0 then m ∷ put_in l rest ms
     else record { net = l.net; set = meet l.set m.set } ∷ rest ms
 
 -- the literals of both lists by ascending net, with the meet where both have one
@@ -40,8 +41,10 @@ met a b = if list_all (λ l. not (nat_eq l.set empty)) (merged a b) then merged 
 
 -- ---- what private functions alone cite
 
--- the literal of the lesser net, or the meet of two on one net, and how many literals it takes of each list
+-- the literal of the lesser net, or the meet of two on one net, and how many literals it takes of
+-- each list
 abbrev pub next_of : Lit → Lit → Step
 next_of l m =
-    if nat_lt l.net.0 m.net.0 then record { lit = l; left = 1; right = 0 } else if nat_lt m.net.0 l.net.0 then record { lit = m; left = 0; right = 1 }
+    if nat_lt l.net.0 m.net.0 then record { lit = l; left = 1; right = 0 }
+    else if nat_lt m.net.0 l.net.0 then record { lit = m; left = 0; right = 1 }
     else record { lit = record { net = l.net; set = meet l.set m.set }; left = 1; right = 1 }

@@ -13,7 +13,8 @@ impl Cover {
     /// The lines are put one by one into an `Absorber`.
     pub fn absorb(&mut self) -> Result<(), Memory>
         ensures tidied { OnOk result (self.new ≡ absorbed self.old) }
-        ensures same { OnOk result ((at : ℕ → ℕ) (value : ℕ) → allowed self.new at value ≡ allowed self.old at value) }
+        ensures same { OnOk result
+            ((at : ℕ → ℕ) (value : ℕ) → allowed self.new at value ≡ allowed self.old at value) }
         ensures err { OnErr result (self.new ≡ self.old) }
     {
         let left = lines_left(self.lines.allocator(), self.lines.as_slice())?;

@@ -45,7 +45,8 @@ impl Absorber {
     /// Puts a line more. For want of memory the lines are as before. It holds the marks of the line against those of each
     /// line that is left, and looks at both lines where one of them may lie in the other.
     pub fn put(&mut self, line: Line) -> Result<(), Memory>
-        ensures ok { (ls : List Line) → IsLeftOf ls self.old → OnOk result (IsLeftOf (ls ++ line ∷ []) self.new) }
+        ensures ok { (ls : List Line) → IsLeftOf ls self.old
+            → OnOk result (IsLeftOf (ls ++ line ∷ []) self.new) }
         ensures err { OnErr result (self.new ≡ self.old) }
     {
         put_line(&mut self.lines, &mut self.marks, line)

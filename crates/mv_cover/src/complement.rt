@@ -19,11 +19,15 @@ impl Cover {
     pub fn complement(&self, alloc: Global, counts: &[u16]) -> Result<Vec<Cube>, CoverStop>
         requires { LinesSuit counts.now self.now.lines }
 
-        ensures list { IfOk result (λ cubes. cubes.items ≡ complement_of counts.now self.now.lines) }
+        ensures list { IfOk result
+            (λ cubes. cubes.items ≡ complement_of counts.now self.now.lines) }
         ensures narrow { IfOk result (λ _. StaysWithin counts.now self.now.lines) }
-        ensures wide { IfErr result (λ stop. stop ≡ CoverStop.Wide → IsWide counts.now self.now.lines) }
+        ensures wide { IfErr result
+            (λ stop. stop ≡ CoverStop.Wide → IsWide counts.now self.now.lines) }
 
-        ensures points { IfOk result (λ cubes. (at : ℕ → ℕ) → IsPoint counts.now at → cubes_match at cubes.items ≡ not (some_matches at self.now.lines)) }
+        ensures points { IfOk result
+            (λ cubes. (at : ℕ → ℕ) → IsPoint counts.now at
+            → cubes_match at cubes.items ≡ not (some_matches at self.now.lines)) }
         ensures apart { IfOk result (λ cubes. AllPairs (AreDisjoint counts.now) cubes.items) }
         ensures suited { IfOk result (λ cubes. All (IsCubeOver counts.now) cubes.items) }
     {
@@ -50,7 +54,9 @@ fn sharps(
     requires suited { Suits counts.now other.now }
     ensures list { IfOk result (λ left. left.items ≡ sharps_of counts.now other.now cubes.items) }
     ensures narrow { IfOk result (λ left. length left.items ≤ MAX_COMPLEMENT_CUBES) }
-    ensures wide { IfErr result (λ stop. stop ≡ CoverStop.Wide → MAX_COMPLEMENT_CUBES < length (sharps_of counts.now other.now cubes.items)) }
+    ensures wide { IfErr result
+        (λ stop. stop ≡ CoverStop.Wide
+        → MAX_COMPLEMENT_CUBES < length (sharps_of counts.now other.now cubes.items)) }
 {
     let mut left = Vec::new(alloc);
     for cube in cubes {

@@ -8,8 +8,10 @@ impl Cube {
     /// Whether every point of `other` is one of this cube. It takes no memory.
     pub fn contains(&self, other: &Cube) -> bool
         ensures test { result ≡ lies_in other.now self.now }
-        ensures inside { IsTrue result → (at : ℕ → ℕ) → matches at other.now ≡ true → matches at self.now ≡ true }
-        ensures outside { result ≡ false → (counts : List ℕ) → FitsCube counts self.now → FitsCube counts other.now → MissesPoint counts self.now other.now }
+        ensures inside { IsTrue result → (at : ℕ → ℕ) → matches at other.now ≡ true
+            → matches at self.now ≡ true }
+        ensures outside { result ≡ false → (counts : List ℕ) → FitsCube counts self.now
+            → FitsCube counts other.now → MissesPoint counts self.now other.now }
     {
         all_lie_in(other.lits(), self.lits())
     }

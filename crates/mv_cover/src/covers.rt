@@ -17,7 +17,9 @@ impl Cover {
     /// Each net that the lines read has values there. It fails for want of memory alone.
     pub fn covers_all(&self, alloc: Global, counts: &[u16]) -> Result<bool, Memory>
         requires { AreWithin counts.now self.now.lines }
-        ensures { IfOk result (λ all. MatchBool all (CoversAll counts.now self.now.lines) (MissesSome counts.now self.now.lines)) }
+        ensures { IfOk result
+            (λ all. MatchBool all (CoversAll counts.now self.now.lines)
+            (MissesSome counts.now self.now.lines)) }
     {
         let cubes = copied_cubes(alloc, self.lines.as_slice())?;
         covers(alloc, cubes.as_slice(), counts)
@@ -41,7 +43,8 @@ fn copied_cubes(alloc: Global, lines: &[Line]) -> Result<Items<Items<Lit>>, Memo
 /// nets values: the question is as hard as whether a formula always holds.
 fn covers(alloc: Global, cubes: &[Items<Lit>], counts: &[u16]) -> Result<bool, Memory>
     requires { AreCubesWithin counts.now cubes.now }
-    ensures { IfOk result (λ all. MatchBool all (CubesCover counts.now cubes.now) (CubesMiss counts.now cubes.now)) }
+    ensures { IfOk result
+        (λ all. MatchBool all (CubesCover counts.now cubes.now) (CubesMiss counts.now cubes.now)) }
 {
     let choice = choose(alloc, cubes)?;
     let net = match choice {

@@ -46,7 +46,8 @@ fn standing_among(line: &Line, own: Marks, others: &[Line], marks: &[Marks]) -> 
     requires own { own ≡ line_marks line.now }
     requires marked { marks.now ≡ map line_marks others.now }
     ensures inside { result.inside ≡ list_any (line_lies line.now) others.now }
-    ensures over { result.inside ≡ false → result.over ≡ list_any (λ l. line_lies l line.now) others.now }
+    ensures over { result.inside ≡ false
+        → result.over ≡ list_any (λ l. line_lies l line.now) others.now }
 {
     let mut over = false;
     let mut place = next_close(own, marks, 0);

@@ -96,7 +96,8 @@ impl Lit {
 
     /// The bits of the set, or None where a value isn't below 64.
     pub fn bits(&self) -> Option<u64>
-        ensures some { IfSome result (λ bits. (self.now.set ≡ bits) × (nat_lt bits (2 ^ 64) ≡ true)) }
+        ensures some { IfSome result
+            (λ bits. (self.now.set ≡ bits) × (nat_lt bits (2 ^ 64) ≡ true)) }
         ensures none { IsNone result → nat_lt self.now.set (2 ^ 64) ≡ false }
     {
         match &self.form {

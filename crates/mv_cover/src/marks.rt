@@ -33,7 +33,8 @@ impl Marks {
 
     /// The same of the marks for nets of few values.
     fn are_near(self, others: Marks) -> bool
-        ensures { result ≡ (bits_among self.narrow others.narrow || bits_among others.narrow self.narrow) }
+        ensures { result
+            ≡ (bits_among self.narrow others.narrow || bits_among others.narrow self.narrow) }
     {
         self.narrow & others.narrow == self.narrow || others.narrow & self.narrow == others.narrow
     }

@@ -13,11 +13,19 @@ use std::alloc::Global;
 impl Cube {
     /// The points of both cubes, or None where no point is in both.
     pub fn meet(&self, other: &Cube) -> Result<Option<Cube>, Memory>
-        ensures list { IfOk result (λ found. MatchOption found (met self.now other.now ≡ []) (λ cube. met self.now other.now ≡ cube ∷ [])) }
+        ensures list { IfOk result
+            (λ found. MatchOption found (met self.now other.now ≡ [])
+            (λ cube. met self.now other.now ≡ cube ∷ [])) }
         ensures some { IfOk result (λ met. IfSome met (λ cube. IsMet self.now other.now cube)) }
-        ensures points { IfOk result (λ met. IfSome met (λ cube. (at : ℕ → ℕ) → matches at cube ≡ (matches at self.now && matches at other.now))) }
-        ensures point { IfOk result (λ met. IfSome met (λ cube. ((at : ℕ → ℕ) × (matches at cube ≡ true)))) }
-        ensures none { IfOk result (λ met. IsNone met → (at : ℕ → ℕ) → (matches at self.now && matches at other.now) ≡ false) }
+        ensures points { IfOk result
+            (λ met. IfSome met
+            (λ cube. (at : ℕ → ℕ)
+            → matches at cube ≡ (matches at self.now && matches at other.now))) }
+        ensures point { IfOk result
+            (λ met. IfSome met (λ cube. ((at : ℕ → ℕ) × (matches at cube ≡ true)))) }
+        ensures none { IfOk result
+            (λ met. IsNone met → (at : ℕ → ℕ)
+            → (matches at self.now && matches at other.now) ≡ false) }
     {
         let alloc = self.allocator();
         let lits = merged(alloc, self.lits(), other.lits())?;

@@ -10,7 +10,8 @@ impl Cover {
     /// It looks at each two lines, with one walk along both cubes, and takes no memory.
     #[tactic(auto, using(crate::proofs::Single::allows_one))]
     pub fn plainly_deterministic(&self) -> bool
-        ensures plain { MatchBool result (IsPlainlyDeterministic self.now) (IsPlainlyDeterministic self.now → ⊥) }
+        ensures plain { MatchBool result (IsPlainlyDeterministic self.now)
+            (IsPlainlyDeterministic self.now → ⊥) }
         ensures value { IsTrue result → AllowsOne self.now }
     {
         is_plainly_deterministic(self)

@@ -58,7 +58,8 @@ fn put_parts(list: &mut Vec<Cube>, cube: &Cube, other: &[Lit], counts: &[u16]) -
     requires cube { IsCube other.now }
     requires suited { Suits counts.now other.now }
     requires meet { cubes_meet cube.now other.now ≡ true }
-    ensures { OnOk result (list.new.items ≡ list.old.items ++ parts_outside counts.now cube.now other.now) }
+    ensures { OnOk result
+        (list.new.items ≡ list.old.items ++ parts_outside counts.now cube.now other.now) }
 {
     let mut lits = copies_of(cube.allocator(), cube.lits())?;
     for l in other {
@@ -76,7 +77,8 @@ fn put_part(
 ) -> Result<(), Memory>
     requires cube { IsCube lits.old.items }
     requires few { slice_index counts.now l.now.net.0 ≤ MAX_VALUES }
-    ensures outside { OnOk result (list.new.items ≡ list.old.items ++ outside_of counts.now lits.old.items l.now) }
+    ensures outside { OnOk result
+        (list.new.items ≡ list.old.items ++ outside_of counts.now lits.old.items l.now) }
     ensures inside { OnOk result (lits.new.items ≡ inside_of counts.now lits.old.items l.now) }
 {
     let alloc = *lits.allocator();
@@ -100,7 +102,8 @@ fn within(alloc: Global, l: &Lit, values: ValueSet) -> Result<Lit, Memory>
 
 /// A literal of those of the values that the literal hasn't.
 fn outside(alloc: Global, l: &Lit, values: ValueSet) -> Result<Lit, Memory>
-    ensures { IfOk result (λ rest. rest ≡ record { net = l.now.net; set = minus values l.now.set }) }
+    ensures { IfOk result
+        (λ rest. rest ≡ record { net = l.now.net; set = minus values l.now.set }) }
 {
     Lit::new(alloc, l.net(), values.minus(l.set()))
 }

@@ -13,9 +13,12 @@ impl Cover {
         requires { LinesSuit counts.now self.now.lines }
 
         ensures cover { IfOk result (λ cover. cover ≡ spelled_of counts.now self.now) }
-        ensures narrow { IfOk result (λ _. IsSome self.now.default → StaysWithin counts.now self.now.lines) }
-        ensures wide { IfErr result (λ stop. stop ≡ CoverStop.Wide → IsWide counts.now self.now.lines) }
-        ensures wide_default { IfErr result (λ stop. stop ≡ CoverStop.Wide → IsSome self.now.default) }
+        ensures narrow { IfOk result
+            (λ _. IsSome self.now.default → StaysWithin counts.now self.now.lines) }
+        ensures wide { IfErr result
+            (λ stop. stop ≡ CoverStop.Wide → IsWide counts.now self.now.lines) }
+        ensures wide_default { IfErr result
+            (λ stop. stop ≡ CoverStop.Wide → IsSome self.now.default) }
 
         ensures relation { IfOk result (λ cover. AllowSame counts.now cover self.now) }
         ensures suited { IfOk result (λ cover. LinesSuit counts.now cover.lines) }

@@ -21,7 +21,8 @@ impl Cover {
     /// Whether the cube of each line suits the counts, which is the condition of the calls that take them.
     /// It takes no memory.
     pub fn suits(&self, counts: &[u16]) -> bool
-        ensures { MatchBool result (LinesSuit counts.now self.now.lines) (LinesSuit counts.now self.now.lines → ⊥) }
+        ensures { MatchBool result (LinesSuit counts.now self.now.lines)
+            (LinesSuit counts.now self.now.lines → ⊥) }
     {
         lines_suit(self.lines.as_slice(), counts)
     }
@@ -29,7 +30,8 @@ impl Cover {
 
 /// Whether the cube of each line suits the counts.
 fn lines_suit(lines: &[Line], counts: &[u16]) -> bool
-    ensures { MatchBool result (LinesSuit counts.now lines.now) (LinesSuit counts.now lines.now → ⊥) }
+    ensures { MatchBool result (LinesSuit counts.now lines.now)
+        (LinesSuit counts.now lines.now → ⊥) }
 {
     for line in lines {
         if !line.cube.suits(counts) {

@@ -13,7 +13,8 @@ pub record HasMarked (old new : Walk) (nets : List NetId) : Type 0 where
   pub added : List NetId
   pub listed : new.listed.items ≡ old.listed.items ++ added
   pub only : (k : ℕ) → has_id added k ≡ true → has_id nets k ≡ true
-  pub fresh : (k : ℕ) → is_marked new.marks.items k ≡ true → is_marked old.marks.items k ≡ false → has_id added k ≡ true
+  pub fresh : (k : ℕ) → is_marked new.marks.items k ≡ true → is_marked old.marks.items k ≡ false
+      → has_id added k ≡ true
 
 -- nothing is marked
 pub record IsBlank (walk : Walk) (size : ℕ) : Type 0 where
@@ -21,11 +22,14 @@ pub record IsBlank (walk : Walk) (size : ℕ) : Type 0 where
   pub marks : (k : ℕ) → is_marked walk.marks.items k ≡ false
   pub listed : walk.listed.items ≡ []
 
--- some nets above n are marked and listed, its columns among them, and so are the columns of the first nets of the list
+-- some nets above n are marked and listed, its columns among them, and so are the columns of the
+-- first nets of the list
 pub record IsWalk (columns : List (List NetId)) (n : ℕ) (walk : Walk) (done : ℕ) : Type 0 where
   pub long : length walk.marks.items ≡ length columns
   pub below : (k : ℕ) → has_id walk.listed.items k ≡ true → k < length columns
   pub first : (m : ℕ) → has_id (row columns n) m ≡ true → is_marked walk.marks.items m ≡ true
-  pub behind : (place m : ℕ) (c : NetId) → place < done → slice_get walk.listed.items place ≡ Some c → has_id (row columns c.0) m ≡ true → is_marked walk.marks.items m ≡ true
+  pub behind : (place m : ℕ) (c : NetId) → place < done
+      → slice_get walk.listed.items place ≡ Some c → has_id (row columns c.0) m ≡ true
+      → is_marked walk.marks.items m ≡ true
   pub listed : (k : ℕ) → is_marked walk.marks.items k ≡ true → has_id walk.listed.items k ≡ true
   pub above : (k : ℕ) → has_id walk.listed.items k ≡ true → IsAbove (reads_by columns) k n

@@ -28,7 +28,8 @@ pub fn first_turning(
     requires below { AllBelow columns.now }
     requires nets { All (λ (n : NetId). n.0 < length columns.now) order.now }
     requires few { length columns.now ≤ MAX_NETS }
-    ensures some { IfOk result (λ found. IfSome found (λ place. IsTurning columns.now order.now place)) }
+    ensures some { IfOk result
+        (λ found. IfSome found (λ place. IsTurning columns.now order.now place)) }
     ensures none { IfOk result (λ found. IfNone found (NoneTurns columns.now order.now)) }
 {
     let ranks = ranks(alloc, columns)?;
@@ -51,7 +52,8 @@ fn is_turning(
     requires net { net.0 < length columns.now }
     requires ranks { IsRanking columns.now ranks.now }
     ensures { IfOk result
-        (λ turns. MatchBool turns (IsAbove (reads_by columns.now) net.0 net.0) (IsAbove (reads_by columns.now) net.0 net.0 → ⊥)) }
+        (λ turns. MatchBool turns (IsAbove (reads_by columns.now) net.0 net.0)
+        (IsAbove (reads_by columns.now) net.0 net.0 → ⊥)) }
 {
     if are_lower(ranks, row_of(columns, net), net) {
         return Ok(false);

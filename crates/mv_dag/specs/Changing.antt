@@ -21,14 +21,16 @@ old_of fanins r = record { net = r.net; fanins = row fanins r.net.0 }
 
 -- the row at a place of the list
 abbrev pub new_row_at : List NewRow → ℕ → NewRow
-new_row_at rows k = let none : NewRow = record { net = record { 0 = 0 }; fanins = [] } in slice_index_or rows k none
+new_row_at rows k = let none : NewRow =
+    record { net = record { 0 = 0 }; fanins = [] } in slice_index_or rows k none
 
 -- each net reads in the one graph no more than in the other
 pub record IsPart (cur goal : List (List NetId)) : Type 0 where
   pub each : (n m : ℕ) → has_id (row cur n) m ≡ true → has_id (row goal n) m ≡ true
 
 -- the first so many rows and those that their nets had have changed places
-pub record IsExchanged (k : ℕ) (first fanins : List (List NetId)) (before rows : List NewRow) : Type 0 where
+pub record IsExchanged (k : ℕ) (first fanins : List (List NetId)) (before rows : List NewRow)
+    : Type 0 where
   pub fanins_are : fanins ≡ rows_from (take k before) 0 first
   pub rows_are : rows ≡ map (old_of first) (take k before) ++ drop k before
 
@@ -45,13 +47,15 @@ pub record MayChange (rows : List NewRow) (fanins : List (List NetId)) : Type 0 
   pub acyclic : IsAcyclic (reads_by (rows_from rows 0 fanins))
 
 -- besides, the lists have all readers that come, and the labels fall
-pub record IsReady (rows : List NewRow) (fanins readers : List (List NetId)) (labels : List ℕ) : Type 0 where
+pub record IsReady (rows : List NewRow) (fanins readers : List (List NetId)) (labels : List ℕ)
+    : Type 0 where
   pub may : MayChange rows fanins
   pub listed : HasReaders (rows_from rows 0 fanins) readers
   pub ordered : IsOrdered fanins labels
 
 -- the row may come to its net now
-pub record MayEnter (fanins readers : List (List NetId)) (labels : List ℕ) (r : NewRow) : Type 0 where
+pub record MayEnter (fanins readers : List (List NetId)) (labels : List ℕ) (r : NewRow)
+    : Type 0 where
   pub ordered : IsOrdered fanins labels
   pub below : AllBelow fanins
   pub listed : HasReaders fanins readers
@@ -60,9 +64,11 @@ pub record MayEnter (fanins readers : List (List NetId)) (labels : List ℕ) (r 
   pub free : (m : ℕ) → has_id r.fanins m ≡ true → Leads (leads_to Up fanins) m r.net.0 → ⊥
 
 -- the row at a place came to its net, and labels moved for it
-pub record HasEntered (place : ℕ) (fanins after : List (List NetId)) (rows left : List NewRow) (labels now : List ℕ)
+pub record HasEntered (place : ℕ) (fanins after : List (List NetId)) (rows left : List NewRow)
+    (labels now : List ℕ)
     (moves more : List (List Entry)) : Type 0 where
-  pub fanins_are : after ≡ slice_set fanins (new_row_at rows place).net.0 (new_row_at rows place).fanins
+  pub fanins_are : after
+      ≡ slice_set fanins (new_row_at rows place).net.0 (new_row_at rows place).fanins
   pub rows_are : left ≡ slice_set rows place (old_of fanins (new_row_at rows place))
   pub ordered : IsOrdered after now
   pub entries : List Entry
@@ -70,7 +76,8 @@ pub record HasEntered (place : ℕ) (fanins after : List (List NetId)) (rows lef
   pub moves_are : more ≡ moves ++ entries ∷ []
 
 -- the first so many rows came to their nets, and labels moved for each
-pub record IsStage (k : ℕ) (fanins after : List (List NetId)) (rows left : List NewRow) (labels now : List ℕ) (moves : List (List Entry)) : Type 0 where
+pub record IsStage (k : ℕ) (fanins after : List (List NetId)) (rows left : List NewRow)
+    (labels now : List ℕ) (moves : List (List Entry)) : Type 0 where
   pub inside : k ≤ length rows
   pub count : length moves ≡ k
   pub exchanged : IsExchanged k fanins after rows left

@@ -17,9 +17,11 @@ pub record HasGained (old new : List NetId) (passes : ℕ → Bool) : Type 0 whe
   pub only : (n : ℕ) → has_id added n ≡ true → passes n ≡ true
 
 -- a search of a graph of so many nets, the steps from whose first nets found are done
-pub record IsSearch (steps : ℕ → ℕ → Bool) (size : ℕ) (labels : List ℕ) (starts : List NetId) (low high : ℕ) (found : List NetId) (done : ℕ) : Type 0 where
+pub record IsSearch (steps : ℕ → ℕ → Bool) (size : ℕ) (labels : List ℕ) (starts : List NetId)
+    (low high : ℕ) (found : List NetId) (done : ℕ) : Type 0 where
   pub starts_in : (x : ℕ) → has_id starts x ≡ true → IsIn labels low high x → has_id found x ≡ true
-  pub behind : (place y : ℕ) (x : NetId) → place < done → slice_get found place ≡ Some x → steps x.0 y ≡ true → IsIn labels low high y → has_id found y ≡ true
+  pub behind : (place y : ℕ) (x : NetId) → place < done → slice_get found place ≡ Some x
+      → steps x.0 y ≡ true → IsIn labels low high y → has_id found y ≡ true
   pub inside : (x : ℕ) → has_id found x ≡ true → IsIn labels low high x
   pub reached : (x : ℕ) → has_id found x ≡ true → IsReached steps starts x
   pub small : (x : ℕ) → has_id found x ≡ true → x < size

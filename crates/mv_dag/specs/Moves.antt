@@ -17,7 +17,8 @@ has_entry entries n = list_any (λ (e : Entry). nat_eq e.net.0 n) entries
 abbrev pub IsEntry : List ℕ → Entry → Type 0
 IsEntry labels e = (e.net.0 < length labels) × (e.label ≡ at labels e.net.0)
 
--- some labels changed: each entry has the label that its net had, and nets without an entry kept theirs
+-- some labels changed: each entry has the label that its net had, and nets without an entry kept
+-- theirs
 pub record WasAt (before now : List ℕ) (entries : List Entry) : Type 0 where
   pub long : length now ≡ length before
   pub had : All (IsEntry before) entries
@@ -44,9 +45,12 @@ abbrev pub in_either : List NetId → List NetId → ℕ → Bool
 in_either above below n = has_id above n || has_id below n
 
 -- the entries of the nets in both lists, in the order of their labels, each once
-pub record AreEntries (labels : List ℕ) (above below : List NetId) (entries : List Entry) : Type 0 where
+pub record AreEntries (labels : List ℕ) (above below : List NetId) (entries : List Entry)
+    : Type 0 where
   pub sorted : IsStrictlySortedBy entry_cmp entries
-  pub each : All (λ (e : Entry). (in_either above below e.net.0 ≡ true) × (e.label ≡ at labels e.net.0)) entries
+  pub each : All
+      (λ (e : Entry). (in_either above below e.net.0 ≡ true)
+      × (e.label ≡ at labels e.net.0)) entries
   pub all : (n : NetId) → in_either above below n.0 ≡ true → Contains entries (entry_of labels n)
 
 -- the entry is of one of these nets

@@ -12,11 +12,13 @@ pub record IsOrdered (fanins : List (List NetId)) (labels : List ℕ) : Type 0 w
   pub long : length labels ≡ length fanins
   pub falls : (n m : ℕ) → has_id (row fanins n) m ≡ true → at labels m < at labels n
   pub low : (n : ℕ) → n < length labels → at labels n % 2 ^ 32 < length labels
-  pub differ : (n m : ℕ) → n < length labels → m < length labels → at labels n % 2 ^ 32 ≡ at labels m % 2 ^ 32 → n ≡ m
+  pub differ : (n m : ℕ) → n < length labels → m < length labels
+      → at labels n % 2 ^ 32 ≡ at labels m % 2 ^ 32 → n ≡ m
 
 -- each of the nets stands in the order once, and those of them that it reads stand before it
 pub record IsOrderOf (fanins : List (List NetId)) (nets order : List NetId) : Type 0 where
   pub members : (n : ℕ) → has_id order n ≡ has_id nets n
   pub once : all_differ order ≡ true
-  pub behind : (place : ℕ) (n : NetId) (m : ℕ) → slice_get order place ≡ Some n → has_id (row fanins n.0) m ≡ true → has_id nets m ≡ true
+  pub behind : (place : ℕ) (n : NetId) (m : ℕ) → slice_get order place ≡ Some n
+      → has_id (row fanins n.0) m ≡ true → has_id nets m ≡ true
       → has_id (take place order) m ≡ true

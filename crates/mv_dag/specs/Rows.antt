@@ -17,6 +17,7 @@ abbrev pub rows_from : List NewRow → ℕ → List (List NetId) → List (List 
 rows_from rs n [] = []
 rows_from rs n (row ∷ rows) = row_given rs n row ∷ rows_from rs (n + 1) rows
 
--- the rows behind the change: so many numbers come, without fanins at first, and then nets are given rows
+-- the rows behind the change: so many numbers come, without fanins at first, and then nets are
+-- given rows
 abbrev pub changed_rows : List NewRow → ℕ → List (List NetId) → List (List NetId)
 changed_rows rs added rows = rows_from rs 0 (rows ++ replicate added [])

@@ -31,9 +31,11 @@ abbrev pub IsIn : List ℕ → ℕ → ℕ → ℕ → Type 0
 IsIn labels low high x = (low ≤ at labels x) × (at labels x ≤ high)
 
 -- what a search from the starts finds between two labels
-pub record IsReach (steps : ℕ → ℕ → Bool) (labels : List ℕ) (starts : List NetId) (low high : ℕ) (found : List NetId) : Type 0 where
+pub record IsReach (steps : ℕ → ℕ → Bool) (labels : List ℕ) (starts : List NetId) (low high : ℕ)
+    (found : List NetId) : Type 0 where
   pub starts_in : (x : ℕ) → has_id starts x ≡ true → IsIn labels low high x → has_id found x ≡ true
-  pub closed : (x y : ℕ) → has_id found x ≡ true → steps x y ≡ true → IsIn labels low high y → has_id found y ≡ true
+  pub closed : (x y : ℕ) → has_id found x ≡ true → steps x y ≡ true → IsIn labels low high y
+      → has_id found y ≡ true
   pub inside : (x : ℕ) → has_id found x ≡ true → IsIn labels low high x
   pub reached : (x : ℕ) → has_id found x ≡ true → IsReached steps starts x
   pub small : (x : ℕ) → has_id found x ≡ true → x < length labels

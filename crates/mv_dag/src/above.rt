@@ -27,7 +27,8 @@ pub fn is_above(
     requires readers { HasReaders fanins.now readers.now }
     requires ordered { IsOrdered fanins.now labels.now }
     ensures { IfOk result
-        (λ yes. MatchBool yes (IsAbove (reads_by fanins.now) above.0 net.0) (IsAbove (reads_by fanins.now) above.0 net.0 → ⊥)) }
+        (λ yes. MatchBool yes (IsAbove (reads_by fanins.now) above.0 net.0)
+        (IsAbove (reads_by fanins.now) above.0 net.0 → ⊥)) }
 {
     let (low, high) = (label_of(labels, above), label_of(labels, net));
     let starts = row_of(fanins, net);
@@ -46,7 +47,8 @@ pub fn below(
     requires below { AllBelow fanins.now }
     requires readers { HasReaders fanins.now readers.now }
     ensures ascending { IfOk result (λ nets. ids_ascend nets ≡ true) }
-    ensures members { IfOk result (λ nets. (n : ℕ) → IsTrue (has_id nets n) ↔ IsAbove (reads_by fanins.now) net.0 n) }
+    ensures members { IfOk result
+        (λ nets. (n : ℕ) → IsTrue (has_id nets n) ↔ IsAbove (reads_by fanins.now) net.0 n) }
 {
     let starts = readers_of(alloc, fanins, readers, net)?;
     let least = Label::new(0, 0);
@@ -74,7 +76,8 @@ fn readers_of(
     net: NetId,
 ) -> Result<Vec<NetId>, Memory>
     requires { HasReaders fanins.now readers.now }
-    ensures { IfOk result (λ nets. (n : ℕ) → has_id nets.items n ≡ has_id (row fanins.now n) net.0) }
+    ensures { IfOk result
+        (λ nets. (n : ℕ) → has_id nets.items n ≡ has_id (row fanins.now n) net.0) }
 {
     let mut nets = Vec::new(alloc);
     for reader in row_of(readers, net) {

@@ -35,8 +35,10 @@ pub fn change_nets(
     ensures fanins { OnOk result (fanins.new ≡ changed_rows rows added fanins.old) }
     ensures dag { OnOk result (IsDag fanins.new readers.new labels.new.items) }
     ensures err_fanins { OnErr result (take (length fanins.old) fanins.new ≡ fanins.old) }
-    ensures err_readers { OnErr result (IsTranspose fanins.old (take (length fanins.old) readers.new)) }
-    ensures err_labels { OnErr result (take (length fanins.old) labels.new.items ≡ labels.old.items) }
+    ensures err_readers { OnErr result
+        (IsTranspose fanins.old (take (length fanins.old) readers.new)) }
+    ensures err_labels { OnErr result
+        (take (length fanins.old) labels.new.items ≡ labels.old.items) }
 {
     let mut rows = rows;
     let mut olds = blank_rows(fanins.allocator(), rows.as_slice())?;

@@ -124,7 +124,8 @@ impl Dag {
     /// Whether the one net is above the other, for any two numbers. Only nets between the two in the order are looked at.
     pub fn is_above(&self, above: NetId, net: NetId) -> Result<bool, Memory>
         ensures { IfOk result
-            (λ yes. MatchBool yes (IsAbove (reads_by self.now) above.0 net.0) (IsAbove (reads_by self.now) above.0 net.0 → ⊥)) }
+            (λ yes. MatchBool yes (IsAbove (reads_by self.now) above.0 net.0)
+            (IsAbove (reads_by self.now) above.0 net.0 → ⊥)) }
     {
         let yes = is_above(
             self.fanins.allocator(),
@@ -141,7 +142,8 @@ impl Dag {
     /// and that of what they read.
     pub fn below(&self, net: NetId) -> Result<Items<NetId>, Memory>
         ensures ascending { IfOk result (λ nets. ids_ascend nets ≡ true) }
-        ensures members { IfOk result (λ nets. (n : ℕ) → IsTrue (has_id nets n) ↔ IsAbove (reads_by self.now) net.0 n) }
+        ensures members { IfOk result
+            (λ nets. (n : ℕ) → IsTrue (has_id nets n) ↔ IsAbove (reads_by self.now) net.0 n) }
     {
         let nets = below(
             self.fanins.allocator(),

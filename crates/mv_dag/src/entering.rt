@@ -79,7 +79,8 @@ fn enter_each(
     requires ready { IsReady rows.old fanins.old readers.now labels.old }
     requires part { IsPart fanins.old (rows_from rows.old 0 fanins.old) }
     requires none { moves.old ≡ [] }
-    ensures stage { IsStage (length moves.new) fanins.old fanins.new rows.old rows.new labels.old labels.new moves.new }
+    ensures stage { IsStage
+        (length moves.new) fanins.old fanins.new rows.old rows.new labels.old labels.new moves.new }
     ensures all { OnOk result (length moves.new ≡ length rows.old) }
     ensures ordered { OnOk result (IsOrdered fanins.new labels.new) }
 {
@@ -132,7 +133,8 @@ fn keep_moves(
     ensures ok_moves { OnOk result (moves.new ≡ moves.old ++ moved ∷ []) }
     ensures ok_labels { OnOk result (labels.new ≡ labels.old) }
     ensures err_moves { OnErr result (moves.new ≡ moves.old) }
-    ensures err_labels { OnErr result ((before : List ℕ) → WasAt before labels.old moved → labels.new ≡ before) }
+    ensures err_labels { OnErr result
+        ((before : List ℕ) → WasAt before labels.old moved → labels.new ≡ before) }
 {
     match moves.push(moved) {
         Ok(()) => Ok(()),
@@ -145,7 +147,8 @@ fn keep_moves(
 
 /// Puts the labels back as they were before all moves, the last first. It takes no memory.
 fn put_all_back(labels: &mut [Label], moves: &mut Items<Items<Entry>>)
-    requires { All (λ (es : List Entry). All (λ (e : Entry). e.net.0 < length labels.old) es) moves.old }
+    requires { All
+        (λ (es : List Entry). All (λ (e : Entry). e.net.0 < length labels.old) es) moves.old }
     ensures { (before : List ℕ) → WereAt before moves.old labels.old → labels.new ≡ before }
 {
     'back: while let Some(moved) = moves.pop() {

@@ -20,8 +20,10 @@ pub fn add_label(
     requires room { length fanins.now < 2 ^ 32 }
     ensures ok { OnOk result (IsOrdered (fanins.now ++ [] ∷ []) labels.new.items) }
     ensures behind { OnOk result
-        ((m : ℕ) → has_id near.now m ≡ true → at labels.new.items m < at labels.new.items (length fanins.now)) }
-    ensures kept { OnOk result ((m : ℕ) → m < length fanins.now → at labels.new.items m ≡ at labels.old.items m) }
+        ((m : ℕ) → has_id near.now m ≡ true
+        → at labels.new.items m < at labels.new.items (length fanins.now)) }
+    ensures kept { OnOk result
+        ((m : ℕ) → m < length fanins.now → at labels.new.items m ≡ at labels.old.items m) }
     ensures err { OnErr result (labels.new.items ≡ labels.old.items) }
 {
     let last = greatest(labels.as_slice(), near);

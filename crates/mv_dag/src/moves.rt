@@ -40,7 +40,8 @@ pub fn put_behind(
     requires readers { HasReaders fanins.now readers.now }
     requires net { net.0 < length fanins.now }
     requires new { All (λ (n : NetId). n.0 < length fanins.now) new.now }
-    requires free { (m : ℕ) → has_id new.now m ≡ true → Leads (leads_to Way.Up fanins.now) m net.0 → ⊥ }
+    requires free { (m : ℕ) → has_id new.now m ≡ true → Leads (leads_to Way.Up fanins.now) m net.0
+        → ⊥ }
     ensures ok { OnOk result (IsOrdered (slice_set fanins.now net.0 new.now) labels.new) }
     ensures still { IsOrdered fanins.now labels.new }
     ensures was { IfOk result (λ moves. WasAt labels.old labels.new moves.items) }
@@ -67,9 +68,11 @@ fn share(
 ) -> Result<Vec<Entry>, Memory>
     requires above { All (λ (n : NetId). n.0 < length labels.old) above.now.keys }
     requires below { All (λ (n : NetId). n.0 < length labels.old) below.now.keys }
-    ensures entries { IfOk result (λ moves. AreEntries labels.old above.now.keys below.now.keys moves.items) }
+    ensures entries { IfOk result
+        (λ moves. AreEntries labels.old above.now.keys below.now.keys moves.items) }
     ensures labels { IfOk result
-        (λ moves. labels.new ≡ written labels.old (turned_by above.now.keys moves.items) moves.items) }
+        (λ moves. labels.new
+        ≡ written labels.old (turned_by above.now.keys moves.items) moves.items) }
     ensures err { OnErr result (labels.new ≡ labels.old) }
 {
     let moves = entries_of(alloc, labels, above.as_slice(), below.as_slice())?;
@@ -108,7 +111,8 @@ fn entries_of(
 /// Puts the nets with their labels at the end of the list.
 fn add_entries(entries: &mut Vec<Entry>, labels: &[Label], nets: &[NetId]) -> Result<(), Memory>
     requires { All (λ (n : NetId). n.0 < length labels.now) nets.now }
-    ensures { OnOk result (entries.new.items ≡ entries.old.items ++ map (entry_of labels.now) nets.now) }
+    ensures { OnOk result
+        (entries.new.items ≡ entries.old.items ++ map (entry_of labels.now) nets.now) }
 {
     for net in nets {
         let label = labels[net.0 as usize];
@@ -137,7 +141,8 @@ fn add_others(
     entries: &[Entry],
     above: &IndexSet<NetId>,
 ) -> Result<(), Memory>
-    ensures { OnOk result (turned.new.items ≡ turned.old.items ++ filter (is_other above.now.keys) entries.now) }
+    ensures { OnOk result
+        (turned.new.items ≡ turned.old.items ++ filter (is_other above.now.keys) entries.now) }
 {
     for entry in entries {
         if !is_among(above, *entry) {

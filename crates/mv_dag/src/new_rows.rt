@@ -36,8 +36,10 @@ pub fn blank_rows(alloc: Global, rows: &[NewRow]) -> Result<Items<NewRow>, Memor
 pub fn exchange_row(fanins: &mut Items<Items<NetId>>, rows: &mut Items<NewRow>, place: usize)
     requires inside { place < length rows.old }
     requires net { (new_row_at rows.old place).net.0 < length fanins.old }
-    ensures fanins { fanins.new ≡ slice_set fanins.old (new_row_at rows.old place).net.0 (new_row_at rows.old place).fanins }
-    ensures rows { rows.new ≡ slice_set rows.old place (old_of fanins.old (new_row_at rows.old place)) }
+    ensures fanins { fanins.new
+        ≡ slice_set fanins.old (new_row_at rows.old place).net.0 (new_row_at rows.old place).fanins }
+    ensures rows { rows.new
+        ≡ slice_set rows.old place (old_of fanins.old (new_row_at rows.old place)) }
 {
     let alloc = fanins.allocator();
     let net = rows.as_slice()[place].net;

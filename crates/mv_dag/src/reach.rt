@@ -28,7 +28,8 @@ pub fn reach(
     requires readers { HasReaders fanins.now readers.now }
     requires long { length labels.now ≡ length fanins.now }
     requires starts { All (λ (n : NetId). n.0 < length fanins.now) starts.now }
-    ensures { IfOk result (λ found. IsReach (leads_to way fanins.now) labels.now starts.now low high found.keys) }
+    ensures { IfOk result
+        (λ found. IsReach (leads_to way fanins.now) labels.now starts.now low high found.keys) }
 {
     let found = search(alloc, way, fanins, readers, labels, starts, low, high)?;
     Ok(found)
@@ -49,7 +50,8 @@ pub fn search(
     requires readers { HasReaders fanins.now readers.now }
     requires starts { All (λ (n : NetId). n.0 < length fanins.now) starts.now }
     ensures searched { IfOk result
-        (λ found. IsSearch (leads_to way fanins.now) (length fanins.now) labels.now starts.now low high found.keys (length found.keys)) }
+        (λ found. IsSearch (leads_to way fanins.now)
+        (length fanins.now) labels.now starts.now low high found.keys (length found.keys)) }
     ensures distinct { IfOk result (λ found. all_differ found.keys ≡ true) }
 {
     let mut found = started(alloc, labels, starts, low, high)?;
@@ -71,7 +73,8 @@ fn started(
     low: Label,
     high: Label,
 ) -> Result<IndexSet<NetId>, Memory>
-    ensures { IfOk result (λ found. HasGained [] found.keys (λ n. has_id nets.now n && is_in labels.now low high n)) }
+    ensures { IfOk result
+        (λ found. HasGained [] found.keys (λ n. has_id nets.now n && is_in labels.now low high n)) }
 {
     let mut found = IndexSet::new(alloc);
     for net in nets {
@@ -94,7 +97,9 @@ fn follow(
     high: Label,
 ) -> Result<(), Memory>
     ensures { OnOk result
-        (HasGained found.old.keys found.new.keys (λ n. has_id nets.now n && (is_in labels.now low high n && leads_to way fanins.now net.0 n))) }
+        (HasGained found.old.keys found.new.keys
+        (λ n. has_id nets.now n
+        && (is_in labels.now low high n && leads_to way fanins.now net.0 n))) }
 {
     for next in nets {
         if is_in(labels, *next, low, high) && is_step(way, fanins, net, *next) {

@@ -32,7 +32,8 @@ fn place_in(nets: &[NetId], net: NetId) -> usize
 /// The place at which the net stands in ascending ones, or else that at which it may come.
 fn place_of(nets: &[NetId], net: NetId) -> Result<usize, usize>
     requires { ids_ascend nets.now ≡ true }
-    ensures { MatchResult result (λ place. slice_get nets.now place ≡ Some net) (λ place. IsGap nets.now place net.0) }
+    ensures { MatchResult result (λ place. slice_get nets.now place ≡ Some net)
+        (λ place. IsGap nets.now place net.0) }
 {
     let place = place_in(nets, net);
     if place < nets.len() && nets[place] == net {
@@ -104,7 +105,8 @@ fn put_row(readers: &mut Items<Items<NetId>>, net: NetId, fanins: &[NetId]) -> R
 
 /// Puts the nets of the rows on the lists of all that they are to read. On an error some may have come.
 pub fn put_rows(readers: &mut Items<Items<NetId>>, rows: &[NewRow]) -> Result<(), Memory>
-    requires within { All (λ (r : NewRow). All (λ (m : NetId). m.0 < length readers.old) r.fanins) rows.now }
+    requires within { All
+        (λ (r : NewRow). All (λ (m : NetId). m.0 < length readers.old) r.fanins) rows.now }
     requires ascend { AllAscend readers.old }
     ensures grown { IsGrown readers.old readers.new (is_given rows.now) }
     ensures ok { OnOk result (HasAll readers.new (is_given rows.now)) }
@@ -119,7 +121,8 @@ pub fn put_rows(readers: &mut Items<Items<NetId>>, rows: &[NewRow]) -> Result<()
 fn prune_row(readers: &mut Items<Items<NetId>>, kept: &[NetId], net: NetId, nets: &[NetId])
     requires within { All (λ (m : NetId). m.0 < length readers.old) nets.now }
     requires ascend { AllAscend readers.old }
-    ensures { IsShrunk readers.old readers.new (λ n m. is_given_by net.0 nets.now n m && not (has_id kept.now m)) }
+    ensures { IsShrunk readers.old readers.new
+        (λ n m. is_given_by net.0 nets.now n m && not (has_id kept.now m)) }
 {
     for fanin in nets {
         if !kept.contains(fanin) {
@@ -130,9 +133,11 @@ fn prune_row(readers: &mut Items<Items<NetId>>, kept: &[NetId], net: NetId, nets
 
 /// Takes the nets of the rows from the lists of all in those rows, except of those that they read. No memory.
 pub fn prune(readers: &mut Items<Items<NetId>>, fanins: &[Items<NetId>], rows: &[NewRow])
-    requires within { All (λ (r : NewRow). All (λ (m : NetId). m.0 < length readers.old) r.fanins) rows.now }
+    requires within { All
+        (λ (r : NewRow). All (λ (m : NetId). m.0 < length readers.old) r.fanins) rows.now }
     requires ascend { AllAscend readers.old }
-    ensures { IsShrunk readers.old readers.new (λ n m. is_given rows.now n m && not (has_id (row fanins.now n) m)) }
+    ensures { IsShrunk readers.old readers.new
+        (λ n m. is_given rows.now n m && not (has_id (row fanins.now n) m)) }
 {
     for row in rows {
         prune_row(

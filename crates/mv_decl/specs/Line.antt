@@ -1,5 +1,5 @@
--- The line that declares nets, `.mv NAMES COUNT VALUES`, after the description of BLIF-MV by Kukimoto: its faults in the
--- order in which they are told, and what it declares.
+-- The line that declares nets, `.mv NAMES COUNT VALUES`, after the description of BLIF-MV by
+-- Kukimoto: its faults in the order in which they are told, and what it declares.
 use Rattle.std.specs.Prelude.{ℕ, ◌+◌, ◌*◌, ◌-◌, ◌^◌, Bool, not, ◌&&◌, ◌==◌, nat_lt, nat_le, nat_eq, min, List}
 use Rattle.std.specs.Prelude.{[], ◌∷◌, ◌++◌, length, map, drop, filter, codes, decimal, if◌then◌else◌}
 use Rattle.std.specs.List.{list_all, flat_map, slice_split, range_with_len}
@@ -42,8 +42,8 @@ commas_apart words = flat_map pieces_of words
 abbrev pub is_digits : List ℕ → Bool
 is_digits w = list_all (λ b. nat_le 48 b && nat_le b 57) w
 
--- what the front of a line says: the nets that it names, and the words from the count on, none where a name or the count is
--- lacking
+-- what the front of a line says: the nets that it names, and the words from the count on, none
+-- where a name or the count is lacking
 pub record Front : Type 0 where
   pub nets : List (List ℕ)
   pub rest : List (List ℕ)
@@ -62,7 +62,8 @@ abbrev mutual
   front_of [] = lacking
   front_of (w ∷ ws) = if is_comma w then lacking else with_net w (behind_name ws)
 
-  -- behind a name a comma stands, with which the line begins anew, or the count, which has digits only, or a further name
+  -- behind a name a comma stands, with which the line begins anew, or the count, which has digits
+  -- only, or a further name
   pub behind_name : List (List ℕ) → Front
   behind_name [] = lacking
   behind_name (w ∷ ws) =
@@ -79,9 +80,11 @@ abbrev pub lacking_faults : ℕ → List ℕ → List (List ℕ) → List ParseF
 lacking_faults n word [] = Missing n word ∷ []
 lacking_faults n word (w ∷ ws) = []
 
--- the faults of the front of a line: names that are not lawful, and a name or the count that is lacking
+-- the faults of the front of a line: names that are not lawful, and a name or the count that is
+-- lacking
 abbrev pub front_faults : ℕ → List ℕ → Front → List ParseFault
-front_faults n word front = flat_map (net_name_faults n) front.nets ++ lacking_faults n word front.rest
+front_faults n word front = flat_map (net_name_faults n) front.nets
+    ++ lacking_faults n word front.rest
 
 -- ---- the count and the names of values behind it
 
@@ -109,21 +112,25 @@ told_number n = min n (2 ^ 64 - 1)
 
 -- a count is at least 1, and at most the values that a net may have
 unfoldable pub count_faults : ℕ → List ℕ → List ParseFault
-count_faults n w = when (number_said w == 0) (BadCount n w) ++ when (nat_lt MAX_VALUES (number_said w)) (Limit n Values (told_number (number_said w)))
+count_faults n w = when (number_said w == 0) (BadCount n w)
+    ++ when (nat_lt MAX_VALUES (number_said w)) (Limit n Values (told_number (number_said w)))
 
 -- a name of a value, behind these others
 unfoldable pub value_faults : ℕ → List (List ℕ) → List ℕ → List ParseFault
-value_faults n earlier w = when (not (is_value_name w)) (BadName n w) ++ when (among w earlier) (Repeated n w)
+value_faults n earlier w = when (not (is_value_name w)) (BadName n w)
+    ++ when (among w earlier) (Repeated n w)
 
 -- names of values, behind these others
 abbrev pub value_name_faults : ℕ → List (List ℕ) → List (List ℕ) → List ParseFault
 value_name_faults n earlier [] = []
-value_name_faults n earlier (w ∷ ws) = value_faults n earlier w ++ value_name_faults n (earlier ++ w ∷ []) ws
+value_name_faults n earlier (w ∷ ws) = value_faults n earlier w
+    ++ value_name_faults n (earlier ++ w ∷ []) ws
 
 -- as many names as the count, or none
 abbrev pub length_faults : ℕ → ℕ → List (List ℕ) → List ParseFault
 length_faults n count [] = []
-length_faults n count (w ∷ ws) = when (not (length (w ∷ ws) == count)) (ValueNames n count (length (w ∷ ws)))
+length_faults n count (w ∷ ws) =
+    when (not (length (w ∷ ws) == count)) (ValueNames n count (length (w ∷ ws)))
 
 -- the same names of values in the same order
 abbrev pub same_values : List (List ℕ) → List (List ℕ) → Bool
@@ -131,12 +138,14 @@ same_values a b = pointwise (pointwise nat_eq) a b
 
 -- the net is declared, with other values than these
 unfoldable pub is_redeclared : List Decl → List (List ℕ) → List ℕ → Bool
-is_redeclared ds values net = among net (declared_of ds) && not (same_values (values_of ds net) values)
+is_redeclared ds values net = among net (declared_of ds)
+    && not (same_values (values_of ds net) values)
 
 -- nets that were declared before with other values than the line says
 abbrev pub redeclared_faults : ℕ → List Decl → List (List ℕ) → List (List ℕ) → List ParseFault
 redeclared_faults n ds values [] = []
-redeclared_faults n ds values (net ∷ nets) = when (is_redeclared ds values net) (Redeclared n net) ++ redeclared_faults n ds values nets
+redeclared_faults n ds values (net ∷ nets) = when (is_redeclared ds values net) (Redeclared n net)
+    ++ redeclared_faults n ds values nets
 
 -- ---- the whole line
 
@@ -169,10 +178,12 @@ decls_said words = decls_for (values_said words) (nets_said words)
 abbrev pub count_line_faults : ℕ → List Decl → List (List ℕ) → List (List ℕ) → List ParseFault
 count_line_faults n ds nets [] = []
 count_line_faults n ds nets (w ∷ ws) =
-    count_faults n w ++ value_name_faults n [] (value_names ws) ++ length_faults n (number_said w) (value_names ws)
+    count_faults n w ++ value_name_faults n [] (value_names ws)
+    ++ length_faults n (number_said w) (value_names ws)
     ++ redeclared_faults n ds (named_values (number_said w) (value_names ws)) nets
 
 -- all faults of the words behind `.mv`, which is `word`, on the line n, behind these declarations
 unfoldable pub decl_faults : ℕ → List ℕ → List Decl → List (List ℕ) → List ParseFault
 decl_faults n word ds words =
-    front_faults n word (front_said words) ++ count_line_faults n ds (front_said words).nets (front_said words).rest
+    front_faults n word (front_said words)
+    ++ count_line_faults n ds (front_said words).nets (front_said words).rest

@@ -32,7 +32,8 @@ pub record AreListed (nets : List (List ℕ)) (list : List Decl) (two : List (Li
   pub counts : AllByRecursion HasValues list
 
 -- the places of the declared nets, their declarations, and the values of a net without one
-pub record AreIndexed {S : Type 0} (places : IndexMap (List ℕ) ℕ S) (list : List Decl) (two : List (List ℕ)) : Type 0 where
+pub record AreIndexed {S : Type 0} (places : IndexMap (List ℕ) ℕ S) (list : List Decl)
+    (two : List (List ℕ)) : Type 0 where
   pub first : AreFirst places list
   pub plain : two ≡ two_values
   pub counts : AllByRecursion HasValues list

@@ -118,9 +118,11 @@ pub fn values(
     word: &Name,
     words: &[Name],
 ) -> Result<Items<Name>, ParseFault>
-    ensures fault { Tells result (count_faults line word.now ++ value_name_faults line [] (value_names words.now)
+    ensures fault { Tells result
+        (count_faults line word.now ++ value_name_faults line [] (value_names words.now)
         ++ length_faults line (number_said word.now) (value_names words.now)) }
-    ensures ok { IfOk result (λ values. values ≡ named_values (number_said word.now) (value_names words.now)) }
+    ensures ok { IfOk result
+        (λ values. values ≡ named_values (number_said word.now) (value_names words.now)) }
     ensures some { IfOk result (λ values. 0 < length values) }
     ensures within { IfOk result (λ values. length values ≤ most_values) }
 {

@@ -76,7 +76,8 @@ impl Decls {
     /// The names of the values of the nets with a declaration at this place: for many questions after one net, whose place
     /// is looked up once.
     pub fn values_at(&self, place: Option<usize>) -> &[Name]
-        ensures value { (net : List ℕ) → place ≡ place_of net (declared_of self.now) → result.now ≡ values_of self.now net }
+        ensures value { (net : List ℕ) → place ≡ place_of net (declared_of self.now)
+            → result.now ≡ values_of self.now net }
         ensures some { 0 < length result.now }
         ensures within { length result.now ≤ most_values }
     {
@@ -102,7 +103,8 @@ impl Decls {
     pub(crate) fn add(&mut self, net: &Name, values: &Items<Name>) -> Result<(), Memory>
         requires some { 0 < length values.now }
         requires within { length values.now ≤ most_values }
-        ensures ok { OnOk result (self.new ≡ with_decl self.old (record { net = net.now; values = values.now })) }
+        ensures ok { OnOk result
+            (self.new ≡ with_decl self.old (record { net = net.now; values = values.now })) }
         ensures err { OnErr result (self.new ≡ self.old) }
     {
         if self.contains(net) {

@@ -15,14 +15,19 @@ use mv_fault::ParseFault;
 /// A comma in front of a line is its only fault, a name that is lacking; and behind a name and a comma the line begins anew,
 /// so that a second comma is such a fault, and a word of digits is a name.
 pub fn line_laws()
-    ensures nets { (words nets : List (List ℕ)) (count : List ℕ) (values : List (List ℕ)) → IsPlainLine words nets count values → nets_said words ≡ nets }
-    ensures names { (words nets : List (List ℕ)) (count : List ℕ) (values : List (List ℕ)) → IsPlainLine words nets count values
+    ensures nets { (words nets : List (List ℕ)) (count : List ℕ) (values : List (List ℕ))
+        → IsPlainLine words nets count values → nets_said words ≡ nets }
+    ensures names { (words nets : List (List ℕ)) (count : List ℕ) (values : List (List ℕ))
+        → IsPlainLine words nets count values
         → 0 < length values → values_said words ≡ values }
-    ensures numbers { (words nets : List (List ℕ)) (count : List ℕ) → IsPlainLine words nets count []
+    ensures numbers { (words nets : List (List ℕ)) (count : List ℕ)
+        → IsPlainLine words nets count []
         → values_said words ≡ numbers_below (number_said count) }
-    ensures faults { (words nets : List (List ℕ)) (count : List ℕ) (values : List (List ℕ)) → IsPlainLine words nets count values
+    ensures faults { (words nets : List (List ℕ)) (count : List ℕ) (values : List (List ℕ))
+        → IsPlainLine words nets count values
         → (n : ℕ) (word : List ℕ) (ds : List Decl) → decl_faults n word ds words
-        ≡ count_faults n count ++ value_name_faults n [] values ++ length_faults n (number_said count) values
+        ≡ count_faults n count ++ value_name_faults n [] values
+        ++ length_faults n (number_said count) values
         ++ redeclared_faults n ds (named_values (number_said count) values) nets }
     ensures comma { SayTwoNames (λ w x. w ∷ codes "," ∷ x ∷ []) }
     ensures joined { SayTwoNames (λ w x. (w ++ codes "," ++ x) ∷ []) }
@@ -30,8 +35,12 @@ pub fn line_laws()
     ensures in_front { SayTwoNames (λ w x. w ∷ (codes "," ++ x) ∷ []) }
     ensures lacks { (n : ℕ) (word : List ℕ) (ds : List Decl) (words : List (List ℕ))
         → decl_faults n word ds (codes "," ∷ words) ≡ ParseFault.Missing n word ∷ [] }
-    ensures anew_nets { (w : List ℕ) (words : List (List ℕ)) → IsTrue (is_net_name w) → nets_said (w ∷ codes "," ∷ words) ≡ w ∷ nets_said words }
-    ensures anew_values { (w : List ℕ) (words : List (List ℕ)) → IsTrue (is_net_name w) → values_said (w ∷ codes "," ∷ words) ≡ values_said words }
-    ensures anew_faults { (n : ℕ) (word : List ℕ) (ds : List Decl) (w : List ℕ) (words : List (List ℕ)) → IsTrue (is_net_name w)
-        → among w (declared_of ds) ≡ false → decl_faults n word ds (w ∷ codes "," ∷ words) ≡ decl_faults n word ds words }
+    ensures anew_nets { (w : List ℕ) (words : List (List ℕ)) → IsTrue (is_net_name w)
+        → nets_said (w ∷ codes "," ∷ words) ≡ w ∷ nets_said words }
+    ensures anew_values { (w : List ℕ) (words : List (List ℕ)) → IsTrue (is_net_name w)
+        → values_said (w ∷ codes "," ∷ words) ≡ values_said words }
+    ensures anew_faults { (n : ℕ) (word : List ℕ) (ds : List Decl) (w : List ℕ)
+        (words : List (List ℕ)) → IsTrue (is_net_name w)
+        → among w (declared_of ds) ≡ false
+        → decl_faults n word ds (w ∷ codes "," ∷ words) ≡ decl_faults n word ds words }
 {}

@@ -31,8 +31,12 @@ pub fn declare(
     ensures fault { Tells result (decl_faults number word.now decls.old words.now) }
     ensures ok { OnOk result (decls.new ≡ with_decls decls.old (decls_said words.now)) }
     ensures err { OnErr result (decls.new ≡ decls.old) }
-    ensures said { OnOk result ((net : List ℕ) → among net (nets_said words.now) ≡ true → values_of decls.new net ≡ values_said words.now) }
-    ensures kept { OnOk result ((net : List ℕ) → (among net (declared_of decls.old) || not (among net (nets_said words.now))) ≡ true
+    ensures said { OnOk result
+        ((net : List ℕ) → among net (nets_said words.now) ≡ true
+        → values_of decls.new net ≡ values_said words.now) }
+    ensures kept { OnOk result
+        ((net : List ℕ)
+        → (among net (declared_of decls.old) || not (among net (nets_said words.now))) ≡ true
         → values_of decls.new net ≡ values_of decls.old net) }
 {
     let words = apart(alloc, words)?;
@@ -108,8 +112,10 @@ fn declare_nets(
     ensures fault { Tells result (redeclared_faults line decls.old values.now nets.now) }
     ensures ok { OnOk result (decls.new ≡ with_decls decls.old (decls_for values.now nets.now)) }
     ensures err { OnErr result (decls.new ≡ decls.old) }
-    ensures said { OnOk result ((net : List ℕ) → among net nets.now ≡ true → values_of decls.new net ≡ values.now) }
-    ensures kept { OnOk result ((net : List ℕ) → (among net (declared_of decls.old) || not (among net nets.now)) ≡ true
+    ensures said { OnOk result
+        ((net : List ℕ) → among net nets.now ≡ true → values_of decls.new net ≡ values.now) }
+    ensures kept { OnOk result
+        ((net : List ℕ) → (among net (declared_of decls.old) || not (among net nets.now)) ≡ true
         → values_of decls.new net ≡ values_of decls.old net) }
 {
     check_known(decls, line, nets, values.as_slice())?;

@@ -1,4 +1,5 @@
--- The literals of each value's lines, and the greatest of some numbers. What private functions alone cite.
+-- The literals of each value's lines, and the greatest of some numbers. What private functions
+-- alone cite.
 use Rattle.std.specs.Prelude.{◌≡◌, ℕ, ◌<◌, ◌≤◌, List, length, slice_index}
 use Rattle.mv_cover.specs.declared.line.Line.{Line}
 use Rattle.mv_default.specs.Taken.{literals_of_value}

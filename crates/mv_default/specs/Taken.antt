@@ -1,4 +1,5 @@
--- A table in which a default stands for the lines of one value: of the one whose lines have the most literals.
+-- A table in which a default stands for the lines of one value: of the one whose lines have the
+-- most literals.
 use Rattle.std.specs.Prelude.{◌≡◌, ℕ, ◌<◌, ◌≤◌, not, nat_eq, Option, Some, None, List}
 use Rattle.std.specs.List.{All, filter}
 use Rattle.mv_base.specs.Set.{one}

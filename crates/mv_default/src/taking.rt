@@ -34,7 +34,8 @@ pub fn take_default(alloc: Global, table: &Cover, values: u16) -> Result<Option<
 
 /// The lines whose output is another.
 fn other_lines(alloc: Global, lines: &[Line], out: &PackedSet) -> Result<Items<Line>, Memory>
-    ensures { IfOk result (λ others. (v : ℕ) → out.now ≡ one v → others ≡ lines_of_others v lines.now) }
+    ensures { IfOk result
+        (λ others. (v : ℕ) → out.now ≡ one v → others ≡ lines_of_others v lines.now) }
 {
     let mut others = Items::new(alloc);
     for line in lines {

@@ -11,7 +11,16 @@ use Rattle.mv_design.specs.ByLine.{by_line}
 
 -- a model without nets
 abbrev pub no_model : FileModel
-no_model = record { name = []; inputs = []; outputs = []; decls = []; tables = []; latches = []; resets = []; parts = [] }
+no_model = record {
+  name = [];
+  inputs = [];
+  outputs = [];
+  decls = [];
+  tables = [];
+  latches = [];
+  resets = [];
+  parts = [];
+}
 
 -- the root of a design
 unfoldable pub root_of : Design → FileModel
@@ -40,9 +49,12 @@ latch_naming l = record { line = l.line; nets = l.input ∷ l.output ∷ [] }
 
 -- what the commands of a model name, by line; on one line a latch stands before its reset table
 unfoldable pub namings : FileModel → List Naming
-namings m = by_line (λ x. x.line) (map latch_naming m.latches) (by_line (λ x. x.line) (map table_naming m.resets) (map table_naming m.tables))
+namings m =
+    by_line (λ x. x.line) (map latch_naming m.latches)
+    (by_line (λ x. x.line) (map table_naming m.resets) (map table_naming m.tables))
 
--- the nets of a model, as often as it names them: its inputs, its outputs, and those of its commands
+-- the nets of a model, as often as it names them: its inputs, its outputs, and those of its
+-- commands
 unfoldable pub nets_named : FileModel → List (List ℕ)
 nets_named m = m.inputs ++ (m.outputs ++ flat_map (λ x. x.nets) (namings m))
 
@@ -62,8 +74,8 @@ latch_outputs m = map (λ l. l.output) m.latches
 abbrev pub nets_driven : FileTable → List (List ℕ)
 nets_driven t = t.outputs
 
--- the nets that are driven, as often as they are: by an input of the model, by a latch, or by a table. A reset table drives
--- none of them
+-- the nets that are driven, as often as they are: by an input of the model, by a latch, or by a
+-- table. A reset table drives none of them
 unfoldable pub drivers : FileModel → List (List ℕ)
 drivers m = m.inputs ++ (latch_outputs m ++ flat_map nets_driven m.tables)
 

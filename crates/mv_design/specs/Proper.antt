@@ -1,5 +1,5 @@
--- What the grammar makes sure of in a design, line by line: lawful names, values that the nets have, entries that fit, and
--- the order of lines.
+-- What the grammar makes sure of in a design, line by line: lawful names, values that the nets
+-- have, entries that fit, and the order of lines.
 use Rattle.std.specs.Prelude.{◌≡◌, ℕ, ◌<◌, ◌≤◌, Bool, true, not, ◌&&◌, nat_eq, nat_lt, Some}
 use Rattle.std.specs.Prelude.{List, [], ◌∷◌, length, map, slice_index_or, All}
 use Rattle.std.specs.List.{list_all, list_any}
@@ -30,7 +30,8 @@ pub record IsSame (ds : List Decl) (ins : List (List ℕ)) (net : List ℕ) (k :
   pub within : k < length ins
   pub counts : count_of ds (slice_index_or ins k []) ≡ count_of ds net
 
--- an entry fits its output: values that the net has, or the place of an input column of a net with as many values
+-- an entry fits its output: values that the net has, or the place of an input column of a net with
+-- as many values
 abbrev pub FitOutput : List Decl → List (List ℕ) → List ℕ → Entry → Type 0
 FitOutput ds ins net (Set s) = Within s (full (count_of ds net))
 FitOutput ds ins net (Same k) = IsSame ds ins net k
@@ -40,7 +41,8 @@ abbrev pub FitOutputs : List Decl → List (List ℕ) → List (List ℕ) → Li
 FitOutputs ds ins [] [] = Unit {0}
 FitOutputs ds ins [] (_ ∷ _) = ⊥
 FitOutputs ds ins (_ ∷ _) [] = ⊥
-FitOutputs ds ins (net ∷ nets) (e ∷ entries) = FitOutput ds ins net e × FitOutputs ds ins nets entries
+FitOutputs ds ins (net ∷ nets) (e ∷ entries) = FitOutput ds ins net e
+    × FitOutputs ds ins nets entries
 
 -- a row fits its table: a set for each input, and an entry for each output
 pub record IsFileRow (ds : List Decl) (t : FileTable) (r : Row) : Type 0 where
@@ -53,7 +55,8 @@ pub record IsFileTable (ds : List Decl) (t : FileTable) : Type 0 where
   pub outputs : list_all is_net_name t.outputs ≡ true
   pub some : 0 < length t.outputs
   pub rows : All (IsFileRow ds t) t.rows
-  pub default : (entries : List Entry) → t.default ≡ Some entries → FitOutputs ds t.inputs t.outputs entries
+  pub default : (entries : List Entry) → t.default ≡ Some entries
+      → FitOutputs ds t.inputs t.outputs entries
 
 -- a reset table is a table of one output
 pub record IsFileReset (ds : List Decl) (t : FileTable) : Type 0 where
@@ -66,7 +69,8 @@ pub record IsFileLatch (ds : List Decl) (l : FileLatch) : Type 0 where
   pub output : is_net_name l.output ≡ true
   pub counts : count_of ds l.input ≡ count_of ds l.output
 
--- a declared net: it has some values, and no more than a net may have, with lawful names, all different
+-- a declared net: it has some values, and no more than a net may have, with lawful names, all
+-- different
 pub record IsFileDecl (d : Decl) : Type 0 where
   pub net : is_net_name d.net ≡ true
   pub some : 0 < length d.values
@@ -110,13 +114,14 @@ latch_lines latches = map (λ l. l.line) latches
 abbrev pub part_lines : List Part → List ℕ
 part_lines parts = map (λ p. p.line) parts
 
--- a reset table has the line of a latch only where this is its own, the latch whose output it drives. It comes right behind
--- that latch in file order then
+-- a reset table has the line of a latch only where this is its own, the latch whose output it
+-- drives. It comes right behind that latch in file order then
 pub record SharesOwnOnly (reset : FileTable) (latch : FileLatch) : Type 0 where
   pub own : reset.line ≡ latch.line → reset.outputs ≡ latch.output ∷ []
 
--- a model stands by line: its tables by ascending line, and so its latches, its reset tables and its instances, each kind
--- for itself; and no two of all these have one line, but that a reset table may have the line of its own latch
+-- a model stands by line: its tables by ascending line, and so its latches, its reset tables and
+-- its instances, each kind for itself; and no two of all these have one line, but that a reset
+-- table may have the line of its own latch
 pub record StandsByLine (m : FileModel) : Type 0 where
   pub tables : numbers_ascend (table_lines m.tables) ≡ true
   pub latches : numbers_ascend (latch_lines m.latches) ≡ true
@@ -131,8 +136,8 @@ pub record StandsByLine (m : FileModel) : Type 0 where
 
 -- ---- models and designs
 
--- a model: its names are lawful, no input and no output stands twice, and its declarations, tables, latches, reset tables and
--- instances are such as above
+-- a model: its names are lawful, no input and no output stands twice, and its declarations, tables,
+-- latches, reset tables and instances are such as above
 pub record IsLawful (m : FileModel) : Type 0 where
   pub name : is_model_name m.name ≡ true
   pub inputs : list_all is_net_name m.inputs ≡ true

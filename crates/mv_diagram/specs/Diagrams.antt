@@ -8,8 +8,8 @@ use Rattle.mv_diagram.specs.declared.node.Nodes.{Nodes}
 use Rattle.mv_diagram.specs.Parts.{no_variable, IsRestriction}
 use Rattle.mv_diagram.specs.Sets.{Point, InRange, SameSet, holds, has_diagram, node_at}
 
--- the numbers of values of the variables, the nodes at their places, how many there is room for, and how often places
--- were given back
+-- the numbers of values of the variables, the nodes at their places, how many there is room for,
+-- and how often places were given back
 pub record Contents : Type 0 where
   pub counts : List ℕ
   pub nodes : List (Option Node)
@@ -51,11 +51,13 @@ pub record HasNoRoom (c : Contents) (stop : Nodes) : Type 0 where
 pub record Lacks (c : Contents) (set : Point → Bool) : Type 0 where
   pub none : (d : Dd) → IsHeld c d → SameSet c.counts (λ p. has c d p) set → ⊥
 
--- a diagram is zero, one, a root, or one of the diagrams of their nodes: it is in each set of numbers that has zero,
--- one and the roots, and with a diagram those of its first node
+-- a diagram is zero, one, a root, or one of the diagrams of their nodes: it is in each set of
+-- numbers that has zero, one and the roots, and with a diagram those of its first node
 abbrev pub Reaches : List (Option Node) → List Dd → ℕ → Type 0
-Reaches nodes roots d = (set : ℕ → Bool) → set 0 ≡ true → set 1 ≡ true → All (λ (root : Dd). set root.0 ≡ true) roots
-    → ((c : ℕ) (n : Node) → set c ≡ true → node_at nodes c ≡ Some n → (set n.yes.0 ≡ true) × (set n.no.0 ≡ true)) → set d ≡ true
+Reaches nodes roots d = (set : ℕ → Bool) → set 0 ≡ true → set 1 ≡ true
+    → All (λ (root : Dd). set root.0 ≡ true) roots
+    → ((c : ℕ) (n : Node) → set c ≡ true → node_at nodes c ≡ Some n
+    → (set n.yes.0 ≡ true) × (set n.no.0 ≡ true)) → set d ≡ true
 
 -- what is held was held, with the same set
 pub record Loses (old new : Contents) : Type 0 where
@@ -66,4 +68,5 @@ pub record Loses (old new : Contents) : Type 0 where
 
 -- each diagram that is held now and wasn't has a restriction of the set
 pub record AddsRestrictions (old new : Contents) (set : Point → Bool) : Type 0 where
-  pub each : (d : Dd) → IsHeld new d → IsHeld old d ⊎ IsRestriction new.counts no_variable set (λ p. has new d p)
+  pub each : (d : Dd) → IsHeld new d
+      → IsHeld old d ⊎ IsRestriction new.counts no_variable set (λ p. has new d p)

@@ -12,22 +12,28 @@ pub record IsEarlier (t u first : Test) : Type 0 where
   pub one : (first ≡ t) ⊎ (first ≡ u)
 
 -- it is the first of one of the two diagrams, and not behind the first of the other
-pub record IsFirstTest (counts : List ℕ) (ns : List (Option Node)) (a b : ℕ) (t : Test) : Type 0 where
+pub record IsFirstTest (counts : List ℕ) (ns : List (Option Node)) (a b : ℕ) (t : Test)
+    : Type 0 where
   pub test : IsTest counts t
   pub left : order t.var t.value ≤ first counts ns a
   pub right : order t.var t.value ≤ first counts ns b
   pub one : (order t.var t.value ≡ first counts ns a) ⊎ (order t.var t.value ≡ first counts ns b)
 
 -- what a diagram is where the test says yes, and where it says no
-pub record IsSplit (counts : List ℕ) (ns : List (Option Node)) (d : ℕ) (t : Test) (yes no : ℕ) : Type 0 where
+pub record IsSplit (counts : List ℕ) (ns : List (Option Node)) (d : ℕ) (t : Test) (yes no : ℕ)
+    : Type 0 where
   pub yes_held : has_diagram ns yes ≡ true
   pub no_held : has_diagram ns no ≡ true
   pub yes_later : order (t.var + 1) 0 ≤ first counts ns yes
   pub no_later : order t.var t.value < first counts ns no
-  pub set : (p : Point) → holds counts ns d p ≡ (if p t.var == t.value then holds counts ns yes p else holds counts ns no p)
+  pub set : (p : Point)
+      → holds counts ns d p
+      ≡ (if p t.var == t.value then holds counts ns yes p else holds counts ns no p)
 
--- it is the first test of two diagrams, which are these where it says yes, and these where it says no
-pub record AreParted (counts : List ℕ) (ns : List (Option Node)) (a b : ℕ) (t : Test) (a_yes a_no b_yes b_no : ℕ) : Type 0 where
+-- it is the first test of two diagrams, which are these where it says yes, and these where it says
+-- no
+pub record AreParted (counts : List ℕ) (ns : List (Option Node)) (a b : ℕ) (t : Test)
+    (a_yes a_no b_yes b_no : ℕ) : Type 0 where
   pub left_held : has_diagram ns a ≡ true
   pub right_held : has_diagram ns b ≡ true
   pub test : IsFirstTest counts ns a b t

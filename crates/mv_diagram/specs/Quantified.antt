@@ -22,7 +22,8 @@ pub record AgreesOutside (vars : ℕ → Bool) (p q : Point) : Type 0 where
   pub each : (v : ℕ) → vars v ≡ false → p v ≡ q v
 
 -- a point that agrees with this one, and has that answer
-pub record Agreeing (counts : List ℕ) (vars : ℕ → Bool) (set : Point → Bool) (answer : Bool) (p : Point) : Type 0 where
+pub record Agreeing (counts : List ℕ) (vars : ℕ → Bool) (set : Point → Bool) (answer : Bool)
+    (p : Point) : Type 0 where
   pub other : Point
   pub range : InRange counts other
   pub agrees : AgreesOutside vars p other
@@ -30,8 +31,10 @@ pub record Agreeing (counts : List ℕ) (vars : ℕ → Bool) (set : Point → B
 
 -- it has the answer exactly where the set has it at some point that agrees outside these variables
 pub record Spreads (old new : Contents) (vars : List ℕ) (answer : Bool) (a d : Dd) : Type 0 where
-  pub some : (p : Point) → InRange new.counts p → has new d p ≡ answer → Agreeing new.counts (is_one_of vars) (λ q. has old a q) answer p
-  pub all : (p q : Point) → InRange new.counts q → AgreesOutside (is_one_of vars) p q → has old a q ≡ answer → has new d p ≡ answer
+  pub some : (p : Point) → InRange new.counts p → has new d p ≡ answer
+      → Agreeing new.counts (is_one_of vars) (λ q. has old a q) answer p
+  pub all : (p q : Point) → InRange new.counts q → AgreesOutside (is_one_of vars) p q
+      → has old a q ≡ answer → has new d p ≡ answer
 
 -- it has each point that agrees with one of the set outside these variables, and no other
 abbrev pub Exists : Contents → Contents → List ℕ → Dd → Dd → Type 0
@@ -39,14 +42,19 @@ Exists old new vars a d = Spreads old new vars true a d
 
 -- it has each point with which all that agree outside these variables are in the set, and no other
 pub record Forall (old new : Contents) (vars : List ℕ) (a d : Dd) : Type 0 where
-  pub every : (p q : Point) → has new d p ≡ true → InRange new.counts q → AgreesOutside (is_one_of vars) p q → has old a q ≡ true
-  pub all : (p : Point) → InRange new.counts p → ((q : Point) → InRange new.counts q → AgreesOutside (is_one_of vars) p q → has old a q ≡ true)
+  pub every : (p q : Point) → has new d p ≡ true → InRange new.counts q
+      → AgreesOutside (is_one_of vars) p q → has old a q ≡ true
+  pub all : (p : Point) → InRange new.counts p
+      → ((q : Point) → InRange new.counts q → AgreesOutside (is_one_of vars) p q
+      → has old a q ≡ true)
       → has new d p ≡ true
 
--- each diagram that is held now and wasn't has the answer exactly where one of some restrictions of the set has it, in
--- which these variables have values
-pub record AddsAnswers (old new : Contents) (vars : List ℕ) (answer : Bool) (set : Point → Bool) : Type 0 where
-  pub each : (d : Dd) → IsHeld new d → IsHeld old d ⊎ IsCombined new.counts (is_one_of vars) answer set (λ p. has new d p)
+-- each diagram that is held now and wasn't has the answer exactly where one of some restrictions of
+-- the set has it, in which these variables have values
+pub record AddsAnswers (old new : Contents) (vars : List ℕ) (answer : Bool) (set : Point → Bool)
+    : Type 0 where
+  pub each : (d : Dd) → IsHeld new d
+      → IsHeld old d ⊎ IsCombined new.counts (is_one_of vars) answer set (λ p. has new d p)
 
 -- it has a union of such restrictions
 abbrev pub AddsUnions : Contents → Contents → List ℕ → (Point → Bool) → Type 0
@@ -59,16 +67,21 @@ AddsMeets old new vars set = AddsAnswers old new vars false set
 -- ---- what private functions alone cite
 
 -- a diagram has the answer exactly where its operand has it at some point that agrees
-pub record IsQuantified (counts : List ℕ) (ns : List (Option Node)) (vars : ℕ → Bool) (answer : Bool) (a d : ℕ) : Type 0 where
+pub record IsQuantified (counts : List ℕ) (ns : List (Option Node)) (vars : ℕ → Bool)
+    (answer : Bool) (a d : ℕ) : Type 0 where
   pub operand : has_diagram ns a ≡ true
   pub held : has_diagram ns d ≡ true
   pub later : first counts ns a ≤ first counts ns d
-  pub some : (p : Point) → InRange counts p → holds counts ns d p ≡ answer → Agreeing counts vars (λ q. holds counts ns a q) answer p
-  pub all : (p q : Point) → InRange counts q → AgreesOutside vars p q → holds counts ns a q ≡ answer → holds counts ns d p ≡ answer
+  pub some : (p : Point) → InRange counts p → holds counts ns d p ≡ answer
+      → Agreeing counts vars (λ q. holds counts ns a q) answer p
+  pub all : (p q : Point) → InRange counts q → AgreesOutside vars p q
+      → holds counts ns a q ≡ answer → holds counts ns d p ≡ answer
 
 -- what is remembered of this is right
-pub record Quantifies (counts : List ℕ) (ns : List (Option Node)) (vars : ℕ → Bool) (answer : Bool) (entries : List (Key × Dd)) : Type 0 where
-  pub each : (k : Key) (d : Dd) → Contains entries (k, d) → IsQuantified counts ns vars answer k.left.0 d.0
+pub record Quantifies (counts : List ℕ) (ns : List (Option Node)) (vars : ℕ → Bool) (answer : Bool)
+    (entries : List (Key × Dd)) : Type 0 where
+  pub each : (k : Key) (d : Dd) → Contains entries (k, d)
+      → IsQuantified counts ns vars answer k.left.0 d.0
 
 -- the operation whose answer is this one where one of two answers is
 abbrev pub joining : Bool → Operation
@@ -81,7 +94,8 @@ joined_set counts ns joined answer t y n p =
     else (if p t.var == t.value then holds counts ns y p else holds counts ns n p)
 
 -- a diagram is made of those for yes and no
-pub record IsJoined (counts : List ℕ) (ns : List (Option Node)) (joined answer : Bool) (t : Test) (yes no d : ℕ) : Type 0 where
+pub record IsJoined (counts : List ℕ) (ns : List (Option Node)) (joined answer : Bool) (t : Test)
+    (yes no d : ℕ) : Type 0 where
   pub held : has_diagram ns d ≡ true
   pub later : order t.var t.value ≤ first counts ns d
   pub set : (p : Point) → holds counts ns d p ≡ joined_set counts ns joined answer t yes no p

@@ -17,21 +17,27 @@ result_of Or x y = x || y
 result_of Nand x y = not (x && y)
 
 -- a diagram is the result of an operation on two others, and has no earlier test than they have
-pub record IsResult (counts : List ℕ) (ns : List (Option Node)) (operation : Operation) (a b d : ℕ) : Type 0 where
+pub record IsResult (counts : List ℕ) (ns : List (Option Node)) (operation : Operation) (a b d : ℕ)
+    : Type 0 where
   pub left : has_diagram ns a ≡ true
   pub right : has_diagram ns b ≡ true
   pub held : has_diagram ns d ≡ true
-  pub later : (from : ℕ) → from ≤ first counts ns a → from ≤ first counts ns b → from ≤ first counts ns d
-  pub set : (p : ℕ → ℕ) → holds counts ns d p ≡ result_of operation (holds counts ns a p) (holds counts ns b p)
+  pub later : (from : ℕ) → from ≤ first counts ns a → from ≤ first counts ns b
+      → from ≤ first counts ns d
+  pub set : (p : ℕ → ℕ)
+      → holds counts ns d p ≡ result_of operation (holds counts ns a p) (holds counts ns b p)
 
 -- what is remembered is right
-pub record Remembers (counts : List ℕ) (ns : List (Option Node)) (entries : List (Key × Dd)) : Type 0 where
-  pub each : (k : Key) (d : Dd) → Contains entries (k, d) → IsResult counts ns k.operation k.left.0 k.right.0 d.0
+pub record Remembers (counts : List ℕ) (ns : List (Option Node)) (entries : List (Key × Dd))
+    : Type 0 where
+  pub each : (k : Key) (d : Dd) → Contains entries (k, d)
+      → IsResult counts ns k.operation k.left.0 k.right.0 d.0
 
 -- ---- what private functions alone cite
 
 -- the results of what two diagrams are where their first test says yes, and where it says no
-pub record AreSides (counts : List ℕ) (ns : List (Option Node)) (operation : Operation) (a b : ℕ) (t : Test) (y n : ℕ) : Type 0 where
+pub record AreSides (counts : List ℕ) (ns : List (Option Node)) (operation : Operation) (a b : ℕ)
+    (t : Test) (y n : ℕ) : Type 0 where
   pub a_yes : ℕ
   pub a_no : ℕ
   pub b_yes : ℕ

@@ -32,12 +32,14 @@ node_at ns d = option_and_then (λ (id : Id). item_at ns id.0) (place_of d)
 abbrev pub has_diagram : List (Option Node) → ℕ → Bool
 has_diagram ns d = nat_lt d 2 || is_some (node_at ns d)
 
--- whether a point is in the set of a diagram: the tests are followed from its first node to zero or one, by at most
--- so many steps
+-- whether a point is in the set of a diagram: the tests are followed from its first node to zero or
+-- one, by at most so many steps
 abbrev pub holds_within : ℕ → List (Option Node) → ℕ → Point → Bool
 holds_within zero ns d p = d == 1
 holds_within (suc steps) ns d p =
-    option_map_or (λ n. if p n.test.var == n.test.value then holds_within steps ns n.yes.0 p else holds_within steps ns n.no.0 p) (node_at ns d) (d == 1)
+    option_map_or
+    (λ n. if p n.test.var == n.test.value then holds_within steps ns n.yes.0 p
+    else holds_within steps ns n.no.0 p) (node_at ns d) (d == 1)
 
 -- whether a point is in the set of a diagram. The tests ascend, so each comes once
 unfoldable pub holds : List ℕ → List (Option Node) → ℕ → Point → Bool

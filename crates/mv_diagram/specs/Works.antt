@@ -28,7 +28,8 @@ pub record IsAbsent (ns : List (Option Node)) (n : Node) : Type 0 where
 pub record HasPut (old new : Contents Node) (n : Node) (d : ℕ) : Type 0 where
   pub there : node_at new.places d ≡ Some n
   pub cap : new.cap ≡ old.cap
-  pub change : (new.places ≡ old.places) ⊎ ((new.places ≡ with_item old.places n) × IsAbsent old.places n)
+  pub change : (new.places ≡ old.places)
+      ⊎ ((new.places ≡ with_item old.places n) × IsAbsent old.places n)
 
 -- no diagram that is held has this set
 pub record IsLacking (counts : List ℕ) (ns : List (Option Node)) (set : Point → Bool) : Type 0 where

@@ -25,8 +25,12 @@ fn answer(operation: Operation, left: bool, right: bool) -> bool
 
 /// The result where one operand decides it, or says nothing beside the other.
 fn at_once(operation: Operation, a: Dd, b: Dd) -> Option<Dd>
-    ensures set { IfSome result (λ d. (f : ℕ → Bool) → f 0 ≡ false → f 1 ≡ true → f d.0 ≡ result_of operation (f a.0) (f b.0)) }
-    ensures among { IfSome result (λ d. (f : ℕ → Bool) → f 0 ≡ true → f 1 ≡ true → f a.0 ≡ true → f b.0 ≡ true → f d.0 ≡ true) }
+    ensures set { IfSome result
+        (λ d. (f : ℕ → Bool) → f 0 ≡ false → f 1 ≡ true
+        → f d.0 ≡ result_of operation (f a.0) (f b.0)) }
+    ensures among { IfSome result
+        (λ d. (f : ℕ → Bool) → f 0 ≡ true → f 1 ≡ true → f a.0 ≡ true → f b.0 ≡ true
+        → f d.0 ≡ true) }
 {
     let (deciding, silent) = match operation {
         Operation::And => (ZERO, ONE),
@@ -62,7 +66,8 @@ fn first_test(table: &Table, a: Dd, b: Dd) -> Option<Test>
     requires sound { IsReduced table.now.counts.items table.now.pool.places }
     requires left { has_diagram table.now.pool.places a.0 ≡ true }
     requires right { has_diagram table.now.pool.places b.0 ≡ true }
-    ensures some { IfSome result (IsFirstTest table.now.counts.items table.now.pool.places a.0 b.0) }
+    ensures some { IfSome result
+        (IsFirstTest table.now.counts.items table.now.pool.places a.0 b.0) }
     ensures left { IfNone result (node_at table.now.pool.places a.0 ≡ None) }
     ensures right { IfNone result (node_at table.now.pool.places b.0 ≡ None) }
 {
@@ -87,7 +92,8 @@ fn part(table: &Table, a: Dd, b: Dd) -> Option<Parted>
     requires sound { IsReduced table.now.counts.items table.now.pool.places }
     requires left { has_diagram table.now.pool.places a.0 ≡ true }
     requires right { has_diagram table.now.pool.places b.0 ≡ true }
-    ensures some { IfSome result (λ at. AreParted table.now.counts.items table.now.pool.places a.0 b.0 at.test at.yes.0.0 at.no.0.0 at.yes.1.0 at.no.1.0) }
+    ensures some { IfSome result
+        (λ at. AreParted table.now.counts.items table.now.pool.places a.0 b.0 at.test at.yes.0.0 at.no.0.0 at.yes.1.0 at.no.1.0) }
     ensures left { IfNone result (node_at table.now.pool.places a.0 ≡ None) }
     ensures right { IfNone result (node_at table.now.pool.places b.0 ≡ None) }
 {
@@ -124,12 +130,15 @@ fn whole(
     requires sides { AreSides table.old.counts.items table.old.pool.places key.operation key.left.0 key.right.0 test yes.0 no.0 }
     ensures adds { AddsNodes table.old table.new }
     ensures remembers { Remembers table.new.counts.items table.new.pool.places memo.new.entries }
-    ensures ok { IfOk result (λ d. IsResult table.new.counts.items table.new.pool.places key.operation key.left.0 key.right.0 d.0) }
-    ensures added { AddsParts table.new.counts.items table.old.pool.places table.new.pool.places (λ p.
+    ensures ok { IfOk result
+        (λ d. IsResult table.new.counts.items table.new.pool.places key.operation key.left.0 key.right.0 d.0) }
+    ensures added { AddsParts table.new.counts.items table.old.pool.places table.new.pool.places
+        (λ p.
         result_of key.operation (holds table.new.counts.items table.new.pool.places key.left.0 p)
         (holds table.new.counts.items table.new.pool.places key.right.0 p)) }
     ensures full { IfErr result (IsFull table.new.pool) }
-    ensures lacking { IfErr result (λ e. IsLacking table.new.counts.items table.new.pool.places (λ p.
+    ensures lacking { IfErr result
+        (λ e. IsLacking table.new.counts.items table.new.pool.places (λ p.
         result_of key.operation (holds table.new.counts.items table.new.pool.places key.left.0 p)
         (holds table.new.counts.items table.new.pool.places key.right.0 p))) }
 {
@@ -157,12 +166,17 @@ pub fn apply(
     requires right { has_diagram table.old.pool.places b.0 ≡ true }
     ensures adds { AddsNodes table.old table.new }
     ensures remembers { Remembers table.new.counts.items table.new.pool.places memo.new.entries }
-    ensures ok { IfOk result (λ d. IsResult table.new.counts.items table.new.pool.places operation a.0 b.0 d.0) }
-    ensures added { AddsParts table.new.counts.items table.old.pool.places table.new.pool.places (λ p.
-        result_of operation (holds table.new.counts.items table.new.pool.places a.0 p) (holds table.new.counts.items table.new.pool.places b.0 p)) }
+    ensures ok { IfOk result
+        (λ d. IsResult table.new.counts.items table.new.pool.places operation a.0 b.0 d.0) }
+    ensures added { AddsParts table.new.counts.items table.old.pool.places table.new.pool.places
+        (λ p.
+        result_of operation (holds table.new.counts.items table.new.pool.places a.0 p)
+        (holds table.new.counts.items table.new.pool.places b.0 p)) }
     ensures full { IfErr result (IsFull table.new.pool) }
-    ensures lacking { IfErr result (λ e. IsLacking table.new.counts.items table.new.pool.places (λ p.
-        result_of operation (holds table.new.counts.items table.new.pool.places a.0 p) (holds table.new.counts.items table.new.pool.places b.0 p))) }
+    ensures lacking { IfErr result
+        (λ e. IsLacking table.new.counts.items table.new.pool.places (λ p.
+        result_of operation (holds table.new.counts.items table.new.pool.places a.0 p)
+        (holds table.new.counts.items table.new.pool.places b.0 p))) }
 {
     if let Some(d) = at_once(operation, a, b) {
         return Ok(d);

@@ -59,7 +59,8 @@ impl Diagrams {
     /// memory.
     pub fn with_room(alloc: Global, counts: &[u16], cap: u32) -> Result<Diagrams, Memory>
         requires { AreCounts counts.now }
-        ensures { IfOk result (λ d. d ≡ record { counts = counts.now; nodes = []; cap = cap; reclaims = 0 }) }
+        ensures { IfOk result
+            (λ d. d ≡ record { counts = counts.now; nodes = []; cap = cap; reclaims = 0 }) }
     {
         let most = NonZeroUsize::new(cap as usize).unwrap_or(NonZeroUsize::MIN);
         Ok(Diagrams {
@@ -97,7 +98,9 @@ impl Diagrams {
         requires { var < length self.old.counts }
         ensures keeps { Keeps self.old self.new }
         ensures held { IfOk result (IsHeld self.new) }
-        ensures set { IfOk result (λ d. (p : Point) → InRange self.new.counts p → has self.new d p ≡ has_value set (p var)) }
+        ensures set { IfOk result
+            (λ d. (p : Point) → InRange self.new.counts p
+            → has self.new d p ≡ has_value set (p var)) }
         ensures full { IfErr result (HasNoRoom self.new) }
         ensures added { AddsRestrictions self.old self.new (λ p. has_value set (p var)) }
         ensures lacks { IfErr result (λ e. Lacks self.new (λ p. has_value set (p var))) }
@@ -111,10 +114,14 @@ impl Diagrams {
         requires right { IsHeld self.old b }
         ensures keeps { Keeps self.old self.new }
         ensures held { IfOk result (IsHeld self.new) }
-        ensures set { IfOk result (λ d. (p : Point) → has self.new d p ≡ result_of operation (has self.old a p) (has self.old b p)) }
+        ensures set { IfOk result
+            (λ d. (p : Point)
+            → has self.new d p ≡ result_of operation (has self.old a p) (has self.old b p)) }
         ensures full { IfErr result (HasNoRoom self.new) }
-        ensures added { AddsRestrictions self.old self.new (λ p. result_of operation (has self.old a p) (has self.old b p)) }
-        ensures lacks { IfErr result (λ e. Lacks self.new (λ p. result_of operation (has self.old a p) (has self.old b p))) }
+        ensures added { AddsRestrictions self.old self.new
+            (λ p. result_of operation (has self.old a p) (has self.old b p)) }
+        ensures lacks { IfErr result
+            (λ e. Lacks self.new (λ p. result_of operation (has self.old a p) (has self.old b p))) }
         ensures values { AreCounts self.new.counts }
     {
         apply(&mut self.table, &mut self.memo, operation, a, b)
@@ -126,10 +133,13 @@ impl Diagrams {
         requires right { IsHeld self.old b }
         ensures keeps { Keeps self.old self.new }
         ensures held { IfOk result (IsHeld self.new) }
-        ensures set { IfOk result (λ d. (p : Point) → has self.new d p ≡ (has self.old a p && has self.old b p)) }
+        ensures set { IfOk result
+            (λ d. (p : Point) → has self.new d p ≡ (has self.old a p && has self.old b p)) }
         ensures full { IfErr result (HasNoRoom self.new) }
-        ensures added { AddsRestrictions self.old self.new (λ p. has self.old a p && has self.old b p) }
-        ensures lacks { IfErr result (λ e. Lacks self.new (λ p. has self.old a p && has self.old b p)) }
+        ensures added { AddsRestrictions self.old self.new
+            (λ p. has self.old a p && has self.old b p) }
+        ensures lacks { IfErr result
+            (λ e. Lacks self.new (λ p. has self.old a p && has self.old b p)) }
     {
         self.combine(Operation::And, a, b)
     }
@@ -140,10 +150,13 @@ impl Diagrams {
         requires right { IsHeld self.old b }
         ensures keeps { Keeps self.old self.new }
         ensures held { IfOk result (IsHeld self.new) }
-        ensures set { IfOk result (λ d. (p : Point) → has self.new d p ≡ (has self.old a p || has self.old b p)) }
+        ensures set { IfOk result
+            (λ d. (p : Point) → has self.new d p ≡ (has self.old a p || has self.old b p)) }
         ensures full { IfErr result (HasNoRoom self.new) }
-        ensures added { AddsRestrictions self.old self.new (λ p. has self.old a p || has self.old b p) }
-        ensures lacks { IfErr result (λ e. Lacks self.new (λ p. has self.old a p || has self.old b p)) }
+        ensures added { AddsRestrictions self.old self.new
+            (λ p. has self.old a p || has self.old b p) }
+        ensures lacks { IfErr result
+            (λ e. Lacks self.new (λ p. has self.old a p || has self.old b p)) }
     {
         self.combine(Operation::Or, a, b)
     }
@@ -222,7 +235,8 @@ impl Diagrams {
     pub fn same(&self, a: Dd, b: Dd) -> bool
         requires left { IsHeld self.now a }
         requires right { IsHeld self.now b }
-        ensures sets { IsTrue result ↔ SameSet self.now.counts (λ p. has self.now a p) (λ p. has self.now b p) }
+        ensures sets { IsTrue result
+            ↔ SameSet self.now.counts (λ p. has self.now a p) (λ p. has self.now b p) }
         ensures numbers { IsTrue result ↔ (a ≡ b) }
     {
         let _ = &self.table;

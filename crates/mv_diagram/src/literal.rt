@@ -18,9 +18,11 @@ pub fn literal_of(table: &mut Table, var: u32, set: ValueSet) -> Result<Dd, Node
     ensures held { IfOk result (λ d. has_diagram table.new.pool.places d.0 ≡ true) }
     ensures set { IfOk result (λ d. (p : Point) → InRange table.new.counts.items p
         → holds table.new.counts.items table.new.pool.places d.0 p ≡ has_value set (p var)) }
-    ensures added { AddsParts table.new.counts.items table.old.pool.places table.new.pool.places (λ p. has_value set (p var)) }
+    ensures added { AddsParts table.new.counts.items table.old.pool.places table.new.pool.places
+        (λ p. has_value set (p var)) }
     ensures full { IfErr result (IsFull table.new.pool) }
-    ensures lacking { IfErr result (λ e. IsLacking table.new.counts.items table.new.pool.places (λ p. has_value set (p var))) }
+    ensures lacking { IfErr result
+        (λ e. IsLacking table.new.counts.items table.new.pool.places (λ p. has_value set (p var))) }
 {
     let mut value = table.counts[var as usize] - 1;
     let mut rest = end(set.has(Value(value)));

@@ -35,7 +35,8 @@ pub fn pick_in(table: &Table, d: Dd, point: &mut [Value]) -> bool
     requires held { has_diagram table.now.pool.places d.0 ≡ true }
     requires point { IsPoint table.now.counts.items point.old }
     ensures point { IsPoint table.now.counts.items point.new }
-    ensures some { OnTrue result (holds table.now.counts.items table.now.pool.places d.0 (point_of point.new) ≡ true) }
+    ensures some { OnTrue result
+        (holds table.now.counts.items table.now.pool.places d.0 (point_of point.new) ≡ true) }
     ensures none { OnFalse result (d.0 ≡ 0) }
 {
     let Some(node) = node(table, d) else {

@@ -53,11 +53,14 @@ fn join(
     requires test { IsTest table.old.counts.items test }
     requires yes_held { has_diagram table.old.pool.places yes.0 ≡ true }
     requires no_held { has_diagram table.old.pool.places no.0 ≡ true }
-    requires yes_later { order (test.var + 1) 0 ≤ first table.old.counts.items table.old.pool.places yes.0 }
-    requires no_later { order test.var test.value < first table.old.counts.items table.old.pool.places no.0 }
+    requires yes_later { order (test.var + 1) 0
+        ≤ first table.old.counts.items table.old.pool.places yes.0 }
+    requires no_later { order test.var test.value
+        < first table.old.counts.items table.old.pool.places no.0 }
     ensures adds { AddsNodes table.old table.new }
     ensures remembers { Remembers table.new.counts.items table.new.pool.places memo.new.entries }
-    ensures ok { IfOk result (λ d. IsJoined table.new.counts.items table.new.pool.places joined answer test yes.0 no.0 d.0) }
+    ensures ok { IfOk result
+        (λ d. IsJoined table.new.counts.items table.new.pool.places joined answer test yes.0 no.0 d.0) }
     ensures added { AddsParts table.new.counts.items table.old.pool.places table.new.pool.places
         (λ p. joined_set table.new.counts.items table.new.pool.places joined answer test yes.0 no.0 p) }
     ensures full { IfErr result (IsFull table.new.pool) }
@@ -81,14 +84,19 @@ pub fn quantify(
 ) -> Result<Dd, Nodes>
     requires sound { IsReduced table.old.counts.items table.old.pool.places }
     requires remembers { Remembers table.old.counts.items table.old.pool.places memo.old.entries }
-    requires quantifies { Quantifies table.old.counts.items table.old.pool.places (mark chosen.now) answer done.old.entries }
+    requires quantifies { Quantifies table.old.counts.items table.old.pool.places
+        (mark chosen.now) answer done.old.entries }
     requires chosen { length chosen.now ≡ length table.old.counts.items }
     requires held { has_diagram table.old.pool.places d.0 ≡ true }
     ensures adds { AddsNodes table.old table.new }
     ensures remembers { Remembers table.new.counts.items table.new.pool.places memo.new.entries }
-    ensures quantifies { Quantifies table.new.counts.items table.new.pool.places (mark chosen.now) answer done.new.entries }
-    ensures ok { IfOk result (λ r. IsQuantified table.new.counts.items table.new.pool.places (mark chosen.now) answer d.0 r.0) }
-    ensures added { AddsCombined table.new.counts.items (mark chosen.now) answer table.old.pool.places table.new.pool.places
+    ensures quantifies { Quantifies table.new.counts.items table.new.pool.places
+        (mark chosen.now) answer done.new.entries }
+    ensures ok { IfOk result
+        (λ r. IsQuantified table.new.counts.items table.new.pool.places
+        (mark chosen.now) answer d.0 r.0) }
+    ensures added { AddsCombined table.new.counts.items
+        (mark chosen.now) answer table.old.pool.places table.new.pool.places
         (λ p. holds table.new.counts.items table.new.pool.places d.0 p) }
     ensures full { IfErr result (IsFull table.new.pool) }
 {

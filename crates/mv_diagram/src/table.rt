@@ -35,9 +35,11 @@ pub fn otherwise(table: &Table, d: Dd, var: u32) -> Dd
     requires held { has_diagram table.now.pool.places d.0 ≡ true }
     requires later { order var 0 ≤ first table.now.counts.items table.now.pool.places d.0 }
     ensures held { has_diagram table.now.pool.places result.0 ≡ true }
-    ensures later { order (var + 1) 0 ≤ first table.now.counts.items table.now.pool.places result.0 }
+    ensures later { order (var + 1) 0
+        ≤ first table.now.counts.items table.now.pool.places result.0 }
     ensures set { (p : Point) → holds table.now.counts.items table.now.pool.places result.0 p ≡
-        holds table.now.counts.items table.now.pool.places d.0 (with_value p var (greatest table.now.counts.items var)) }
+        holds table.now.counts.items table.now.pool.places d.0
+        (with_value p var (greatest table.now.counts.items var)) }
 {
     let mut rest = d;
     while let Some(next) = node(table, rest)
@@ -53,7 +55,8 @@ pub fn split(table: &Table, d: Dd, test: Test) -> (Dd, Dd)
     requires sound { IsReduced table.now.counts.items table.now.pool.places }
     requires test { IsTest table.now.counts.items test }
     requires held { has_diagram table.now.pool.places d.0 ≡ true }
-    requires later { order test.var test.value ≤ first table.now.counts.items table.now.pool.places d.0 }
+    requires later { order test.var test.value
+        ≤ first table.now.counts.items table.now.pool.places d.0 }
     ensures { IsSplit table.now.counts.items table.now.pool.places d.0 test result.0.0 result.1.0 }
 {
     let Some(node) = node(table, d) else {
@@ -85,19 +88,25 @@ pub fn make(table: &mut Table, test: Test, yes: Dd, no: Dd) -> Result<Dd, Nodes>
     requires test { IsTest table.old.counts.items test }
     requires yes_held { has_diagram table.old.pool.places yes.0 ≡ true }
     requires no_held { has_diagram table.old.pool.places no.0 ≡ true }
-    requires yes_later { order (test.var + 1) 0 ≤ first table.old.counts.items table.old.pool.places yes.0 }
-    requires no_later { order test.var test.value < first table.old.counts.items table.old.pool.places no.0 }
+    requires yes_later { order (test.var + 1) 0
+        ≤ first table.old.counts.items table.old.pool.places yes.0 }
+    requires no_later { order test.var test.value
+        < first table.old.counts.items table.old.pool.places no.0 }
     ensures adds { AddsNodes table.old table.new }
     ensures held { IfOk result (λ d. has_diagram table.new.pool.places d.0 ≡ true) }
-    ensures later { IfOk result (λ d. order test.var test.value ≤ first table.new.counts.items table.new.pool.places d.0) }
-    ensures set { IfOk result (λ d. (p : Point) → holds table.new.counts.items table.new.pool.places d.0 p ≡
+    ensures later { IfOk result
+        (λ d. order test.var test.value ≤ first table.new.counts.items table.new.pool.places d.0) }
+    ensures set { IfOk result
+        (λ d. (p : Point) → holds table.new.counts.items table.new.pool.places d.0 p ≡
         (if p test.var == test.value then holds table.old.counts.items table.old.pool.places yes.0 p
         else holds table.old.counts.items table.old.pool.places no.0 p)) }
-    ensures added { AddsParts table.new.counts.items table.old.pool.places table.new.pool.places (λ p.
+    ensures added { AddsParts table.new.counts.items table.old.pool.places table.new.pool.places
+        (λ p.
         if p test.var == test.value then holds table.old.counts.items table.old.pool.places yes.0 p
         else holds table.old.counts.items table.old.pool.places no.0 p) }
     ensures full { IfErr result (IsFull table.new.pool) }
-    ensures lacking { IfErr result (λ e. IsLacking table.new.counts.items table.new.pool.places (λ p.
+    ensures lacking { IfErr result
+        (λ e. IsLacking table.new.counts.items table.new.pool.places (λ p.
         if p test.var == test.value then holds table.old.counts.items table.old.pool.places yes.0 p
         else holds table.old.counts.items table.old.pool.places no.0 p)) }
 {

@@ -1,5 +1,6 @@
--- Weak division of a cover by a divisor, after Brayton and McMullen: the quotient has the cubes which, joined to each cube of
--- the divisor, are cubes of the cover. Covers and divisors are lists of cubes, and a cube is a set of symbols.
+-- Weak division of a cover by a divisor, after Brayton and McMullen: the quotient has the cubes
+-- which, joined to each cube of the divisor, are cubes of the cover. Covers and divisors are lists
+-- of cubes, and a cube is a set of symbols.
 use Rattle.std.specs.Prelude.{◌≡◌, true, false, ◌||◌, List, All, Contains}
 use Rattle.mv_cover.specs.Literal.{Lit}
 use Rattle.mv_cover.specs.Cubes.{IsCube}
@@ -20,7 +21,8 @@ pub record HasJoin (cover : List (List Lit)) (s d : List Lit) : Type 0 where
   pub held : Contains cover cube
   pub join : IsJoin s d cube
 
--- a cube of the quotient: it has no symbol of the divisor, and joined to each cube of the divisor it is a cube of the cover
+-- a cube of the quotient: it has no symbol of the divisor, and joined to each cube of the divisor
+-- it is a cube of the cover
 pub record IsQuotientCube (cover divisor : List (List Lit)) (s : List Lit) : Type 0 where
   pub formed : IsCube s
   pub apart : All (IsApart s) divisor

@@ -1,4 +1,5 @@
--- What private functions alone cite: the tests by which cubes of a quotient are found, and where the cubes of a cover stand.
+-- What private functions alone cite: the tests by which cubes of a quotient are found, and where
+-- the cubes of a cover stand.
 use Rattle.std.specs.Prelude.{◌≡◌, ℕ, ◌<◌, Bool, false, ◌&&◌, ◌⊎◌, not, Option, Some, None, List, [], ◌∷◌, ◌++◌, slice_get, slice_index_or, map, filter, length, All, Contains, if◌then◌else◌}
 use Rattle.std.specs.List.{list_any, list_all}
 use Rattle.mv_cover.specs.Literal.{Lit}
@@ -45,18 +46,24 @@ all_apart divisor s = list_all (λ d. is_apart d s) divisor
 abbrev pub all_join : List (List Lit) → List (List Lit) → List Lit → Bool
 all_join cover divisor s = list_all (λ d. has_join cover s d) divisor
 
--- what is left of the cube without the symbols of the divisor's first cube is a cube of the quotient
+-- what is left of the cube without the symbols of the divisor's first cube is a cube of the
+-- quotient
 abbrev pub leaves : List (List Lit) → List (List Lit) → List Lit → List Lit → Bool
 leaves cover divisor first cube =
-    has_each first cube && (all_apart divisor (cube_quotient first cube) && all_join cover divisor (cube_quotient first cube))
+    has_each first cube
+    && (all_apart divisor (cube_quotient first cube)
+    && all_join cover divisor (cube_quotient first cube))
 
 -- what is left of the cube, if that is so
 abbrev pub left_of : List (List Lit) → List (List Lit) → List Lit → List Lit → Option (List Lit)
-left_of cover divisor first cube = if leaves cover divisor first cube then Some (cube_quotient first cube) else None
+left_of cover divisor first cube =
+    if leaves cover divisor first cube then Some (cube_quotient first cube) else None
 
 -- what is left of the cubes of which that is so
-abbrev pub all_left : List (List Lit) → List (List Lit) → List Lit → List (List Lit) → List (List Lit)
-all_left cover divisor first cubes = map (cube_quotient first) (filter (leaves cover divisor first) cubes)
+abbrev pub all_left : List (List Lit) → List (List Lit) → List Lit → List (List Lit)
+    → List (List Lit)
+all_left cover divisor first cubes =
+    map (cube_quotient first) (filter (leaves cover divisor first) cubes)
 
 -- ---- places
 
@@ -66,6 +73,8 @@ and_place places None = places
 and_place places (Some place) = places ++ place ∷ []
 
 -- each cube is the last one that has its number, or it stands among the earlier ones
-pub record ArePlaced (cubes : List (List Lit)) (last : ℕ → Option ℕ) (earlier : List ℕ) : Type 0 where
+pub record ArePlaced (cubes : List (List Lit)) (last : ℕ → Option ℕ) (earlier : List ℕ)
+    : Type 0 where
   pub formed : All IsCube cubes
-  pub placed : (p : ℕ) → p < length cubes → (last (cube_number (slice_index_or cubes p [])) ≡ Some p) ⊎ Contains earlier p
+  pub placed : (p : ℕ) → p < length cubes
+      → (last (cube_number (slice_index_or cubes p [])) ≡ Some p) ⊎ Contains earlier p

@@ -1,4 +1,5 @@
--- What private functions alone cite: lines put to their groups one by one, and the lines that are products.
+-- What private functions alone cite: lines put to their groups one by one, and the lines that are
+-- products.
 use Rattle.std.specs.Prelude.{◌≡◌, ℕ, ◌<◌, Bool, true, false, not, ◌&&◌, nat_eq, List, [], ◌∷◌, ◌++◌, map, filter, All, Contains}
 use Rattle.std.specs.List.{list_any, flat_map, IsDistinct}
 use Rattle.mv_base.specs.declared.number.NetId.{NetId}
@@ -76,8 +77,11 @@ kept rest l true = rest
 kept rest l false = rest ++ l ∷ []
 
 -- the lines are those that are no products, and behind them those for the quotients
-pub record AreMade (lines : List Line) (divisor : List (List Lit)) (n : NetId) (quotients : List Quotient) (new : List Line) : Type 0 where
+pub record AreMade (lines : List Line) (divisor : List (List Lit)) (n : NetId)
+    (quotients : List Quotient) (new : List Line) : Type 0 where
   pub left : List Line
   pub are_left : AreLeft quotients left
   pub formed : All (λ (l : Line). IsCube l.cube) lines
-  pub are : new ≡ filter (λ (l : Line). not (is_product left divisor l)) lines ++ flat_map (lines_for n) quotients
+  pub are : new
+      ≡ filter (λ (l : Line). not (is_product left divisor l)) lines
+      ++ flat_map (lines_for n) quotients

@@ -1,5 +1,6 @@
--- The numbers by which cubes are found: a literal has what it hashes to, and a cube the sum of those of its literals. So the
--- number of a join of cubes without a common symbol is the sum of theirs.
+-- The numbers by which cubes are found: a literal has what it hashes to, and a cube the sum of
+-- those of its literals. So the number of a join of cubes without a common symbol is the sum of
+-- theirs.
 use Rattle.std.specs.Prelude.{ℕ, List, fold}
 use Rattle.std.specs.List.{sum_by}
 use Rattle.std.specs.Hash.FoldHasher.{initial, write, finish}

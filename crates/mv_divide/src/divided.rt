@@ -80,7 +80,8 @@ fn left_lines(alloc: Global, quotients: &[Quotient]) -> Result<IndexSet<Line>, M
 
 /// Puts the cubes of a quotient, with its output set, to those that are left.
 fn put_left(left: &mut IndexSet<Line>, quotient: &Quotient) -> Result<(), Memory>
-    ensures { OnOk result (left.new.keys ≡ insert_all line_eq left.old.keys (grouped.left_lines quotient.now)) }
+    ensures { OnOk result
+        (left.new.keys ≡ insert_all line_eq left.old.keys (grouped.left_lines quotient.now)) }
 {
     for cube in quotient.cubes.as_slice() {
         let cube = cube.copy()?;
@@ -97,7 +98,9 @@ fn rest(
     divisor: &[Cube],
     left: &IndexSet<Line>,
 ) -> Result<Vec<Line>, Memory>
-    ensures rest { IfOk result (λ rest. rest.items ≡ filter (λ (l : Line). not (grouped.is_product left.now.keys divisor.now l)) lines.now) }
+    ensures rest { IfOk result
+        (λ rest. rest.items
+        ≡ filter (λ (l : Line). not (grouped.is_product left.now.keys divisor.now l)) lines.now) }
     ensures formed { OnOk result (All (λ (l : Line). IsCube l.cube) lines.now) }
 {
     let mut rest = Vec::new(alloc);
@@ -125,7 +128,8 @@ fn is_product(
     divisor: &[Cube],
     line: &Line,
 ) -> Result<bool, Memory>
-    ensures found { IfOk result (λ found. found ≡ grouped.is_product left.now.keys divisor.now line.now) }
+    ensures found { IfOk result
+        (λ found. found ≡ grouped.is_product left.now.keys divisor.now line.now) }
     ensures formed { IsCube line.now.cube }
 {
     let _ = line.cube.lits();
@@ -169,7 +173,8 @@ fn add_all(
     n: NetId,
 ) -> Result<(), Memory>
     requires { All (λ (q : Quotient). All (AreBelow n) q.cubes) quotients.now }
-    ensures { OnOk result (new.new.items ≡ new.old.items ++ flat_map (tables.lines_for n) quotients.now) }
+    ensures { OnOk result
+        (new.new.items ≡ new.old.items ++ flat_map (tables.lines_for n) quotients.now) }
 {
     for quotient in quotients {
         add_lines(alloc, new, quotient, n)?;

@@ -61,7 +61,8 @@ impl Dividend {
 
     /// What is left of the cubes that leave a cube of the quotient without the symbols of the divisor's first cube.
     fn all_left(&self, divisor: &[Cube], first: &Cube) -> Result<Vec<Cube>, Memory>
-        ensures left { IfOk result (λ left. left.items ≡ spec.all_left self.now divisor.now first.now self.now) }
+        ensures left { IfOk result
+            (λ left. left.items ≡ spec.all_left self.now divisor.now first.now self.now) }
         ensures formed { All IsCube self.now }
     {
         let mut left = Vec::new(self.cubes.allocator());
@@ -76,7 +77,8 @@ impl Dividend {
     /// What is left of the cube without the symbols of the divisor's first cube, if it has them all and that is a cube of the
     /// quotient.
     fn left_of(&self, divisor: &[Cube], first: &Cube, cube: &Cube) -> Result<Option<Cube>, Memory>
-        ensures { IfOk result (λ left. left ≡ spec.left_of self.now divisor.now first.now cube.now) }
+        ensures { IfOk result
+            (λ left. left ≡ spec.left_of self.now divisor.now first.now cube.now) }
     {
         if !has_each(first.lits(), cube.lits()) {
             return Ok(None);

@@ -68,7 +68,8 @@ fn grouped(alloc: Global, lines: &[Line]) -> Result<Groups, Memory>
 /// Puts a line behind these to the groups.
 fn add(alloc: Global, groups: &mut Groups, before: &[Line], line: &Line) -> Result<(), Memory>
     requires { AreGrouped before.now groups.old.outs.keys groups.old.groups.items }
-    ensures { OnOk result (AreGrouped (before.now ++ line.now ∷ []) groups.new.outs.keys groups.new.groups.items) }
+    ensures { OnOk result
+        (AreGrouped (before.now ++ line.now ∷ []) groups.new.outs.keys groups.new.groups.items) }
 {
     let cube = line.cube.copy()?;
     match groups.outs.get_index_of(&line.out) {
@@ -95,7 +96,9 @@ fn group_of(alloc: Global, out: &PackedSet, cube: Cube) -> Result<Group, Memory>
 /// Puts the cube to the group at the place.
 fn put(groups: &mut Vec<Group>, at: usize, cube: Cube) -> Result<(), Memory>
     requires { at < length groups.old.items }
-    ensures { OnOk result (IfSome (slice_get groups.old.items at) (λ g. groups.new.items ≡ slice_set groups.old.items at (with_cube g cube))) }
+    ensures { OnOk result
+        (IfSome (slice_get groups.old.items at)
+        (λ g. groups.new.items ≡ slice_set groups.old.items at (with_cube g cube))) }
 {
     let group = &mut groups[at];
     Ok(group.cubes.push(cube)?)

@@ -37,8 +37,12 @@ pub fn places_of(alloc: Global, cubes: &[Cube]) -> Result<Places, Memory>
 
 /// Notes that a cube with the number stands at the place.
 fn note(places: &mut Places, number: u128, place: usize) -> Result<(), Memory>
-    ensures last { OnOk result ((n : ℕ) → get nat_eq places.new.last n ≡ cond (nat_eq number n) (Some place) (get nat_eq places.old.last n)) }
-    ensures earlier { OnOk result (places.new.earlier.items ≡ spec.and_place places.old.earlier.items (get nat_eq places.old.last number)) }
+    ensures last { OnOk result
+        ((n : ℕ) → get nat_eq places.new.last n
+        ≡ cond (nat_eq number n) (Some place) (get nat_eq places.old.last n)) }
+    ensures earlier { OnOk result
+        (places.new.earlier.items
+        ≡ spec.and_place places.old.earlier.items (get nat_eq places.old.last number)) }
 {
     let before = places.last.insert(number, place)?;
     add(&mut places.earlier, before)

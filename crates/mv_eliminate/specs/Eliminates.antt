@@ -16,7 +16,8 @@ pub record IsLeastNamed (net : NetParts) (name : List ℕ) : Type 0 where
   pub first : IsLeastSaving net number
   pub named : name_in (slot net.nets number) ≡ name
 
--- the collapses of `eliminate`: each is that of the least-numbered net which can go into its readers with no more literals
+-- the collapses of `eliminate`: each is that of the least-numbered net which can go into its
+-- readers with no more literals
 abbrev pub IsEliminateStep : NetParts → Entry → Type 0
 IsEliminateStep net (Applied (Collapse name)) = IsLeastNamed net name
 IsEliminateStep net _ = ⊥
@@ -33,7 +34,8 @@ CollapsesAll free = Until (CollapsesSome free) NoneSaves
 abbrev pub wide_note : NetParts → ℕ → Entry
 wide_note net n = Noted (Dropped Lines (name_in (slot net.nets n)))
 
--- a visit of the net n behind the collapses: no composite of it is too wide, and it is let be; or one is, and that is noted
+-- a visit of the net n behind the collapses: no composite of it is too wide, and it is let be; or
+-- one is, and that is noted
 pub data NotesWide (n : ℕ) (old : NetParts) (entries : List Entry) (new : NetParts) : Type 0 where
   Skips : (IsWideNet old n → ⊥) → Nothing old entries new → NotesWide n old entries new
   Tells : IsWideNet old n → entries ≡ wide_note old n ∷ [] → new ≡ old → NotesWide n old entries new
@@ -42,6 +44,7 @@ pub data NotesWide (n : ℕ) (old : NetParts) (entries : List Entry) (new : NetP
 abbrev pub Eliminates : Bool → Course
 Eliminates free = Onward (CollapsesSome free) (CollapsesAll free) (VisitsSome NotesWide)
 
--- all of `eliminate`: collapses until no net saves, and then the notes of all nets that are too wide, ascending
+-- all of `eliminate`: collapses until no net saves, and then the notes of all nets that are too
+-- wide, ascending
 abbrev pub EliminatesAll : Bool → Course
 EliminatesAll free = InTurn (CollapsesAll free) (VisitsAll NotesWide)

@@ -1,4 +1,5 @@
--- On the way through `eliminate`: the net that is found, and what its collapse leaves. For private functions.
+-- On the way through `eliminate`: the net that is found, and what its collapse leaves. For private
+-- functions.
 use Rattle.std.specs.Prelude.{◌≡◌, ℕ, List}
 use Rattle.mv_agenda.specs.Agenda.{AllWaitBut}
 use Rattle.mv_net.specs.declared.parts.NetParts.{NetParts}

@@ -30,7 +30,9 @@ fn next_saving(
 ) -> Result<Option<NetId>, Memory>
     requires wait { AllWait (IsSaving net.now) agenda.old }
     requires right { AreRight net.now.nets kept.old }
-    ensures found { IfOk result (λ found. MatchOption found (NoneSaves net.now) (λ n. IsNextSaving net.now agenda.new n.0)) }
+    ensures found { IfOk result
+        (λ found. MatchOption found (NoneSaves net.now)
+        (λ n. IsNextSaving net.now agenda.new n.0)) }
     ensures right { OnOk result (AreRight net.now.nets kept.new) }
 {
     net.well_formed();
@@ -55,7 +57,8 @@ fn step<J: Journal>(
     journal: &mut J,
 ) -> Result<(), Stop>
     requires { IsLeastSaving net.old n.0 }
-    ensures passes { Passes terms.free (CollapsesSome terms.free) (CollapsesSome terms.free) net.old net.new
+    ensures passes { Passes terms.free (CollapsesSome terms.free)
+        (CollapsesSome terms.free) net.old net.new
         (J.state journal.old) (J.state journal.new) result }
     ensures into { OnOk result (WentInto net.old net.new n.0) }
     ensures means { SameMeaning (of_net net.new) (of_net net.old) }
@@ -85,7 +88,8 @@ fn collapse_each<J: Journal>(
     journal: &mut J,
 ) -> Result<(), Stop>
     requires { AreRight net.old.nets kept.old }
-    ensures passes { Passes terms.free (CollapsesAll terms.free) (CollapsesSome terms.free) net.old net.new
+    ensures passes { Passes terms.free (CollapsesAll terms.free)
+        (CollapsesSome terms.free) net.old net.new
         (J.state journal.old) (J.state journal.new) result }
     ensures right { OnOk result (AreRight net.new.nets kept.new) }
     ensures means { SameMeaning (of_net net.new) (of_net net.old) }
@@ -123,7 +127,8 @@ fn collapse_and_note<J: Journal>(
     terms: Terms,
     journal: &mut J,
 ) -> Result<(), Stop>
-    ensures passes { Passes terms.free (EliminatesAll terms.free) (Eliminates terms.free) net.old net.new
+    ensures passes { Passes terms.free (EliminatesAll terms.free)
+        (Eliminates terms.free) net.old net.new
         (J.state journal.old) (J.state journal.new) result }
     ensures means { SameMeaning (of_net net.new) (of_net net.old) }
 {

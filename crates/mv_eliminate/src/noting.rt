@@ -22,7 +22,8 @@ fn is_wide(
 ) -> Result<bool, Memory>
     requires { AreRight net.now.nets kept.old }
     ensures right { OnOk result (AreRight net.now.nets kept.new) }
-    ensures wide { IfOk result (λ wide. MatchBool wide (IsWideNet net.now n.0) (IsWideNet net.now n.0 → ⊥)) }
+    ensures wide { IfOk result
+        (λ wide. MatchBool wide (IsWideNet net.now n.0) (IsWideNet net.now n.0 → ⊥)) }
 {
     net.well_formed();
     match kept.judge(alloc, net, n) {

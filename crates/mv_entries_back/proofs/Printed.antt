@@ -1,13 +1,12 @@
 -- The text of entries has no fault, is read back as the lines of its rules, and is the text of no other entries.
-use Rattle.std.proofs.Common.{◌≡◌, ℕ, ◌+◌, ◌≤◌, true, ◌&&◌, None, List, [], ◌∷◌, ◌++◌, length, All, refl, ap, sym, ◌∙◌}
-use Rattle.std.specs.List.{flat_map, list_all, AllByRecursion}
+use Rattle.std.proofs.Common.{◌≡◌, ℕ, ◌+◌, ◌≤◌, None, List, [], ◌∷◌, ◌++◌, length, All, refl, ap, sym, ◌∙◌}
+use Rattle.std.specs.List.{flat_map, AllByRecursion}
 use Rattle.std.proofs.lemmas.List.Concat.{flat_map-append}
 use Rattle.std.proofs.lemmas.List.Elements.{recursion_from_All}
 use Rattle.mv_lex.specs.Lines.{lines_of, lex_fault}
 use Rattle.mv_lex.specs.Text.{line_text}
-use Rattle.mv_entry.specs.Entries.{Entry, Applied, Noted, rules_of, is_built, rule_lines, entry_lines, entry_text, print}
-use Rattle.mv_step.specs.Certificates.{syntax_fault, unbuilt_line, unbuilt_fault, are_built, fault_of, steps_of}
-use Rattle.mv_step.proofs.Unbuilt.{unbuilt-first, built-none}
+use Rattle.mv_entry.specs.Entries.{Entry, entry_lines, entry_text, print}
+use Rattle.mv_step.specs.Certificates.{fault_of, steps_of}
 use Rattle.mv_lines_back.specs.TextWords.{lines_from, lines_told}
 use Rattle.mv_lines_back.proofs.Written.{lines_of-text, lex_fault-text}
 use Rattle.mv_lines_back.proofs.Apart.{text-apart}
@@ -36,21 +35,9 @@ print-told es all = ap lines_of (print-lines es) ∙ lines_of-text (flat_map ent
 pub steps-back : (es : List Entry) → All Printable es → steps_of (lines_of (print es)) ≡ steps_told 1 es
 steps-back es all = ap steps_of (print-told es all) ∙ (listed 1 es (each es all)).steps
 
-pub steps-read : (es : List Entry) → All Printable es → syntax_fault (lines_of (print es)) ≡ None
-unfolding syntax_fault
-steps-read es all = ap syntax_fault (print-told es all) ∙ (listed 1 es (each es all)).faultless
-
--- the rules of the steps that are told are those of the entries
-told_built : (number : ℕ) (es : List Entry) → are_built (steps_told number es) ≡ list_all is_built (rules_of es)
-told_built number [] = refl
-told_built number (Applied rule ∷ es) = ap (λ b. is_built rule && b) (told_built (number + length (rule_lines rule)) es)
-told_built number (Noted note ∷ es) = told_built (number + 1) es
-
-pub steps-faultless : (es : List Entry) → All Printable es → list_all is_built (rules_of es) ≡ true → fault_of (lines_of (print es)) ≡ None
-steps-faultless es all built =
-    let lines = lines_of (print es) in
-    let are : are_built (steps_of lines) ≡ true = ap are_built (steps-back es all) ∙ (told_built 1 es ∙ built) in
-    unbuilt-first lines (steps_of lines) (unbuilt_line (steps_of lines)) (steps-read es all) refl refl ∙ ap unbuilt_fault (built-none (steps_of lines) are)
+pub steps-faultless : (es : List Entry) → All Printable es → fault_of (lines_of (print es)) ≡ None
+unfolding fault_of
+steps-faultless es all = ap fault_of (print-told es all) ∙ (listed 1 es (each es all)).faultless
 
 -- the lines of entries tell the entries
 lines-apart : (es fs : List Entry) → AllByRecursion Printable es → AllByRecursion Printable fs → flat_map entry_lines es ≡ flat_map entry_lines fs → es ≡ fs

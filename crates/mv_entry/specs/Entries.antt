@@ -1,4 +1,5 @@
--- What a run notes, entry by entry, and its text: lines of words, each word parted from the next by one space.
+-- What a run notes, entry by entry, and its text: lines of words, each word parted from the next by
+-- one space.
 use Rattle.std.specs.Prelude.{◌≡◌, ℕ, Bool, true, false, if◌then◌else◌, ◌&&◌, nat_lt, Option, Some, None, List, [], ◌∷◌, ◌++◌, length, map, filter, codes, decimal}
 use Rattle.std.specs.List.{flat_map, list_all, range_with_len}
 use Rattle.mv_base.specs.Set.{has}
@@ -44,8 +45,8 @@ members set = members_below set MAX_VALUES
 abbrev pub with_comma : ℕ → List ℕ
 with_comma v = 44 ∷ decimal v
 
--- one value stands for itself, and several stand in brackets, parted by commas. (No tidy body has a set without values,
--- and `()` reads as no set.)
+-- one value stands for itself, and several stand in brackets, parted by commas. (No tidy body has a
+-- set without values, and `()` reads as no set.)
 abbrev pub values_word : List ℕ → List ℕ
 values_word [] = codes "()"
 values_word (v ∷ []) = decimal v
@@ -94,22 +95,13 @@ rule_lines (Add net body) = (codes "add" ∷ net ∷ []) ∷ body_lines body
 rule_lines (Divide net by body) = (codes "divide" ∷ net ∷ by ∷ []) ∷ body_lines body
 rule_lines (Wire net) = (codes "wire" ∷ net ∷ []) ∷ []
 rule_lines (Collapse net) = (codes "collapse" ∷ net ∷ []) ∷ []
-rule_lines (Narrow net d u body) = (codes "narrow" ∷ net ∷ decimal d ∷ decimal u ∷ []) ∷ body_lines body
-rule_lines (MergeValue net gone into) = (codes "merge" ∷ net ∷ decimal gone.0 ∷ into_words into) ∷ []
-rule_lines (EncodeNet net names list) = (codes "encode" ∷ net ∷ decimal (length names) ∷ names ++ map code_word list) ∷ []
+rule_lines (Narrow net d u body) = (codes "narrow" ∷ net ∷ decimal d ∷ decimal u ∷ [])
+    ∷ body_lines body
+rule_lines (MergeValue net gone into) = (codes "merge" ∷ net ∷ decimal gone.0 ∷ into_words into)
+    ∷ []
+rule_lines (EncodeNet net names list) =
+    (codes "encode" ∷ net ∷ decimal (length names) ∷ names ++ map code_word list) ∷ []
 rule_lines (Fill net out) = (codes "fill" ∷ net ∷ set_word out ∷ []) ∷ []
-
--- the rules that are built in this version
-abbrev pub is_built : Rule → Bool
-is_built (Remove net) = true
-is_built (Add net body) = true
-is_built (Divide net by body) = true
-is_built (Wire net) = true
-is_built (Collapse net) = true
-is_built (Narrow net d u body) = true
-is_built (Fill net out) = true
-is_built (MergeValue net gone into) = true
-is_built _ = false
 
 -- ---- notes
 
@@ -164,7 +156,8 @@ note_words (Done before after) = codes "done" ∷ decimal before ∷ decimal aft
 
 -- ---- entries
 
--- the lines of an entry, each as its words; a line that begins with `#` is a comment to who replays the rules
+-- the lines of an entry, each as its words; a line that begins with `#` is a comment to who replays
+-- the rules
 abbrev pub entry_lines : Entry → List (List (List ℕ))
 entry_lines (Applied rule) = rule_lines rule
 entry_lines (Noted note) = (codes "#" ∷ note_words note) ∷ []

@@ -25,19 +25,22 @@ with_entries t [] = t
 with_entries t (e ∷ es) = with_entries (with_entry t e) es
 
 -- a call counts its entry where it takes it
-pub record Counts (old new : Tally) (entry : Entry) (result : Result (Unit {0}) Failed) : Type 0 where
+pub record Counts (old new : Tally) (entry : Entry) (result : Result (Unit {0}) Failed)
+    : Type 0 where
   pub taken : OnOk result (new ≡ with_entry old entry)
   pub failed : OnErr result (new ≡ old)
 
--- the state of a journal: the bytes that it took so far, if it tells them, with its count of faults, the numbers of the
--- entries, and the name of the place to which the bytes go
+-- the state of a journal: the bytes that it took so far, if it tells them, with its count of
+-- faults, the numbers of the entries, and the name of the place to which the bytes go
 pub record Journaled : Type 0 where
   pub written : Written
   pub tally : Tally
   pub place : ℕ
 
--- a call takes an entry: its text, or some first part of it with a fault counted, goes to the same place as before
-pub record Takes (old new : Journaled) (entry : Entry) (result : Result (Unit {0}) Failed) : Type 0 where
+-- a call takes an entry: its text, or some first part of it with a fault counted, goes to the same
+-- place as before
+pub record Takes (old new : Journaled) (entry : Entry) (result : Result (Unit {0}) Failed)
+    : Type 0 where
   pub text : Appends old.written new.written (entry_text entry) result
   pub tally : Counts old.tally new.tally entry result
   pub place : new.place ≡ old.place

@@ -10,7 +10,8 @@ use mv_base::{Failed, Name, Sink};
 
 /// Puts names, each behind a space.
 fn put_names<E: Sink>(names: &[Name], page: &mut Page, sink: &mut E) -> Result<(), Failed>
-    ensures { AddsPiece (paged (E.state sink.old) page.old) (paged (E.state sink.new) page.new) (spaced names.now) result }
+    ensures { AddsPiece (paged (E.state sink.old) page.old) (paged (E.state sink.new) page.new)
+        (spaced names.now) result }
 {
     for name in names {
         put_word(name.bytes(), page, sink)?;
@@ -27,7 +28,8 @@ fn bit_text(bit: bool) -> &'static [u8]
 
 /// Puts bits, each as its digit.
 fn put_bits<E: Sink>(bits: &[bool], page: &mut Page, sink: &mut E) -> Result<(), Failed>
-    ensures { AddsPiece (paged (E.state sink.old) page.old) (paged (E.state sink.new) page.new) (map bit_byte bits.now) result }
+    ensures { AddsPiece (paged (E.state sink.old) page.old) (paged (E.state sink.new) page.new)
+        (map bit_byte bits.now) result }
 {
     for bit in bits {
         page.put(bit_text(*bit), sink)?;
@@ -37,7 +39,8 @@ fn put_bits<E: Sink>(bits: &[bool], page: &mut Page, sink: &mut E) -> Result<(),
 
 /// Puts a code behind a space.
 fn put_code<E: Sink>(code: &Code, page: &mut Page, sink: &mut E) -> Result<(), Failed>
-    ensures { AddsPiece (paged (E.state sink.old) page.old) (paged (E.state sink.new) page.new) (spaced (code_word code.now ∷ [])) result }
+    ensures { AddsPiece (paged (E.state sink.old) page.old) (paged (E.state sink.new) page.new)
+        (spaced (code_word code.now ∷ [])) result }
 {
     page.put(b" ", sink)?;
     put_bits(code.bits.as_slice(), page, sink)
@@ -45,7 +48,8 @@ fn put_code<E: Sink>(code: &Code, page: &mut Page, sink: &mut E) -> Result<(), F
 
 /// Puts codes, each behind a space.
 fn put_codes<E: Sink>(list: &[Code], page: &mut Page, sink: &mut E) -> Result<(), Failed>
-    ensures { AddsPiece (paged (E.state sink.old) page.old) (paged (E.state sink.new) page.new) (spaced (map code_word list.now)) result }
+    ensures { AddsPiece (paged (E.state sink.old) page.old) (paged (E.state sink.new) page.new)
+        (spaced (map code_word list.now)) result }
 {
     for code in list {
         put_code(code, page, sink)?;
@@ -62,7 +66,8 @@ pub fn put_encode<E: Sink>(
     sink: &mut E,
 ) -> Result<(), Failed>
     ensures { AddsPiece (paged (E.state sink.old) page.old) (paged (E.state sink.new) page.new)
-        (line_text (codes "encode" ∷ net.now ∷ decimal (length names.now) ∷ names.now ++ map code_word list.now)) result }
+        (line_text (codes "encode" ∷ net.now ∷ decimal (length names.now) ∷ names.now
+        ++ map code_word list.now)) result }
 {
     page.put(b"encode", sink)?;
     put_word(net, page, sink)?;

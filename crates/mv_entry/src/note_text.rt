@@ -31,7 +31,8 @@ fn command_word(command: &Command) -> &'static [u8]
 
 /// Puts the words of a command behind its first, each behind a space.
 fn put_operands<E: Sink>(command: &Command, page: &mut Page, sink: &mut E) -> Result<(), Failed>
-    ensures { AddsPiece (paged (E.state sink.old) page.old) (paged (E.state sink.new) page.new) (spaced (operands command.now)) result }
+    ensures { AddsPiece (paged (E.state sink.old) page.old) (paged (E.state sink.new) page.new)
+        (spaced (operands command.now)) result }
 {
     match command {
         Command::Collapse(net) => put_word(net.bytes(), page, sink),
@@ -42,7 +43,8 @@ fn put_operands<E: Sink>(command: &Command, page: &mut Page, sink: &mut E) -> Re
 
 /// Puts the line that a command begins.
 fn put_begin<E: Sink>(command: &Command, page: &mut Page, sink: &mut E) -> Result<(), Failed>
-    ensures { AddsPiece (paged (E.state sink.old) page.old) (paged (E.state sink.new) page.new) (entry_text (Noted (Note.Begin command.now))) result }
+    ensures { AddsPiece (paged (E.state sink.old) page.old) (paged (E.state sink.new) page.new)
+        (entry_text (Noted (Note.Begin command.now))) result }
 {
     page.put(b"# begin", sink)?;
     put_word(command_word(command), page, sink)?;
@@ -73,7 +75,8 @@ fn why_word(why: Why) -> &'static [u8]
 
 /// Puts the numbers of why a step is dropped, each behind a space, where it has some.
 fn put_literals<E: Sink>(why: Why, page: &mut Page, sink: &mut E) -> Result<(), Failed>
-    ensures { AddsPiece (paged (E.state sink.old) page.old) (paged (E.state sink.new) page.new) (spaced (why_numbers why)) result }
+    ensures { AddsPiece (paged (E.state sink.old) page.old) (paged (E.state sink.new) page.new)
+        (spaced (why_numbers why)) result }
 {
     match why {
         Why::Literals { before, after } => put_numbers(before, after, page, sink),
@@ -95,7 +98,8 @@ fn put_dropped<E: Sink>(why: Why, net: &[u8], page: &mut Page, sink: &mut E) -> 
 
 /// Puts the line that a command ends with so many literals.
 fn put_end<E: Sink>(literals: u128, page: &mut Page, sink: &mut E) -> Result<(), Failed>
-    ensures { AddsPiece (paged (E.state sink.old) page.old) (paged (E.state sink.new) page.new) (entry_text (Noted (Note.End literals))) result }
+    ensures { AddsPiece (paged (E.state sink.old) page.old) (paged (E.state sink.new) page.new)
+        (entry_text (Noted (Note.End literals))) result }
 {
     page.put(b"# end", sink)?;
     put_number(literals, page, sink)?;
@@ -104,7 +108,8 @@ fn put_end<E: Sink>(literals: u128, page: &mut Page, sink: &mut E) -> Result<(),
 
 /// Puts the line that the run ends.
 fn put_done<E: Sink>(before: u128, after: u128, page: &mut Page, sink: &mut E) -> Result<(), Failed>
-    ensures { AddsPiece (paged (E.state sink.old) page.old) (paged (E.state sink.new) page.new) (entry_text (Noted (Note.Done before after))) result }
+    ensures { AddsPiece (paged (E.state sink.old) page.old) (paged (E.state sink.new) page.new)
+        (entry_text (Noted (Note.Done before after))) result }
 {
     page.put(b"# done", sink)?;
     put_numbers(before, after, page, sink)?;
@@ -113,7 +118,8 @@ fn put_done<E: Sink>(before: u128, after: u128, page: &mut Page, sink: &mut E) -
 
 /// Puts the line of a note.
 fn put_note_text<E: Sink>(note: &Note, page: &mut Page, sink: &mut E) -> Result<(), Failed>
-    ensures { AddsPiece (paged (E.state sink.old) page.old) (paged (E.state sink.new) page.new) (entry_text (Noted note.now)) result }
+    ensures { AddsPiece (paged (E.state sink.old) page.old) (paged (E.state sink.new) page.new)
+        (entry_text (Noted note.now)) result }
 {
     match note {
         Note::Begin(command) => put_begin(command, page, sink),

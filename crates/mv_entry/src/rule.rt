@@ -1,5 +1,4 @@
 ghost use Rattle.std.specs.Prelude.{◌≡◌, IfOk};
-ghost use Rattle.mv_entry.specs.Entries.{is_built};
 
 use mv_base::{Items, Memory, Name, PackedSet, Value, ValueSet};
 
@@ -159,23 +158,6 @@ impl Rule {
             }),
             Rule::Encode { net, names, codes } => copied_encode(net, names, codes),
             Rule::Fill { net, out } => copied_fill(net, out),
-        }
-    }
-
-    /// Whether the rule is built in this version.
-    pub fn is_built(&self) -> bool
-        ensures { result ≡ is_built self.now }
-    {
-        match self {
-            Rule::Remove { .. }
-            | Rule::Add { .. }
-            | Rule::Divide { .. }
-            | Rule::Wire { .. }
-            | Rule::Collapse { .. }
-            | Rule::Narrow { .. }
-            | Rule::Fill { .. }
-            | Rule::Merge { .. } => true,
-            _ => false,
         }
     }
 }

@@ -14,7 +14,8 @@ use mv_base::{Failed, PackedSet, Sink, Value, ValueSet};
 
 /// Puts a literal: the net and the set, each behind a space.
 fn put_literal<E: Sink>(literal: &BodyLit, page: &mut Page, sink: &mut E) -> Result<(), Failed>
-    ensures { AddsPiece (paged (E.state sink.old) page.old) (paged (E.state sink.new) page.new) (spaced (lit_words literal.now)) result }
+    ensures { AddsPiece (paged (E.state sink.old) page.old) (paged (E.state sink.new) page.new)
+        (spaced (lit_words literal.now)) result }
 {
     put_word(literal.net.bytes(), page, sink)?;
     page.put(b" ", sink)?;
@@ -23,7 +24,8 @@ fn put_literal<E: Sink>(literal: &BodyLit, page: &mut Page, sink: &mut E) -> Res
 
 /// Puts literals, one after the other.
 fn put_literals<E: Sink>(lits: &[BodyLit], page: &mut Page, sink: &mut E) -> Result<(), Failed>
-    ensures { AddsPiece (paged (E.state sink.old) page.old) (paged (E.state sink.new) page.new) (spaced (flat_map lit_words lits.now)) result }
+    ensures { AddsPiece (paged (E.state sink.old) page.old) (paged (E.state sink.new) page.new)
+        (spaced (flat_map lit_words lits.now)) result }
 {
     for literal in lits {
         put_literal(literal, page, sink)?;
@@ -33,7 +35,8 @@ fn put_literals<E: Sink>(lits: &[BodyLit], page: &mut Page, sink: &mut E) -> Res
 
 /// Puts a line of a body.
 fn put_line<E: Sink>(line: &BodyLine, page: &mut Page, sink: &mut E) -> Result<(), Failed>
-    ensures { AddsPiece (paged (E.state sink.old) page.old) (paged (E.state sink.new) page.new) (line_text (line_words line.now)) result }
+    ensures { AddsPiece (paged (E.state sink.old) page.old) (paged (E.state sink.new) page.new)
+        (line_text (line_words line.now)) result }
 {
     page.put(b"line", sink)?;
     put_literals(line.lits.as_slice(), page, sink)?;
@@ -59,7 +62,8 @@ fn put_default<E: Sink>(
     page: &mut Page,
     sink: &mut E,
 ) -> Result<(), Failed>
-    ensures { AddsPiece (paged (E.state sink.old) page.old) (paged (E.state sink.new) page.new) (flat_map line_text (default_lines default)) result }
+    ensures { AddsPiece (paged (E.state sink.old) page.old) (paged (E.state sink.new) page.new)
+        (flat_map line_text (default_lines default)) result }
 {
     match default {
         Some(set) => {
@@ -73,7 +77,8 @@ fn put_default<E: Sink>(
 
 /// Puts the lines of a body, with its end.
 fn put_body<E: Sink>(body: &Body, page: &mut Page, sink: &mut E) -> Result<(), Failed>
-    ensures { AddsPiece (paged (E.state sink.old) page.old) (paged (E.state sink.new) page.new) (flat_map line_text (body_lines body.now)) result }
+    ensures { AddsPiece (paged (E.state sink.old) page.old) (paged (E.state sink.new) page.new)
+        (flat_map line_text (body_lines body.now)) result }
 {
     put_lines(body.lines.as_slice(), page, sink)?;
     put_default(body.default_set(), page, sink)?;
@@ -99,7 +104,8 @@ fn put_narrow<E: Sink>(
 
 /// Puts the value into which another goes, if there is one, behind a space.
 fn put_into<E: Sink>(into: Option<Value>, page: &mut Page, sink: &mut E) -> Result<(), Failed>
-    ensures { AddsPiece (paged (E.state sink.old) page.old) (paged (E.state sink.new) page.new) (spaced (into_words into)) result }
+    ensures { AddsPiece (paged (E.state sink.old) page.old) (paged (E.state sink.new) page.new)
+        (spaced (into_words into)) result }
 {
     match into {
         Some(value) => put_number(u128::from(value.0), page, sink),
@@ -144,7 +150,8 @@ fn put_fill<E: Sink>(
 
 /// Puts the lines of a rule.
 fn put_rule_text<E: Sink>(rule: &Rule, page: &mut Page, sink: &mut E) -> Result<(), Failed>
-    ensures { AddsPiece (paged (E.state sink.old) page.old) (paged (E.state sink.new) page.new) (entry_text (Applied rule.now)) result }
+    ensures { AddsPiece (paged (E.state sink.old) page.old) (paged (E.state sink.new) page.new)
+        (entry_text (Applied rule.now)) result }
 {
     match rule {
         Rule::Remove { net } => put_pair(b"remove", net.bytes(), page, sink),

@@ -9,7 +9,8 @@ use mv_base::{Failed, Sink, Value, ValueSet};
 
 /// Puts a value as its decimal position.
 fn put_value<E: Sink>(value: Value, page: &mut Page, sink: &mut E) -> Result<(), Failed>
-    ensures { AddsPiece (paged (E.state sink.old) page.old) (paged (E.state sink.new) page.new) (decimal value.0) result }
+    ensures { AddsPiece (paged (E.state sink.old) page.old) (paged (E.state sink.new) page.new)
+        (decimal value.0) result }
 {
     let mut buffer = Buffer::new();
     page.put(buffer.format(value.0).as_bytes(), sink)
@@ -17,7 +18,8 @@ fn put_value<E: Sink>(value: Value, page: &mut Page, sink: &mut E) -> Result<(),
 
 /// Puts the values of a set, ascending, each behind a comma.
 fn put_values<E: Sink>(set: ValueSet, page: &mut Page, sink: &mut E) -> Result<(), Failed>
-    ensures { AddsPiece (paged (E.state sink.old) page.old) (paged (E.state sink.new) page.new) (flat_map with_comma (members set)) result }
+    ensures { AddsPiece (paged (E.state sink.old) page.old) (paged (E.state sink.new) page.new)
+        (flat_map with_comma (members set)) result }
 {
     let mut left = set;
     'values: while let Some(value) = left.least() {
@@ -31,7 +33,8 @@ fn put_values<E: Sink>(set: ValueSet, page: &mut Page, sink: &mut E) -> Result<(
 
 /// Puts the word of a set: its value, or its values in brackets.
 pub fn put_set<E: Sink>(set: ValueSet, page: &mut Page, sink: &mut E) -> Result<(), Failed>
-    ensures { AddsPiece (paged (E.state sink.old) page.old) (paged (E.state sink.new) page.new) (set_word set) result }
+    ensures { AddsPiece (paged (E.state sink.old) page.old) (paged (E.state sink.new) page.new)
+        (set_word set) result }
 {
     set.members_are_small();
     let Some(first) = set.least() else {

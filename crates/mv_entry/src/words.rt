@@ -8,14 +8,16 @@ use mv_base::{Failed, Sink};
 
 /// Puts a word behind a space.
 pub fn put_word<E: Sink>(word: &[u8], page: &mut Page, sink: &mut E) -> Result<(), Failed>
-    ensures { AddsPiece (paged (E.state sink.old) page.old) (paged (E.state sink.new) page.new) (spaced (word.now ∷ [])) result }
+    ensures { AddsPiece (paged (E.state sink.old) page.old) (paged (E.state sink.new) page.new)
+        (spaced (word.now ∷ [])) result }
 {
     page.put_both(b" ", word, sink)
 }
 
 /// Puts a number behind a space.
 pub fn put_number<E: Sink>(number: u128, page: &mut Page, sink: &mut E) -> Result<(), Failed>
-    ensures { AddsPiece (paged (E.state sink.old) page.old) (paged (E.state sink.new) page.new) (spaced (decimal number ∷ [])) result }
+    ensures { AddsPiece (paged (E.state sink.old) page.old) (paged (E.state sink.new) page.new)
+        (spaced (decimal number ∷ [])) result }
 {
     let mut buffer = Buffer::new();
     put_word(buffer.format(number).as_bytes(), page, sink)
@@ -42,7 +44,8 @@ pub fn put_pair<E: Sink>(
     page: &mut Page,
     sink: &mut E,
 ) -> Result<(), Failed>
-    ensures { AddsPiece (paged (E.state sink.old) page.old) (paged (E.state sink.new) page.new) (line_text (first.now ∷ second.now ∷ [])) result }
+    ensures { AddsPiece (paged (E.state sink.old) page.old) (paged (E.state sink.new) page.new)
+        (line_text (first.now ∷ second.now ∷ [])) result }
 {
     page.put(first, sink)?;
     put_word(second, page, sink)?;

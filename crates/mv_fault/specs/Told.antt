@@ -1,4 +1,5 @@
--- The line that tells a fault: of lines, with the number of the line, or of a design, which names no line.
+-- The line that tells a fault: of lines, with the number of the line, or of a design, which names
+-- no line.
 use Rattle.std.specs.Prelude.{ℕ, List, [], ◌∷◌, ◌++◌, codes, decimal}
 use Rattle.mv_fault.specs.declared.fault.Which.{Which}
 use Rattle.mv_fault.specs.declared.fault.Which.TheVariants.{Values, Columns as TooManyColumns, TableLines, Models, Depth}
@@ -51,9 +52,11 @@ parse_line (NoEnd line) = told (codes "7 NoEnd") line []
 parse_line (Missing line word) = told (codes "8 Missing") line (word ∷ [])
 parse_line (Extra line word) = told (codes "9 Extra") line (word ∷ [])
 parse_line (BadCount line word) = told (codes "10 BadCount") line (word ∷ [])
-parse_line (ValueNames line wanted got) = told (codes "11 ValueNames") line (decimal wanted ∷ decimal got ∷ [])
+parse_line (ValueNames line wanted got) =
+    told (codes "11 ValueNames") line (decimal wanted ∷ decimal got ∷ [])
 parse_line (Redeclared line name) = told (codes "12 Redeclared") line (name ∷ [])
-parse_line (Columns line wanted got) = told (codes "13 Columns") line (decimal wanted ∷ decimal got ∷ [])
+parse_line (Columns line wanted got) =
+    told (codes "13 Columns") line (decimal wanted ∷ decimal got ∷ [])
 parse_line (UnknownValue line word) = told (codes "14 UnknownValue") line (word ∷ [])
 parse_line (BadEqual line name) = told (codes "15 BadEqual") line (name ∷ [])
 parse_line (DefaultTwice line) = told (codes "16 DefaultTwice") line []
@@ -61,10 +64,12 @@ parse_line (ModelTwice line name) = told (codes "17 ModelTwice") line (name ∷ 
 parse_line (RootFault line name) = told (codes "18 RootFault") line (name ∷ [])
 parse_line (Repeated line name) = told (codes "19 Repeated") line (name ∷ [])
 parse_line (NoModel line) = told (codes "20 NoModel") line []
-parse_line (Limit line which number) = told (codes "21 Limit") line (which_name which ∷ decimal number ∷ [])
+parse_line (Limit line which number) =
+    told (codes "21 Limit") line (which_name which ∷ decimal number ∷ [])
 parse_line (BadName line name) = told (codes "36 BadName") line (name ∷ [])
 parse_line (NoTable line) = told (codes "37 NoTable") line []
-parse_line (LatchValues line input output) = told (codes "38 LatchValues") line (input ∷ output ∷ [])
+parse_line (LatchValues line input output) =
+    told (codes "38 LatchValues") line (input ∷ output ∷ [])
 parse_line Memory = codes "# fault memory\n"
 
 -- ---- faults of a design
@@ -84,9 +89,11 @@ flat_line (NameClash net) = flat_told (codes "27 NameClash") (net ∷ [])
 flat_line (DrivenTwice net) = flat_told (codes "28 DrivenTwice") (net ∷ [])
 flat_line (Undriven net) = flat_told (codes "29 Undriven") (net ∷ [])
 flat_line (Cycle net) = flat_told (codes "30 Cycle") (net ∷ [])
-flat_line (ResetReadsLatch latch reached) = flat_told (codes "31 ResetReadsLatch") (latch ∷ reached ∷ [])
+flat_line (ResetReadsLatch latch reached) =
+    flat_told (codes "31 ResetReadsLatch") (latch ∷ reached ∷ [])
 flat_line (ResetTwice latch) = flat_told (codes "32 ResetTwice") (latch ∷ [])
 flat_line (NoLatch net) = flat_told (codes "33 NoLatch") (net ∷ [])
 flat_line (JointWide number) = flat_told (codes "34 JointWide") (decimal number ∷ [])
-flat_line (FlatLimit which number) = flat_told (codes "35 Limit") (which_name which ∷ decimal number ∷ [])
+flat_line (FlatLimit which number) =
+    flat_told (codes "35 Limit") (which_name which ∷ decimal number ∷ [])
 flat_line NoFlatMemory = codes "# fault memory\n"

@@ -50,7 +50,8 @@ fn put_bare<K: Sink>(name: &[u8], line: u32, out: &mut K) -> Result<(), Failed>
 
 /// Puts a line with one word.
 fn put_word<K: Sink>(name: &[u8], line: u32, word: &Name, out: &mut K) -> Result<(), Failed>
-    ensures { Appends (K.state out.old) (K.state out.new) (told name.now line (word.now ∷ [])) result }
+    ensures { Appends (K.state out.old) (K.state out.new)
+        (told name.now line (word.now ∷ [])) result }
 {
     put_head(name, line, out)?;
     put_both(b" ", word.bytes(), out)?;
@@ -65,7 +66,8 @@ fn put_words<K: Sink>(
     second: &[u8],
     out: &mut K,
 ) -> Result<(), Failed>
-    ensures { Appends (K.state out.old) (K.state out.new) (told name.now line (first.now ∷ second.now ∷ [])) result }
+    ensures { Appends (K.state out.old) (K.state out.new)
+        (told name.now line (first.now ∷ second.now ∷ [])) result }
 {
     put_head(name, line, out)?;
     put_both(b" ", first, out)?;
@@ -81,7 +83,8 @@ fn put_number<K: Sink>(
     number: u64,
     out: &mut K,
 ) -> Result<(), Failed>
-    ensures { Appends (K.state out.old) (K.state out.new) (told name.now line (word.now ∷ decimal number ∷ [])) result }
+    ensures { Appends (K.state out.old) (K.state out.new)
+        (told name.now line (word.now ∷ decimal number ∷ [])) result }
 {
     let mut buffer = Buffer::new();
     put_words(name, line, word, buffer.format(number).as_bytes(), out)
@@ -95,7 +98,8 @@ fn put_pair<K: Sink>(
     second: u64,
     out: &mut K,
 ) -> Result<(), Failed>
-    ensures { Appends (K.state out.old) (K.state out.new) (told name.now line (decimal first ∷ decimal second ∷ [])) result }
+    ensures { Appends (K.state out.old) (K.state out.new)
+        (told name.now line (decimal first ∷ decimal second ∷ [])) result }
 {
     let mut buffer = Buffer::new();
     put_number(name, line, buffer.format(first).as_bytes(), second, out)

@@ -9,7 +9,8 @@ use mv_base::{Failed, Sink, put_both};
 
 /// Puts a line with one word.
 fn put_word<K: Sink>(name: &[u8], word: &[u8], out: &mut K) -> Result<(), Failed>
-    ensures { Appends (K.state out.old) (K.state out.new) (flat_told name.now (word.now ∷ [])) result }
+    ensures { Appends (K.state out.old) (K.state out.new)
+        (flat_told name.now (word.now ∷ [])) result }
 {
     put_fault_name(name, out)?;
     put_both(b" ", word, out)?;
@@ -18,7 +19,8 @@ fn put_word<K: Sink>(name: &[u8], word: &[u8], out: &mut K) -> Result<(), Failed
 
 /// Puts a line with two words.
 fn put_words<K: Sink>(name: &[u8], first: &[u8], second: &[u8], out: &mut K) -> Result<(), Failed>
-    ensures { Appends (K.state out.old) (K.state out.new) (flat_told name.now (first.now ∷ second.now ∷ [])) result }
+    ensures { Appends (K.state out.old) (K.state out.new)
+        (flat_told name.now (first.now ∷ second.now ∷ [])) result }
 {
     put_fault_name(name, out)?;
     put_both(b" ", first, out)?;
@@ -28,7 +30,8 @@ fn put_words<K: Sink>(name: &[u8], first: &[u8], second: &[u8], out: &mut K) -> 
 
 /// Puts a line with a number.
 fn put_number<K: Sink>(name: &[u8], number: u64, out: &mut K) -> Result<(), Failed>
-    ensures { Appends (K.state out.old) (K.state out.new) (flat_told name.now (decimal number ∷ [])) result }
+    ensures { Appends (K.state out.old) (K.state out.new)
+        (flat_told name.now (decimal number ∷ [])) result }
 {
     let mut buffer = Buffer::new();
     put_word(name, buffer.format(number).as_bytes(), out)
@@ -36,7 +39,8 @@ fn put_number<K: Sink>(name: &[u8], number: u64, out: &mut K) -> Result<(), Fail
 
 /// Puts a line with a word and a number.
 fn put_limit<K: Sink>(name: &[u8], word: &[u8], number: u64, out: &mut K) -> Result<(), Failed>
-    ensures { Appends (K.state out.old) (K.state out.new) (flat_told name.now (word.now ∷ decimal number ∷ [])) result }
+    ensures { Appends (K.state out.old) (K.state out.new)
+        (flat_told name.now (word.now ∷ decimal number ∷ [])) result }
 {
     let mut buffer = Buffer::new();
     put_words(name, word, buffer.format(number).as_bytes(), out)

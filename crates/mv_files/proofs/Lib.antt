@@ -1,2 +1,3 @@
 pub mod FileReads
 pub mod LexedReads
+pub mod Texts

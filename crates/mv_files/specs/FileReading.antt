@@ -2,7 +2,8 @@
 use Rattle.std.specs.Prelude.{◌≡◌, ℕ, ◌+◌, ◌≤◌, IsTrue, IfSome, Some, None, List, [], ◌++◌, length}
 use Rattle.mv_base.specs.Outside.{Held, Stored, StillTell, counted, file_named}
 
--- the files stay, and stay sound; the named one is the current one, and these bytes, its first ones, were read
+-- the files stay, and stay sound; the named one is the current one, and these bytes, its first
+-- ones, were read
 pub record HasRead (before after : Held) (name bytes : List ℕ) : Type 0 where
   pub files : after.files ≡ before.files
   pub sound : IsTrue before.sound → IsTrue after.sound
@@ -17,14 +18,16 @@ pub record WasRead (before after : Held) (name : List ℕ) (limit : ℕ) (bytes 
 
 -- the same where the files tell of themselves
 abbrev pub Read : Stored → Stored → List ℕ → ℕ → List ℕ → Type 0
-Read old new name limit bytes = StillTell old new (λ before after. WasRead before after name limit bytes)
+Read old new name limit bytes =
+    StillTell old new (λ before after. WasRead before after name limit bytes)
 
 -- the files stay, and stay sound
 pub record StaySame (before after : Held) : Type 0 where
   pub files : after.files ≡ before.files
   pub sound : IsTrue before.sound → IsTrue after.sound
 
--- the files stay, and stay sound, where they tell of themselves, and their count of faults doesn't fall
+-- the files stay, and stay sound, where they tell of themselves, and their count of faults doesn't
+-- fall
 pub record Stay (old new : Stored) : Type 0 where
   pub same : StillTell old new StaySame
   pub later : old.faults ≤ new.faults

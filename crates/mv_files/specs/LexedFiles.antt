@@ -19,23 +19,26 @@ pub record HasReadAll (before after : Held) (name content : List ℕ) : Type 0 w
 
 -- the same where the files tell of themselves
 abbrev pub ReadAll : Stored → Stored → List ℕ → List ℕ → Type 0
-ReadAll old new name content = StillTell old new (λ before after. HasReadAll before after name content)
+ReadAll old new name content =
+    StillTell old new (λ before after. HasReadAll before after name content)
 
 -- the named file was read to its end, its content has no fault of bytes, and these are its lines
-pub record WasLexed (old new : Stored) (name : List ℕ) (limit : ℕ) (lines : List LexLine) : Type 0 where
+pub record WasLexed (old new : Stored) (name : List ℕ) (limit : ℕ) (lines : List LexLine)
+    : Type 0 where
   pub content : List ℕ
   pub read : ReadAll old new name content
   pub lexed : lex_fault limit content ≡ None
   pub lines_are : lines ≡ lines_of content
 
--- the content of the named file, where the files tell it, has this fault of bytes, and none before it
+-- the content of the named file, where the files tell it, has this fault of bytes, and none before
+-- it
 pub record HasFault (files : Stored) (name : List ℕ) (limit : ℕ) (fault : LexFault) : Type 0 where
   pub content : List ℕ
   pub named : IfSome files.held (λ held. file_named name held.files ≡ Some content)
   pub fault_is : lex_fault limit content ≡ Some fault
 
--- of the named file, which is the current one, no more was read than bytes without a fault, within the limit, and one
--- piece behind them
+-- of the named file, which is the current one, no more was read than bytes without a fault, within
+-- the limit, and one piece behind them
 pub record HasReadFront (before after : Held) (name : List ℕ) (limit : ℕ) : Type 0 where
   pub front : List ℕ
   pub piece : List ℕ
@@ -47,10 +50,11 @@ pub record HasReadFront (before after : Held) (name : List ℕ) (limit : ℕ) : 
 
 -- the same where the files tell of themselves
 abbrev pub ReadFront : Stored → Stored → List ℕ → ℕ → Type 0
-ReadFront old new name limit = StillTell old new (λ before after. HasReadFront before after name limit)
+ReadFront old new name limit =
+    StillTell old new (λ before after. HasReadFront before after name limit)
 
--- why there are no lines of the named file: a call failed, so that the count of faults rose, and sound files lack the name;
--- memory ran out; or the content has a fault
+-- why there are no lines of the named file: a call failed, so that the count of faults rose, and
+-- sound files lack the name; memory ran out; or the content has a fault
 abbrev pub LinesCause : Stored → Stored → List ℕ → ℕ → LinesStop → Type 0
 LinesCause old new name limit Failed = Rose old.faults new.faults × Lacks old name
 LinesCause old new name limit (Lex fault) = (fault ≡ out_of_memory) ⊎ HasFault old name limit fault

@@ -14,7 +14,8 @@ use Rattle.mv_files.specs.Pieces.{Passed, Ended, Unsound}
 -- ---- a piece
 
 -- a piece was read and lexed behind all that was before: it has a byte, or the file has ended
-pub record FedPiece (before after : Option Held) (old new : Reading) (earlier later : List LexLine) (more : Bool) : Type 0 where
+pub record FedPiece (before after : Option Held) (old new : Reading) (earlier later : List LexLine)
+    (more : Bool) : Type 0 where
   pub piece : List ℕ
   pub some : more ≡ true → 0 < length piece
   pub ended : more ≡ false → Ended before after
@@ -23,13 +24,15 @@ pub record FedPiece (before after : Option Held) (old new : Reading) (earlier la
   pub lines : GainsLines old earlier later (λ bytes. complete (bytes ++ piece))
   pub limit : new.limit ≡ old.limit
 
--- a piece of at most so many bytes was read, in which the lexer stopped: for want of memory, or at this fault, the first
--- behind all that was before
-pub record StoppedPiece (before after : Option Held) (old : Reading) (most : ℕ) (fault : LexFault) : Type 0 where
+-- a piece of at most so many bytes was read, in which the lexer stopped: for want of memory, or at
+-- this fault, the first behind all that was before
+pub record StoppedPiece (before after : Option Held) (old : Reading) (most : ℕ) (fault : LexFault)
+    : Type 0 where
   pub piece : List ℕ
   pub few : length piece ≤ most
   pub passed : Passed before after piece
-  pub told : (bytes : List ℕ) → IsAfter old bytes → (fault ≡ out_of_memory) ⊎ (first_fault old.limit [] (bytes ++ piece) ≡ Some fault)
+  pub told : (bytes : List ℕ) → IsAfter old bytes
+      → (fault ≡ out_of_memory) ⊎ (first_fault old.limit [] (bytes ++ piece) ≡ Some fault)
 
 -- why the reading stops at a piece: the count of faults rose, or the lexer stopped in it
 abbrev pub PieceCause : Stored → Stored → Reading → ℕ → LinesStop → Type 0
@@ -39,7 +42,8 @@ PieceCause before after old most (Lex fault) = StoppedPiece before.held after.he
 -- ---- all that is left of the current file
 
 -- these bytes were read to the end, and the lexer stands behind them without a fault
-pub record FedAll (before after : Option Held) (limit : ℕ) (now : Reading) (lines : List LexLine) : Type 0 where
+pub record FedAll (before after : Option Held) (limit : ℕ) (now : Reading) (lines : List LexLine)
+    : Type 0 where
   pub bytes : List ℕ
   pub passed : Passed before after bytes
   pub ended : Ended before after
@@ -47,8 +51,8 @@ pub record FedAll (before after : Option Held) (limit : ℕ) (now : Reading) (li
   pub lines_are : lines ≡ complete bytes
   pub limited : now.limit ≡ limit
 
--- bytes without a fault were read and one piece behind them, in which the lexer stopped: for want of memory, or at this
--- fault, the first of them
+-- bytes without a fault were read and one piece behind them, in which the lexer stopped: for want
+-- of memory, or at this fault, the first of them
 pub record StoppedBytes (before after : Option Held) (limit : ℕ) (fault : LexFault) : Type 0 where
   pub front : List ℕ
   pub piece : List ℕ

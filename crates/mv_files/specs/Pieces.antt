@@ -22,7 +22,8 @@ abbrev pub Unsound : Option Held → Type 0
 Unsound held = IfSome held (λ h. IsTrue h.sound → ⊥)
 
 -- a piece was read behind the bytes: it has a byte, or the file has ended
-pub record GotPiece (before after : Option Held) (old new : List ℕ) (most : ℕ) (more : Bool) : Type 0 where
+pub record GotPiece (before after : Option Held) (old new : List ℕ) (most : ℕ) (more : Bool)
+    : Type 0 where
   pub piece : List ℕ
   pub added : new ≡ old ++ piece
   pub few : length piece ≤ most

@@ -27,9 +27,12 @@ fn feed_piece<F: Files>(
     lines: &mut Lines,
 ) -> Result<bool, LinesStop>
     requires { 0 < length room.old }
-    ensures fed { IfOk result (λ more. FedPiece (F.state files.old).held (F.state files.new).held lexer.old lexer.new lines.old lines.new more) }
+    ensures fed { IfOk result
+        (λ more. FedPiece (F.state files.old).held
+        (F.state files.new).held lexer.old lexer.new lines.old lines.new more) }
     ensures stay { Stay (F.state files.old) (F.state files.new) }
-    ensures stopped { IfErr result (PieceCause (F.state files.old) (F.state files.new) lexer.old (length room.old)) }
+    ensures stopped { IfErr result
+        (PieceCause (F.state files.old) (F.state files.new) lexer.old (length room.old)) }
     ensures starts { BeganNone (F.state files.old) (F.state files.new) }
 {
     let count = match files.next(room) {
@@ -53,7 +56,8 @@ fn feed_all<F: Files>(
     requires start { IsAfter lexer.old [] }
     requires limit { lexer.old.limit ≡ limit }
     requires empty { lines.old ≡ [] }
-    ensures fed { OnOk result (FedAll (F.state files.old).held (F.state files.new).held limit lexer.new lines.new) }
+    ensures fed { OnOk result
+        (FedAll (F.state files.old).held (F.state files.new).held limit lexer.new lines.new) }
     ensures stay { Stay (F.state files.old) (F.state files.new) }
     ensures stopped { IfErr result (FeedCause (F.state files.old) (F.state files.new) limit) }
     ensures starts { BeganNone (F.state files.old) (F.state files.new) }
@@ -80,9 +84,11 @@ pub fn read_lines<F: Files>(
     requires { limit < 2 ^ 32 - 1 }
     ensures lexed { IfOk result (WasLexed (F.state files.old) (F.state files.new) name.now limit) }
     ensures stay { Stay (F.state files.old) (F.state files.new) }
-    ensures stopped { IfErr result (LinesCause (F.state files.old) (F.state files.new) name.now limit) }
+    ensures stopped { IfErr result
+        (LinesCause (F.state files.old) (F.state files.new) name.now limit) }
     ensures starts { BeganOne (F.state files.old) (F.state files.new) }
-    ensures in_time { (fault : LexFault) → result ≡ Err (LinesStop.Lex fault) → ReadFront (F.state files.old) (F.state files.new) name.now limit }
+    ensures in_time { (fault : LexFault) → result ≡ Err (LinesStop.Lex fault)
+        → ReadFront (F.state files.old) (F.state files.new) name.now limit }
 {
     match files.start(name) {
         Ok(()) => {}

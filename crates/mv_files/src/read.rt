@@ -25,9 +25,12 @@ fn read_piece<F: Files>(
     bytes: &mut Vec<u8>,
 ) -> Result<bool, ReadStop>
     requires { 0 < length room.old }
-    ensures got { IfOk result (λ more. GotPiece (F.state files.old).held (F.state files.new).held bytes.old.items bytes.new.items (length room.old) more) }
+    ensures got { IfOk result
+        (λ more. GotPiece (F.state files.old).held
+        (F.state files.new).held bytes.old.items bytes.new.items (length room.old) more) }
     ensures stay { Stay (F.state files.old) (F.state files.new) }
-    ensures failed { result ≡ Err ReadStop.Failed → Rose (F.state files.old).faults (F.state files.new).faults }
+    ensures failed { result ≡ Err ReadStop.Failed
+        → Rose (F.state files.old).faults (F.state files.new).faults }
     ensures unsound { result ≡ Err ReadStop.Failed → Unsound (F.state files.old).held }
     ensures starts { BeganNone (F.state files.old) (F.state files.new) }
 {
@@ -45,9 +48,11 @@ fn read_piece<F: Files>(
 fn read_on<F: Files>(files: &mut F, bytes: &mut Vec<u8>, limit: u64) -> Result<(), ReadStop>
     requires small { limit < 2 ^ 32 }
     requires empty { bytes.old.items ≡ [] }
-    ensures ok { OnOk result (ReadOn (F.state files.old).held (F.state files.new).held limit bytes.new.items) }
+    ensures ok { OnOk result
+        (ReadOn (F.state files.old).held (F.state files.new).held limit bytes.new.items) }
     ensures stay { Stay (F.state files.old) (F.state files.new) }
-    ensures failed { result ≡ Err ReadStop.Failed → Rose (F.state files.old).faults (F.state files.new).faults }
+    ensures failed { result ≡ Err ReadStop.Failed
+        → Rose (F.state files.old).faults (F.state files.new).faults }
     ensures unsound { result ≡ Err ReadStop.Failed → Unsound (F.state files.old).held }
     ensures starts { BeganNone (F.state files.old) (F.state files.new) }
 {
@@ -74,9 +79,11 @@ pub fn read_file<F: Files>(
     limit: u64,
 ) -> Result<Vec<u8>, ReadStop>
     requires { limit < 2 ^ 32 }
-    ensures read { IfOk result (λ bytes. Read (F.state files.old) (F.state files.new) name.now limit bytes.items) }
+    ensures read { IfOk result
+        (λ bytes. Read (F.state files.old) (F.state files.new) name.now limit bytes.items) }
     ensures stay { Stay (F.state files.old) (F.state files.new) }
-    ensures failed { result ≡ Err ReadStop.Failed → Rose (F.state files.old).faults (F.state files.new).faults }
+    ensures failed { result ≡ Err ReadStop.Failed
+        → Rose (F.state files.old).faults (F.state files.new).faults }
     ensures lacks { result ≡ Err ReadStop.Failed → Lacks (F.state files.old) name.now }
     ensures starts { BeganOne (F.state files.old) (F.state files.new) }
 {

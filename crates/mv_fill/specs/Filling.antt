@@ -1,4 +1,5 @@
--- On the way through a `fill`: nets with a varied table above them, and what was done so far. For private functions.
+-- On the way through a `fill`: nets with a varied table above them, and what was done so far. For
+-- private functions.
 use Rattle.std.specs.Prelude.{◌≡◌, ℕ, ◌<◌, ◌+◌, Bool, true, is_some, Option, List, length, take, MatchBool}
 use Rattle.mv_base.specs.declared.number.NetId.{NetId}
 use Rattle.mv_entry.specs.Entries.{Entry}
@@ -27,7 +28,8 @@ abbrev pub IsVariedMark : List (Option FlatNet) → ℕ → Bool → Type 0
 IsVariedMark nets n mark = MatchBool mark (ArePlainAbove nets n → ⊥) (ArePlainAbove nets n)
 
 -- so the nets of this list are marked
-pub record AreMarked (nets : List (Option FlatNet)) (list : List NetId) (marks : List Bool) : Type 0 where
+pub record AreMarked (nets : List (Option FlatNet)) (list : List NetId) (marks : List Bool)
+    : Type 0 where
   pub long : length marks ≡ length nets
   pub each : (n : ℕ) → has_id list n ≡ true → IsVariedMark nets n (is_marked marks n)
 
@@ -35,14 +37,17 @@ pub record AreMarked (nets : List (Option FlatNet)) (list : List NetId) (marks :
 pub record HasMarks (nets : List (Option FlatNet)) (marks : List Bool) : Type 0 where
   pub each : (n : ℕ) → is_held nets n ≡ true → IsVariedMark nets n (is_marked marks n)
 
--- the tables above a net are plainly deterministic in the one network where they are in the other, and all nets are still held
+-- the tables above a net are plainly deterministic in the one network where they are in the other,
+-- and all nets are still held
 pub record KeepsPlain (old new : List (Option FlatNet)) : Type 0 where
   pub held : (n : ℕ) → is_held new n ≡ true → is_held old n ≡ true
   pub down : (n : ℕ) → ArePlainAbove new n → ArePlainAbove old n
   pub up : (n : ℕ) → ArePlainAbove old n → ArePlainAbove new n
 
--- the nets below this number are visited, and each of them whose table allows nothing somewhere is noted
-pub record HasFilled (free : Bool) (end : ℕ) (old : NetParts) (steps : List Entry) (new : NetParts) : Type 0 where
+-- the nets below this number are visited, and each of them whose table allows nothing somewhere is
+-- noted
+pub record HasFilled (free : Bool) (end : ℕ) (old : NetParts) (steps : List Entry) (new : NetParts)
+    : Type 0 where
   pub visits : Visits (FillsNet free) end old steps new
   pub long : length new.nets ≡ length old.nets
   pub noted : (n : ℕ) → n < end → IsUnfilled new.nets n → IsNoted new n steps

@@ -1,4 +1,5 @@
--- What the command `fill` does to a network: it visits each net, and gives a table that allows nothing somewhere the default 0.
+-- What the command `fill` does to a network: it visits each net, and gives a table that allows
+-- nothing somewhere the default 0.
 use Rattle.std.specs.Prelude.{◌≡◌, ℕ, ◌≤◌, Bool, true, false, is_some, Option, List, [], ◌∷◌, length, Contains}
 use Rattle.mv_base.specs.Set.{one}
 use Rattle.mv_entry.specs.declared.note.Note.TheVariants.{Dropped}
@@ -33,12 +34,15 @@ note_of net n why = Noted (Dropped why (name_in (slot net.nets n)))
 abbrev pub rule_of : NetParts → ℕ → Rule
 rule_of net n = Fill (name_in (slot net.nets n)) (one 0)
 
--- a visit of the net n: it has no table that allows nothing somewhere, and is let be; or it has one, and it is noted why it stays;
--- or that table gets the default
-pub data FillsNet (free : Bool) (n : ℕ) (old : NetParts) (entries : List Entry) (new : NetParts) : Type 0 where
+-- a visit of the net n: it has no table that allows nothing somewhere, and is let be; or it has
+-- one, and it is noted why it stays; or that table gets the default
+pub data FillsNet (free : Bool) (n : ℕ) (old : NetParts) (entries : List Entry) (new : NetParts)
+    : Type 0 where
   LetBe : (IsUnfilled old.nets n → ⊥) → Nothing old entries new → FillsNet free n old entries new
-  Stays : (why : Why) → IsUnfilled old.nets n → StaysFor free old n why → entries ≡ note_of old n why ∷ [] → new ≡ old → FillsNet free n old entries new
-  Filled : IsUnfilled old.nets n → Applies free (rule_of old n) old new → entries ≡ Applied (rule_of old n) ∷ [] → FillsNet free n old entries new
+  Stays : (why : Why) → IsUnfilled old.nets n → StaysFor free old n why
+      → entries ≡ note_of old n why ∷ [] → new ≡ old → FillsNet free n old entries new
+  Filled : IsUnfilled old.nets n → Applies free (rule_of old n) old new
+      → entries ≡ Applied (rule_of old n) ∷ [] → FillsNet free n old entries new
 
 -- some of `fill`: the first so many nets are visited, each in turn
 abbrev pub FillsTables : Bool → Course
@@ -49,7 +53,9 @@ pub record IsNoted (net : NetParts) (n : ℕ) (steps : List Entry) : Type 0 wher
   pub why : Why
   pub noted : Contains steps (note_of net n why)
 
--- all of `fill`: nets are visited, after which each table but those that are noted allows something everywhere
-pub record FillsAll (free : Bool) (old : NetParts) (steps : List Entry) (new : NetParts) : Type 0 where
+-- all of `fill`: nets are visited, after which each table but those that are noted allows something
+-- everywhere
+pub record FillsAll (free : Bool) (old : NetParts) (steps : List Entry) (new : NetParts)
+    : Type 0 where
   pub tables : FillsTables free old steps new
   pub noted : (n : ℕ) → IsUnfilled new.nets n → IsNoted new n steps

@@ -19,7 +19,8 @@ use std::alloc::Global;
 
 /// Whether the net of this number has a table that allows nothing somewhere.
 fn is_unfilled(alloc: Global, net: &Network, n: NetId) -> Result<bool, Memory>
-    ensures { IfOk result (λ yes. MatchBool yes (IsUnfilled net.now.nets n.0) (IsUnfilled net.now.nets n.0 → ⊥)) }
+    ensures { IfOk result
+        (λ yes. MatchBool yes (IsUnfilled net.now.nets n.0) (IsUnfilled net.now.nets n.0 → ⊥)) }
 {
     if !net.holds(n) {
         return Ok(false);
@@ -44,7 +45,8 @@ fn note_reason<J: Journal>(
 ) -> Result<(), Stop>
     requires unfilled { IsUnfilled net.now.nets n.0 }
     requires stays { StaysFor terms.free net.now n.0 why }
-    ensures { Passes terms.free (FillsNet terms.free n.0) (Perhaps (FillsNet terms.free n.0)) net.now net.now
+    ensures { Passes terms.free (FillsNet terms.free n.0)
+        (Perhaps (FillsNet terms.free n.0)) net.now net.now
         (J.state journal.old) (J.state journal.new) result }
 {
     net.well_formed();
@@ -80,7 +82,8 @@ fn fill_one<J: Journal>(
     requires free { terms.free ≡ true }
     requires plain { ArePlainAbove net.old.nets n.0 }
     ensures keeps { KeepsPlain net.old.nets net.new.nets }
-    ensures passes { Passes terms.free (FillsNet terms.free n.0) (Perhaps (FillsNet terms.free n.0)) net.old net.new
+    ensures passes { Passes terms.free (FillsNet terms.free n.0)
+        (Perhaps (FillsNet terms.free n.0)) net.old net.new
         (J.state journal.old) (J.state journal.new) result }
 {
     net.well_formed();
@@ -105,7 +108,8 @@ fn visit<J: Journal>(
 ) -> Result<(), Stop>
     requires { HasMarks net.old.nets marks.now }
     ensures keeps { KeepsPlain net.old.nets net.new.nets }
-    ensures passes { Passes terms.free (FillsNet terms.free n.0) (Perhaps (FillsNet terms.free n.0)) net.old net.new
+    ensures passes { Passes terms.free (FillsNet terms.free n.0)
+        (Perhaps (FillsNet terms.free n.0)) net.old net.new
         (J.state journal.old) (J.state journal.new) result }
 {
     match is_unfilled(alloc, net, n) {

@@ -5,5 +5,6 @@ ghost use Rattle.mv_fill.specs.Fills.{FillsTables};
 
 /// Where nothing is free, `fill` changes nothing, however far it comes.
 pub fn strict_laws()
-    ensures { (old new : NetParts) (steps : List Entry) → FillsTables false old steps new → new ≡ old }
+    ensures { (old new : NetParts) (steps : List Entry) → FillsTables false old steps new
+        → new ≡ old }
 {}

@@ -46,7 +46,8 @@ fn is_plain_to(net: &Network, marks: &[bool], n: NetId) -> bool
 /// Whether a table above the net isn't plainly deterministic: that of a fanin, or one above a fanin, which is marked.
 fn is_varied(net: &Network, marks: &[bool], n: NetId) -> bool
     requires held { IsTrue (is_held net.now.nets n.0) }
-    requires marked { (m : ℕ) → net_reads (slot net.now.nets n.0) m ≡ true → IsVariedMark net.now.nets m (is_marked marks.now m) }
+    requires marked { (m : ℕ) → net_reads (slot net.now.nets n.0) m ≡ true
+        → IsVariedMark net.now.nets m (is_marked marks.now m) }
     ensures { IsVariedMark net.now.nets n.0 result }
 {
     net.well_formed();

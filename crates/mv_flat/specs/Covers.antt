@@ -15,10 +15,12 @@ use Rattle.mv_flat.specs.declared.covers.TableCovers.{TableCovers}
 use Rattle.mv_flat.specs.declared.covers.TableCovers.TheVariants.{Single, Joint}
 use Rattle.mv_flat.specs.Places.{is_joint}
 
--- the covers of a table over these columns: by the rules for tables of one output, or by those for several
+-- the covers of a table over these columns: by the rules for tables of one output, or by those for
+-- several
 abbrev pub IsMadeTable : List Column → FileTable → NetId → NetId → TableCovers → Type 0
 IsMadeTable columns t mark choice (Single flat) = (is_joint t ≡ false) × IsMade columns t mark flat
-IsMadeTable columns t mark choice (Joint joint) = (is_joint t ≡ true) × IsMadeJoint columns t mark choice joint
+IsMadeTable columns t mark choice (Joint joint) = (is_joint t ≡ true)
+    × IsMadeJoint columns t mark choice joint
 
 -- a net that is made: how many values it has, and its cover
 pub record MadeNet : Type 0 where
@@ -51,10 +53,13 @@ outputs_of (Joint joint) = joint.outputs
 
 -- the lines of all covers of a table
 abbrev pub lines_of : TableCovers → List Line
-lines_of covers = flat_map (λ (m : MadeNet). m.cover.lines) (made_of covers) ++ flat_map (λ (c : Cover). c.lines) (outputs_of covers)
+lines_of covers = flat_map (λ (m : MadeNet). m.cover.lines) (made_of covers)
+    ++ flat_map (λ (c : Cover). c.lines) (outputs_of covers)
 
--- a table of several outputs has more distinct rows of outputs than a net may have values, and this is told of it
-pub record IsTooWide (columns : List Column) (t : FileTable) (mark : NetId) (f : FlatFault) : Type 0 where
+-- a table of several outputs has more distinct rows of outputs than a net may have values, and this
+-- is told of it
+pub record IsTooWide (columns : List Column) (t : FileTable) (mark : NetId) (f : FlatFault)
+    : Type 0 where
   pub joint : is_joint t ≡ true
   pub wide : IsWide columns t mark
   pub told : f ≡ JointWide (MAX_JOINT_ROWS + 1)

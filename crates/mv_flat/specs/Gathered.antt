@@ -1,5 +1,5 @@
--- How the nets of a model are gathered by number, table by table, and what a look at the rows tells of a table's mark.
--- For private functions.
+-- How the nets of a model are gathered by number, table by table, and what a look at the rows tells
+-- of a table's mark. For private functions.
 use Rattle.std.specs.Prelude.{◌≡◌, ℕ, Bool, true, not, ◌&&◌, nat_eq, Option, Some, None, List, [], ◌∷◌, length, map, unwrap_or, if◌then◌else◌}
 use Rattle.std.specs.List.{list_any}
 use Rattle.mv_design.specs.declared.design.Decl.{Decl}
@@ -19,7 +19,8 @@ use Rattle.mv_flat.specs.Places.{made_places}
 -- names with those of the nets of tables
 abbrev pub with_places : List Decl → List (List ℕ) → List FileTable → List (List ℕ)
 with_places ds names [] = names
-with_places ds names (t ∷ ts) = with_places ds (with_names (with_names names (made_places ds t)) t.outputs) ts
+with_places ds names (t ∷ ts) =
+    with_places ds (with_names (with_names names (made_places ds t)) t.outputs) ts
 
 -- some row says no value of its output
 abbrev pub some_silent : List Row → Bool
@@ -44,7 +45,8 @@ abbrev pub none_or_stands : List Row → Option (List Entry) → Bool
 none_or_stands rows None = true
 none_or_stands rows (Some entries) = can_stand rows (only_entry entries)
 
--- a table gets no mark, as a look at it tells: it has no default, or one that can stand beside its rows
+-- a table gets no mark, as a look at it tells: it has no default, or one that can stand beside its
+-- rows
 abbrev pub is_plain : FileTable → Bool
 is_plain t = none_or_stands t.rows t.default
 
@@ -56,6 +58,8 @@ counts_of ds names = map (count_of ds) names
 abbrev pub number_or_past : List (List ℕ) → List ℕ → NetId
 number_or_past names name = record { 0 = unwrap_or (place_of name names) (length names) }
 
--- the number of a table's mark; where a look at the table tells that it gets none, the number past all others
+-- the number of a table's mark; where a look at the table tells that it gets none, the number past
+-- all others
 abbrev pub IsMarkNumber : List (List ℕ) → FileTable → NetId → Type 0
-IsMarkNumber names t mark = mark ≡ (if is_plain t then record { 0 = length names } else mark_at names t)
+IsMarkNumber names t mark = mark
+    ≡ (if is_plain t then record { 0 = length names } else mark_at names t)

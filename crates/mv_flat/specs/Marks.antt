@@ -9,11 +9,13 @@ use Rattle.mv_flat.specs.Numbers.{made_name}
 use Rattle.mv_flat.specs.Built.{fresh_net, AreTableNets}
 use Rattle.mv_flat.specs.Covers.{MadeNet}
 
--- the number of the last made name: all names up to it are held, and one behind it is held where it is one of these
+-- the number of the last made name: all names up to it are held, and one behind it is held where it
+-- is one of these
 pub record IsLast (names held : List (List ℕ)) (last : ℕ) : Type 0 where
   pub small : last < 2 ^ 32
   pub before : (k : ℕ) → 0 < k → k ≤ last → among (made_name k) held ≡ true
-  pub behind : (k : ℕ) → last < k → k < 2 ^ 32 → among (made_name k) held ≡ among (made_name k) names
+  pub behind : (k : ℕ) → last < k → k < 2 ^ 32
+      → among (made_name k) held ≡ among (made_name k) names
 
 -- the least number behind the last whose name is none of these
 pub record IsNext (names : List (List ℕ)) (last number : ℕ) (name : List ℕ) : Type 0 where
@@ -24,7 +26,8 @@ pub record IsNext (names : List (List ℕ)) (last number : ℕ) (name : List ℕ
   pub least : (k : ℕ) → last < k → k < number → among (made_name k) names ≡ true
 
 -- what some nets are behind the names that are held, and the number of the last made name then
-pub record Behind (Nets : List (List ℕ) → List (Option FlatNet) → List (List ℕ) → Type 0) (names held : List (List ℕ)) (here : List (Option FlatNet))
+pub record Behind (Nets : List (List ℕ) → List (Option FlatNet) → List (List ℕ) → Type 0)
+    (names held : List (List ℕ)) (here : List (Option FlatNet))
     (last : ℕ) : Type 0 where
   pub after : List (List ℕ)
   pub are : Nets held here after
@@ -32,23 +35,28 @@ pub record Behind (Nets : List (List ℕ) → List (Option FlatNet) → List (Li
   pub few : length after ≤ length held + 2
 
 -- nets with some more behind them, whatever names were held
-pub record AddsNets (Nets : List (List ℕ) → List (Option FlatNet) → List (List ℕ) → Type 0) (names : List (List ℕ)) (before last : ℕ)
+pub record AddsNets (Nets : List (List ℕ) → List (Option FlatNet) → List (List ℕ) → Type 0)
+    (names : List (List ℕ)) (before last : ℕ)
     (old new : List (Option FlatNet)) : Type 0 where
   pub here : List (Option FlatNet)
   pub joined : new ≡ old ++ here
   pub behind : (held : List (List ℕ)) → IsLast names held before → Behind Nets names held here last
 
 -- nets with one that is made behind them, whatever names were held
-pub record AddsMade (names : List (List ℕ)) (made : MadeNet) (before last : ℕ) (old new : List (Option FlatNet)) : Type 0 where
+pub record AddsMade (names : List (List ℕ)) (made : MadeNet) (before last : ℕ)
+    (old new : List (Option FlatNet)) : Type 0 where
   pub name : List ℕ
   pub next : IsNext names before last name
   pub joined : new ≡ old ++ fresh_net name made ∷ []
 
 -- nets with that of a mark behind them, if there is one
-abbrev pub AddsMark : List (List ℕ) → Option Cover → ℕ → ℕ → List (Option FlatNet) → List (Option FlatNet) → Type 0
+abbrev pub AddsMark : List (List ℕ) → Option Cover → ℕ → ℕ → List (Option FlatNet)
+    → List (Option FlatNet) → Type 0
 AddsMark names None before last old new = (last ≡ before) × (new ≡ old)
-AddsMark names (Some cover) before last old new = AddsMade names (record { values = 2; cover = cover }) before last old new
+AddsMark names (Some cover) before last old new =
+    AddsMade names (record { values = 2; cover = cover }) before last old new
 
 -- the nets of a table
-abbrev pub TableNets : List Decl → List (List ℕ) → FileTable → List (List ℕ) → List (Option FlatNet) → List (List ℕ) → Type 0
+abbrev pub TableNets : List Decl → List (List ℕ) → FileTable → List (List ℕ)
+    → List (Option FlatNet) → List (List ℕ) → Type 0
 TableNets ds names t held nets after = AreTableNets ds names held t nets after

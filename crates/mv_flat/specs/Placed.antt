@@ -1,4 +1,5 @@
--- Models whose nets have numbers, and the nets of their tables behind others. For private functions.
+-- Models whose nets have numbers, and the nets of their tables behind others. For private
+-- functions.
 use Rattle.std.specs.Prelude.{◌≡◌, ℕ, ◌+◌, ◌*◌, ◌≤◌, Bool, true, Option, List, ◌++◌, length, All}
 use Rattle.std.specs.List.{list_all}
 use Rattle.mv_base.specs.Names.{among}
@@ -24,7 +25,8 @@ pub record IsPlacedTable (ds : List Decl) (names : List (List ℕ)) (t : FileTab
   pub known : are_known names t.inputs ≡ true
 
 -- the columns of such a table, by these numbers
-pub record AreColumnsOf (names : List (List ℕ)) (t : FileTable) (columns : List Column) : Type 0 where
+pub record AreColumnsOf (names : List (List ℕ)) (t : FileTable) (columns : List Column)
+    : Type 0 where
   pub decls : List Decl
   pub proper : All HasLawfulValues decls
   pub placed : IsPlacedTable decls names t

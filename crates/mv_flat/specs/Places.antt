@@ -1,4 +1,5 @@
--- The numbers of a model's nets: the inputs, then the outputs of the latches, then the nets of each table.
+-- The numbers of a model's nets: the inputs, then the outputs of the latches, then the nets of each
+-- table.
 use Rattle.std.specs.Prelude.{ℕ, Bool, List, [], ◌∷◌, ◌++◌, length, nat_lt, if◌then◌else◌}
 use Rattle.std.specs.List.{flat_map}
 use Rattle.mv_design.specs.declared.design.Decl.{Decl}
@@ -13,9 +14,11 @@ use Rattle.mv_flat.specs.Numbers.{columns_at, mark_name, choice_name}
 abbrev pub is_joint : FileTable → Bool
 is_joint t = nat_lt 1 (length t.outputs)
 
--- the table gets a mark, whatever the numbers of its columns' nets are: here each has its place among the table's inputs
+-- the table gets a mark, whatever the numbers of its columns' nets are: here each has its place
+-- among the table's inputs
 unfoldable pub has_mark : List Decl → FileTable → Bool
-has_mark ds t = if is_joint t then is_joint_marked (columns_at ds t.inputs t) t else is_marked (columns_at ds t.inputs t) t
+has_mark ds t = if is_joint t then is_joint_marked (columns_at ds t.inputs t) t
+    else is_marked (columns_at ds t.inputs t) t
 
 -- the name by which a table's mark stands among the nets, if it gets one
 abbrev pub marks_of : List Decl → FileTable → List (List ℕ)
@@ -33,6 +36,7 @@ made_places ds t = marks_of ds t ++ choices_of t
 abbrev pub table_places : List Decl → FileTable → List (List ℕ)
 table_places ds t = made_places ds t ++ t.outputs
 
--- the nets of a model by number: the inputs, the outputs of the latches, then the nets of each table
+-- the nets of a model by number: the inputs, the outputs of the latches, then the nets of each
+-- table
 unfoldable pub net_places : FileModel → List (List ℕ)
 net_places m = m.inputs ++ (latch_outputs m ++ flat_map (table_places m.decls) m.tables)

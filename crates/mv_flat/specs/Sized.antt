@@ -26,7 +26,8 @@ pub record IsWithinSize (s : Size) : Type 0 where
 
 -- the size with the lines of one cover more
 abbrev pub with_lines : Size → List Line → Size
-with_lines s ls = record { nets = s.nets; lines = s.lines + length ls; literals = s.literals + literal_count ls }
+with_lines s ls =
+    record { nets = s.nets; lines = s.lines + length ls; literals = s.literals + literal_count ls }
 
 -- the size with one net more
 abbrev pub with_net : Size → Size
@@ -46,14 +47,16 @@ with_covers s t covers = record {
 }
 
 -- the first tables of a model have covers, and pass no limit
-pub record AreSized (nets : ℕ) (m : FileModel) (names : List (List ℕ)) (i : ℕ) (size : Size) : Type 0 where
+pub record AreSized (nets : ℕ) (m : FileModel) (names : List (List ℕ)) (i : ℕ) (size : Size)
+    : Type 0 where
   pub covers : List TableCovers
   pub are : AreCovers m.decls names (take i m.tables) covers
   pub is : size ≡ size_of nets (take i m.tables) covers
   pub within : IsWithinSize size
 
 -- with these covers of one more table a limit is passed, and this is the first that is
-pub record PassesSize (columns : List Column) (names : List (List ℕ)) (t : FileTable) (s : Size) (f : FlatFault) : Type 0 where
+pub record PassesSize (columns : List Column) (names : List (List ℕ)) (t : FileTable) (s : Size)
+    (f : FlatFault) : Type 0 where
   pub covers : TableCovers
   pub made : IsMadeTable columns t (mark_at names t) (choice_at names t) covers
   pub told : first (size_faults (with_covers s t covers)) ≡ Some f
@@ -61,7 +64,8 @@ pub record PassesSize (columns : List Column) (names : List (List ℕ)) (t : Fil
 -- want of memory, a table that is too wide, or the limit that is passed with it
 abbrev pub TellsCovers : List Column → List (List ℕ) → FileTable → Size → FlatFault → Type 0
 TellsCovers columns names t s Memory = Unit {0}
-TellsCovers columns names t s f = IsTooWide columns t (mark_at names t) f ⊎ PassesSize columns names t s f
+TellsCovers columns names t s f = IsTooWide columns t (mark_at names t) f
+    ⊎ PassesSize columns names t s f
 
 -- want of memory, or the first limit that is passed with these covers of one output
 abbrev pub TellsPast : Size → FileTable → FlatTable → FlatFault → Type 0

@@ -24,7 +24,8 @@ pub fn columns(
     requires few { length names.now ≤ MAX_NETS }
     requires counts { length counts.now ≡ length names.now }
     requires known { are_known names.now table.now.inputs ≡ true }
-    ensures { (ds : List Decl) → counts.now ≡ counts_of ds names.now → IfOk result (λ columns. columns.items ≡ columns_at ds names.now table.now) }
+    ensures { (ds : List Decl) → counts.now ≡ counts_of ds names.now
+        → IfOk result (λ columns. columns.items ≡ columns_at ds names.now table.now) }
 {
     let mut columns = Vec::with_capacity(alloc, table.inputs.len())?;
     for net in table.inputs.as_slice() {

@@ -48,9 +48,12 @@ pub fn covers(
 ) -> Result<TableCovers, FlatFault>
     requires columns { AreColumnsOf names.now table.now columns.now }
     requires few { length names.now ≤ MAX_NETS }
-    requires chosen { is_joint table.now ≡ true → among (choice_name (output_of table.now)) names.now ≡ true }
+    requires chosen { is_joint table.now ≡ true
+        → among (choice_name (output_of table.now)) names.now ≡ true }
     requires within { IsWithinSize size }
-    ensures made { IfOk result (λ covers. IsMadeTable columns.now table.now (mark_at names.now table.now) (choice_at names.now table.now) covers) }
+    ensures made { IfOk result
+        (λ covers. IsMadeTable columns.now table.now (mark_at names.now table.now)
+        (choice_at names.now table.now) covers) }
     ensures stop { IfErr result (TellsCovers columns.now names.now table.now size) }
 {
     if is_joint(table) {
@@ -78,7 +81,8 @@ fn sized_covers(
     requires single { length table.now.outputs ≡ 1 }
     requires few { length names.now ≤ MAX_NETS }
     requires within { IsWithinSize size }
-    ensures made { IfOk result (λ flat. IsMade columns.now table.now (mark_at names.now table.now) flat) }
+    ensures made { IfOk result
+        (λ flat. IsMade columns.now table.now (mark_at names.now table.now) flat) }
     ensures stop { IfErr result (TellsCovers columns.now names.now table.now size) }
 {
     match single_covers(alloc, columns, names, table, size.lines_left()) {
@@ -95,7 +99,8 @@ fn past(alloc: Global, columns: &[Column], table: &FileTable, size: Size) -> Fla
     requires table { IsTable columns.now table.now }
     requires some { 0 < length table.now.outputs }
     requires within { IsWithinSize size }
-    ensures { (flat : FlatTable) → is_some flat.mark ≡ is_marked columns.now table.now → MAX_FLAT_LINES < size.lines + length flat.cover.lines
+    ensures { (flat : FlatTable) → is_some flat.mark ≡ is_marked columns.now table.now
+        → MAX_FLAT_LINES < size.lines + length flat.cover.lines
         → TellsPast size table.now flat result }
 {
     match is_marked(alloc, columns, table) {
@@ -116,8 +121,10 @@ fn single_covers(
     requires columns { AreColumnsOf names.now table.now columns.now }
     requires single { length table.now.outputs ≡ 1 }
     requires few { length names.now ≤ MAX_NETS }
-    ensures made { IfOk result (λ flat. IsMade columns.now table.now (mark_at names.now table.now) flat) }
-    ensures stop { IfErr result (λ stop. StopsAt columns.now table.now (mark_at names.now table.now) most stop) }
+    ensures made { IfOk result
+        (λ flat. IsMade columns.now table.now (mark_at names.now table.now) flat) }
+    ensures stop { IfErr result
+        (λ stop. StopsAt columns.now table.now (mark_at names.now table.now) most stop) }
 {
     let mark = mark_of(alloc, names, table)?;
     match flat_table_within(alloc, columns, table, mark, most) {
@@ -154,7 +161,9 @@ fn joint_covers(
     requires joint { is_joint table.now ≡ true }
     requires chosen { among (choice_name (output_of table.now)) names.now ≡ true }
     requires within { IsWithinSize size }
-    ensures made { IfOk result (IsMadeJoint columns.now table.now (mark_at names.now table.now) (choice_at names.now table.now)) }
+    ensures made { IfOk result
+        (IsMadeJoint columns.now table.now (mark_at names.now table.now)
+        (choice_at names.now table.now)) }
     ensures stop { IfErr result (TellsCovers columns.now names.now table.now size) }
 {
     match several_covers(alloc, columns, names, table, size.lines_left()) {
@@ -175,7 +184,9 @@ fn joint_past(alloc: Global, columns: &[Column], table: &FileTable, size: Size) 
     requires some { 0 < length table.now.outputs }
     requires within { IsWithinSize size }
     ensures { (joint : JointTable) → is_some joint.mark ≡ is_joint_marked columns.now table.now
-        → MAX_FLAT_LINES < size.lines + (length (mark_lines joint.mark) + length joint.choice.lines) → TellsJoint size table.now joint result }
+        → MAX_FLAT_LINES
+        < size.lines + (length (mark_lines joint.mark) + length joint.choice.lines)
+        → TellsJoint size table.now joint result }
 {
     match is_joint_marked(alloc, columns, table) {
         Ok(marked) => size.past_joint(table, marked),
@@ -196,8 +207,12 @@ fn several_covers(
     requires few { length names.now ≤ MAX_NETS }
     requires joint { is_joint table.now ≡ true }
     requires chosen { among (choice_name (output_of table.now)) names.now ≡ true }
-    ensures made { IfOk result (IsMadeJoint columns.now table.now (mark_at names.now table.now) (choice_at names.now table.now)) }
-    ensures stop { IfErr result (StopsCovers columns.now table.now (mark_at names.now table.now) (choice_at names.now table.now) most) }
+    ensures made { IfOk result
+        (IsMadeJoint columns.now table.now (mark_at names.now table.now)
+        (choice_at names.now table.now)) }
+    ensures stop { IfErr result
+        (StopsCovers columns.now table.now (mark_at names.now table.now)
+        (choice_at names.now table.now) most) }
 {
     let first = &table.outputs.as_slice()[0];
     let mark = number_or_past(names, &mark_name(alloc, first)?);

@@ -9,7 +9,8 @@ ghost use Rattle.mv_flat.specs.Flat.{HasSmallNetwork, IsFlat, IsRefusedDesign};
 
 /// A design has at most one network.
 pub fn at_most_one_network()
-    ensures { (design : Design) (one other : NetParts) → IsProper design → IsFlat one design → IsFlat other design → one ≡ other }
+    ensures { (design : Design) (one other : NetParts) → IsProper design → IsFlat one design
+        → IsFlat other design → one ≡ other }
 {}
 
 /// A design that is refused, but for want of memory, is no sound one whose instances, nets and network are within the limits.

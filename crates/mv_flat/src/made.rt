@@ -38,7 +38,9 @@ pub fn put_made(
     cover: Cover,
 ) -> Result<(), Memory>
     requires { last.old + length names.now + 2 < 2 ^ 32 }
-    ensures adds { OnOk result (AddsMade names.now (record { values = values; cover = cover }) last.old last.new nets.old nets.new) }
+    ensures adds { OnOk result
+        (AddsMade names.now
+        (record { values = values; cover = cover }) last.old last.new nets.old nets.new) }
     ensures near { OnOk result (last.new ≤ last.old + length names.now + 1) }
 {
     let made = next_made(alloc, names, *last)?;

@@ -68,7 +68,9 @@ pub fn put_output(
     output: &Name,
     cover: Cover,
 ) -> Result<(), Memory>
-    ensures { OnOk result (nets.new ≡ nets.old ++ file_net decls.now (kind_of output.now) (Some cover) output.now ∷ []) }
+    ensures { OnOk result
+        (nets.new ≡ nets.old ++ file_net decls.now (kind_of output.now) (Some cover) output.now
+        ∷ []) }
 {
     let net = file_net(alloc, decls, kind_of(output), Some(cover), output)?;
     nets.push(Some(net))?;
@@ -92,7 +94,9 @@ pub fn open_nets(
     inputs: &[Name],
     latches: &[FileLatch],
 ) -> Result<Items<Option<FlatNet>>, Memory>
-    ensures { IfOk result (λ nets. nets ≡ map (file_net decls.now Input None) inputs.now ++ map (file_net decls.now Latch None) (map (λ l. l.output) latches.now)) }
+    ensures { IfOk result
+        (λ nets. nets
+        ≡ map (file_net decls.now Input None) inputs.now ++ map (file_net decls.now Latch None) (map (λ l. l.output) latches.now)) }
 {
     let mut nets = Items::new(alloc);
     add_inputs(alloc, &mut nets, decls, inputs)?;
@@ -123,7 +127,9 @@ fn add_states(
     decls: &Declared,
     latches: &[FileLatch],
 ) -> Result<(), Memory>
-    ensures { OnOk result (nets.new ≡ nets.old ++ map (file_net decls.now Latch None) (map (λ l. l.output) latches.now)) }
+    ensures { OnOk result
+        (nets.new ≡ nets.old
+        ++ map (file_net decls.now Latch None) (map (λ l. l.output) latches.now)) }
 {
     for latch in latches {
         let net = file_net(alloc, decls, Kind::Latch, None, &latch.output)?;

@@ -55,7 +55,8 @@ impl Size {
     pub fn past(self, table: &FileTable, marked: bool) -> FlatFault
         requires within { IsWithinSize self }
         requires some { 0 < length table.now.outputs }
-        ensures { (flat : FlatTable) → is_some flat.mark ≡ marked → MAX_FLAT_LINES < self.lines + length flat.cover.lines
+        ensures { (flat : FlatTable) → is_some flat.mark ≡ marked
+            → MAX_FLAT_LINES < self.lines + length flat.cover.lines
             → first (size_faults (with_covers self table.now (Single flat))) ≡ Some result }
     {
         if self.nets_with(table, marked) > MAX_FLAT_NETS {
@@ -76,7 +77,8 @@ impl Size {
         requires within { IsWithinSize self }
         requires some { 0 < length table.now.outputs }
         ensures { (joint : JointTable) → is_some joint.mark ≡ marked
-            → MAX_FLAT_LINES < self.lines + (length (mark_lines joint.mark) + length joint.choice.lines)
+            → MAX_FLAT_LINES
+            < self.lines + (length (mark_lines joint.mark) + length joint.choice.lines)
             → first (size_faults (with_covers self table.now (Joint joint))) ≡ Some result }
     {
         if self.nets_with(table, marked) + 1 > MAX_FLAT_NETS {
@@ -108,7 +110,8 @@ impl Size {
         requires few { length (outputs_of covers.now) ≤ MAX_NETS }
         ensures size { IfOk result (λ size. size ≡ with_covers self table.now covers.now) }
         ensures within { IfOk result IsWithinSize }
-        ensures fault { IfErr result (λ f. first (size_faults (with_covers self table.now covers.now)) ≡ Some f) }
+        ensures fault { IfErr result
+            (λ f. first (size_faults (with_covers self table.now covers.now)) ≡ Some f) }
     {
         self.with_covers(table, covers).checked()
     }
@@ -135,7 +138,12 @@ impl Size {
     fn with_reset(self, table: &FileTable) -> Size
         requires some { 0 < length table.now.outputs }
         requires nets { self.nets ≤ 2 ^ 32 }
-        ensures { result ≡ record { nets = self.nets + cond (gives_reset table.now) 1 0; lines = self.lines; literals = self.literals } }
+        ensures { result
+            ≡ record {
+              nets = self.nets + cond (gives_reset table.now) 1 0;
+              lines = self.lines;
+              literals = self.literals;
+            } }
     {
         let nets = if has_stop(&table.outputs.as_slice()[0]) {
             self.nets + 1

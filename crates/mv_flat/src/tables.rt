@@ -80,9 +80,11 @@ fn put_table(
     covers: TableCovers,
 ) -> Result<(), Memory>
     requires some { 0 < length table.outputs }
-    requires made { IsMadeTable (columns_at decls.now names.now table) table (mark_at names.now table) (choice_at names.now table) covers }
+    requires made { IsMadeTable (columns_at decls.now names.now table) table
+        (mark_at names.now table) (choice_at names.now table) covers }
     requires later { last.old + 2 * length names.now + 4 < 2 ^ 32 }
-    ensures { OnOk result (AddsNets (TableNets decls.now names.now table) names.now last.old last.new nets.old nets.new) }
+    ensures { OnOk result
+        (AddsNets (TableNets decls.now names.now table) names.now last.old last.new nets.old nets.new) }
 {
     put_nets(nets, last, alloc, decls, names, &table, covers)
 }
@@ -99,9 +101,11 @@ fn put_nets(
     covers: TableCovers,
 ) -> Result<(), Memory>
     requires some { 0 < length table.now.outputs }
-    requires made { IsMadeTable (columns_at decls.now names.now table.now) table.now (mark_at names.now table.now) (choice_at names.now table.now) covers }
+    requires made { IsMadeTable (columns_at decls.now names.now table.now) table.now
+        (mark_at names.now table.now) (choice_at names.now table.now) covers }
     requires later { last.old + 2 * length names.now + 4 < 2 ^ 32 }
-    ensures { OnOk result (AddsNets (TableNets decls.now names.now table.now) names.now last.old last.new nets.old nets.new) }
+    ensures { OnOk result
+        (AddsNets (TableNets decls.now names.now table.now) names.now last.old last.new nets.old nets.new) }
 {
     let outputs = table.outputs.as_slice();
     match covers {

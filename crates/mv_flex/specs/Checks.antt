@@ -1,4 +1,5 @@
--- What is asked of lines and covers at the numbers of pairs and points. What private functions alone cite.
+-- What is asked of lines and covers at the numbers of pairs and points. What private functions
+-- alone cite.
 use Rattle.std.specs.Prelude.{◌≡◌, ℕ, ◌<◌, Bool, true, false, ◌&&◌, ◌||◌, not, nat_eq, if◌then◌else◌, Option, Some, None, slice_index_or}
 use Rattle.std.specs.List.{list_any}
 use Rattle.mv_base.specs.Set.{has, one, empty}
@@ -17,7 +18,8 @@ default_chooses (Some out) = not (nat_eq out empty)
 
 -- the cover allows some value: that of a line that holds, or of the default where no line does
 abbrev pub chooses : Cover → (ℕ → ℕ) → Bool
-chooses c at = list_any (λ (l : Line). matches at l.cube && not (nat_eq l.out empty)) c.lines || (not (list_any (λ (l : Line). matches at l.cube) c.lines) && default_chooses c.default)
+chooses c at = list_any (λ (l : Line). matches at l.cube && not (nat_eq l.out empty)) c.lines
+    || (not (list_any (λ (l : Line). matches at l.cube) c.lines) && default_chooses c.default)
 
 -- the assignment of a pair
 abbrev pub pair_values : Flexibility → ℕ → ℕ → ℕ
@@ -41,7 +43,8 @@ loses f new k = chooses f.old (point_values f k) && not (chooses new (point_valu
 
 -- the pair is outside, and but for its value of m it is one of the line's
 abbrev pub blocks : Flexibility → Line → ℕ → ℕ → Bool
-blocks f l m q = slice_index_or f.outside q false && (matches (pair_values f q) (literals_beside m l.cube) && has l.out (pair_values f q f.net.0))
+blocks f l m q = slice_index_or f.outside q false
+    && (matches (pair_values f q) (literals_beside m l.cube) && has l.out (pair_values f q f.net.0))
 
 -- the pair's value of m where it blocks that value
 abbrev pub blocked_at : Flexibility → Line → ℕ → ℕ → ℕ

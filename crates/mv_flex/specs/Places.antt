@@ -10,7 +10,8 @@ use Rattle.mv_flex.specs.Left.{AreLeft}
 use Rattle.mv_flex.specs.Spaces.{value_at, digits, NetSpace}
 use Rattle.mv_flex.specs.Checks.{chooses, default_chooses}
 
--- the places to be matched are among the pairs where the default has some value, and else among the points of the fanins
+-- the places to be matched are among the pairs where the default has some value, and else among the
+-- points of the fanins
 abbrev pub space_for : Flexibility → Option ℕ → NetSpace
 space_for f default = if default_chooses default then f.pairs else f.fanins
 
@@ -18,21 +19,27 @@ space_for f default = if default_chooses default then f.pairs else f.fanins
 abbrev pub place : Flexibility → Option ℕ → ℕ → List ℕ
 place f default k = digits (space_for f default).counts k
 
--- some line has to match there: the pair is outside, and the default gives it; or the old table allows something at the point
+-- some line has to match there: the pair is outside, and the default gives it; or the old table
+-- allows something at the point
 abbrev pub needs_at : Flexibility → Option ℕ → ℕ → (ℕ → ℕ) → Bool
 needs_at f default k at =
-    if default_chooses default then (slice_index_or f.outside k false && default_gives default (at f.net.0))
+    if default_chooses default then
+    (slice_index_or f.outside k false && default_gives default (at f.net.0))
     else chooses f.old at
 
 -- some line has to match at the place with this number
 abbrev pub needs : Flexibility → Option ℕ → ℕ → Bool
 needs f default k = needs_at f default k (value_at (space_for f default).nets (place f default k))
 
--- the values of the first places to be matched: a test passes at all of them just where it does at each such place
-pub record ArePlaces (f : Flexibility) (default : Option ℕ) (k : ℕ) (places : List (List ℕ)) : Type 0 where
-  pub each : (test : List ℕ → Bool) → list_all test places ≡ true → (j : ℕ) → j < k → needs f default j ≡ true
+-- the values of the first places to be matched: a test passes at all of them just where it does at
+-- each such place
+pub record ArePlaces (f : Flexibility) (default : Option ℕ) (k : ℕ) (places : List (List ℕ))
+    : Type 0 where
+  pub each : (test : List ℕ → Bool) → list_all test places ≡ true → (j : ℕ) → j < k
+      → needs f default j ≡ true
       → test (place f default j) ≡ true
-  pub all : (test : List ℕ → Bool) → ((j : ℕ) → j < k → needs f default j ≡ true → test (place f default j) ≡ true)
+  pub all : (test : List ℕ → Bool)
+      → ((j : ℕ) → j < k → needs f default j ≡ true → test (place f default j) ≡ true)
       → list_all test places ≡ true
 
 -- some line matches where the nets have these values
@@ -59,10 +66,14 @@ one_less nets l vs count = if matches (value_at nets vs) l.cube then count - 1 e
 abbrev pub less_by : List NetId → Line → List (List ℕ) → List ℕ → List ℕ
 less_by nets l [] counts = []
 less_by nets l (vs ∷ places) [] = []
-less_by nets l (vs ∷ places) (count ∷ counts) = one_less nets l vs count ∷ less_by nets l places counts
+less_by nets l (vs ∷ places) (count ∷ counts) = one_less nets l vs count
+    ∷ less_by nets l places counts
 
--- the first lines are gone through: how many of those in front and of the others match, and what is left in the end
-pub record IsUnderWay (nets : List NetId) (places : List (List ℕ)) (lines front : List Line) (counts : List ℕ) (i : ℕ) : Type 0 where
+-- the first lines are gone through: how many of those in front and of the others match, and what is
+-- left in the end
+pub record IsUnderWay (nets : List NetId) (places : List (List ℕ)) (lines front : List Line)
+    (counts : List ℕ) (i : ℕ) : Type 0 where
   pub counted : counts ≡ all_times nets (front ++ drop i lines) places
-  pub later : (left : List Line) → AreLeft (λ some. are_matched nets places some ≡ true) front (drop i lines) left
+  pub later : (left : List Line)
+      → AreLeft (λ some. are_matched nets places some ≡ true) front (drop i lines) left
       → AreLeft (λ some. are_matched nets places some ≡ true) [] lines left

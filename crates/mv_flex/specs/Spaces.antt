@@ -1,4 +1,5 @@
--- Lists of values of a list of nets. What private functions alone cite, and of the public definitions `IsFlex`.
+-- Lists of values of a list of nets. What private functions alone cite, and of the public
+-- definitions `IsFlex`.
 use Rattle.std.specs.Prelude.{◌≡◌, ℕ, ◌+◌, ◌*◌, ◌/◌, ◌%◌, ◌<◌, ◌≤◌, if◌then◌else◌, nat_eq, nat_lt, List, [], ◌∷◌, map, slice_index_or, All}
 use Rattle.mv_base.specs.declared.limits.TheConstants.{MAX_VALUES}
 use Rattle.mv_base.specs.declared.number.NetId.{NetId}
@@ -18,12 +19,14 @@ abbrev pub ways : List ℕ → ℕ
 ways [] = 1
 ways (c ∷ cs) = c * ways cs
 
--- the values with this number: each is what is left of the number when it is divided by the net's number of values
+-- the values with this number: each is what is left of the number when it is divided by the net's
+-- number of values
 abbrev pub digits : List ℕ → ℕ → List ℕ
 digits [] k = []
 digits (c ∷ cs) k = (k % c) ∷ digits cs (k / c)
 
--- the values with the next number: the first that is not its net's last becomes one more, and those before it 0
+-- the values with the next number: the first that is not its net's last becomes one more, and those
+-- before it 0
 abbrev pub next : List ℕ → List ℕ → List ℕ
 next [] vs = vs
 next (c ∷ cs) [] = []

@@ -12,12 +12,16 @@ use Rattle.mv_flex.specs.declared.asked.Asked.{Asked}
 use Rattle.mv_flex.specs.Spaces.{digits, NetSpace}
 use Rattle.mv_flex.specs.Plans.{agrees_at, IsPart}
 
--- for each of the first numbers of values the list tells whether the table of the net m agrees with them
-pub record Tells (nets : List (Option FlatNet)) (m : ℕ) (s : NetSpace) (k : ℕ) (marks : List Bool) : Type 0 where
+-- for each of the first numbers of values the list tells whether the table of the net m agrees with
+-- them
+pub record Tells (nets : List (Option FlatNet)) (m : ℕ) (s : NetSpace) (k : ℕ) (marks : List Bool)
+    : Type 0 where
   pub long : length marks ≡ k
-  pub each : (i : ℕ) → i < k → slice_index_or marks i false ≡ agrees_at nets s.nets (digits s.counts i) m
+  pub each : (i : ℕ) → i < k
+      → slice_index_or marks i false ≡ agrees_at nets s.nets (digits s.counts i) m
 
--- the truth of a held net's table: what it is asked at are values of the net and of those that it reads
+-- the truth of a held net's table: what it is asked at are values of the net and of those that it
+-- reads
 pub record IsTruth (nets : List (Option FlatNet)) (ns : List NetId) (t : Truth) : Type 0 where
   pub part : IsPart nets ns t.space t.places
   pub held : is_held nets t.net.0 ≡ true
@@ -30,7 +34,8 @@ abbrev pub truths_agree : List (Option FlatNet) → List Truth → List NetId �
 truths_agree nets truths ns vs = list_all (λ (t : Truth). agrees_at nets ns vs t.net.0) truths
 
 -- the truths of these tables
-pub record AreTruths (nets : List (Option FlatNet)) (ns tables : List NetId) (truths : List Truth) : Type 0 where
+pub record AreTruths (nets : List (Option FlatNet)) (ns tables : List NetId) (truths : List Truth)
+    : Type 0 where
   pub of : map (λ (t : Truth). t.net) truths ≡ tables
   pub each : All (IsTruth nets ns) truths
 

@@ -32,14 +32,17 @@ pub fn others_hold(nets: &[NetId], values: &[u16], cube: &[Lit], beside: NetId) 
 
 /// Whether the line's cube holds where these nets have these values, and it gives the value.
 pub fn line_gives(nets: &[NetId], values: &[u16], line: &Line, value: Value) -> bool
-    ensures { result ≡ (matches (value_at nets.now values.now) line.now.cube && has line.now.out value.0) }
+    ensures { result
+        ≡ (matches (value_at nets.now values.now) line.now.cube && has line.now.out value.0) }
 {
     all_hold(nets, values, line.cube.lits()) && line.out.has(value)
 }
 
 /// Whether some line whose cube holds gives the value.
 fn some_gives(nets: &[NetId], values: &[u16], lines: &[Line], value: Value) -> bool
-    ensures { result ≡ list_any (λ (l : Line). matches (value_at nets.now values.now) l.cube && has l.out value.0) lines.now }
+    ensures { result
+        ≡ list_any (λ (l : Line). matches (value_at nets.now values.now) l.cube
+        && has l.out value.0) lines.now }
 {
     lines
         .iter()
@@ -48,7 +51,8 @@ fn some_gives(nets: &[NetId], values: &[u16], lines: &[Line], value: Value) -> b
 
 /// Whether some line's cube holds.
 fn some_holds(nets: &[NetId], values: &[u16], lines: &[Line]) -> bool
-    ensures { result ≡ list_any (λ (l : Line). matches (value_at nets.now values.now) l.cube) lines.now }
+    ensures { result
+        ≡ list_any (λ (l : Line). matches (value_at nets.now values.now) l.cube) lines.now }
 {
     lines
         .iter()
@@ -79,14 +83,18 @@ pub fn allows(nets: &[NetId], values: &[u16], cover: &Cover, value: Value) -> bo
 
 /// Whether some line whose cube holds gives some value.
 fn some_chooses(nets: &[NetId], values: &[u16], lines: &[Line]) -> bool
-    ensures { result ≡ list_any (λ (l : Line). matches (value_at nets.now values.now) l.cube && not (nat_eq l.out empty)) lines.now }
+    ensures { result
+        ≡ list_any (λ (l : Line). matches (value_at nets.now values.now) l.cube
+        && not (nat_eq l.out empty)) lines.now }
 {
     lines.iter().any(|line| line_chooses(nets, values, line))
 }
 
 /// Whether the line's cube holds, and it gives some value.
 fn line_chooses(nets: &[NetId], values: &[u16], line: &Line) -> bool
-    ensures { result ≡ (matches (value_at nets.now values.now) line.now.cube && not (nat_eq line.now.out empty)) }
+    ensures { result
+        ≡ (matches (value_at nets.now values.now) line.now.cube
+        && not (nat_eq line.now.out empty)) }
 {
     all_hold(nets, values, line.cube.lits()) && !line.out.is_empty()
 }

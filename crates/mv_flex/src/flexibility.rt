@@ -29,10 +29,13 @@ pub struct Flexibility {
 impl Flexibility {
     /// Whether each point of the line's cube is in the flexibility with each value of the line's output.
     pub fn holds_line(&self, line: &Line) -> Result<bool, FlexStop>
-        ensures ok { IfOk result (λ holds. (net : NetParts) (w : Window) (n budget : ℕ) → IsFlex net w n budget self.now
+        ensures ok { IfOk result
+            (λ holds. (net : NetParts) (w : Window) (n budget : ℕ) → IsFlex net w n budget self.now
             → IsOverFanins net.nets n (cube_reads line.now.cube)
-            → MatchBool holds (LineInFlex net.nets w n line.now) (LineInFlex net.nets w n line.now → ⊥)) }
-        ensures err { IfErr result (λ stop. (net : NetParts) (w : Window) (n budget : ℕ) → IsFlex net w n budget self.now
+            → MatchBool holds (LineInFlex net.nets w n line.now)
+            (LineInFlex net.nets w n line.now → ⊥)) }
+        ensures err { IfErr result
+            (λ stop. (net : NetParts) (w : Window) (n budget : ℕ) → IsFlex net w n budget self.now
             → IsLaterStop net w budget stop) }
     {
         if self.is_line_outside(line)? {
@@ -43,7 +46,9 @@ impl Flexibility {
 
     /// Whether the line allows a pair outside.
     fn is_line_outside(&self, line: &Line) -> Result<bool, Memory>
-        ensures { IfOk result (λ yes. MatchBool yes (LineOutside self.now line.now) (LineOutside self.now line.now → ⊥)) }
+        ensures { IfOk result
+            (λ yes. MatchBool yes (LineOutside self.now line.now)
+            (LineOutside self.now line.now → ⊥)) }
     {
         let mut values = Vec::new(self.outside.allocator());
         for (pair, is_outside) in self.outside.as_slice().iter().enumerate() {
@@ -68,12 +73,16 @@ impl Flexibility {
     /// The values of a fanin that may not be put into the line's literal on it: with these some point of the line has a value
     /// of its output outside the flexibility, whatever values the literal has.
     pub fn blocked(&self, line: &Line, fanin: NetId) -> Result<ValueSet, FlexStop>
-        ensures ok { IfOk result (λ blocked. (net : NetParts) (w : Window) (n budget : ℕ) → IsFlex net w n budget self.now
-            → IsOverFanins net.nets n (cube_reads line.now.cube) → reads_in net.nets n fanin.0 ≡ true
+        ensures ok { IfOk result
+            (λ blocked. (net : NetParts) (w : Window) (n budget : ℕ)
+            → IsFlex net w n budget self.now
+            → IsOverFanins net.nets n (cube_reads line.now.cube)
+            → reads_in net.nets n fanin.0 ≡ true
             → (u : ℕ) → MatchBool (has blocked u)
             (LineInFlexWith net.nets w n line.now fanin.0 u → ⊥)
             (LineInFlexWith net.nets w n line.now fanin.0 u)) }
-        ensures err { IfErr result (λ stop. (net : NetParts) (w : Window) (n budget : ℕ) → IsFlex net w n budget self.now
+        ensures err { IfErr result
+            (λ stop. (net : NetParts) (w : Window) (n budget : ℕ) → IsFlex net w n budget self.now
             → IsLaterStop net w budget stop) }
     {
         Ok(self.all_blocked(line, fanin)?)
@@ -81,7 +90,8 @@ impl Flexibility {
 
     /// The values of a fanin that pairs outside block.
     fn all_blocked(&self, line: &Line, fanin: NetId) -> Result<ValueSet, Memory>
-        ensures { IfOk result (λ set. AreBlocked self.now line.now fanin.0 self.now.pairs.size set) }
+        ensures { IfOk result
+            (λ set. AreBlocked self.now line.now fanin.0 self.now.pairs.size set) }
     {
         let mut values = Vec::new(self.outside.allocator());
         let mut blocked = ValueSet::empty();
@@ -130,11 +140,14 @@ impl Flexibility {
 
     /// What becomes of the net where its table gives way to the new cover.
     pub fn judge(&self, new: &Cover) -> Result<Verdict, FlexStop>
-        ensures ok { IfOk result (λ verdict. (net : NetParts) (w : Window) (n budget : ℕ) → IsFlex net w n budget self.now
+        ensures ok { IfOk result
+            (λ verdict. (net : NetParts) (w : Window) (n budget : ℕ)
+            → IsFlex net w n budget self.now
             → IsOverFanins net.nets n (cover_reads new.now)
             → (old : Cover) → table_in (slot net.nets n) ≡ Some old
             → IsVerdict net.nets w n old new.now verdict) }
-        ensures err { IfErr result (λ stop. (net : NetParts) (w : Window) (n budget : ℕ) → IsFlex net w n budget self.now
+        ensures err { IfErr result
+            (λ stop. (net : NetParts) (w : Window) (n budget : ℕ) → IsFlex net w n budget self.now
             → IsLaterStop net w budget stop) }
     {
         if self.is_cover_outside(new)? {
@@ -148,7 +161,9 @@ impl Flexibility {
 
     /// Whether the cover allows a pair outside.
     fn is_cover_outside(&self, new: &Cover) -> Result<bool, Memory>
-        ensures { IfOk result (λ yes. MatchBool yes (CoverOutside self.now new.now) (CoverOutside self.now new.now → ⊥)) }
+        ensures { IfOk result
+            (λ yes. MatchBool yes (CoverOutside self.now new.now)
+            (CoverOutside self.now new.now → ⊥)) }
     {
         let mut values = Vec::new(self.outside.allocator());
         for (pair, is_outside) in self.outside.as_slice().iter().enumerate() {
@@ -172,7 +187,8 @@ impl Flexibility {
 
     /// Whether the cover allows nothing at some point of the fanins at which the old table allows something.
     fn is_lost(&self, new: &Cover) -> Result<bool, Memory>
-        ensures { IfOk result (λ yes. MatchBool yes (LosesSome self.now new.now) (LosesSome self.now new.now → ⊥)) }
+        ensures { IfOk result
+            (λ yes. MatchBool yes (LosesSome self.now new.now) (LosesSome self.now new.now → ⊥)) }
     {
         let mut values = Vec::new(self.outside.allocator());
         for point in 0..self.fanins.size() {

@@ -26,7 +26,8 @@ impl Flexibility {
         ensures ok { IfOk result (λ left. (net : NetParts) (w : Window) (n budget : ℕ)
             → IsFlex net w n budget self.now → IsOverFanins net.nets n (cover_reads cover.now)
             → All (IsLineInside net.nets w n) cover.now.lines → (old : Cover)
-            → table_in (slot net.nets n) ≡ Some old → LeavesLawful net.nets w n old cover.now left) }
+            → table_in (slot net.nets n) ≡ Some old
+            → LeavesLawful net.nets w n old cover.now left) }
         ensures err { IfErr result (λ stop. (net : NetParts) (w : Window) (n budget : ℕ)
             → IsFlex net w n budget self.now → IsLaterStop net w budget stop) }
     {

@@ -53,7 +53,8 @@ pub fn plan_of(net: &Network, w: &Window, n: NetId) -> Result<Plan, Memory>
 /// The inputs and the outputs of the window.
 fn shown_nets(w: &Window) -> Result<Items<NetId>, Memory>
     ensures { IfOk result
-        (λ nets. nets ≡ w.now.inputs ++ filter (λ (m : NetId). has_id w.now.outputs m.0) w.now.tables) }
+        (λ nets. nets
+        ≡ w.now.inputs ++ filter (λ (m : NetId). has_id w.now.outputs m.0) w.now.tables) }
 {
     let mut nets = w.inputs.copy()?;
     for table in w.tables.as_slice() {
@@ -66,7 +67,8 @@ fn shown_nets(w: &Window) -> Result<Items<NetId>, Memory>
 
 /// The tables of the window that are none of its outputs.
 fn hidden_nets(w: &Window) -> Result<Items<NetId>, Memory>
-    ensures { IfOk result (λ nets. nets ≡ filter (λ (m : NetId). not (has_id w.now.outputs m.0)) w.now.tables) }
+    ensures { IfOk result
+        (λ nets. nets ≡ filter (λ (m : NetId). not (has_id w.now.outputs m.0)) w.now.tables) }
 {
     let mut nets = Items::new(w.tables.allocator());
     for table in w.tables.as_slice() {
@@ -79,7 +81,8 @@ fn hidden_nets(w: &Window) -> Result<Items<NetId>, Memory>
 
 /// The tables of the window but this one.
 fn other_tables(w: &Window, n: NetId) -> Result<Items<NetId>, Memory>
-    ensures { IfOk result (λ nets. nets ≡ filter (λ (m : NetId). not (nat_eq m.0 n.0)) w.now.tables) }
+    ensures { IfOk result
+        (λ nets. nets ≡ filter (λ (m : NetId). not (nat_eq m.0 n.0)) w.now.tables) }
 {
     let mut nets = Items::new(w.tables.allocator());
     for table in w.tables.as_slice() {

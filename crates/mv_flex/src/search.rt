@@ -42,7 +42,8 @@ fn mark_at(
     requires asked { IsAsked net.now.nets plan.now asked.now }
     requires start { IsStart plan.now start.now }
     requires long { length marks.old.items ≡ plan.now.pairs.size }
-    ensures { OnOk result (Adds (IsBadPair net.now.nets plan.now start.now) marks.old.items marks.new.items) }
+    ensures { OnOk result
+        (Adds (IsBadPair net.now.nets plan.now start.now) marks.old.items marks.new.items) }
 {
     if is_stuck(net, plan, asked, start, values)? {
         return mark_stuck(net, plan, asked, start, values, marks);
@@ -91,7 +92,8 @@ fn mark_stuck(
     requires start { IsStart plan.now start.now }
     requires long { length marks.old.items ≡ plan.now.pairs.size }
     requires stuck { IsStuck net.now.nets plan.now start.now }
-    ensures { OnOk result (Adds (IsBadPair net.now.nets plan.now start.now) marks.old.items marks.new.items) }
+    ensures { OnOk result
+        (Adds (IsBadPair net.now.nets plan.now start.now) marks.old.items marks.new.items) }
 {
     put_first(plan, start, values)?;
     for hidden in 0..plan.hidden.size() {

@@ -62,7 +62,8 @@ impl Space {
 
     /// Puts the values with this number behind the others.
     pub fn put(&self, number: u64, values: &mut Vec<u16>) -> Result<(), Memory>
-        ensures { OnOk result (values.new.items ≡ values.old.items ++ digits self.now.counts number) }
+        ensures { OnOk result
+            (values.new.items ≡ values.old.items ++ digits self.now.counts number) }
     {
         put_digits(self.counts.as_slice(), number, values)
     }
@@ -70,7 +71,8 @@ impl Space {
     /// Gives the values behind the first ones their next number.
     pub fn step(&self, from: usize, values: &mut Vec<u16>)
         requires { length values.old.items ≡ from + length self.now.counts }
-        ensures { values.new.items ≡ take from values.old.items ++ next self.now.counts (drop from values.old.items) }
+        ensures { values.new.items
+            ≡ take from values.old.items ++ next self.now.counts (drop from values.old.items) }
     {
         step(self.counts.as_slice(), from, values);
     }
@@ -152,7 +154,8 @@ fn put_digits(counts: &[u16], number: u64, values: &mut Vec<u16>) -> Result<(), 
 /// Gives the values behind the first ones their next number.
 fn step(counts: &[u16], from: usize, values: &mut Vec<u16>)
     requires { length values.old.items ≡ from + length counts.now }
-    ensures { values.new.items ≡ take from values.old.items ++ next counts.now (drop from values.old.items) }
+    ensures { values.new.items
+        ≡ take from values.old.items ++ next counts.now (drop from values.old.items) }
 {
     for (place, count) in counts.iter().enumerate() {
         let more = values[from + place] as u32 + 1;
@@ -184,7 +187,8 @@ fn number(counts: &[u16], places: &[usize], values: &[u16]) -> u64
 /// Where a net's value stands in lists of values of these nets; past the last for a net that isn't one of them.
 #[tactic(auto, using(crate::proofs::Numbering::value_at_looking))]
 fn place_of(nets: &[NetId], net: NetId) -> usize
-    ensures { (vs : List ℕ) → length vs ≡ length nets.now → slice_index_or vs result 0 ≡ value_at nets.now vs net.0 }
+    ensures { (vs : List ℕ) → length vs ≡ length nets.now
+        → slice_index_or vs result 0 ≡ value_at nets.now vs net.0 }
 {
     for (place, held) in nets.iter().enumerate() {
         if *held == net {

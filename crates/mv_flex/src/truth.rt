@@ -74,7 +74,8 @@ fn marks_within(
     room: u64,
 ) -> Result<Option<Items<bool>>, Memory>
     requires { IsTrue (is_held net.now.nets n.0) }
-    ensures { IfOk result (λ marks. IfSome marks (Tells net.now.nets n.0 space.now space.now.size)) }
+    ensures { IfOk result
+        (λ marks. IfSome marks (Tells net.now.nets n.0 space.now space.now.size)) }
 {
     if space.size() > room {
         return Ok(None);
@@ -106,7 +107,8 @@ fn agrees_with(
     values: &mut Vec<u16>,
 ) -> Result<bool, Memory>
     requires { IsTrue (is_held net.now.nets n.0) }
-    ensures { IfOk result (λ b. b ≡ agrees_at net.now.nets space.now.nets (digits space.now.counts number) n.0) }
+    ensures { IfOk result
+        (λ b. b ≡ agrees_at net.now.nets space.now.nets (digits space.now.counts number) n.0) }
 {
     values.clear();
     space.put(number, values)?;
@@ -116,7 +118,8 @@ fn agrees_with(
 /// Whether the net's table agrees with these values.
 fn agrees(net: &Network, n: NetId, nets: &[NetId], values: &[u16]) -> bool
     requires { IsTrue (is_held net.now.nets n.0) }
-    ensures { result ≡ net_allows (slot net.now.nets n.0) (value_at nets.now values.now) (value_at nets.now values.now n.0) }
+    ensures { result
+        ≡ net_allows (slot net.now.nets n.0) (value_at nets.now values.now) (value_at nets.now values.now n.0) }
 {
     let value = value_at(nets, values, n);
     if value >= net.values(n) {

@@ -1,4 +1,5 @@
--- The literals of composites that are kept, for pairs of a net and a reader, and what a net is judged to be.
+-- The literals of composites that are kept, for pairs of a net and a reader, and what a net is
+-- judged to be.
 use Rattle.std.specs.Prelude.{◌≡◌, ℕ, ◌≤◌, false, Option, Some, None, List, length}
 use Rattle.mv_composite.specs.declared.inner.Inner.{Inner}
 use Rattle.mv_net.specs.declared.parts.FlatNet.{FlatNet}
@@ -45,7 +46,8 @@ pub record AreRight (nets : List (Option FlatNet)) (kept : KeptComposites) : Typ
   pub summed : AreSummed kept
   pub long : length nets ≤ length kept.nets.items
 
--- but for the net n, each net that doesn't read it is as it was, and each has the values that it had
+-- but for the net n, each net that doesn't read it is as it was, and each has the values that it
+-- had
 pub record LeavesAlone (old new : List (Option FlatNet)) (n : ℕ) : Type 0 where
   pub long : length new ≡ length old
   pub same : (k : ℕ) → (k ≡ n → ⊥) → reads_in old k n ≡ false → slot new k ≡ slot old k

@@ -64,7 +64,8 @@ pub record Forgets (nets : List (Option FlatNet)) (n : ℕ) (old new : KeptCompo
   pub gone : IsForgotten nets n new
 
 -- nor of these nets
-pub record ForgetsEach (nets : List (Option FlatNet)) (n : ℕ) (list : List NetId) (old new : KeptComposites) : Type 0 where
+pub record ForgetsEach (nets : List (Option FlatNet)) (n : ℕ) (list : List NetId)
+    (old new : KeptComposites) : Type 0 where
   pub first : Forgets nets n old new
   pub each : (m : ℕ) → has_id list m ≡ true → IsForgotten nets m new
 

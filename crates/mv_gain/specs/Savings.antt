@@ -1,4 +1,5 @@
--- Nets that can go into their readers with no more literals than before, and nets that can't because a composite is too wide.
+-- Nets that can go into their readers with no more literals than before, and nets that can't
+-- because a composite is too wide.
 use Rattle.std.specs.Prelude.{◌≡◌, ℕ, ◌<◌, ◌≤◌, true, is_some}
 use Rattle.mv_entry.specs.declared.fault.RuleFault.TheVariants.{Wide}
 use Rattle.mv_net.specs.declared.parts.NetParts.{NetParts}

@@ -50,7 +50,8 @@ impl KeptComposites {
     pub fn saves(&mut self, alloc: Global, net: &Network, n: NetId) -> Result<bool, Memory>
         requires { AreRight net.now.nets self.old }
         ensures right { OnOk result (AreRight net.now.nets self.new) }
-        ensures saves { IfOk result (λ saves. MatchBool saves (IsSaving net.now n.0) (IsSaving net.now n.0 → ⊥)) }
+        ensures saves { IfOk result
+            (λ saves. MatchBool saves (IsSaving net.now n.0) (IsSaving net.now n.0 → ⊥)) }
     {
         net.well_formed();
         if !can_go(net, n) {

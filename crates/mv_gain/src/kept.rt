@@ -20,7 +20,8 @@ pub struct KeptComposites {
 impl KeptComposites {
     /// Nothing is kept of the nets below the end.
     pub fn none(alloc: Global, end: u32) -> Result<KeptComposites, Memory>
-        ensures { (nets : List (Option FlatNet)) → length nets ≤ end → IfOk result (λ kept. AreRight nets kept) }
+        ensures { (nets : List (Option FlatNet)) → length nets ≤ end
+            → IfOk result (λ kept. AreRight nets kept) }
     {
         let mut nets = Vec::new(alloc);
         for _number in 0..end {

@@ -50,7 +50,8 @@ impl Row {
         requires absent { get nat_cmp self.old.pairs reader ≡ None }
         requires few { IsSmall self.old }
         requires small { IsSmallPair pair }
-        ensures updates { OnOk result (Updates nat_cmp self.old.pairs self.new.pairs reader (Some pair)) }
+        ensures updates { OnOk result
+            (Updates nat_cmp self.old.pairs self.new.pairs reader (Some pair)) }
         ensures summed { OnOk result (IsSummed self.new) }
     {
         self.pairs.insert(reader, pair)?;

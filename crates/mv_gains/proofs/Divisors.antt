@@ -76,7 +76,7 @@ in_some_table (f ∷ fs) line h =
       | inr there ↦ let r = in_some_table fs line there in (suc r.0, r.1)
     ]
 
-alone : (cube : List Lit) → Ascend (cube ∷ [])
+pub alone : (cube : List Lit) → Ascend (cube ∷ [])
 unfolding IsStrictlySortedBy
 alone cube = (tt, tt)
 

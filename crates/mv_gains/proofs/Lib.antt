@@ -17,3 +17,4 @@ pub mod Staying
 pub mod Offers
 pub mod Renewal
 pub mod Refreshing
+pub mod Shares

@@ -1,26 +1,21 @@
 -- What the division of a cover saves is one number, and nothing where the divisor's symbols don't stand in it.
-use Rattle.std.proofs.Common.{◌≡◌, ◌∙◌, ℕ, ◌+◌, ◌<◌, ◌≤◌, ◌⊎◌, Bool, true, false, List, [], ◌∷◌, length, map, take, get_or, filter, All, Contains, inl, inr, refl, sym, ap, subst, arith, Decides}
+use Rattle.std.proofs.Common.{◌≡◌, ◌∙◌, ℕ, ◌+◌, ◌<◌, ◌≤◌, ◌⊎◌, Bool, true, false, List, [], ◌∷◌, length, map, take, get_or, filter, All, Contains, inl, inr, refl, sym, ap, subst, arith}
 use Rattle.std.proofs.lemmas.Bool.{cases_Bool, false≢true, or_right, false_from_ne_true}
-use Rattle.std.proofs.lemmas.List.Elements.{All-nil, All-contains, All-contains_itself, All-map, All-weaker, recursion_from_All}
+use Rattle.std.proofs.lemmas.List.Elements.{All-nil, All-contains, All-contains_itself, All-map, All-weaker}
 use Rattle.std.proofs.lemmas.List.Sums.{sum_by_more}
-use Rattle.std.proofs.lemmas.Map.Keys.{IsDistinct-cons, sorted_tail}
-use Rattle.std.proofs.lemmas.Map.Views.{All-after_first}
 use Rattle.std.specs.List.{list_any, IsDistinct}
-use Rattle.std.specs.Cmp.{IsTotalOrder}
-use Rattle.std.specs.declared.cmp.Ordering.{Ordering}
-use Rattle.std.specs.declared.cmp.Ordering.TheVariants.{Less}
 use Rattle.std.specs.List.Sorted.{IsStrictlySortedBy}
 use Rattle.mv_cover.specs.Literal.{Lit}
-use Rattle.mv_cover.specs.Cubes.{IsCube}
-use Rattle.mv_cover.specs.Equal.{lit_eq, cube_eq}
-use Rattle.mv_cover.specs.Keys.{lit_eq-Decides, cube_eq-Decides}
+use Rattle.mv_cover.specs.Equal.{cube_eq}
+use Rattle.mv_cover.specs.Keys.{cube_eq-Decides}
 use Rattle.mv_cover.proofs.Absorbing.{any_at, find_any}
 use Rattle.mv_kernels.specs.Symbols.{has_symbol}
-use Rattle.mv_kernels.specs.Order.{lit_cmp, cube_cmp, Ascend}
+use Rattle.mv_kernels.specs.Order.{cube_cmp, Ascend}
 use Rattle.mv_kernels.proofs.Lists.{Contains-none}
-use Rattle.mv_kernels.proofs.Orders.{lit_total, cube_total, Less-differs, same_sorted, sorted_cube}
+use Rattle.mv_kernels.proofs.Orders.{cube_total, same_sorted}
 use Rattle.mv_kernels.proofs.Quotients.{in_symbol, symbol_in}
 use Rattle.mv_cover.specs.declared.line.Line.{Line}
+use Rattle.mv_meets.proofs.Once.{sorted_once}
 use Rattle.mv_divide.specs.declared.part.Part.{Part}
 use Rattle.mv_divide.specs.declared.quotient.Quotient.{Quotient}
 use Rattle.mv_divide.specs.Tables.{IsUndivided, parts_of}
@@ -32,19 +27,6 @@ use Rattle.mv_gains.proofs.Noting.{take_more}
 use Rattle.mv_gains.proofs.Sums.{sum_push, sum_once, sum_zero}
 
 -- ---- what ascends is there once
-
-sorted_once : {K : Type 0} (R : K → K → Ordering) (eq : K → K → Bool) → IsTotalOrder R → ((a b : K) → Decides (eq a b) (a ≡ b)) → (xs : List K) → IsStrictlySortedBy R xs → IsDistinct eq xs
-unfolding IsDistinct
-sorted_once R eq total same [] s = tt
-sorted_once R eq total same (x ∷ xs) s =
-    IsDistinct-cons eq x xs
-    (recursion_from_All (λ y. eq x y ≡ false) xs
-    (All-weaker (λ y. R x y ≡ Less) (λ y. eq x y ≡ false)
-    (λ y less. false_from_ne_true (eq x y) (λ t. Less-differs R total x y less ((same x y).0 t))) xs (All-after_first R x xs s)))
-    (sorted_once R eq total same xs (sorted_tail R x xs s))
-
-pub literals_once : (c : List Lit) → IsCube c → IsDistinct lit_eq c
-literals_once c f = sorted_once lit_cmp lit_eq lit_total lit_eq-Decides c (sorted_cube c f.ascending)
 
 pub ascend_once : (cubes : List (List Lit)) → Ascend cubes → IsDistinct cube_eq cubes
 ascend_once cubes up = sorted_once cube_cmp cube_eq cube_total cube_eq-Decides cubes up

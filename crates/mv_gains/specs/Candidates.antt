@@ -1,4 +1,5 @@
--- The common divisors that a network has, kernels and cubes, and which of them is the best one to take out.
+-- The common divisors that a network has, kernels and cubes, and which of them is the best one to
+-- take out.
 use Rattle.std.specs.Prelude.{◌≡◌, ◌≢◌, ◌<◌, ◌≤◌, ℕ, Option, Some, List, [], ◌∷◌, filter, length, slice_get, All, Contains}
 use Rattle.std.specs.List.{flat_map, IsDistinct}
 use Rattle.std.specs.declared.cmp.Ordering.TheVariants.{Greater}
@@ -23,8 +24,10 @@ pub record IsCoverOf (nets : List (Option FlatNet)) (n : ℕ) (cover : List (Lis
   pub there : Contains (parts_of (lines_at (slot nets n))) part
   pub is : part.cover ≡ cover
 
--- a kernel of a cover of some table that has no more kernels than the limit; each of its cubes has a symbol
-pub record IsKernelCandidate (nets : List (Option FlatNet)) (kernel : List (List Lit)) : Type 0 where
+-- a kernel of a cover of some table that has no more kernels than the limit; each of its cubes has
+-- a symbol
+pub record IsKernelCandidate (nets : List (Option FlatNet)) (kernel : List (List Lit))
+    : Type 0 where
   pub net : ℕ
   pub cover : List (List Lit)
   pub there : IsCoverOf nets net cover
@@ -69,7 +72,8 @@ pub record StandsIn (nets : List (Option FlatNet)) (cube : List Lit) : Type 0 wh
   pub there : Contains (lines_at (slot nets net)) line
   pub each : All (Contains line.cube) cube
 
--- what each candidate is besides: some cubes in ascending order, each of some literals that stand together in a line
+-- what each candidate is besides: some cubes in ascending order, each of some literals that stand
+-- together in a line
 pub record IsDivisorFor (nets : List (Option FlatNet)) (divisor : List (List Lit)) : Type 0 where
   pub some : 0 < length divisor
   pub ascending : Ascend divisor
@@ -83,12 +87,14 @@ abbrev pub Candidates : Type 1
 Candidates = List (Option FlatNet) → List (List Lit) → Type 0
 
 -- of the candidates that save the most it is the least
-pub record IsBest (Candidate : Candidates) (nets : List (Option FlatNet)) (divisor : List (List Lit)) : Type 0 where
+pub record IsBest (Candidate : Candidates) (nets : List (Option FlatNet))
+    (divisor : List (List Lit)) : Type 0 where
   pub candidate : Candidate nets divisor
   pub saved : ℕ
   pub saves : Saves nets divisor saved
   pub most : (d : List (List Lit)) (s : ℕ) → Candidate nets d → Saves nets d s → s ≤ saved
-  pub least : (d : List (List Lit)) → Candidate nets d → Saves nets d saved → cubes_cmp divisor d ≡ Greater → ⊥
+  pub least : (d : List (List Lit)) → Candidate nets d → Saves nets d saved
+      → cubes_cmp divisor d ≡ Greater → ⊥
 
 -- no candidate saves anything
 pub record NoneSaves (Candidate : Candidates) (nets : List (Option FlatNet)) : Type 0 where

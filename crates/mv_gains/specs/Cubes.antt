@@ -16,7 +16,8 @@ IsSharedAt cubes cube place d = IsTwo (common cube (slice_index_or cubes place [
 
 -- it is what the cube has in common with one that has one of its literals
 abbrev pub IsSharedBy : List (List Lit) → (Lit → List ℕ) → List Lit → List Lit → Type 0
-IsSharedBy cubes places cube d = IsOneOf (λ (l : Lit). IsOneOf (IsSharedAt cubes cube) (places l)) cube d
+IsSharedBy cubes places cube d =
+    IsOneOf (λ (l : Lit). IsOneOf (IsSharedAt cubes cube) (places l)) cube d
 
 -- it is what two of the first n cubes at different places have in common, at least two symbols
 pub record IsCommon (cubes : List (List Lit)) (n : ℕ) (d : List Lit) : Type 0 where
@@ -33,6 +34,7 @@ pub record AreCommon (cubes : List (List Lit)) (n : ℕ) (found : List (List Lit
   pub all : (d : List Lit) → IsCommon cubes n d → Contains found d
 
 -- the list has the cubes that are candidates, and no others
-pub record AreCubeCandidates (nets : List (Option FlatNet)) (list : List (List (List Lit))) : Type 0 where
+pub record AreCubeCandidates (nets : List (Option FlatNet)) (list : List (List (List Lit)))
+    : Type 0 where
   pub each : (d : List (List Lit)) → Contains list d → IsCubeCandidate nets d
   pub all : (d : List (List Lit)) → IsCubeCandidate nets d → Contains list d

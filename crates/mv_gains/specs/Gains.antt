@@ -26,7 +26,8 @@ abbrev pub covers_at : Option FlatNet → List Part
 covers_at f = parts_of (lines_at f)
 
 -- a number for the first of a list, and the sum of those for the others
-pub record IsFirstSum {X : Type 0} (Is : X → ℕ → Type 0) (Rest : ℕ → Type 0) (x : X) (total : ℕ) : Type 0 where
+pub record IsFirstSum {X : Type 0} (Is : X → ℕ → Type 0) (Rest : ℕ → Type 0) (x : X) (total : ℕ)
+    : Type 0 where
   pub first : ℕ
   pub is : Is x first
   pub rest : ℕ
@@ -43,23 +44,28 @@ pub record IsTableSaving (lines : List Line) (divisor : List (List Lit)) (saved 
   pub sum : IsSum (λ (p : Part) (s : ℕ). IsSaving p.cover divisor s) (parts_of lines) saved
 
 -- the table's literals are those of the new lines and what dividing it by the divisor saves
-pub record LeavesLess (lines : List Line) (divisor : List (List Lit)) (new : List Line) : Type 0 where
+pub record LeavesLess (lines : List Line) (divisor : List (List Lit)) (new : List Line)
+    : Type 0 where
   pub saved : ℕ
   pub is : IsTableSaving lines divisor saved
   pub less : literal_count lines ≡ literal_count new + saved
 
 -- what dividing all tables of the network by the divisor saves, whose own literals aren't counted
-pub record IsGain (nets : List (Option FlatNet)) (divisor : List (List Lit)) (gain : ℕ) : Type 0 where
+pub record IsGain (nets : List (Option FlatNet)) (divisor : List (List Lit)) (gain : ℕ)
+    : Type 0 where
   pub sum : IsSum (λ (f : Option FlatNet) (s : ℕ). IsTableSaving (lines_at f) divisor s) nets gain
 
--- what adding the divisor and dividing all tables by it saves, where that is something: the literals of the network now are
--- those after it and so many more
-pub record Saves (nets : List (Option FlatNet)) (divisor : List (List Lit)) (saved : ℕ) : Type 0 where
+-- what adding the divisor and dividing all tables by it saves, where that is something: the
+-- literals of the network now are those after it and so many more
+pub record Saves (nets : List (Option FlatNet)) (divisor : List (List Lit)) (saved : ℕ)
+    : Type 0 where
   pub gain : ℕ
   pub is : IsGain nets divisor gain
   pub some : 0 < saved
   pub less : gain ≡ literals divisor + saved
 
 -- the covers of the nets' tables are these, but for the ones that wait
-pub record AreCoversBut (waiting : List NetId) (nets : List (Option FlatNet)) (tables : List (List Part)) : Type 0 where
-  pub same : (n : ℕ) → has_id waiting n ≡ false → covers_at (slot nets n) ≡ slice_index_or tables n []
+pub record AreCoversBut (waiting : List NetId) (nets : List (Option FlatNet))
+    (tables : List (List Part)) : Type 0 where
+  pub same : (n : ℕ) → has_id waiting n ≡ false
+      → covers_at (slot nets n) ≡ slice_index_or tables n []

@@ -13,7 +13,8 @@ places_in holders l = unwrap_or (get lit_eq holders.places l) []
 
 -- each of these literals has the number behind its others
 pub record IsNoted (literals : List Lit) (number : ℕ) (old new : Lit → List ℕ) : Type 0 where
-  pub each : (l : Lit) → new l ≡ (if list_any (lit_eq l) literals then old l ++ number ∷ [] else old l)
+  pub each : (l : Lit)
+      → new l ≡ (if list_any (lit_eq l) literals then old l ++ number ∷ [] else old l)
 
 -- the numbers ascend, from the low one on and below the high one
 abbrev pub Ascends : ℕ → ℕ → List ℕ → Type 0

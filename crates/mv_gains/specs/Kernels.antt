@@ -34,7 +34,8 @@ IsKernelOfTable parts kernel = IsOneOf IsKernelOfPart parts kernel
 
 -- a kernel of a table, of which nothing is known yet
 abbrev pub new_candidate : NetId → Kernel → Candidate
-new_candidate table kernel = record { kernel = kernel; table = table; key = table; seen = 0; saved = 0 }
+new_candidate table kernel =
+    record { kernel = kernel; table = table; key = table; seen = 0; saved = 0 }
 
 -- the list has the candidate
 pub record HasCandidate (list : List Candidate) (n : ℕ) (kernel : Kernel) : Type 0 where
@@ -44,13 +45,17 @@ pub record HasCandidate (list : List Candidate) (n : ℕ) (kernel : Kernel) : Ty
   pub is : candidate.kernel ≡ kernel
 
 -- the kernels of the table were added, of which nothing is known yet
-pub record IsWithKernels (table : NetId) (parts : List Part) (old new : List Candidate) : Type 0 where
+pub record IsWithKernels (table : NetId) (parts : List Part) (old new : List Candidate)
+    : Type 0 where
   pub kernels : List Kernel
   pub are : new ≡ old ++ map (new_candidate table) kernels
   pub each : (k : Kernel) → Contains kernels k → IsKernelOfTable parts k
   pub all : (k : Kernel) → IsKernelOfTable parts k → Contains kernels k
 
 -- the candidates are kernels of the tables, and all of those but of the ones that wait
-pub record AreCandidates (tables : List (List Part)) (waiting : List NetId) (list : List Candidate) : Type 0 where
-  pub each : (c : Candidate) → Contains list c → IsKernelOfTable (slice_index_or tables c.table.0 []) c.kernel
-  pub all : (n : ℕ) (k : Kernel) → has_id waiting n ≡ false → IsKernelOfTable (slice_index_or tables n []) k → HasCandidate list n k
+pub record AreCandidates (tables : List (List Part)) (waiting : List NetId) (list : List Candidate)
+    : Type 0 where
+  pub each : (c : Candidate) → Contains list c
+      → IsKernelOfTable (slice_index_or tables c.table.0 []) c.kernel
+  pub all : (n : ℕ) (k : Kernel) → has_id waiting n ≡ false
+      → IsKernelOfTable (slice_index_or tables n []) k → HasCandidate list n k

@@ -1,4 +1,5 @@
--- What private functions alone cite: what is known of the kernels of the tables, while the tables change.
+-- What private functions alone cite: what is known of the kernels of the tables, while the tables
+-- change.
 use Rattle.std.specs.Prelude.{◌≡◌, ◌<◌, ◌≤◌, ◌-◌, ◌^◌, ◌⊎◌, ℕ, IsTrue, Option, List, map, slice_index_or}
 use Rattle.mv_base.specs.declared.number.NetId.{NetId}
 use Rattle.mv_cover.specs.Literal.{Lit}
@@ -57,12 +58,14 @@ pub record IsKnown (tables : List (List Part)) (c : Candidate) : Type 0 where
   pub saved : IsSaved tables c.kernel.cubes c.saved
 
 -- that is so unless a table that reads its net changed since
-pub record IsRight (tables : List (List Part)) (changed : List ℕ) (now : ℕ) (c : Candidate) : Type 0 where
+pub record IsRight (tables : List (List Part)) (changed : List ℕ) (now : ℕ) (c : Candidate)
+    : Type 0 where
   pub past : c.seen ≤ now
   pub known : stamp_at changed c.key.0 < c.seen → IsKnown tables c
 
 -- what was right stays so
-pub record StaysRight (now : ℕ) (old : List (List Part)) (before : List ℕ) (new : List (List Part)) (after : List ℕ) : Type 0 where
+pub record StaysRight (now : ℕ) (old : List (List Part)) (before : List ℕ) (new : List (List Part))
+    (after : List ℕ) : Type 0 where
   pub each : (c : Candidate) → IsRight old before now c → IsRight new after now c
 
 -- what a candidate is apart from what is known of it

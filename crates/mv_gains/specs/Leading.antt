@@ -12,7 +12,8 @@ offer c = record { divisor = c.kernel.cubes; saved = c.saved }
 -- the new one saves something, and more than the best so far, or as much and comes before it
 abbrev pub is_ahead : Option Offer → Offer → Bool
 is_ahead None new = nat_lt 0 new.saved
-is_ahead (Some old) new = nat_lt old.saved new.saved || (nat_eq new.saved old.saved && is_lt (cubes_cmp new.divisor old.divisor))
+is_ahead (Some old) new = nat_lt old.saved new.saved
+    || (nat_eq new.saved old.saved && is_lt (cubes_cmp new.divisor old.divisor))
 
 -- the new one, where it is better than the best so far, which else stays
 abbrev pub leader : Option Offer → Offer → Option Offer

@@ -1,4 +1,5 @@
--- What private functions alone cite: the covers of tables, and their kernels, while some of the tables are put anew.
+-- What private functions alone cite: the covers of tables, and their kernels, while some of the
+-- tables are put anew.
 use Rattle.std.specs.Prelude.{◌≡◌, ◌<◌, ◌⊎◌, ℕ, Bool, true, not, List, [], slice_index_or, All, Contains}
 use Rattle.mv_base.specs.declared.number.NetId.{NetId}
 use Rattle.mv_graph.specs.Nets.{has_id}

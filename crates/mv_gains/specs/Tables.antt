@@ -24,7 +24,8 @@ literals_of parts = sum_by (λ (p : Part). literals p.cover) parts
 
 -- what dividing the covers of a table by the divisor saves
 abbrev pub IsPartsSaving : List (List Lit) → List Part → ℕ → Type 0
-IsPartsSaving divisor parts saved = IsSum (λ (p : Part) (s : ℕ). IsSaving p.cover divisor s) parts saved
+IsPartsSaving divisor parts saved =
+    IsSum (λ (p : Part) (s : ℕ). IsSaving p.cover divisor s) parts saved
 
 -- what dividing the tables by the divisor saves
 abbrev pub IsTablesGain : List (List Part) → List (List Lit) → ℕ → Type 0
@@ -70,6 +71,7 @@ pub record IsDivisor (divisor : List (List Lit)) : Type 0 where
   pub formed : All IsCube divisor
 
 -- the tables' gain by the divisor, and no other number is
-pub record IsOnlyGain (tables : List (List Part)) (divisor : List (List Lit)) (gain : ℕ) : Type 0 where
+pub record IsOnlyGain (tables : List (List Part)) (divisor : List (List Lit)) (gain : ℕ)
+    : Type 0 where
   pub is : IsTablesGain tables divisor gain
   pub only : (g : ℕ) → IsTablesGain tables divisor g → g ≡ gain

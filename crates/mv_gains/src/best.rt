@@ -1,15 +1,18 @@
-ghost use Rattle.std.specs.Prelude.{◌≡◌, ◌<◌, All, IfOk, IfSome, MatchOption, length};
-ghost use Rattle.mv_gains.specs.Candidates.{IsBest, IsCubeCandidate, IsKernelCandidate, NoneSaves};
+ghost use Rattle.std.specs.Prelude.{◌≡◌, ◌<◌, ◌∷◌, [], All, IfOk, IfSome, MatchOption, length, map};
+ghost use Rattle.mv_cover.specs.declared.line.Line.{Line as a_line};
+ghost use Rattle.mv_meets.specs.Meets.{IsAnswer};
+ghost use Rattle.mv_gains.specs.Candidates.{all_lines, IsBest, IsCubeCandidate, IsKernelCandidate, NoneSaves};
 ghost use Rattle.mv_gains.specs.Best as spec;
 ghost use Rattle.mv_gains.specs.Best.{IsBestOf, IsChosen, IsOnlySaved, SavesNothing};
 ghost use Rattle.mv_gains.specs.Tables.{IsDivisor};
 
-use crate::cubes::cube_candidates;
+use crate::cubes::{all_cubes, cube_candidates};
 use crate::gains::Gains;
 use crate::tables::Tables;
 use mv_base::{Items, Memory};
 use mv_cover::Cube;
 use mv_kernels::compare_lists;
+use mv_meets::{Answer, best_meet};
 use mv_net::Network;
 use mv_saving::literals;
 use std::alloc::Global;
@@ -27,8 +30,44 @@ pub fn best_kernel(alloc: Global, net: &Network) -> Result<Option<Items<Cube>>, 
 }
 
 /// The cube that is best taken out of the tables of the network: the least of those that save the most, or None where none
-/// saves.
+/// saves. It is searched for among the sets of symbols that may save as much as the best so far, and among all candidates where
+/// that takes more visits than there are pairs of lines.
 pub fn best_cube(alloc: Global, net: &Network) -> Result<Option<Items<Cube>>, Memory>
+    ensures { IfOk result (λ best. MatchOption best
+        (NoneSaves IsCubeCandidate net.now.nets)
+        (IsBest IsCubeCandidate net.now.nets)) }
+{
+    net.well_formed();
+    let answer = searched_cube(alloc, net)?;
+    match answer {
+        Answer::Best(cube) => Ok(Some(alone(alloc, cube)?)),
+        Answer::NoneSaves => Ok(None),
+        Answer::Unknown => best_candidate(alloc, net),
+    }
+}
+
+/// The cube that saves the most, unless it isn't found by some more visits than there are pairs of lines.
+fn searched_cube(alloc: Global, net: &Network) -> Result<Answer, Memory>
+    ensures { IfOk result (IsAnswer (map (λ (l : a_line). l.cube) (all_lines net.now.nets))) }
+{
+    net.well_formed();
+    let cubes = all_cubes(alloc, net.parts().nets.as_slice())?;
+    let count = cubes.len() as u64;
+    let visits = count.saturating_mul(count).saturating_add(10_000);
+    best_meet(alloc, cubes.as_slice(), visits)
+}
+
+/// The cube as a divisor of its own.
+fn alone(alloc: Global, cube: Cube) -> Result<Items<Cube>, Memory>
+    ensures { IfOk result (λ divisor. divisor ≡ cube ∷ []) }
+{
+    let mut divisor = Items::new(alloc);
+    divisor.push(cube)?;
+    Ok(divisor)
+}
+
+/// The best of all cubes that two lines have in common, if one saves.
+fn best_candidate(alloc: Global, net: &Network) -> Result<Option<Items<Cube>>, Memory>
     ensures { IfOk result (λ best. MatchOption best
         (NoneSaves IsCubeCandidate net.now.nets)
         (IsBest IsCubeCandidate net.now.nets)) }

@@ -50,7 +50,9 @@ fn add_cube(
     cube: &Cube,
 ) -> Result<(), Memory>
     requires { (l : a_lit) → All (λ p. p < length cubes.now) (places_in holders.now l) }
-    ensures { OnOk result (Grew (IsSharedBy cubes.now (places_in holders.now) cube.now) found.old.keys found.new.keys) }
+    ensures { OnOk result
+        (Grew (IsSharedBy cubes.now
+        (places_in holders.now) cube.now) found.old.keys found.new.keys) }
 {
     for literal in cube.lits() {
         let places = places_of(holders, literal);
@@ -68,7 +70,8 @@ fn add_with(
     cube: &Cube,
 ) -> Result<(), Memory>
     requires { All (λ p. p < length cubes.now) places.now }
-    ensures { OnOk result (Grew (IsOneOf (IsSharedAt cubes.now cube.now) places.now) found.old.keys found.new.keys) }
+    ensures { OnOk result
+        (Grew (IsOneOf (IsSharedAt cubes.now cube.now) places.now) found.old.keys found.new.keys) }
 {
     for place in places {
         put(found, common(alloc, cube, &cubes[*place])?)?;
@@ -101,8 +104,9 @@ fn common(alloc: Global, a: &Cube, b: &Cube) -> Result<Cube, Memory>
 }
 
 /// The cubes of all lines.
-fn all_cubes(alloc: Global, nets: &[Option<FlatNet>]) -> Result<Vec<Cube>, Memory>
-    ensures { IfOk result (λ cubes. cubes.items ≡ map (λ (l : a_line). l.cube) (candidates.all_lines nets.now)) }
+pub fn all_cubes(alloc: Global, nets: &[Option<FlatNet>]) -> Result<Vec<Cube>, Memory>
+    ensures { IfOk result
+        (λ cubes. cubes.items ≡ map (λ (l : a_line). l.cube) (candidates.all_lines nets.now)) }
 {
     let mut cubes = Vec::new(alloc);
     for net in nets {
@@ -113,7 +117,8 @@ fn all_cubes(alloc: Global, nets: &[Option<FlatNet>]) -> Result<Vec<Cube>, Memor
 
 /// Adds the cubes of the lines.
 fn add_lines(cubes: &mut Vec<Cube>, lines: &[Line]) -> Result<(), Memory>
-    ensures { OnOk result (cubes.new.items ≡ cubes.old.items ++ map (λ (l : a_line). l.cube) lines.now) }
+    ensures { OnOk result
+        (cubes.new.items ≡ cubes.old.items ++ map (λ (l : a_line). l.cube) lines.now) }
 {
     for line in lines {
         cubes.push(line.cube.copy()?)?;

@@ -252,7 +252,8 @@ fn without(alloc: Global, list: Vec<Candidate>, waiting: &[NetId]) -> Result<Vec
 
 /// Adds the candidate, if it isn't of one of these tables.
 fn keep(left: &mut Vec<Candidate>, waiting: &[NetId], candidate: Candidate) -> Result<(), Memory>
-    ensures { OnOk result (left.new.items ≡ left.old.items ++ filter (is_other waiting.now) (candidate ∷ [])) }
+    ensures { OnOk result
+        (left.new.items ≡ left.old.items ++ filter (is_other waiting.now) (candidate ∷ [])) }
 {
     if has_net(waiting, candidate.table) {
         return Ok(());

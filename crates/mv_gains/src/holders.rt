@@ -43,7 +43,8 @@ pub fn note_all(
     literals: &[Lit],
 ) -> Result<(), Memory>
     requires { IsDistinct lit_eq literals.now }
-    ensures { OnOk result (IsNoted literals.now number (places_in holders.old) (places_in holders.new)) }
+    ensures { OnOk result
+        (IsNoted literals.now number (places_in holders.old) (places_in holders.new)) }
 {
     for literal in literals {
         note(alloc, holders, number, literal)?;
@@ -53,7 +54,8 @@ pub fn note_all(
 
 /// Notes that what has this number has the literal.
 fn note(alloc: Global, holders: &mut Holders, number: usize, literal: &Lit) -> Result<(), Memory>
-    ensures { OnOk result (IsNoted (literal.now ∷ []) number (places_in holders.old) (places_in holders.new)) }
+    ensures { OnOk result
+        (IsNoted (literal.now ∷ []) number (places_in holders.old) (places_in holders.new)) }
 {
     if let Some(places) = holders.places.get_mut(literal) {
         return Ok(places.push(number)?);

@@ -71,7 +71,8 @@ pub fn add_kernels(
 
 /// Adds the kernels as candidates of the table, of which nothing is known yet.
 fn add_all(list: &mut Vec<Candidate>, table: NetId, kernels: Vec<Kernel>) -> Result<(), Memory>
-    ensures { OnOk result (list.new.items ≡ list.old.items ++ map (new_candidate table) kernels.items) }
+    ensures { OnOk result
+        (list.new.items ≡ list.old.items ++ map (new_candidate table) kernels.items) }
 {
     for kernel in kernels {
         list.push(Candidate {

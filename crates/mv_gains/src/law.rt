@@ -14,9 +14,11 @@ ghost use Rattle.mv_gains.specs.Candidates.{IsCubeCandidate, IsDivisorFor, IsKer
 
 /// Each candidate of a well-formed network is a divisor of it. The cubes of a divisor are distinct, and have some literals.
 pub fn candidate_laws()
-    ensures kernels { (net : NetParts) (d : List (List Lit)) → WellFormed net → IsKernelCandidate net.nets d
+    ensures kernels { (net : NetParts) (d : List (List Lit)) → WellFormed net
+        → IsKernelCandidate net.nets d
         → IsDivisorFor net.nets d }
-    ensures cubes { (net : NetParts) (d : List (List Lit)) → WellFormed net → IsCubeCandidate net.nets d
+    ensures cubes { (net : NetParts) (d : List (List Lit)) → WellFormed net
+        → IsCubeCandidate net.nets d
         → IsDivisorFor net.nets d }
     ensures divisors { (nets : List (Option FlatNet)) (d : List (List Lit)) → IsDivisorFor nets d
         → AreCubes d × (0 < literals d) }
@@ -30,7 +32,8 @@ pub fn table_law()
         → 0 < literals divisor → IsDivided lines divisor n new → LeavesLess lines divisor new }
     ensures undivided { (lines : List Line) (divisor : List (List Lit)) → IsUndivided lines divisor
         → IsTableSaving lines divisor 0 }
-    ensures once { (lines : List Line) (divisor : List (List Lit)) (a b : ℕ) → lines_differ lines ≡ true
+    ensures once { (lines : List Line) (divisor : List (List Lit)) (a b : ℕ)
+        → lines_differ lines ≡ true
         → All (λ (l : Line). IsCube l.cube) lines → AreCubes divisor
         → IsTableSaving lines divisor a → IsTableSaving lines divisor b → a ≡ b }
 {}

@@ -8,7 +8,8 @@ abbrev pub GoesOn : {N : Type 0} → (N → N → Bool) → N → N → List N �
 GoesOn reads last n [] = reads n last ≡ true
 GoesOn reads last n (m ∷ path) = (reads n m ≡ true) × GoesOn reads last m path
 
--- the net `above` is above the net n: a path leads to it from n, each step to a net that the one before reads
+-- the net `above` is above the net n: a path leads to it from n, each step to a net that the one
+-- before reads
 pub record IsAbove {N : Type 0} (reads : N → N → Bool) (above n : N) : Type 0 where
   pub path : List N
   pub goes : GoesOn reads above n path

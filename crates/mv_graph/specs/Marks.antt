@@ -12,5 +12,6 @@ is_marked marks n = slice_index_or marks n false
 pub record AreAbove (columns : List (List NetId)) (n : ℕ) (marks : List Bool) : Type 0 where
   pub long : length marks ≡ length columns
   pub first : (m : ℕ) → has_id (row columns n) m ≡ true → is_marked marks m ≡ true
-  pub closed : (k m : ℕ) → is_marked marks k ≡ true → has_id (row columns k) m ≡ true → is_marked marks m ≡ true
+  pub closed : (k m : ℕ) → is_marked marks k ≡ true → has_id (row columns k) m ≡ true
+      → is_marked marks m ≡ true
   pub above : (k : ℕ) → is_marked marks k ≡ true → IsAbove (reads_by columns) k n

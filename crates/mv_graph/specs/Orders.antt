@@ -7,4 +7,5 @@ use Rattle.mv_graph.specs.Nets.{has_id, row, all_differ}
 pub record IsSortedBy (columns : List (List NetId)) (order : List NetId) : Type 0 where
   pub members : (n : ℕ) → has_id order n ≡ nat_lt n (length columns)
   pub once : all_differ order ≡ true
-  pub behind : (place : ℕ) (n : NetId) (m : ℕ) → slice_get order place ≡ Some n → has_id (row columns n.0) m ≡ true → has_id (take place order) m ≡ true
+  pub behind : (place : ℕ) (n : NetId) (m : ℕ) → slice_get order place ≡ Some n
+      → has_id (row columns n.0) m ≡ true → has_id (take place order) m ≡ true

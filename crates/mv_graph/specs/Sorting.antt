@@ -1,4 +1,5 @@
--- What holds of nets while they are put in an order in which each stands behind its columns. For private functions.
+-- What holds of nets while they are put in an order in which each stands behind its columns. For
+-- private functions.
 use Rattle.std.specs.Prelude.{◌≡◌, ℕ, ◌+◌, ◌<◌, ◌≤◌, true, List, [], ◌∷◌, ◌++◌, length, slice_index, slice_index_or, slice_set}
 use Rattle.mv_base.specs.declared.number.NetId.{NetId}
 use Rattle.mv_graph.specs.declared.sorting.Sorting.{Sorting}
@@ -22,12 +23,14 @@ pub record IsSorting (columns : List (List NetId)) (s : Sorting) : Type 0 where
   pub passes : length s.passed.items ≡ length columns
   pub lists : length s.waiting ≡ length columns
   pub has : (n m : ℕ) → 0 < rank_in s n → has_id (row columns n) m ≡ true → 0 < rank_in s m
-  pub falls : (n m : ℕ) → 0 < rank_in s n → has_id (row columns n) m ≡ true → rank_in s m < rank_in s n
+  pub falls : (n m : ℕ) → 0 < rank_in s n → has_id (row columns n) m ≡ true
+      → rank_in s m < rank_in s n
   pub small : (n : ℕ) → rank_in s n ≤ length s.order.items
   pub found : (n k : ℕ) → rank_in s n ≡ k + 1 → net_at s.order.items k ≡ n
   pub stands : (k : ℕ) → k < length s.order.items → rank_in s (net_at s.order.items k) ≡ k + 1
   pub within : (k : ℕ) → k < length s.order.items → net_at s.order.items k < length columns
-  pub known : (n k : ℕ) → k < slice_index s.passed.items n → 0 < rank_in s (net_at (row columns n) k)
+  pub known : (n k : ℕ) → k < slice_index s.passed.items n
+      → 0 < rank_in s (net_at (row columns n) k)
   pub nets : (m n : ℕ) → has_id (waiters s m) n ≡ true → n < length columns
 
 -- net n waits for a column that isn't among the first i nets of the order
@@ -41,7 +44,8 @@ pub record Waits (columns : List (List NetId)) (s : Sorting) (i n : ℕ) : Type 
 pub record IsPlaced (columns : List (List NetId)) (s : Sorting) (i n : ℕ) : Type 0 where
   pub waits : rank_in s n ≡ 0 → Waits columns s i n
 
--- each of the first so many nets is in the order, or waits for a column that isn't among the first i nets of it
+-- each of the first so many nets is in the order, or waits for a column that isn't among the first
+-- i nets of it
 pub record ArePlaced (columns : List (List NetId)) (s : Sorting) (i count : ℕ) : Type 0 where
   pub sorting : IsSorting columns s
   pub inside : i ≤ length s.order.items
@@ -69,7 +73,8 @@ pub record HasReleased (s t : Sorting) (net : NetId) : Type 0 where
   pub order : t.order.items ≡ s.order.items
 
 -- these nets are placed, and those that were placed still are
-pub record HasLooked (columns : List (List NetId)) (s t : Sorting) (nets : List NetId) : Type 0 where
+pub record HasLooked (columns : List (List NetId)) (s t : Sorting) (nets : List NetId)
+    : Type 0 where
   pub sorting : IsSorting columns t
   pub longer : length s.order.items ≤ length t.order.items
   pub stays : (i n : ℕ) → i ≤ length s.order.items → IsPlaced columns s i n → IsPlaced columns t i n

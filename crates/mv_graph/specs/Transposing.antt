@@ -1,4 +1,5 @@
--- How lists are turned round: number by number, each net is put on the lists of the nets that it names. For private functions.
+-- How lists are turned round: number by number, each net is put on the lists of the nets that it
+-- names. For private functions.
 use Rattle.std.specs.Prelude.{◌≡◌, ℕ, Bool, false, nat_eq, List, [], ◌∷◌, ◌++◌, length, if◌then◌else◌}
 use Rattle.mv_base.specs.declared.number.NetId.{NetId}
 use Rattle.mv_graph.specs.Nets.{has_id, row}
@@ -14,6 +15,7 @@ abbrev pub with_last : List NetId → NetId → List NetId
 with_last ns k = if is_last ns k then ns else ns ++ k ∷ []
 
 -- k was put at the end of the list of each of these nets, and the other lists stayed
-pub record IsPutOn (old : List (List NetId)) (nets : List NetId) (k : NetId) (new : List (List NetId)) : Type 0 where
+pub record IsPutOn (old : List (List NetId)) (nets : List NetId) (k : NetId)
+    (new : List (List NetId)) : Type 0 where
   pub long : length new ≡ length old
   pub each : (m : ℕ) → row new m ≡ (if has_id nets m then with_last (row old m) k else row old m)

@@ -20,7 +20,8 @@ pub fn sorted(alloc: Global, columns: &[Items<NetId>]) -> Result<Option<Items<Ne
     requires few { length columns.now ≤ MAX_NETS }
     ensures order { IfOk result (λ order. IfSome order (λ nets. IsSortedBy columns.now nets)) }
     ensures acyclic { IfOk result
-        (λ order. MatchOption order (IsAcyclic (reads_by columns.now) → ⊥) (λ _. IsAcyclic (reads_by columns.now))) }
+        (λ order. MatchOption order (IsAcyclic (reads_by columns.now) → ⊥)
+        (λ _. IsAcyclic (reads_by columns.now))) }
 {
     let mut sorting = Sorting::new(alloc, columns)?;
     sorting.look_at_each(columns)?;
@@ -76,7 +77,8 @@ impl Sorting {
     fn settle_each(&mut self, columns: &[Items<NetId>]) -> Result<(), Memory>
         requires below { AllBelow columns.now }
         requires placed { ArePlaced columns.now self.old 0 (length columns.now) }
-        ensures { OnOk result (ArePlaced columns.now self.new (length self.new.order.items) (length columns.now)) }
+        ensures { OnOk result
+            (ArePlaced columns.now self.new (length self.new.order.items) (length columns.now)) }
     {
         let mut place = 0;
         while place < self.order.len() {
@@ -172,7 +174,8 @@ fn are_ranked(ranks: &[usize]) -> bool
 /// The first place from `start` on whose net has no rank, or the number of nets where each has one.
 fn first_open(ranks: &[usize], nets: &[NetId], start: usize) -> usize
     requires { All (λ (c : NetId). c.0 < length ranks.now) nets.now }
-    ensures before { (k : ℕ) → start ≤ k → k < result → 0 < slice_index ranks.now (net_at nets.now k) }
+    ensures before { (k : ℕ) → start ≤ k → k < result
+        → 0 < slice_index ranks.now (net_at nets.now k) }
     ensures stop { result < length nets.now → slice_index ranks.now (net_at nets.now result) ≡ 0 }
 {
     for place in start..nets.len() {

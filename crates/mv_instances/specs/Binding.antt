@@ -35,10 +35,12 @@ lacks_side b = (length b.formal == 0) || (length b.actual == 0)
 unfoldable pub binding_faults : ℕ → List ℕ → List (List ℕ) → Bind → List ParseFault
 binding_faults n word bound b =
     when (lacks_side b) (Missing n word) ++ when (not (is_net_name b.formal)) (BadName n b.formal)
-    ++ when (among b.formal bound) (Repeated n b.formal) ++ when (not (is_net_name b.actual)) (BadName n b.actual)
+    ++ when (among b.formal bound) (Repeated n b.formal)
+    ++ when (not (is_net_name b.actual)) (BadName n b.actual)
 
 -- the faults of bindings, one by one
 abbrev pub bindings_faults : ℕ → List ℕ → List (List ℕ) → List (List ℕ) → List ParseFault
 bindings_faults n word bound [] = []
 bindings_faults n word bound (w ∷ words) =
-    binding_faults n word bound (binding_of w) ++ bindings_faults n word (bound ++ before_equal w ∷ []) words
+    binding_faults n word bound (binding_of w)
+    ++ bindings_faults n word (bound ++ before_equal w ∷ []) words

@@ -1,5 +1,5 @@
--- The line of an instance, `.subckt MODEL INSTANCE F=A ..`, after the description of BLIF-MV by Kukimoto: its faults, from left
--- to right, and the instance that it says.
+-- The line of an instance, `.subckt MODEL INSTANCE F=A ..`, after the description of BLIF-MV by
+-- Kukimoto: its faults, from left to right, and the instance that it says.
 use Rattle.std.specs.Prelude.{ℕ, not, List, [], ◌∷◌, ◌++◌, drop, map, slice_index_or}
 use Rattle.mv_base.specs.Names.{among, is_model_name}
 use Rattle.mv_design.specs.declared.design.Part.{Part}
@@ -20,7 +20,8 @@ instance_faults n known w = own_name_faults n w ++ when (among w known) (Repeate
 unfoldable pub part_faults : ℕ → List ℕ → List (List ℕ) → List (List ℕ) → List ParseFault
 part_faults n word known [] = Missing n word ∷ []
 part_faults n word known (model ∷ []) = own_name_faults n model ++ Missing n word ∷ []
-part_faults n word known (model ∷ instance ∷ words) = own_name_faults n model ++ instance_faults n known instance ++ bindings_faults n word [] words
+part_faults n word known (model ∷ instance ∷ words) = own_name_faults n model
+    ++ instance_faults n known instance ++ bindings_faults n word [] words
 
 -- the instance's name among the words behind the command
 abbrev pub instance_of : List (List ℕ) → List ℕ
@@ -28,4 +29,10 @@ instance_of words = slice_index_or words 1 []
 
 -- the instance that these words say, on a line with this number
 unfoldable pub part_said : ℕ → List (List ℕ) → Part
-part_said n words = record { line = n; model = slice_index_or words 0 []; instance = instance_of words; binds = map binding_of (drop 2 words) }
+part_said n words =
+    record {
+      line = n;
+      model = slice_index_or words 0 [];
+      instance = instance_of words;
+      binds = map binding_of (drop 2 words);
+    }

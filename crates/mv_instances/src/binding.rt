@@ -51,7 +51,8 @@ fn add_binding(
     word: &Name,
     binding: &[u8],
 ) -> Result<(), ParseFault>
-    ensures fault { Tells result (binding_faults number word.now bound.old (binding_of binding.now)) }
+    ensures fault { Tells result
+        (binding_faults number word.now bound.old (binding_of binding.now)) }
     ensures ok { OnOk result (bound.new ≡ bound.old ++ before_equal binding.now ∷ []) }
 {
     let formal = before_equal(binding);

@@ -8,7 +8,8 @@ ghost use Rattle.mv_design.specs.Proper.{IsFilePart};
 /// A word with `=` is what stands before the first of them, which has none, the `=`, and what stands behind it. Behind the first
 /// `=` of a word that has none stands nothing.
 pub fn binding_laws()
-    ensures cut { (w : List ℕ) → list_any is_equal w ≡ true → w ≡ before_equal w ++ 61 ∷ behind_equal w }
+    ensures cut { (w : List ℕ) → list_any is_equal w ≡ true
+        → w ≡ before_equal w ++ 61 ∷ behind_equal w }
     ensures first { (w : List ℕ) → list_any is_equal (before_equal w) ≡ false }
     ensures none { (w : List ℕ) → list_any is_equal w ≡ false → behind_equal w ≡ [] }
 {}
@@ -16,9 +17,13 @@ pub fn binding_laws()
 /// A line has no fault exactly where its words are a model and an instance at least, the instance that they say has lawful names
 /// and binds no formal twice, and no other instance of its model has its name.
 pub fn part_laws()
-    ensures enough { (n : ℕ) (word : List ℕ) (known words : List (List ℕ)) → part_faults n word known words ≡ [] → 2 ≤ length words }
-    ensures lawful { (n : ℕ) (word : List ℕ) (known words : List (List ℕ)) → part_faults n word known words ≡ [] → IsFilePart (part_said n words) }
-    ensures new { (n : ℕ) (word : List ℕ) (known words : List (List ℕ)) → part_faults n word known words ≡ [] → among (instance_of words) known ≡ false }
-    ensures accepted { (n : ℕ) (word : List ℕ) (known words : List (List ℕ)) → 2 ≤ length words → IsFilePart (part_said n words)
+    ensures enough { (n : ℕ) (word : List ℕ) (known words : List (List ℕ))
+        → part_faults n word known words ≡ [] → 2 ≤ length words }
+    ensures lawful { (n : ℕ) (word : List ℕ) (known words : List (List ℕ))
+        → part_faults n word known words ≡ [] → IsFilePart (part_said n words) }
+    ensures new { (n : ℕ) (word : List ℕ) (known words : List (List ℕ))
+        → part_faults n word known words ≡ [] → among (instance_of words) known ≡ false }
+    ensures accepted { (n : ℕ) (word : List ℕ) (known words : List (List ℕ)) → 2 ≤ length words
+        → IsFilePart (part_said n words)
         → among (instance_of words) known ≡ false → part_faults n word known words ≡ [] }
 {}

@@ -1,4 +1,5 @@
--- Rows that are gathered one after the other, with their distinct rows of outputs. For private functions.
+-- Rows that are gathered one after the other, with their distinct rows of outputs. For private
+-- functions.
 use Rattle.std.specs.Prelude.{◌≡◌, ℕ, ◌<◌, Option, Some, None, List, [], ◌∷◌, ◌++◌, length, map, filter}
 use Rattle.indexmap.specs.IndexSet.{insert_all}
 use Rattle.mv_base.specs.declared.limits.TheConstants.{MAX_JOINT_ROWS}
@@ -42,7 +43,8 @@ pub record Gathers (more : List PlainRow) (old new : Gathered) : Type 0 where
   pub rows : new.rows ≡ old.rows ++ more
   pub outs : new.outs.keys ≡ joined old.outs.keys more
 
--- why some rows more can't be gathered: with them there are more distinct rows of outputs than a table may have
+-- why some rows more can't be gathered: with them there are more distinct rows of outputs than a
+-- table may have
 abbrev pub StopsOver : List PlainRow → Gathered → JointStop → Type 0
 StopsOver more g Wide = MAX_JOINT_ROWS < length (joined g.outs.keys more)
 StopsOver more g Memory = Unit {0}
@@ -61,10 +63,12 @@ pub record AreChoices (p : PlainTable) (found : SplitTable) : Type 0 where
 
 -- the choice net's table
 abbrev pub choice_of : SplitTable → FileTable
-choice_of f = table_of (map (choice_row f.choices.keys) f.rows) (choice_default f.choices.keys f.default)
+choice_of f =
+    table_of (map (choice_row f.choices.keys) f.rows) (choice_default f.choices.keys f.default)
 
 -- the lines of rows are put in where there were none, and where there may be so many
-pub record PutsFrom (columns : List Column) (rows : List Row) (most : ℕ) (d : LineSet) : Type 0 where
+pub record PutsFrom (columns : List Column) (rows : List Row) (most : ℕ) (d : LineSet)
+    : Type 0 where
   pub start : LineSet
   pub room : IsRoom most start
   pub puts : PutsRows columns rows start d

@@ -1,5 +1,5 @@
--- A table of several outputs as covers, line by line: a choice net, whose values are the distinct rows of outputs, and a
--- table on it for each output.
+-- A table of several outputs as covers, line by line: a choice net, whose values are the distinct
+-- rows of outputs, and a table on it for each output.
 use Rattle.std.specs.Prelude.{◌≡◌, ℕ, ◌+◌, ◌<◌, ◌≤◌, Option, Some, None, List, [], ◌∷◌, ◌++◌, length, map, position, slice_index_or, max}
 use Rattle.std.specs.Option.{unwrap_or}
 use Rattle.mv_base.specs.Set.{empty, one}
@@ -54,11 +54,13 @@ choice_default all (Some outs) = Some (choice_entry all outs ∷ [])
 
 -- a table of one output with these rows and this default
 abbrev pub table_of : List Row → Option (List Entry) → FileTable
-table_of rows default = record { line = 0; inputs = []; outputs = []; rows = rows; default = default }
+table_of rows default =
+    record { line = 0; inputs = []; outputs = []; rows = rows; default = default }
 
 -- the choice net's table
 abbrev pub choice_table : PlainTable → FileTable
-choice_table p = table_of (map (choice_row (distinct p)) p.rows) (choice_default (distinct p) p.default)
+choice_table p =
+    table_of (map (choice_row (distinct p)) p.rows) (choice_default (distinct p) p.default)
 
 -- the row of the choice net's value v: the set that the row of outputs has for output j
 abbrev pub output_row : ℕ → ℕ → List ℕ → Row
@@ -84,7 +86,9 @@ IsCoverOf columns t mark c = IsMade columns t mark (record { cover = c; mark = N
 -- covers of the outputs from j on
 abbrev pub AreOutputs : List (List ℕ) → NetId → NetId → ℕ → List Cover → Type 0
 AreOutputs all mark choice j [] = Unit {0}
-AreOutputs all mark choice j (c ∷ cs) = IsCoverOf (choice_columns all choice) (output_table all j) mark c × AreOutputs all mark choice (j + 1) cs
+AreOutputs all mark choice j (c ∷ cs) =
+    IsCoverOf (choice_columns all choice) (output_table all j) mark c
+    × AreOutputs all mark choice (j + 1) cs
 
 -- the cover of the mark's table, if there is one
 abbrev pub IsMarkOf : List Column → NetId → Option FileTable → Option Cover → Type 0
@@ -94,7 +98,8 @@ IsMarkOf columns mark (Some t) None = ⊥
 IsMarkOf columns mark (Some t) (Some c) = IsCoverOf columns t mark c
 
 -- the covers of a table without `=`
-pub record IsMadeOf (columns : List Column) (p : PlainTable) (several : ℕ) (mark choice : NetId) (joint : JointTable) : Type 0 where
+pub record IsMadeOf (columns : List Column) (p : PlainTable) (several : ℕ) (mark choice : NetId)
+    (joint : JointTable) : Type 0 where
   pub few : length (distinct p) ≤ MAX_VALUES
   pub values : joint.values ≡ choice_count (distinct p)
   pub chosen : IsCoverOf p.columns (choice_table p) mark joint.choice
@@ -104,7 +109,8 @@ pub record IsMadeOf (columns : List Column) (p : PlainTable) (several : ℕ) (ma
 
 -- the covers of a table of a file
 abbrev pub IsMadeJoint : List Column → FileTable → NetId → NetId → JointTable → Type 0
-IsMadeJoint columns t mark choice joint = IsMadeOf columns (plain_of columns t mark) (length t.outputs) mark choice joint
+IsMadeJoint columns t mark choice joint =
+    IsMadeOf columns (plain_of columns t mark) (length t.outputs) mark choice joint
 
 -- there are more distinct rows of outputs than a table may have
 abbrev pub IsWide : List Column → FileTable → NetId → Type 0
@@ -121,7 +127,8 @@ mark_lines None = []
 mark_lines (Some cover) = cover.lines
 
 -- the mark's cover has more lines than so many
-pub record HasMoreMarks (columns : List Column) (t : FileTable) (mark : NetId) (most : ℕ) : Type 0 where
+pub record HasMoreMarks (columns : List Column) (t : FileTable) (mark : NetId) (most : ℕ)
+    : Type 0 where
   pub cover : Cover
   pub made : IsMarkOf columns mark (mark_of columns t) (Some cover)
   pub many : most < length cover.lines
@@ -132,7 +139,8 @@ StopsMark columns t mark most Many = HasMoreMarks columns t mark most
 StopsMark columns t mark most out_of_rows = Unit {0}
 
 -- the covers of the mark and of the choice net have more lines than so many
-pub record HasMoreLines (columns : List Column) (t : FileTable) (mark choice : NetId) (most : ℕ) : Type 0 where
+pub record HasMoreLines (columns : List Column) (t : FileTable) (mark choice : NetId) (most : ℕ)
+    : Type 0 where
   pub joint : JointTable
   pub made : IsMadeJoint columns t mark choice joint
   pub many : most < length (mark_lines joint.mark) + length joint.choice.lines

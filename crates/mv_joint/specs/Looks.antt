@@ -14,7 +14,8 @@ abbrev pub is_single : List Column → Entry → Bool
 is_single columns (Set s) = true
 is_single columns (Same k) = nat_eq (count_at columns k) 1
 
--- one of the row's rows matches everything: it does so itself, and the columns that it names have one value
+-- one of the row's rows matches everything: it does so itself, and the columns that it names have
+-- one value
 abbrev pub gives_bare : List Column → Row → Bool
 gives_bare columns r = list_all (is_single columns) r.outs && matches_all columns r.ins
 

@@ -27,11 +27,13 @@ with_value at n v m = if nat_eq m n then v else at m
 
 -- with the value v at the choice net, its cover allows v, and each output's cover allows its output
 abbrev pub choice_allows : JointTable → NetId → (ℕ → ℕ) → List ℕ → ℕ → Bool
-choice_allows joint choice at outs v = allowed joint.choice (with_value at choice.0 v) v && outputs_allow joint.outputs (with_value at choice.0 v) outs
+choice_allows joint choice at outs v = allowed joint.choice (with_value at choice.0 v) v
+    && outputs_allow joint.outputs (with_value at choice.0 v) outs
 
 -- this is so with some value of the choice net
 abbrev pub some_choice : JointTable → NetId → (ℕ → ℕ) → List ℕ → Bool
-some_choice joint choice at outs = list_any (choice_allows joint choice at outs) (range_with_len 0 joint.values)
+some_choice joint choice at outs =
+    list_any (choice_allows joint choice at outs) (range_with_len 0 joint.values)
 
 -- each entry says values of its output net, which has so many
 abbrev pub FitEach : List Column → List ℕ → List Entry → Type 0
@@ -53,15 +55,23 @@ AreTableCovers count [] (_ ∷ _) = ⊥
 AreTableCovers count (_ ∷ _) [] = ⊥
 AreTableCovers count (n ∷ ns) (c ∷ cs) = IsTableCover count n c × AreTableCovers count ns cs
 
--- the covers, with the mark at the value that the mark's cover gives, allow together what the table allows
-pub record IsJointTable (columns : List Column) (t : FileTable) (mark choice : NetId) (joint : JointTable) : Type 0 where
+-- the covers, with the mark at the value that the mark's cover gives, allow together what the table
+-- allows
+pub record IsJointTable (columns : List Column) (t : FileTable) (mark choice : NetId)
+    (joint : JointTable) : Type 0 where
   pub some : 0 < joint.values
   pub few : joint.values ≤ MAX_VALUES
-  pub allows : (at : ℕ → ℕ) → in_range at columns ≡ true → MarkHas joint.mark mark at (mark_value t.rows (column_values at columns)) → (outs : List ℕ)
-      → some_choice joint choice at outs ≡ table_allows t.rows t.default (column_values at columns) outs
-  pub marks : (m : Cover) → joint.mark ≡ Some m → (at : ℕ → ℕ) → in_range at columns ≡ true → (v : ℕ)
+  pub allows : (at : ℕ → ℕ) → in_range at columns ≡ true
+      → MarkHas joint.mark mark at (mark_value t.rows (column_values at columns)) → (outs : List ℕ)
+      → some_choice joint choice at outs
+      ≡ table_allows t.rows t.default (column_values at columns) outs
+  pub marks : (m : Cover) → joint.mark ≡ Some m → (at : ℕ → ℕ) → in_range at columns ≡ true
+      → (v : ℕ)
       → allowed m at v ≡ nat_eq v (mark_value t.rows (column_values at columns))
-  pub formed : (count : ℕ → ℕ) → CountBy count columns → MarkHas joint.mark mark count 2 → IsTableCover count joint.values joint.choice
-  pub outputs_formed : (count : ℕ → ℕ) → count choice.0 ≡ joint.values → (counts : List ℕ) → FitJointOutputs columns counts t
+  pub formed : (count : ℕ → ℕ) → CountBy count columns → MarkHas joint.mark mark count 2
+      → IsTableCover count joint.values joint.choice
+  pub outputs_formed : (count : ℕ → ℕ) → count choice.0 ≡ joint.values → (counts : List ℕ)
+      → FitJointOutputs columns counts t
       → AreTableCovers count counts joint.outputs
-  pub mark_formed : (m : Cover) → joint.mark ≡ Some m → (count : ℕ → ℕ) → CountBy count columns → IsTableCover count 2 m
+  pub mark_formed : (m : Cover) → joint.mark ≡ Some m → (count : ℕ → ℕ) → CountBy count columns
+      → IsTableCover count 2 m

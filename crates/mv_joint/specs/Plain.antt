@@ -1,5 +1,5 @@
--- A table of several outputs without `=`: each row matches something and says some values of each output. Where a default
--- can't stand as sets, it is a row that reads a mark.
+-- A table of several outputs without `=`: each row matches something and says some values of each
+-- output. Where a default can't stand as sets, it is a row that reads a mark.
 use Rattle.std.specs.Prelude.{◌≡◌, ℕ, Bool, true, false, ◌&&◌, ◌||◌, not, nat_eq, Option, Some, None, List, [], ◌∷◌, ◌++◌, length, map, filter, if◌then◌else◌, All}
 use Rattle.std.specs.List.{list_any}
 use Rattle.mv_base.specs.Set.{empty, one, full}
@@ -30,17 +30,19 @@ pub record IsJointRow (columns : List Column) (outputs : ℕ) (r : Row) : Type 0
   pub entries : All (FitEntry columns) r.outs
 
 -- an entry for each of so many outputs
-pub record IsJointDefault (columns : List Column) (outputs : ℕ) (entries : List Entry) : Type 0 where
+pub record IsJointDefault (columns : List Column) (outputs : ℕ) (entries : List Entry)
+    : Type 0 where
   pub several : length entries ≡ outputs
   pub fit : All (FitEntry columns) entries
 
 -- a table over these columns
 pub record IsJointFile (columns : List Column) (t : FileTable) : Type 0 where
   pub rows : All (IsJointRow columns (length t.outputs)) t.rows
-  pub default : (entries : List Entry) → t.default ≡ Some entries → IsJointDefault columns (length t.outputs) entries
+  pub default : (entries : List Entry) → t.default ≡ Some entries
+      → IsJointDefault columns (length t.outputs) entries
 
--- a mark and a choice net for a table over these columns: the mark has two values beside them, and the choice net is the net
--- of none of them nor the mark
+-- a mark and a choice net for a table over these columns: the mark has two values beside them, and
+-- the choice net is the net of none of them nor the mark
 pub record AreApart (columns : List Column) (mark choice : NetId) : Type 0 where
   pub inputs : AreColumns columns
   pub marked : AreColumns (with_mark columns mark)
@@ -67,7 +69,8 @@ abbrev pub is_same : Entry → Bool
 is_same (Set s) = false
 is_same (Same k) = true
 
--- a default that stays can't stand as sets: an entry names a column, or some row takes it away and says nothing of an output
+-- a default that stays can't stand as sets: an entry names a column, or some row takes it away and
+-- says nothing of an output
 abbrev pub needs_mark : List PlainRow → List Entry → Bool
 needs_mark rows entries = list_any is_same entries || list_any is_silent rows
 
@@ -86,17 +89,26 @@ mark_row r = record { ins = r.ins; outs = Set (one 0) ∷ [] }
 
 -- the mark's table: 0 where some row matches, and 1 elsewhere
 abbrev pub mark_table : List PlainRow → FileTable
-mark_table rows = record { line = 0; inputs = []; outputs = []; rows = map mark_row rows; default = Some (Set (one 1) ∷ []) }
+mark_table rows =
+    record {
+      line = 0;
+      inputs = [];
+      outputs = [];
+      rows = map mark_row rows;
+      default = Some (Set (one 1) ∷ []);
+    }
 
 -- the table with these rows, and with this default if there is one
 abbrev pub unmarked : List Column → List PlainRow → Option (List ℕ) → PlainTable
-unmarked columns rows default = record { columns = columns; rows = said rows; default = default; mark = None }
+unmarked columns rows default =
+    record { columns = columns; rows = said rows; default = default; mark = None }
 
 -- the table with these rows, and with the default as rows that have the mark at 1
 abbrev pub marked : List Column → NetId → List PlainRow → List Entry → PlainTable
 marked columns mark rows entries = record {
   columns = with_mark columns mark;
-  rows = map with_any_mark (said rows) ++ rows_of (with_mark columns mark) (marked_sets columns) entries;
+  rows = map with_any_mark (said rows)
+      ++ rows_of (with_mark columns mark) (marked_sets columns) entries;
   default = None;
   mark = Some (mark_table rows);
 }
@@ -124,4 +136,5 @@ is_joint_marked columns t = default_marked columns (all_rows columns t.rows) t.d
 
 -- the table of the mark, if the table gets one
 abbrev pub mark_of : List Column → FileTable → Option FileTable
-mark_of columns t = if is_joint_marked columns t then Some (mark_table (all_rows columns t.rows)) else None
+mark_of columns t = if is_joint_marked columns t then Some (mark_table (all_rows columns t.rows))
+    else None

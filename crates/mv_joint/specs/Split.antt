@@ -1,4 +1,5 @@
--- The rows of a table with a set for each output: where a row names columns by `=`, one for each choice of their values.
+-- The rows of a table with a set for each output: where a row names columns by `=`, one for each
+-- choice of their values.
 use Rattle.std.specs.Prelude.{ℕ, Bool, not, List, [], ◌∷◌, ◌++◌, slice_index, slice_set, filter, if◌then◌else◌}
 use Rattle.std.specs.List.{flat_map, range_with_len}
 use Rattle.mv_base.specs.Set.{has, one}
@@ -11,11 +12,18 @@ use Rattle.mv_rows.specs.Lines.{count_at}
 use Rattle.mv_rows.specs.Marked.{matches_none}
 use Rattle.mv_joint.specs.declared.split.PlainRow.{PlainRow}
 
--- a row that has the value v in the column at place k: with this value alone there and as the set of one output more
+-- a row that has the value v in the column at place k: with this value alone there and as the set
+-- of one output more
 abbrev pub narrowing : ℕ → PlainRow → ℕ → List PlainRow
-narrowing k r v = if has (slice_index r.ins k) v then record { ins = slice_set r.ins k (one v); outs = r.outs ++ one v ∷ [] } ∷ [] else []
+narrowing k r v =
+    if has (slice_index r.ins k) v then record {
+      ins = slice_set r.ins k (one v);
+      outs = r.outs
+          ++ one v ∷ [];
+    } ∷ [] else []
 
--- the rows of a row with one entry more: one with its set, or one for each value of the column that it names, ascending
+-- the rows of a row with one entry more: one with its set, or one for each value of the column that
+-- it names, ascending
 abbrev pub extended : List Column → Entry → PlainRow → List PlainRow
 extended columns (Set s) r = record { ins = r.ins; outs = r.outs ++ s ∷ [] } ∷ []
 extended columns (Same k) r = flat_map (narrowing k r) (range_with_len 0 (count_at columns k))
@@ -31,7 +39,8 @@ is_possible columns r = not (matches_none columns r.ins)
 
 -- the rows with these sets and these entries that match something
 abbrev pub rows_of : List Column → List ℕ → List Entry → List PlainRow
-rows_of columns ins entries = filter (is_possible columns) (split columns entries (record { ins = ins; outs = [] } ∷ []))
+rows_of columns ins entries =
+    filter (is_possible columns) (split columns entries (record { ins = ins; outs = [] } ∷ []))
 
 -- the rows of all rows
 abbrev pub all_rows : List Column → List Row → List PlainRow

@@ -192,8 +192,10 @@ fn choice_cover(
     most: usize,
 ) -> Result<Cover, RowStop>
     requires found { IsSplit mark found.now }
-    ensures cover { IfOk result (λ cover. IsCoverOf found.now.columns (choice_of found.now) mark cover) }
-    ensures stop { IfErr result (λ stop. StopsAt found.now.columns (choice_of found.now) mark most stop) }
+    ensures cover { IfOk result
+        (λ cover. IsCoverOf found.now.columns (choice_of found.now) mark cover) }
+    ensures stop { IfErr result
+        (λ stop. StopsAt found.now.columns (choice_of found.now) mark most stop) }
 {
     let table = choice_table(alloc, found)?;
     let columns = found.columns.as_slice();
@@ -312,7 +314,9 @@ fn output_cover(
     requires few { length all.now ≤ MAX_VALUES }
     requires apart { nat_eq mark.0 column.now.net.0 ≡ false }
     requires column { column.now.count ≡ choice_count all.now }
-    ensures { IfOk result (λ cover. IsCoverOf (choice_columns all.now column.now.net) (output_table all.now output) mark cover) }
+    ensures { IfOk result
+        (λ cover. IsCoverOf (choice_columns all.now column.now.net)
+        (output_table all.now output) mark cover) }
 {
     let table = table_of(alloc, output_rows(alloc, all, output)?, None)?;
     cover_of(alloc, std::slice::from_ref(column), &table, mark)

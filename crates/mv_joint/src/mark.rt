@@ -31,7 +31,8 @@ pub fn mark_cover(
     requires columns { AreColumns columns.now }
     requires with_mark { AreColumns (with_mark columns.now mark) }
     requires table { IsJointFile columns.now table.now }
-    ensures cover { IfOk result (λ cover. IsMarkOf columns.now mark (mark_of columns.now table.now) cover) }
+    ensures cover { IfOk result
+        (λ cover. IsMarkOf columns.now mark (mark_of columns.now table.now) cover) }
     ensures stop { IfErr result (λ stop. StopsMark columns.now table.now mark most stop) }
 {
     if !is_joint_marked(alloc, columns, table)? {
@@ -55,8 +56,12 @@ fn marked_cover(
     requires columns { AreColumns columns.now }
     requires with_mark { AreColumns (with_mark columns.now mark) }
     requires table { IsJointFile columns.now table.now }
-    ensures cover { IfOk result (λ cover. IsCoverOf columns.now (mark_table (all_rows columns.now table.now.rows)) mark cover) }
-    ensures stop { IfErr result (λ stop. StopsAt columns.now (mark_table (all_rows columns.now table.now.rows)) mark most stop) }
+    ensures cover { IfOk result
+        (λ cover. IsCoverOf columns.now
+        (mark_table (all_rows columns.now table.now.rows)) mark cover) }
+    ensures stop { IfErr result
+        (λ stop. StopsAt columns.now
+        (mark_table (all_rows columns.now table.now.rows)) mark most stop) }
 {
     let frame = Frame::new(alloc, columns)?;
     let set = match mark_lines(alloc, &frame, table, most) {
@@ -77,8 +82,12 @@ fn mark_lines(
 ) -> Result<LineSet, RowStop>
     requires frame { IsFrame frame.now }
     requires table { IsJointFile frame.now.columns table.now }
-    ensures lines { IfOk result (λ set. AreDistinct frame.now.columns (map mark_row (all_rows frame.now.columns table.now.rows)) most set) }
-    ensures stop { IfErr result (λ stop. StopsLines frame.now.columns (map mark_row (all_rows frame.now.columns table.now.rows)) most stop) }
+    ensures lines { IfOk result
+        (λ set. AreDistinct frame.now.columns
+        (map mark_row (all_rows frame.now.columns table.now.rows)) most set) }
+    ensures stop { IfErr result
+        (λ stop. StopsLines frame.now.columns
+        (map mark_row (all_rows frame.now.columns table.now.rows)) most stop) }
 {
     let mut set = LineSet::new(alloc, most);
     for row in table.rows.as_slice() {
@@ -95,8 +104,12 @@ fn put_row(set: &mut LineSet, alloc: Global, frame: &Frame, row: &Row) -> Result
     requires frame { IsFrame frame.now }
     requires sets { FitRow frame.now.columns row.now.ins }
     requires entries { All (FitEntry frame.now.columns) row.now.outs }
-    ensures rows { OnOk result (PutsRows frame.now.columns (map mark_row (rows_of frame.now.columns row.now.ins row.now.outs)) set.old set.new) }
-    ensures stop { IfErr result (λ stop. StopsRows frame.now.columns (map mark_row (rows_of frame.now.columns row.now.ins row.now.outs)) set.old stop) }
+    ensures rows { OnOk result
+        (PutsRows frame.now.columns
+        (map mark_row (rows_of frame.now.columns row.now.ins row.now.outs)) set.old set.new) }
+    ensures stop { IfErr result
+        (λ stop. StopsRows frame.now.columns
+        (map mark_row (rows_of frame.now.columns row.now.ins row.now.outs)) set.old stop) }
 {
     let (ins, outs) = (row.ins.as_slice(), row.outs.as_slice());
     if !is_possible(alloc, frame, ins)? {
@@ -118,8 +131,12 @@ fn put_rest(
     requires fit { IsFit frame.now.columns row }
     requires possible { is_possible frame.now.columns row ≡ true }
     requires entries { All (FitEntry frame.now.columns) entries.now }
-    ensures rows { OnOk result (PutsRows frame.now.columns (map mark_row (rest_of frame.now.columns entries.now row)) set.old set.new) }
-    ensures stop { IfErr result (λ stop. StopsRows frame.now.columns (map mark_row (rest_of frame.now.columns entries.now row)) set.old stop) }
+    ensures rows { OnOk result
+        (PutsRows frame.now.columns
+        (map mark_row (rest_of frame.now.columns entries.now row)) set.old set.new) }
+    ensures stop { IfErr result
+        (λ stop. StopsRows frame.now.columns
+        (map mark_row (rest_of frame.now.columns entries.now row)) set.old stop) }
 {
     let Some((entry, rest)) = entries.split_first() else {
         return put_line(set, alloc, frame, &row);
@@ -150,8 +167,10 @@ fn put_rest(
 fn put_line(set: &mut LineSet, alloc: Global, frame: &Frame, row: &PlainRow) -> Result<(), RowStop>
     requires frame { IsFrame frame.now }
     requires fit { IsFit frame.now.columns row.now }
-    ensures rows { OnOk result (PutsRows frame.now.columns (mark_row row.now ∷ []) set.old set.new) }
-    ensures stop { IfErr result (λ stop. StopsRows frame.now.columns (mark_row row.now ∷ []) set.old stop) }
+    ensures rows { OnOk result
+        (PutsRows frame.now.columns (mark_row row.now ∷ []) set.old set.new) }
+    ensures stop { IfErr result
+        (λ stop. StopsRows frame.now.columns (mark_row row.now ∷ []) set.old stop) }
 {
     let Some(cube) = frame.cube(alloc, row.ins.as_slice())? else {
         return Ok(());

@@ -37,7 +37,9 @@ fn default_marked(
 ) -> Result<bool, Memory>
     requires frame { IsFrame frame.now }
     requires table { IsJointFile frame.now.columns table.now }
-    ensures { IfOk result (λ b. b ≡ (stays frame.now.columns (all_rows frame.now.columns table.now.rows) entries.now && needs_mark (all_rows frame.now.columns table.now.rows) entries.now)) }
+    ensures { IfOk result
+        (λ b. b ≡ (stays frame.now.columns (all_rows frame.now.columns table.now.rows) entries.now
+        && needs_mark (all_rows frame.now.columns table.now.rows) entries.now)) }
 {
     if !stays(alloc, frame, table, entries)? {
         return Ok(false);
@@ -54,7 +56,8 @@ pub fn stays(
 ) -> Result<bool, Memory>
     requires frame { IsFrame frame.now }
     requires table { IsJointFile frame.now.columns table.now }
-    ensures { IfOk result (λ b. b ≡ stays frame.now.columns (all_rows frame.now.columns table.now.rows) entries.now) }
+    ensures { IfOk result
+        (λ b. b ≡ stays frame.now.columns (all_rows frame.now.columns table.now.rows) entries.now) }
 {
     if some_empty(entries) {
         return Ok(false);
@@ -72,7 +75,8 @@ pub fn needs_mark(
 ) -> Result<bool, Memory>
     requires frame { IsFrame frame.now }
     requires table { IsJointFile frame.now.columns table.now }
-    ensures { IfOk result (λ b. b ≡ needs_mark (all_rows frame.now.columns table.now.rows) entries.now) }
+    ensures { IfOk result
+        (λ b. b ≡ needs_mark (all_rows frame.now.columns table.now.rows) entries.now) }
 {
     if names_column(entries) {
         return Ok(true);

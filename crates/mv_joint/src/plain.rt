@@ -73,9 +73,11 @@ pub fn plain_table(
 fn said_rows(alloc: Global, frame: &Frame, table: &FileTable) -> Result<Gathered, JointStop>
     requires frame { IsFrame frame.now }
     requires table { IsJointFile frame.now.columns table.now }
-    ensures rows { IfOk result (λ gathered. IsGathered (said (all_rows frame.now.columns table.now.rows)) gathered) }
+    ensures rows { IfOk result
+        (λ gathered. IsGathered (said (all_rows frame.now.columns table.now.rows)) gathered) }
     ensures few { IfOk result (λ gathered. length gathered.outs.keys ≤ MAX_JOINT_ROWS) }
-    ensures stop { IfErr result (λ stop. StopsRows (all_rows frame.now.columns table.now.rows) stop) }
+    ensures stop { IfErr result
+        (λ stop. StopsRows (all_rows frame.now.columns table.now.rows) stop) }
 {
     let mut gathered = Gathered::new(alloc);
     for row in table.rows.as_slice() {
@@ -121,9 +123,13 @@ fn unmarked(
 ) -> Result<SplitTable, JointStop>
     requires frame { IsFrame frame.now }
     requires table { IsJointFile frame.now.columns table.now }
-    ensures found { IfOk result (λ found. AreChoices (unmarked frame.now.columns (all_rows frame.now.columns table.now.rows) default) found) }
+    ensures found { IfOk result
+        (λ found. AreChoices
+        (unmarked frame.now.columns (all_rows frame.now.columns table.now.rows) default) found) }
     ensures few { IfOk result (λ found. length found.choices.keys ≤ MAX_JOINT_ROWS) }
-    ensures stop { IfErr result (λ stop. StopsWith (unmarked frame.now.columns (all_rows frame.now.columns table.now.rows) default) stop) }
+    ensures stop { IfErr result
+        (λ stop. StopsWith
+        (unmarked frame.now.columns (all_rows frame.now.columns table.now.rows) default) stop) }
 {
     let gathered = match said_rows(alloc, frame, table) {
         Ok(gathered) => gathered,
@@ -165,9 +171,15 @@ fn marked(
     requires table { IsJointFile frame.now.columns table.now }
     requires entries { All (FitEntry frame.now.columns) entries.now }
     requires some { list_any says_nothing entries.now ≡ false }
-    ensures found { IfOk result (λ found. AreChoices (marked frame.now.columns mark (all_rows frame.now.columns table.now.rows) entries.now) found) }
+    ensures found { IfOk result
+        (λ found. AreChoices
+        (marked frame.now.columns mark
+        (all_rows frame.now.columns table.now.rows) entries.now) found) }
     ensures few { IfOk result (λ found. length found.choices.keys ≤ MAX_JOINT_ROWS) }
-    ensures stop { IfErr result (λ stop. StopsWith (marked frame.now.columns mark (all_rows frame.now.columns table.now.rows) entries.now) stop) }
+    ensures stop { IfErr result
+        (λ stop. StopsWith
+        (marked frame.now.columns mark
+        (all_rows frame.now.columns table.now.rows) entries.now) stop) }
 {
     let gathered = match said_rows(alloc, frame, table) {
         Ok(gathered) => gathered,
@@ -191,9 +203,11 @@ fn with_default_rows(
     requires few { length gathered.outs.keys ≤ MAX_JOINT_ROWS }
     requires entries { All (FitEntry columns.now) entries.now }
     requires some { list_any says_nothing entries.now ≡ false }
-    ensures found { IfOk result (λ found. AreChoices (marked columns.now mark gathered.rows entries.now) found) }
+    ensures found { IfOk result
+        (λ found. AreChoices (marked columns.now mark gathered.rows entries.now) found) }
     ensures few { IfOk result (λ found. length found.choices.keys ≤ MAX_JOINT_ROWS) }
-    ensures stop { IfErr result (λ stop. StopsWith (marked columns.now mark gathered.rows entries.now) stop) }
+    ensures stop { IfErr result
+        (λ stop. StopsWith (marked columns.now mark gathered.rows entries.now) stop) }
 {
     let both = with_mark(alloc, columns, mark)?;
     let frame = Frame::new(alloc, both.as_slice())?;

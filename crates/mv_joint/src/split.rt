@@ -43,9 +43,11 @@ pub fn put_rows(
     requires sets { FitRow frame.now.columns ins.now }
     requires entries { All (FitEntry frame.now.columns) entries.now }
     requires few { length gathered.old.outs.keys ≤ MAX_JOINT_ROWS }
-    ensures rows { OnOk result (Gathers (rows_of frame.now.columns ins.now entries.now) gathered.old gathered.new) }
+    ensures rows { OnOk result
+        (Gathers (rows_of frame.now.columns ins.now entries.now) gathered.old gathered.new) }
     ensures few { OnOk result (length gathered.new.outs.keys ≤ MAX_JOINT_ROWS) }
-    ensures stop { IfErr result (λ stop. StopsOver (rows_of frame.now.columns ins.now entries.now) gathered.old stop) }
+    ensures stop { IfErr result
+        (λ stop. StopsOver (rows_of frame.now.columns ins.now entries.now) gathered.old stop) }
 {
     if !is_possible(alloc, frame, ins)? {
         return Ok(());
@@ -89,9 +91,11 @@ fn put_rest(
     requires possible { is_possible frame.now.columns row ≡ true }
     requires entries { All (FitEntry frame.now.columns) entries.now }
     requires few { length gathered.old.outs.keys ≤ MAX_JOINT_ROWS }
-    ensures rows { OnOk result (Gathers (rest_of frame.now.columns entries.now row) gathered.old gathered.new) }
+    ensures rows { OnOk result
+        (Gathers (rest_of frame.now.columns entries.now row) gathered.old gathered.new) }
     ensures few { OnOk result (length gathered.new.outs.keys ≤ MAX_JOINT_ROWS) }
-    ensures stop { IfErr result (λ stop. StopsOver (rest_of frame.now.columns entries.now row) gathered.old stop) }
+    ensures stop { IfErr result
+        (λ stop. StopsOver (rest_of frame.now.columns entries.now row) gathered.old stop) }
 {
     let Some((entry, rest)) = entries.split_first() else {
         return gathered.put(row);
@@ -141,7 +145,9 @@ pub fn narrowed(
     requires fit { IsFit frame.now.columns row.now }
     requires place { place < length frame.now.columns }
     requires value { value.0 < MAX_VALUES }
-    ensures { IfOk result (λ found. listed found ≡ filter (is_possible frame.now.columns) (narrowing place row.now value.0)) }
+    ensures { IfOk result
+        (λ found. listed found
+        ≡ filter (is_possible frame.now.columns) (narrowing place row.now value.0)) }
 {
     if !row.ins.as_slice()[place].has(value) {
         return Ok(None);

@@ -15,18 +15,21 @@ pub record HasOneCube (cubes : List (List Lit)) : Type 0 where
   pub one : (a b : List Lit) → Contains cubes a → Contains cubes b → a ≡ b
 
 -- the kernel is the quotient by these symbols and by those that each cube has which has these
-pub record IsBelow (cover : List (List Lit)) (c : List Lit) (kernel : List (List Lit)) : Type 0 where
+pub record IsBelow (cover : List (List Lit)) (c : List Lit) (kernel : List (List Lit))
+    : Type 0 where
   pub common : List Lit
   pub is : IsKernelBy cover (c ++ common) kernel
   pub rows : All (λ q. has_each c q ≡ true → has_each (c ++ common) q ≡ true) cover
 
 -- where two cubes of the quotient differ, the kernel below is among these
 pub record HasBelow (cover : List (List Lit)) (c : List Lit) (kernels : List Kernel) : Type 0 where
-  pub each : (a b : List Lit) → Contains (quotient cover c) a → Contains (quotient cover c) b → a ≢ b
+  pub each : (a b : List Lit) → Contains (quotient cover c) a → Contains (quotient cover c) b
+      → a ≢ b
       → (k : Kernel) × Contains kernels k × IsBelow cover c k.cubes
 
 -- the kernels below the cover by each of these symbols
-pub record AreBelowBy (cover : List (List Lit)) (symbols : List Lit) (kernels : List Kernel) : Type 0 where
+pub record AreBelowBy (cover : List (List Lit)) (symbols : List Lit) (kernels : List Kernel)
+    : Type 0 where
   pub each : All (λ k. (l : Lit) × IsBelow cover (l ∷ []) k.cubes) kernels
   pub all : All (λ l. HasBelow cover (l ∷ []) kernels) symbols
 

@@ -1,5 +1,6 @@
--- The order of cubes: a cube is compared as the ascending list of its literals, and a literal by the number of its net and
--- then by its set as a number. A cube that another goes on from comes before it.
+-- The order of cubes: a cube is compared as the ascending list of its literals, and a literal by
+-- the number of its net and then by its set as a number. A cube that another goes on from comes
+-- before it.
 use Rattle.std.specs.Prelude.{◌≡◌, List}
 use Rattle.std.specs.Ordering.{nat_cmp, ordering_then}
 use Rattle.std.specs.declared.cmp.Ordering.{Ordering}

@@ -1,5 +1,6 @@
--- Cubes as sets of symbols, and covers as sets of cubes, after Brayton and McMullen: a literal is one symbol, the pair of
--- its net and its set, so that two sets on one net are two symbols that have nothing to do with each other.
+-- Cubes as sets of symbols, and covers as sets of cubes, after Brayton and McMullen: a literal is
+-- one symbol, the pair of its net and its set, so that two sets on one net are two symbols that
+-- have nothing to do with each other.
 use Rattle.std.specs.Prelude.{Bool, not, List, map, filter, All, Contains}
 use Rattle.std.specs.List.{list_any, list_all}
 use Rattle.mv_cover.specs.Literal.{Lit}

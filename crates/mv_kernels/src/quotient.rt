@@ -13,8 +13,10 @@ use std::alloc::Global;
 /// The kernel that the quotient by these symbols becomes without the symbols that all of its cubes have, or None where it
 /// has fewer than two cubes.
 pub fn kernel_by(alloc: Global, cubes: &[Cube], symbols: &[Lit]) -> Result<Option<Kernel>, Memory>
-    ensures some { IfOk result (λ found. IfSome found (λ kernel. IsBelow cubes.now symbols.now kernel.cubes)) }
-    ensures none { IfOk result (λ found. IfNone found (HasOneCube (spec.quotient cubes.now symbols.now))) }
+    ensures some { IfOk result
+        (λ found. IfSome found (λ kernel. IsBelow cubes.now symbols.now kernel.cubes)) }
+    ensures none { IfOk result
+        (λ found. IfNone found (HasOneCube (spec.quotient cubes.now symbols.now))) }
     ensures formed { OnOk result (All IsCube cubes.now) }
 {
     let part = quotient(alloc, cubes, symbols)?;

@@ -23,7 +23,8 @@ use std::alloc::{AllocError, AllocFailed, Global};
 /// others.
 pub fn kernels(alloc: Global, cubes: &[Cube]) -> Result<Vec<Kernel>, KernelStop>
     ensures are { IfOk result (λ found. AreKernels cubes.now found.items) }
-    ensures all { IfOk result (λ found. (k : Kernel) → IsKernelOf cubes.now k.cubes → Contains found.items k) }
+    ensures all { IfOk result
+        (λ found. (k : Kernel) → IsKernelOf cubes.now k.cubes → Contains found.items k) }
     ensures few { IfOk result (λ _. HasFew cubes.now) }
     ensures many { IfErr result (λ stop. stop ≡ KernelStop.TooMany → HasMany cubes.now) }
 {

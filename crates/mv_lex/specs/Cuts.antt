@@ -1,4 +1,5 @@
--- A list cut at its ends, the items that pass a test: the pieces before each end, and the open one behind the last.
+-- A list cut at its ends, the items that pass a test: the pieces before each end, and the open one
+-- behind the last.
 use Rattle.std.specs.Prelude.{Bool, List, [], ◌∷◌, if◌then◌else◌}
 
 -- the item put in front of the first piece, if there is one
@@ -19,4 +20,5 @@ with_front (_ ∷ _) x piece = piece
 -- the piece behind the last end, which is still open
 abbrev pub open_piece : {A : Type 0} → (A → Bool) → List A → List A
 open_piece is_end [] = []
-open_piece is_end (x ∷ xs) = if is_end x then open_piece is_end xs else with_front (closed is_end xs) x (open_piece is_end xs)
+open_piece is_end (x ∷ xs) = if is_end x then open_piece is_end xs
+    else with_front (closed is_end xs) x (open_piece is_end xs)

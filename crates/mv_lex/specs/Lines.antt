@@ -1,5 +1,5 @@
--- The lines of a file and the first fault of its bytes, said of the whole list of bytes: the lines of BLIF-MV after its
--- description by Kukimoto, with this program's profile.
+-- The lines of a file and the first fault of its bytes, said of the whole list of bytes: the lines
+-- of BLIF-MV after its description by Kukimoto, with this program's profile.
 use Rattle.std.specs.Prelude.{◌≡◌, ◌⊎◌, ℕ, ◌+◌, Bool, true, false, not, ◌&&◌, ◌||◌, ◌==◌, nat_le}
 use Rattle.std.specs.Prelude.{List, [], ◌∷◌, ◌++◌, length, Option, Some, None, if◌then◌else◌}
 use Rattle.std.specs.List.{list_all, list_any, flat_map, slice_split}
@@ -45,8 +45,9 @@ is_line_end [] = true
 is_line_end (b ∷ []) = b == 13
 is_line_end (_ ∷ _ ∷ _) = false
 
--- the `\` at the end of the line, with the carriage return behind it if there is one; nothing where there is no such `\`.
--- (Any other carriage return at the end of a line would be dropped. Taken as a blank it gives the same words.)
+-- the `\` at the end of the line, with the carriage return behind it if there is one; nothing where
+-- there is no such `\`. (Any other carriage return at the end of a line would be dropped. Taken as
+-- a blank it gives the same words.)
 abbrev pub tail_of : List ℕ → List ℕ
 tail_of [] = []
 tail_of (b ∷ line) = if (b == 92) && is_line_end line then b ∷ line else tail_of line
@@ -65,7 +66,8 @@ is_empty (_ ∷ _) = false
 abbrev pub joins : List ℕ → Bool
 joins line = not (has_hash line) && not (is_empty (tail_of line))
 
--- what is certain of a line that may go on: a `\` at its end is a byte of a word only if more comes behind it
+-- what is certain of a line that may go on: a `\` at its end is a byte of a word only if more comes
+-- behind it
 abbrev pub certain : List ℕ → List ℕ
 certain line = if has_hash line then before_hash line else before_tail line
 
@@ -85,7 +87,8 @@ onto_group line (group ∷ groups) = (line ∷ group) ∷ groups
 -- the joined lines that have ended, each as its physical lines
 abbrev pub joined : List (List ℕ) → List (List (List ℕ))
 joined [] = []
-joined (line ∷ lines) = if joins line then onto_group line (joined lines) else (line ∷ []) ∷ joined lines
+joined (line ∷ lines) = if joins line then onto_group line (joined lines)
+    else (line ∷ []) ∷ joined lines
 
 -- the line put in front of the unended ones, if no joined line that has ended stands before them
 abbrev pub with_line : List (List (List ℕ)) → List ℕ → List (List ℕ) → List (List ℕ)
@@ -95,7 +98,8 @@ with_line (_ ∷ _) line lines = lines
 -- the physical lines behind the joined lines that have ended: they are joined to what comes
 abbrev pub unended : List (List ℕ) → List (List ℕ)
 unended [] = []
-unended (line ∷ lines) = if joins line then with_line (joined lines) line (unended lines) else unended lines
+unended (line ∷ lines) = if joins line then with_line (joined lines) line (unended lines)
+    else unended lines
 
 -- ---- lines of words
 
@@ -108,10 +112,12 @@ abbrev pub line_at : ℕ → List (List ℕ) → List LexLine
 line_at number [] = []
 line_at number (w ∷ ws) = record { number = number; words = w ∷ ws } ∷ []
 
--- the lines of these joined lines: each has the number of its first physical line, the first one this number
+-- the lines of these joined lines: each has the number of its first physical line, the first one
+-- this number
 abbrev pub numbered : ℕ → List (List (List ℕ)) → List LexLine
 numbered number [] = []
-numbered number (group ∷ groups) = line_at number (words_of (texts group)) ++ numbered (number + length group) groups
+numbered number (group ∷ groups) = line_at number (words_of (texts group))
+    ++ numbered (number + length group) groups
 
 -- the joined lines of physical lines, the last of which is the end of the file
 abbrev pub all_joined : List (List ℕ) → List (List (List ℕ))
@@ -141,7 +147,8 @@ is_closed group = not (waits (cut_of (texts group)).kind)
 
 -- the bytes are accepted: each physical line is readable, and each joined line is closed
 unfoldable pub is_clean : List ℕ → Bool
-is_clean bytes = list_all is_readable (slice_split is_line_feed bytes) && list_all is_closed (all_joined (slice_split is_line_feed bytes))
+is_clean bytes = list_all is_readable (slice_split is_line_feed bytes)
+    && list_all is_closed (all_joined (slice_split is_line_feed bytes))
 
 -- ---- the limits
 
@@ -171,8 +178,8 @@ text_before seen = texts (unended (ended_lines seen))
 abbrev pub open_text : List ℕ → List ℕ
 open_text bytes = text_before bytes ++ text_of (open_line bytes)
 
--- the text that tells the faults at this byte. A `\` at its end may still become a byte of a word, but as such it ends a
--- run of `!` as a blank does: there is no bracketed word
+-- the text that tells the faults at this byte. A `\` at its end may still become a byte of a word,
+-- but as such it ends a run of `!` as a blank does: there is no bracketed word
 abbrev pub text_with : List ℕ → ℕ → List ℕ
 text_with seen b = open_text (if is_line_feed b then seen else seen ++ b ∷ [])
 
@@ -180,7 +187,8 @@ text_with seen b = open_text (if is_line_feed b then seen else seen ++ b ∷ [])
 abbrev pub ends_with_byte : List ℕ → ℕ → Bool
 ends_with_byte seen b = is_hash b || (is_line_feed b && not (joins (open_line seen)))
 
--- the fault of a text that ends here or goes on, cut into words: a word past its limit, or a bracket left open
+-- the fault of a text that ends here or goes on, cut into words: a word past its limit, or a
+-- bracket left open
 abbrev pub words_fault : ℕ → Bool → Cut → Option LexFault
 words_fault line ended cut =
     if has_long ended cut then Some (LongWord line)
@@ -198,7 +206,8 @@ fault_at limit seen b =
 -- the first fault of the bytes behind those seen
 abbrev pub first_fault : ℕ → List ℕ → List ℕ → Option LexFault
 first_fault limit seen [] = None
-first_fault limit seen (b ∷ bytes) = option_or (fault_at limit seen b) (first_fault limit (seen ++ b ∷ []) bytes)
+first_fault limit seen (b ∷ bytes) =
+    option_or (fault_at limit seen b) (first_fault limit (seen ++ b ∷ []) bytes)
 
 -- the fault told at the end of the bytes
 unfoldable pub end_fault : List ℕ → Option LexFault

@@ -25,14 +25,21 @@ ended_word words word = record { words = words ++ nonempty (word ∷ []); word =
 abbrev pub start_byte : List (List ℕ) → List ℕ → ℕ → Cut
 start_byte words word b =
     if is_blank b then ended_word words word
-    else if opens b then record { words = words; word = word ++ b ∷ []; kind = Bracketed (closer b) }
+    else if opens b then record {
+      words = words;
+      word = word ++ b
+          ∷ [];
+      kind = Bracketed (closer b);
+    }
     else record { words = words; word = word ++ b ∷ []; kind = if is_bang b then Start else Plain }
 
 -- one more byte, where the word at the end is a plain one
 abbrev pub plain_byte : List (List ℕ) → List ℕ → ℕ → Cut
-plain_byte words word b = if is_blank b then ended_word words word else record { words = words; word = word ++ b ∷ []; kind = Plain }
+plain_byte words word b = if is_blank b then ended_word words word
+    else record { words = words; word = word ++ b ∷ []; kind = Plain }
 
--- one more byte, where the word at the end is a bracketed one: a blank is dropped, and the bracket `end` ends the word
+-- one more byte, where the word at the end is a bracketed one: a blank is dropped, and the bracket
+-- `end` ends the word
 abbrev pub bracketed_byte : List (List ℕ) → List ℕ → ℕ → ℕ → Cut
 bracketed_byte words word end b =
     if is_blank b then record { words = words; word = word; kind = Bracketed end }
@@ -71,7 +78,8 @@ abbrev pub long_with_bytes : Cut → List ℕ → Bool
 long_with_bytes cut [] = false
 long_with_bytes cut (b ∷ bs) = long_with cut b || long_with_bytes (with_byte cut b) bs
 
--- the fault where a text ends at a word of this size and kind, which isn't too long while the text goes on
+-- the fault where a text ends at a word of this size and kind, which isn't too long while the text
+-- goes on
 abbrev pub kind_end_fault : ℕ → ℕ → Kind → Option LexFault
 kind_end_fault line size Start = if nat_lt MAX_WORD_BYTES size then Some (LongWord line) else None
 kind_end_fault line size Plain = None
@@ -103,7 +111,8 @@ settled r = with_bytes r.cut (held r.place)
 abbrev pub long_fault : ℕ → Bool → Option LexFault
 long_fault line long = if long then Some (LongWord line) else None
 
--- the fault of a byte that is no line feed, outside a comment. A `\` ends a run of `!` as a blank does, whatever it becomes
+-- the fault of a byte that is no line feed, outside a comment. A `\` ends a run of `!` as a blank
+-- does, whatever it becomes
 unfoldable pub text_fault : Reading → ℕ → Option LexFault
 text_fault r b =
     if not (is_acceptable b) then Some (BadByte r.here b)
@@ -133,11 +142,19 @@ text_step r b =
 
 -- what is kept behind a line feed that ends the joined line
 abbrev pub new_line : Reading → Reading
-new_line r = record r { size = r.size + 1; here = r.here + 1; start = r.here + 1; place = Text; cut = no_words }
+new_line r =
+    record r {
+      size = r.size + 1;
+      here = r.here + 1;
+      start = r.here + 1;
+      place = Text;
+      cut = no_words;
+    }
 
 -- what is kept behind a line feed that joins the next line to this one: it counts as a blank
 abbrev pub next_line : Reading → Reading
-next_line r = record r { size = r.size + 1; here = r.here + 1; place = Text; cut = with_byte r.cut 32 }
+next_line r =
+    record r { size = r.size + 1; here = r.here + 1; place = Text; cut = with_byte r.cut 32 }
 
 -- what is kept behind a byte, by where it stands
 abbrev pub place_step : Reading → Place → ℕ → Reading
@@ -177,7 +194,8 @@ pub record TakesLetters (r : Reading) (letters : List ℕ) : Type 0 where
 
 -- what is kept behind them
 abbrev pub with_letters : Reading → List ℕ → Reading
-with_letters r letters = record r { size = r.size + length letters; cut = record r.cut { word = r.cut.word ++ letters } }
+with_letters r letters =
+    record r { size = r.size + length letters; cut = record r.cut { word = r.cut.word ++ letters } }
 
 -- ---- a whole word at once
 
@@ -190,7 +208,8 @@ begins_plain (b ∷ _) = not (opens b) && not (is_bang b)
 abbrev pub ends_plain : ℕ → Bool
 ends_plain b = is_line_feed b || is_blank b
 
--- these bytes are a plain word between words, within its limit, and with one byte more within the limit of the file
+-- these bytes are a plain word between words, within its limit, and with one byte more within the
+-- limit of the file
 pub record TakesWord (r : Reading) (word : List ℕ) : Type 0 where
   pub place : r.place ≡ Text
   pub kind : r.cut.kind ≡ Start
@@ -224,13 +243,15 @@ end_cut r = with_bytes r.cut (blank_at r.place)
 
 -- the fault told where the bytes end
 unfoldable pub end_now : Reading → Option LexFault
-end_now r = if is_comment r.place then None else end_fault_of r.here (with_bytes r.cut (blank_at r.place))
+end_now r = if is_comment r.place then None
+    else end_fault_of r.here (with_bytes r.cut (blank_at r.place))
 
 -- ---- many bytes
 
--- between two states of the lexer and of the lines these bytes were read: behind whichever bytes it stood, it now stands
--- behind those and these, and the lines that ended on the way were gained
-pub record HasRead (start now : Reading) (before later : List LexLine) (piece : List ℕ) : Type 0 where
+-- between two states of the lexer and of the lines these bytes were read: behind whichever bytes it
+-- stood, it now stands behind those and these, and the lines that ended on the way were gained
+pub record HasRead (start now : Reading) (before later : List LexLine) (piece : List ℕ)
+    : Type 0 where
   pub after : (bytes : List ℕ) → IsAfter start bytes → IsAfter now (bytes ++ piece)
   pub lines : GainsLines start before later (λ bytes. complete (bytes ++ piece))
   pub limit : now.limit ≡ start.limit

@@ -1,4 +1,5 @@
--- The words of a text, which is a joined line without its comments, its line feeds and its `\` at the ends of lines.
+-- The words of a text, which is a joined line without its comments, its line feeds and its `\` at
+-- the ends of lines.
 use Rattle.std.specs.Prelude.{ℕ, Bool, true, false, not, ◌||◌, ◌==◌, nat_lt, List, [], ◌∷◌, ◌++◌, length, filter, suc, zero, if◌then◌else◌}
 use Rattle.std.specs.List.{list_any}
 use Rattle.mv_base.specs.Names.{is_bracketed}
@@ -36,7 +37,8 @@ abbrev pub behind : (ℕ → Bool) → List ℕ → List ℕ
 behind p [] = []
 behind p (b ∷ bs) = if p b then behind p bs else b ∷ bs
 
--- a text cut into words: those that have ended, the one at its end, which may go on, and what that one is
+-- a text cut into words: those that have ended, the one at its end, which may go on, and what that
+-- one is
 pub record Cut : Type 0 where
   pub words : List (List ℕ)
   pub word : List ℕ
@@ -50,16 +52,18 @@ no_words = record { words = []; word = []; kind = Start }
 abbrev pub with_word : List ℕ → Cut → Cut
 with_word w cut = record cut { words = w ∷ cut.words }
 
--- a bracketed word where `text` begins at the byte that ends it, or has no byte. `word` is the word but for that byte
+-- a bracketed word where `text` begins at the byte that ends it, or has no byte. `word` is the word
+-- but for that byte
 abbrev pub bracketed_behind : (List ℕ → Cut) → ℕ → List ℕ → List ℕ → Cut
 bracketed_behind rest end word [] = record { words = []; word = word; kind = Bracketed end }
 bracketed_behind rest end word (b ∷ text) = with_word (word ++ b ∷ []) (rest text)
 
--- a text that begins with a bracketed word: it runs to the first byte that ends it, its blanks are dropped, and the
--- next word begins right behind it
+-- a text that begins with a bracketed word: it runs to the first byte that ends it, its blanks are
+-- dropped, and the next word begins right behind it
 abbrev pub bracketed : (List ℕ → Cut) → ℕ → List ℕ → List ℕ → Cut
 bracketed rest end head text =
-    bracketed_behind rest end (head ++ filter is_solid (front (λ b. not (b == end)) text)) (behind (λ b. not (b == end)) text)
+    bracketed_behind rest end (head ++ filter is_solid (front (λ b. not (b == end)) text))
+    (behind (λ b. not (b == end)) text)
 
 -- any other word, where `text` begins at the blank behind it, or has no byte
 abbrev pub plain_behind : (List ℕ → Cut) → List ℕ → List ℕ → Cut
@@ -73,12 +77,16 @@ plain rest head text = plain_behind rest (head ++ front is_solid text) (behind i
 -- a text whose first word begins with these `!`: with a bracket behind them it is a bracketed word
 abbrev pub cut_first : (List ℕ → Cut) → List ℕ → List ℕ → Cut
 cut_first rest bangs [] = record { words = []; word = bangs; kind = Start }
-cut_first rest bangs (b ∷ text) = if opens b then bracketed rest (closer b) (bangs ++ b ∷ []) text else plain rest bangs (b ∷ text)
+cut_first rest bangs (b ∷ text) = if opens b then bracketed rest (closer b) (bangs ++ b ∷ []) text
+    else plain rest bangs (b ∷ text)
 
--- a text of at most this many bytes: its blanks are passed over, then comes its first word, then the rest
+-- a text of at most this many bytes: its blanks are passed over, then comes its first word, then
+-- the rest
 abbrev pub cut_words : ℕ → List ℕ → Cut
 cut_words zero text = no_words
-cut_words (suc n) text = cut_first (cut_words n) (front is_bang (behind is_blank text)) (behind is_bang (behind is_blank text))
+cut_words (suc n) text =
+    cut_first (cut_words n) (front is_bang (behind is_blank text))
+    (behind is_bang (behind is_blank text))
 
 -- a text cut into words
 unfoldable pub cut_of : List ℕ → Cut
@@ -96,7 +104,8 @@ finished cut = cut.words ++ nonempty (cut.word ∷ [])
 abbrev pub is_long : List ℕ → Bool
 is_long w = nat_lt (if is_bracketed w then MAX_BRACKETED_BYTES else MAX_WORD_BYTES) (length w)
 
--- the limit of the word at the end: one of nothing but `!` may become a bracketed word while its line goes on
+-- the limit of the word at the end: one of nothing but `!` may become a bracketed word while its
+-- line goes on
 abbrev pub most_bytes : Bool → Kind → ℕ
 most_bytes ended Start = if ended then MAX_WORD_BYTES else MAX_BRACKETED_BYTES
 most_bytes ended Plain = MAX_WORD_BYTES
@@ -104,7 +113,8 @@ most_bytes ended (Bracketed _) = MAX_BRACKETED_BYTES
 
 -- some word of a line, which ends here or goes on, is past its limit
 abbrev pub has_long : Bool → Cut → Bool
-has_long ended cut = list_any is_long cut.words || nat_lt (most_bytes ended cut.kind) (length cut.word)
+has_long ended cut = list_any is_long cut.words
+    || nat_lt (most_bytes ended cut.kind) (length cut.word)
 
 -- the word at the end waits for its bracket
 abbrev pub waits : Kind → Bool

@@ -74,7 +74,9 @@ impl Cutter {
     pub fn take(&mut self, b: u8, line: u32) -> Result<(), LexFault>
         ensures ok { OnOk result (self.new ≡ with_byte self.old b) }
         ensures short { OnOk result (long_with self.old b ≡ false) }
-        ensures err { IfErr result (λ f. (f ≡ LexFault.Memory) ⊎ ((f ≡ LexFault.LongWord line) × (long_with self.old b ≡ true))) }
+        ensures err { IfErr result
+            (λ f. (f ≡ LexFault.Memory)
+            ⊎ ((f ≡ LexFault.LongWord line) × (long_with self.old b ≡ true))) }
     {
         match self.kind {
             Kind::Start => self.take_first(b, line),
@@ -89,7 +91,10 @@ impl Cutter {
         requires { self.old.kind ≡ Kind.Start }
         ensures ok { OnOk result (self.new ≡ start_byte self.old.words self.old.word b) }
         ensures short { OnOk result (kind_long (length self.old.word) Kind.Start b ≡ false) }
-        ensures err { IfErr result (λ f. (f ≡ LexFault.Memory) ⊎ ((f ≡ LexFault.LongWord line) × (kind_long (length self.old.word) Kind.Start b ≡ true))) }
+        ensures err { IfErr result
+            (λ f. (f ≡ LexFault.Memory)
+            ⊎ ((f ≡ LexFault.LongWord line)
+            × (kind_long (length self.old.word) Kind.Start b ≡ true))) }
     {
         if is_blank(b) {
             self.check_run(line)?;
@@ -109,7 +114,10 @@ impl Cutter {
         requires { self.old.kind ≡ Kind.Plain }
         ensures ok { OnOk result (self.new ≡ plain_byte self.old.words self.old.word b) }
         ensures short { OnOk result (kind_long (length self.old.word) Kind.Plain b ≡ false) }
-        ensures err { IfErr result (λ f. (f ≡ LexFault.Memory) ⊎ ((f ≡ LexFault.LongWord line) × (kind_long (length self.old.word) Kind.Plain b ≡ true))) }
+        ensures err { IfErr result
+            (λ f. (f ≡ LexFault.Memory)
+            ⊎ ((f ≡ LexFault.LongWord line)
+            × (kind_long (length self.old.word) Kind.Plain b ≡ true))) }
     {
         if is_blank(b) {
             return self.end_word();
@@ -121,9 +129,11 @@ impl Cutter {
     fn take_bracketed(&mut self, b: u8, end: u8, line: u32) -> Result<(), LexFault>
         requires { self.old.kind ≡ Kind.Bracketed end }
         ensures ok { OnOk result (self.new ≡ bracketed_byte self.old.words self.old.word end b) }
-        ensures short { OnOk result (kind_long (length self.old.word) (Kind.Bracketed end) b ≡ false) }
+        ensures short { OnOk result
+            (kind_long (length self.old.word) (Kind.Bracketed end) b ≡ false) }
         ensures err { IfErr result (λ f. (f ≡ LexFault.Memory)
-            ⊎ ((f ≡ LexFault.LongWord line) × (kind_long (length self.old.word) (Kind.Bracketed end) b ≡ true))) }
+            ⊎ ((f ≡ LexFault.LongWord line)
+            × (kind_long (length self.old.word) (Kind.Bracketed end) b ≡ true))) }
     {
         if is_blank(b) {
             return Ok(());
@@ -137,9 +147,12 @@ impl Cutter {
 
     /// Adds a byte to the last word, which is of this kind with it and has at most so many bytes.
     fn add(&mut self, b: u8, kind: Kind, most: u64, line: u32) -> Result<(), LexFault>
-        ensures ok { OnOk result (self.new ≡ record self.old { word = self.old.word ++ b ∷ []; kind = kind }) }
+        ensures ok { OnOk result
+            (self.new ≡ record self.old { word = self.old.word ++ b ∷ []; kind = kind }) }
         ensures short { OnOk result (nat_le most (length self.old.word) ≡ false) }
-        ensures err { IfErr result (λ f. (f ≡ LexFault.Memory) ⊎ ((f ≡ LexFault.LongWord line) × (nat_le most (length self.old.word) ≡ true))) }
+        ensures err { IfErr result
+            (λ f. (f ≡ LexFault.Memory)
+            ⊎ ((f ≡ LexFault.LongWord line) × (nat_le most (length self.old.word) ≡ true))) }
     {
         if self.word.len() as u64 >= most {
             return Err(LexFault::LongWord { line });
@@ -214,7 +227,8 @@ impl Cutter {
 
     /// Adds these bytes to the last word.
     pub fn add_letters(&mut self, letters: &[u8]) -> Result<(), LexFault>
-        ensures ok { OnOk result (self.new ≡ record self.old { word = self.old.word ++ letters.now }) }
+        ensures ok { OnOk result
+            (self.new ≡ record self.old { word = self.old.word ++ letters.now }) }
         ensures err { IfErr result (λ f. f ≡ LexFault.Memory) }
     {
         self.word.extend_from_slice(letters)?;
@@ -236,7 +250,8 @@ impl Cutter {
     /// Whether a run of `!` is short enough for a word, on this line, where it can't become a bracketed one.
     #[tactic(auto, unfolding(crate::specs::Steps::long_with))]
     pub fn check_run(&self, line: u32) -> Result<(), LexFault>
-        ensures { MatchResult result (λ _. long_with self.now 32 ≡ false) (λ f. (f ≡ LexFault.LongWord line) × (long_with self.now 32 ≡ true)) }
+        ensures { MatchResult result (λ _. long_with self.now 32 ≡ false)
+            (λ f. (f ≡ LexFault.LongWord line) × (long_with self.now 32 ≡ true)) }
     {
         match self.kind {
             Kind::Start if self.word.len() as u64 > MAX_WORD_BYTES => Err(LexFault::LongWord {
@@ -249,7 +264,8 @@ impl Cutter {
     /// Whether the text may end here, on this line: no run of `!` is too long for a word, and no bracket is open.
     #[tactic(auto, unfolding(crate::specs::Steps::end_fault_of, crate::specs::Steps::long_with))]
     pub fn check_end(&self, line: u32) -> Result<(), LexFault>
-        ensures { MatchResult result (λ _. end_fault_of line self.now ≡ None) (λ f. end_fault_of line self.now ≡ Some f) }
+        ensures { MatchResult result (λ _. end_fault_of line self.now ≡ None)
+            (λ f. end_fault_of line self.now ≡ Some f) }
     {
         match self.kind {
             Kind::Start => self.check_run(line),

@@ -72,9 +72,12 @@ impl Lexer {
     /// On an error the lines are as before the call, and each later call gives the same error and adds
     /// nothing. The error is want of memory, or the first fault of all bytes fed.
     pub fn feed(&mut self, piece: &[u8], lines: &mut Lines) -> Result<(), LexFault>
-        ensures ok { (bytes : List ℕ) → IsAfter self.old bytes → OnOk result (IsAfter self.new (bytes ++ piece.now)) }
-        ensures lines { OnOk result (GainsLines self.old lines.old lines.new (λ bytes. complete (bytes ++ piece.now))) }
-        ensures fault { (bytes : List ℕ) → IsAfter self.old bytes → IfErr result (IsTold (first_fault self.old.limit [] (bytes ++ piece.now))) }
+        ensures ok { (bytes : List ℕ) → IsAfter self.old bytes
+            → OnOk result (IsAfter self.new (bytes ++ piece.now)) }
+        ensures lines { OnOk result
+            (GainsLines self.old lines.old lines.new (λ bytes. complete (bytes ++ piece.now))) }
+        ensures fault { (bytes : List ℕ) → IsAfter self.old bytes
+            → IfErr result (IsTold (first_fault self.old.limit [] (bytes ++ piece.now))) }
         ensures limit { OnOk result (self.new.limit ≡ self.old.limit) }
         ensures again { IfErr result (λ f. self.new.failed ≡ Some f) }
         ensures same { (f : LexFault) → self.old.failed ≡ Some f → result ≡ Err f }
@@ -101,7 +104,8 @@ impl Lexer {
     #[tactic(auto, using(crate::proofs::After::finishing))]
     pub fn finish(mut self, lines: &mut Lines) -> Result<(), LexFault>
         ensures lines { OnOk result (GainsLines self lines.old lines.new lines_of) }
-        ensures fault { (bytes : List ℕ) → IsAfter self bytes → MatchResult result (λ _. end_fault bytes ≡ None) (IsTold (end_fault bytes)) }
+        ensures fault { (bytes : List ℕ) → IsAfter self bytes
+            → MatchResult result (λ _. end_fault bytes ≡ None) (IsTold (end_fault bytes)) }
         ensures same { (f : LexFault) → self.failed ≡ Some f → result ≡ Err f }
         ensures err { OnErr result (lines.new ≡ lines.old) }
     {
@@ -117,7 +121,8 @@ impl Lexer {
     /// Reads the bytes up to the first fault.
     fn read_all(&mut self, piece: &[u8], lines: &mut Lines) -> Result<(), LexFault>
         ensures ok { OnOk result (HasRead self.old self.new lines.old lines.new piece.now) }
-        ensures fault { (bytes : List ℕ) → IsAfter self.old bytes → IfErr result (IsTold (first_fault self.old.limit [] (bytes ++ piece.now))) }
+        ensures fault { (bytes : List ℕ) → IsAfter self.old bytes
+            → IfErr result (IsTold (first_fault self.old.limit [] (bytes ++ piece.now))) }
         ensures front { OnErr result (take (length lines.old) lines.new ≡ lines.old) }
     {
         let mut at = 0;
@@ -132,8 +137,10 @@ impl Lexer {
     fn read_some(&mut self, rest: &[u8], lines: &mut Lines) -> Result<usize, LexFault>
         requires { 0 < length rest.now }
         ensures some { IfOk result (λ count. (0 < count) × (count ≤ length rest.now)) }
-        ensures ok { IfOk result (λ count. HasRead self.old self.new lines.old lines.new (take count rest.now)) }
-        ensures fault { (bytes : List ℕ) → IsAfter self.old bytes → IfErr result (IsTold (first_fault self.old.limit [] (bytes ++ rest.now))) }
+        ensures ok { IfOk result
+            (λ count. HasRead self.old self.new lines.old lines.new (take count rest.now)) }
+        ensures fault { (bytes : List ℕ) → IsAfter self.old bytes
+            → IfErr result (IsTold (first_fault self.old.limit [] (bytes ++ rest.now))) }
         ensures unchanged { OnErr result (lines.new ≡ lines.old) }
     {
         let count = self.word_in(rest);
@@ -167,7 +174,8 @@ impl Lexer {
     fn read_word(&mut self, word: &[u8], end: u8, lines: &mut Lines) -> Result<(), LexFault>
         requires word { TakesWord self.old word.now }
         requires end { ends_plain end ≡ true }
-        ensures ok { OnOk result (HasRead self.old self.new lines.old lines.new (word.now ++ end ∷ [])) }
+        ensures ok { OnOk result
+            (HasRead self.old self.new lines.old lines.new (word.now ++ end ∷ [])) }
         ensures err { IfErr result (λ f. f ≡ LexFault.Memory) }
         ensures unchanged { OnErr result (lines.new ≡ lines.old) }
     {
@@ -194,8 +202,10 @@ impl Lexer {
     fn read_part(&mut self, rest: &[u8], lines: &mut Lines) -> Result<usize, LexFault>
         requires { 0 < length rest.now }
         ensures some { IfOk result (λ count. (0 < count) × (count ≤ length rest.now)) }
-        ensures ok { IfOk result (λ count. HasRead self.old self.new lines.old lines.new (take count rest.now)) }
-        ensures fault { (bytes : List ℕ) → IsAfter self.old bytes → IfErr result (IsTold (first_fault self.old.limit [] (bytes ++ rest.now))) }
+        ensures ok { IfOk result
+            (λ count. HasRead self.old self.new lines.old lines.new (take count rest.now)) }
+        ensures fault { (bytes : List ℕ) → IsAfter self.old bytes
+            → IfErr result (IsTold (first_fault self.old.limit [] (bytes ++ rest.now))) }
         ensures unchanged { OnErr result (lines.new ≡ lines.old) }
     {
         let count = self.letters_in(rest);
@@ -274,7 +284,8 @@ impl Lexer {
         requires { self.old.size < self.old.limit }
         ensures ok { OnOk result (self.new ≡ new_line self.old) }
         ensures clean { OnOk result (end_fault_of self.old.here self.old.cut ≡ None) }
-        ensures lines { OnOk result (lines.new ≡ lines.old ++ line_at self.old.start (finished self.old.cut)) }
+        ensures lines { OnOk result
+            (lines.new ≡ lines.old ++ line_at self.old.start (finished self.old.cut)) }
         ensures err { IfErr result (IsTold (end_fault_of self.old.here self.old.cut)) }
         ensures unchanged { OnErr result (lines.new ≡ lines.old) }
     {
@@ -286,7 +297,8 @@ impl Lexer {
     fn pass_line(&mut self, lines: &mut Lines) -> Result<(), LexFault>
         requires { self.old.size < self.old.limit }
         ensures ok { OnOk result (self.new ≡ new_line self.old) }
-        ensures lines { OnOk result (lines.new ≡ lines.old ++ line_at self.old.start (finished self.old.cut)) }
+        ensures lines { OnOk result
+            (lines.new ≡ lines.old ++ line_at self.old.start (finished self.old.cut)) }
         ensures err { IfErr result (λ f. f ≡ LexFault.Memory) }
         ensures unchanged { OnErr result (lines.new ≡ lines.old) }
     {
@@ -315,7 +327,8 @@ impl Lexer {
     #[tactic(auto, unfolding(crate::specs::Steps::end_now, crate::specs::Steps::end_cut))]
     fn end_text(&mut self) -> Result<(), LexFault>
         ensures ok { OnOk result (self.new ≡ record self.old { cut = end_cut self.old }) }
-        ensures fault { MatchResult result (λ _. end_now self.old ≡ None) (IsTold (end_now self.old)) }
+        ensures fault { MatchResult result (λ _. end_now self.old ≡ None)
+            (IsTold (end_now self.old)) }
     {
         match self.place {
             Place::Comment => return Ok(()),
@@ -328,7 +341,8 @@ impl Lexer {
     /// Gives the words of the joined line as a line, if there are any.
     fn give_line(&mut self, lines: &mut Lines) -> Result<(), LexFault>
         ensures ok { OnOk result (self.new ≡ record self.old { cut = no_words }) }
-        ensures lines { OnOk result (lines.new ≡ lines.old ++ line_at self.old.start (finished self.old.cut)) }
+        ensures lines { OnOk result
+            (lines.new ≡ lines.old ++ line_at self.old.start (finished self.old.cut)) }
         ensures err { IfErr result (λ f. f ≡ LexFault.Memory) }
         ensures unchanged { OnErr result (lines.new ≡ lines.old) }
     {
@@ -380,7 +394,8 @@ impl Lexer {
         ensures ok { OnOk result (self.new ≡ record self.old { cut = settled self.old }) }
         ensures clean { OnOk result (long_with_bytes self.old.cut (held self.old.place) ≡ false) }
         ensures err { IfErr result (λ f. (f ≡ LexFault.Memory)
-            ⊎ ((f ≡ LexFault.LongWord self.old.here) × (long_with_bytes self.old.cut (held self.old.place) ≡ true))) }
+            ⊎ ((f ≡ LexFault.LongWord self.old.here)
+            × (long_with_bytes self.old.cut (held self.old.place) ≡ true))) }
     {
         match self.place {
             Place::Text | Place::Comment => Ok(()),

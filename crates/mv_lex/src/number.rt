@@ -9,7 +9,8 @@ const MAX_DIGITS: usize = 20;
 /// The number that at most twenty digits say, or None where another byte stands among them.
 pub fn decimal(digits: &[u8]) -> Option<u128>
     requires { length digits.now ≤ MAX_DIGITS }
-    ensures { result ≡ (if list_all is_ascii_digit digits.now then Some (digits_value 10 digits.now) else None) }
+    ensures { result
+        ≡ (if list_all is_ascii_digit digits.now then Some (digits_value 10 digits.now) else None) }
 {
     let mut number = 0;
     for byte in digits {

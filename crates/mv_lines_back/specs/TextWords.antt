@@ -1,4 +1,5 @@
--- Words and lines that are read back as they are written, bracketed words among them, and comment lines, which are passed over.
+-- Words and lines that are read back as they are written, bracketed words among them, and comment
+-- lines, which are passed over.
 use Rattle.std.specs.Prelude.{ℕ, Bool, false, ◌&&◌, ◌||◌, not, ◌==◌, ◌+◌, List, [], ◌∷◌, ◌++◌, length, if◌then◌else◌}
 use Rattle.std.specs.List.{list_all}
 use Rattle.mv_base.specs.Names.{is_visible, is_bracketed, begins_with, ends_with}
@@ -13,14 +14,17 @@ abbrev pub is_list_rest : List ℕ → Bool
 is_list_rest [] = false
 is_list_rest (b ∷ bs) = if b == 41 then length bs == 0 else is_word_byte b && is_list_rest bs
 
--- a list in brackets: it begins with `(`, ends with its only `)`, and all its bytes are those of words
+-- a list in brackets: it begins with `(`, ends with its only `)`, and all its bytes are those of
+-- words
 abbrev pub is_list_word : List ℕ → Bool
 is_list_word [] = false
 is_list_word (b ∷ bs) = (b == 40) && is_list_rest bs
 
--- a plain word: it has a byte, all its bytes are those of words, it isn't bracketed, and it doesn't end in `\`
+-- a plain word: it has a byte, all its bytes are those of words, it isn't bracketed, and it doesn't
+-- end in `\`
 abbrev pub is_plain_word : List ℕ → Bool
-is_plain_word w = not (length w == 0) && list_all (λ b. is_visible b && not (b == 35)) w && not (is_bracketed w) && not (ends_with 92 w)
+is_plain_word w = not (length w == 0) && list_all (λ b. is_visible b && not (b == 35)) w
+    && not (is_bracketed w) && not (ends_with 92 w)
 
 -- a word that is read back as it is written: a plain one, or a list in brackets
 unfoldable pub is_written_word : List ℕ → Bool
@@ -40,12 +44,16 @@ abbrev pub is_comment : List (List ℕ) → Bool
 is_comment [] = false
 is_comment (w ∷ ws) = begins_with 35 w
 
--- a line of a text with comments: one that is read back as it is written, or a comment line whose words can all be seen
+-- a line of a text with comments: one that is read back as it is written, or a comment line whose
+-- words can all be seen
 unfoldable pub is_text_line : List (List ℕ) → Bool
-is_text_line words = is_written_line words || (is_comment words && list_all (list_all is_visible) words)
+is_text_line words = is_written_line words
+    || (is_comment words && list_all (list_all is_visible) words)
 
--- the lines with these words, one on each physical line, the first of which has this number. A comment line is left out, but
--- has its number
+-- the lines with these words, one on each physical line, the first of which has this number. A
+-- comment line is left out, but has its number
 abbrev pub lines_told : ℕ → List (List (List ℕ)) → List LexLine
 lines_told number [] = []
-lines_told number (ws ∷ ls) = (if is_comment ws then [] else record { number = number; words = ws } ∷ []) ++ lines_told (number + 1) ls
+lines_told number (ws ∷ ls) =
+    (if is_comment ws then [] else record { number = number; words = ws } ∷ [])
+    ++ lines_told (number + 1) ls

@@ -9,11 +9,14 @@ ghost use Rattle.mv_lines_back.specs.TextWords.{is_text_line, lines_told};
 /// comments, each with its number; its bytes are accepted, and it has no fault at all where it and its words aren't too long;
 /// and no other such lines have the same text.
 pub fn text_laws()
-    ensures lines { (ls : List (List (List ℕ))) → list_all is_text_line ls ≡ true → lines_of (flat_map line_text ls) ≡ lines_told 1 ls }
-    ensures clean { (ls : List (List (List ℕ))) → list_all is_text_line ls ≡ true → is_clean (flat_map line_text ls) ≡ true }
+    ensures lines { (ls : List (List (List ℕ))) → list_all is_text_line ls ≡ true
+        → lines_of (flat_map line_text ls) ≡ lines_told 1 ls }
+    ensures clean { (ls : List (List (List ℕ))) → list_all is_text_line ls ≡ true
+        → is_clean (flat_map line_text ls) ≡ true }
     ensures faultless { (limit : ℕ) (ls : List (List (List ℕ))) → list_all is_text_line ls ≡ true
         → list_any (list_any is_long) ls ≡ false → length (flat_map line_text ls) ≤ limit
         → lex_fault limit (flat_map line_text ls) ≡ None }
-    ensures apart { (ls ms : List (List (List ℕ))) → list_all is_text_line ls ≡ true → list_all is_text_line ms ≡ true
+    ensures apart { (ls ms : List (List (List ℕ))) → list_all is_text_line ls ≡ true
+        → list_all is_text_line ms ≡ true
         → flat_map line_text ls ≡ flat_map line_text ms → ls ≡ ms }
 {}

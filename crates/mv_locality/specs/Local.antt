@@ -12,7 +12,8 @@ pub record KeepsValues (old new : List (Option FlatNet)) : Type 0 where
 -- the net at m is as it was, and so is each other net but those that read it neither before nor now
 pub record IsStill (old new : List (Option FlatNet)) (m : ℕ) : Type 0 where
   pub same : slot new m ≡ slot old m
-  pub readers : (k : ℕ) → (slot new k ≡ slot old k) ⊎ ((reads_in old k m ≡ false) × (reads_in new k m ≡ false))
+  pub readers : (k : ℕ)
+      → (slot new k ≡ slot old k) ⊎ ((reads_in old k m ≡ false) × (reads_in new k m ≡ false))
 
 -- nothing changes but near the net n
 pub record StaysAround (old new : List (Option FlatNet)) (n : ℕ) : Type 0 where

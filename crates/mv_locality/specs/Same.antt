@@ -1,4 +1,5 @@
--- Counts of values, nets and networks that are the same as far as one table, or one net, has to do with them.
+-- Counts of values, nets and networks that are the same as far as one table, or one net, has to do
+-- with them.
 use Rattle.std.specs.Prelude.{◌≡◌, ◌⊎◌, ℕ, true, false, Option, List, slice_index}
 use Rattle.mv_cover.specs.declared.line.Line.{Line}
 use Rattle.mv_cover.specs.Covers.{lines_read}
@@ -9,7 +10,8 @@ use Rattle.mv_net.specs.Formed.{WellFormed}
 use Rattle.mv_net.specs.Nets.{slot, values_in, reads_in}
 use Rattle.mv_locality.specs.Local.{KeepsValues, IsStill}
 
--- the new network has other nets at most and is well formed, no held net has another number of values, and nothing has changed for the net at n
+-- the new network has other nets at most and is well formed, no held net has another number of
+-- values, and nothing has changed for the net at n
 pub record StaysAt (old new : NetParts) (n : ℕ) : Type 0 where
   pub formed : WellFormed new
   pub nets : new ≡ with_nets old new.nets
@@ -30,7 +32,8 @@ pub record KeepsNet (old new : List (Option FlatNet)) (n : ℕ) : Type 0 where
 -- so are the net at n and its readers, and no net has become a reader or is none any more
 pub record KeepsReaders (old new : List (Option FlatNet)) (n : ℕ) : Type 0 where
   pub net : KeepsNet old new n
-  pub readers : (k : ℕ) → KeepsNet old new k ⊎ ((reads_in old k n ≡ false) × (reads_in new k n ≡ false))
+  pub readers : (k : ℕ)
+      → KeepsNet old new k ⊎ ((reads_in old k n ≡ false) × (reads_in new k n ≡ false))
 
 -- and the networks have the same outputs and latches
 pub record KeepsPlace (old new : NetParts) (n : ℕ) : Type 0 where

@@ -14,16 +14,19 @@ ghost use Rattle.mv_locality.specs.Local.{StaysAround};
 pub fn around_laws()
     ensures removed { (old : NetParts) (name : List ℕ) (new : NetParts) → (r : Removes old name new)
         → StaysAround old.nets new.nets r.number }
-    ensures wired { (old : NetParts) (name : List ℕ) (new : NetParts) → WellFormed old → (r : Wires old name new)
+    ensures wired { (old : NetParts) (name : List ℕ) (new : NetParts) → WellFormed old
+        → (r : Wires old name new)
         → StaysAround old.nets new.nets r.number }
-    ensures collapsed { (old : NetParts) (name : List ℕ) (new : NetParts) → WellFormed old → (r : Collapses old name new)
+    ensures collapsed { (old : NetParts) (name : List ℕ) (new : NetParts) → WellFormed old
+        → (r : Collapses old name new)
         → StaysAround old.nets new.nets r.number }
 {}
 
 /// A rule that is given a net's name is about that net.
 #[tactic(auto, using(crate::proofs::Steps::names_itself))]
 pub fn named_by_itself()
-    ensures { (net : NetParts) (name : List ℕ) (n m : ℕ) → WellFormed net → IsTabled net.nets name m → is_held net.nets n ≡ true
+    ensures { (net : NetParts) (name : List ℕ) (n m : ℕ) → WellFormed net
+        → IsTabled net.nets name m → is_held net.nets n ≡ true
         → name ≡ name_in (slot net.nets n) → m ≡ n }
 {}
 
@@ -33,6 +36,7 @@ pub fn literal_laws()
         → literals_in new.nets ≤ literals_in old.nets }
     ensures wired { (old : NetParts) (name : List ℕ) (new : NetParts) → Wires old name new
         → literals_in new.nets ≤ literals_in old.nets }
-    ensures collapsed { (old : NetParts) (name : List ℕ) (new : NetParts) (v : ℕ) → WellFormed old → (r : Collapses old name new)
+    ensures collapsed { (old : NetParts) (name : List ℕ) (new : NetParts) (v : ℕ) → WellFormed old
+        → (r : Collapses old name new)
         → IsPlainConstant old.nets r.number v → literals_in new.nets ≤ literals_in old.nets }
 {}

@@ -1,5 +1,5 @@
--- What a network becomes where tables are rewritten, one net is given another table, or a net comes; and how such nets
--- compare with those that were there.
+-- What a network becomes where tables are rewritten, one net is given another table, or a net
+-- comes; and how such nets compare with those that were there.
 use Rattle.std.specs.Prelude.{◌≡◌, ◌⊎◌, ◌↔◌, ◌<◌, ◌≤◌, ℕ, true, false, if◌then◌else◌, is_some, Option, Some, None, List, [], map, slice_set}
 use Rattle.mv_base.specs.Meaning.{Meaning, AllowsSome}
 use Rattle.mv_base.specs.Names.{is_net_name}
@@ -45,7 +45,8 @@ with_net_table nets n c = slice_set nets n (given_table c (slot nets n))
 
 -- ---- nets that differ in what stands in their tables alone
 
--- both are held or neither is, they have the same name, values, names of values and kind, and both have a table or neither has
+-- both are held or neither is, they have the same name, values, names of values and kind, and both
+-- have a table or neither has
 pub record IsAlike (f g : Option FlatNet) : Type 0 where
   pub kind : kind_in g ≡ kind_in f
   pub name : name_in g ≡ name_in f
@@ -59,7 +60,8 @@ pub record IsReformed (old new : List (Option FlatNet)) : Type 0 where
 
 -- each table of the nets is a cover over these others, for the values of its net
 pub record AreCovers (over nets : List (Option FlatNet)) : Type 0 where
-  pub each : (n : ℕ) (c : Cover) → table_in (slot nets n) ≡ Some c → IsCover over (values_in (slot nets n)) c
+  pub each : (n : ℕ) (c : Cover) → table_in (slot nets n) ≡ Some c
+      → IsCover over (values_in (slot nets n)) c
 
 -- what a new net reads is above it among the old ones
 pub record ReadsAlong (old new : List (Option FlatNet)) : Type 0 where
@@ -73,7 +75,8 @@ pub record SameWhereAllowed (b a : Meaning) : Type 0 where
 
 -- each table above the net allows one value at most
 pub record AllowOneAbove (nets : List (Option FlatNet)) (n : ℕ) : Type 0 where
-  pub each : (m : ℕ) (c : Cover) → IsAbove (reads_in nets) m n → table_in (slot nets m) ≡ Some c → AllowsOne c
+  pub each : (m : ℕ) (c : Cover) → IsAbove (reads_in nets) m n → table_in (slot nets m) ≡ Some c
+      → AllowsOne c
 
 -- ---- readers
 
@@ -91,7 +94,8 @@ pub record AgreesUnread (nets : List (Option FlatNet)) (n : ℕ) (at : ℕ → �
   pub each : (m : ℕ) → reads_in nets m n ≡ false → net_allows (slot nets m) at (at m) ≡ true
 
 -- the list gives each reader of n its new table, and no other net any
-pub record SetsReaders (new : Cover → Cover) (n : ℕ) (nets : List (Option FlatNet)) (list : List NewTable) : Type 0 where
+pub record SetsReaders (new : Cover → Cover) (n : ℕ) (nets : List (Option FlatNet))
+    (list : List NewTable) : Type 0 where
   pub readers : (m : ℕ) (c : Cover) → IsReader nets n m c → table_for m list ≡ Some (new c)
   pub others : (m : ℕ) → reads_in nets m n ≡ false → table_for m list ≡ None
 
@@ -104,7 +108,8 @@ pub record IsOverTable (nets : List (Option FlatNet)) (c : Cover) (m : ℕ) : Ty
   pub up : (m ≡ first) ⊎ IsAbove (reads_in nets) m first
 
 -- given to n, the table puts this latch output above this reset net
-pub record PutsAbove (nets : List (Option FlatNet)) (n : ℕ) (c : Cover) (latch reset : ℕ) : Type 0 where
+pub record PutsAbove (nets : List (Option FlatNet)) (n : ℕ) (c : Cover) (latch reset : ℕ)
+    : Type 0 where
   pub output : IsKind nets latch Latch
   pub reset_net : IsKind nets reset Reset
   pub down : (reset ≡ n) ⊎ IsAbove (reads_in nets) n reset
@@ -112,28 +117,34 @@ pub record PutsAbove (nets : List (Option FlatNet)) (n : ℕ) (c : Cover) (latch
 
 -- ---- a table in place of two
 
--- with some value of n that the table `inner` allows, and else the values that nets have, c allows v
+-- with some value of n that the table `inner` allows, and else the values that nets have, c allows
+-- v
 pub record AllowsThrough (inner : Cover) (n : ℕ) (c : Cover) (at : ℕ → ℕ) (v : ℕ) : Type 0 where
   pub given : ℕ → ℕ
   pub others : (m : ℕ) → (m ≡ n → ⊥) → given m ≡ at m
   pub between : allowed inner at (given n) ≡ true
   pub beyond : allowed c given v ≡ true
 
--- d doesn't read n, and allows at each point what c does with some value of n that the table `inner` allows there
-pub record JoinsTables (nets : List (Option FlatNet)) (inner : Cover) (n : ℕ) (c d : Cover) : Type 0 where
+-- d doesn't read n, and allows at each point what c does with some value of n that the table
+-- `inner` allows there
+pub record JoinsTables (nets : List (Option FlatNet)) (inner : Cover) (n : ℕ) (c d : Cover)
+    : Type 0 where
   pub unread : cover_reads d n ≡ false
-  pub allows : (at : ℕ → ℕ) → IsPoint (map values_in nets) at → (v : ℕ) → (allowed d at v ≡ true) ↔ AllowsThrough inner n c at v
+  pub allows : (at : ℕ → ℕ) → IsPoint (map values_in nets) at → (v : ℕ)
+      → (allowed d at v ≡ true) ↔ AllowsThrough inner n c at v
 
 -- d is a cover over the nets, which doesn't read n, and no net that neither c nor `inner` reads
-pub record IsJoinedCover (nets : List (Option FlatNet)) (values : ℕ) (inner : Cover) (n : ℕ) (c d : Cover) : Type 0 where
+pub record IsJoinedCover (nets : List (Option FlatNet)) (values : ℕ) (inner : Cover) (n : ℕ)
+    (c d : Cover) : Type 0 where
   pub cover : IsCover nets values d
   pub unread : cover_reads d n ≡ false
-  pub reads : (m : ℕ) → cover_reads d m ≡ true → (cover_reads c m ≡ true) ⊎ (cover_reads inner m ≡ true)
+  pub reads : (m : ℕ) → cover_reads d m ≡ true
+      → (cover_reads c m ≡ true) ⊎ (cover_reads inner m ≡ true)
 
 -- ---- a net that comes
 
--- a net with a table, which can come: its values have no names of their own, its name is lawful and no net has it, and its
--- table is a cover over the nets
+-- a net with a table, which can come: its values have no names of their own, its name is lawful and
+-- no net has it, and its table is a cover over the nets
 pub record IsNewNet (nets : List (Option FlatNet)) (f : FlatNet) : Type 0 where
   pub kind : f.kind ≡ Table
   pub some : 0 < f.values

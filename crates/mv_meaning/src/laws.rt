@@ -43,7 +43,8 @@ ghost use Rattle.mv_meaning.specs.Rewriting.{
 /// it means what it meant where the same assignments agree with them.
 pub fn reformed_laws()
     ensures formed { (net : NetParts) (nets : List (Option FlatNet)) → WellFormed net
-        → IsReformed net.nets nets → AreCovers net.nets nets → IsAcyclic (reads_in nets) → ResetsStandAlone nets
+        → IsReformed net.nets nets → AreCovers net.nets nets → IsAcyclic (reads_in nets)
+        → ResetsStandAlone nets
         → WellFormed (with_nets net nets) }
     ensures along { (net : NetParts) (nets : List (Option FlatNet)) → WellFormed net
         → IsReformed net.nets nets → AreCovers net.nets nets → ReadsAlong net.nets nets
@@ -58,11 +59,14 @@ pub fn reformed_laws()
 /// read the net.
 pub fn rewriting_laws()
     ensures formed { (net : NetParts) (n : ℕ) (new : Cover → Cover) → WellFormed net
-        → ((m : ℕ) (c : Cover) → IsReader net.nets n m c → IsCover net.nets (values_in (slot net.nets m)) (new c))
-        → ((m : ℕ) (c : Cover) (k : ℕ) → IsReader net.nets n m c → cover_reads (new c) k ≡ true → IsAbove (reads_in net.nets) k m)
+        → ((m : ℕ) (c : Cover) → IsReader net.nets n m c
+        → IsCover net.nets (values_in (slot net.nets m)) (new c))
+        → ((m : ℕ) (c : Cover) (k : ℕ) → IsReader net.nets n m c → cover_reads (new c) k ≡ true
+        → IsAbove (reads_in net.nets) k m)
         → WellFormed (with_nets net (rewritten new n net.nets)) }
     ensures means { (net : NetParts) (n : ℕ) (new : Cover → Cover)
-        → ((at : ℕ → ℕ) → AgreesUnread net.nets n at → IsPoint (map values_in net.nets) at → (m : ℕ) (c : Cover)
+        → ((at : ℕ → ℕ) → AgreesUnread net.nets n at → IsPoint (map values_in net.nets) at
+        → (m : ℕ) (c : Cover)
         → IsReader net.nets n m c → allowed (new c) at (at m) ≡ allowed c at (at m))
         → SameMeaning (of_net (with_nets net (rewritten new n net.nets))) (of_net net) }
 {}
@@ -71,10 +75,13 @@ pub fn rewriting_laws()
 /// where the table puts none there, and then the network is well formed; and it means what it meant where, at each point that
 /// agrees with the other nets, the table allows the net's value exactly where the old one did.
 pub fn one_table_laws()
-    ensures alone { (net : NetParts) (n : ℕ) (old c : Cover) → WellFormed net → table_in (slot net.nets n) ≡ Some old
+    ensures alone { (net : NetParts) (n : ℕ) (old c : Cover) → WellFormed net
+        → table_in (slot net.nets n) ≡ Some old
         → (IsOverTable net.nets c n → ⊥)
-        → ResetsStandAlone (with_net_table net.nets n c) ↔ ((l r : ℕ) → PutsAbove net.nets n c l r → ⊥) }
-    ensures formed { (net : NetParts) (n : ℕ) (old c : Cover) → WellFormed net → table_in (slot net.nets n) ≡ Some old
+        → ResetsStandAlone (with_net_table net.nets n c)
+        ↔ ((l r : ℕ) → PutsAbove net.nets n c l r → ⊥) }
+    ensures formed { (net : NetParts) (n : ℕ) (old c : Cover) → WellFormed net
+        → table_in (slot net.nets n) ≡ Some old
         → IsCover net.nets (values_in (slot net.nets n)) c → (IsOverTable net.nets c n → ⊥)
         → ((l r : ℕ) → PutsAbove net.nets n c l r → ⊥)
         → WellFormed (with_nets net (with_net_table net.nets n c)) }
@@ -89,7 +96,8 @@ pub fn one_table_laws()
 pub fn adding_laws()
     ensures formed { (net : NetParts) (f : FlatNet) → WellFormed net → IsNewNet net.nets f
         → WellFormed (with_nets net (net.nets ++ Some f ∷ [])) }
-    ensures means { (net : NetParts) (f : FlatNet) → WellFormed net → (made : IsNewNet net.nets f) → IsTotal net.nets made.cover
+    ensures means { (net : NetParts) (f : FlatNet) → WellFormed net → (made : IsNewNet net.nets f)
+        → IsTotal net.nets made.cover
         → SameMeaning (of_net (with_nets net (net.nets ++ Some f ∷ []))) (of_net net) }
 {}
 
@@ -107,20 +115,25 @@ pub fn collapsing_laws()
         → ((m : ℕ) (c : Cover) → IsReader net.nets n m c → JoinsTables net.nets inner n c (new c))
         → (m : ℕ) → reads_in net.nets m n ≡ true
         → AllowsOne inner ⊎ HasOneReader net.nets n
-        → SameMeaning (of_net (with_nets net (slice_set (rewritten new n net.nets) n None))) (of_net net) }
+        → SameMeaning (of_net (with_nets net (slice_set (rewritten new n net.nets) n None)))
+        (of_net net) }
 {}
 
 /// A plain buffer's readers get new tables that may read the net that it copies: the network is well formed where these are covers
 /// that read nothing else besides what the old ones did; and it means what it meant where each allows what the old one did, at
 /// each point where the buffer's net and the copied one have the same value.
 pub fn wiring_laws()
-    ensures formed { (net : NetParts) (n other : ℕ) (new : Cover → Cover) → WellFormed net → IsPlainBuffer net.nets n other
-        → ((m : ℕ) (c : Cover) → IsReader net.nets n m c → IsCover net.nets (values_in (slot net.nets m)) (new c))
+    ensures formed { (net : NetParts) (n other : ℕ) (new : Cover → Cover) → WellFormed net
+        → IsPlainBuffer net.nets n other
+        → ((m : ℕ) (c : Cover) → IsReader net.nets n m c
+        → IsCover net.nets (values_in (slot net.nets m)) (new c))
         → ((m : ℕ) (c : Cover) (k : ℕ) → IsReader net.nets n m c → cover_reads (new c) k ≡ true
         → (cover_reads c k ≡ true) ⊎ (k ≡ other))
         → WellFormed (with_nets net (rewritten new n net.nets)) }
-    ensures means { (net : NetParts) (n other : ℕ) (new : Cover → Cover) → WellFormed net → IsPlainBuffer net.nets n other
-        → ((at : ℕ → ℕ) → IsPoint (map values_in net.nets) at → at n ≡ at other → (m : ℕ) (c : Cover)
+    ensures means { (net : NetParts) (n other : ℕ) (new : Cover → Cover) → WellFormed net
+        → IsPlainBuffer net.nets n other
+        → ((at : ℕ → ℕ) → IsPoint (map values_in net.nets) at → at n ≡ at other
+        → (m : ℕ) (c : Cover)
         → IsReader net.nets n m c → allowed (new c) at (at m) ≡ allowed c at (at m))
         → SameMeaning (of_net (with_nets net (rewritten new n net.nets))) (of_net net) }
 {}
@@ -129,15 +142,22 @@ pub fn wiring_laws()
 /// the net; and where each table above the net allows one value at most, the network allows what it allowed under all values where
 /// it allowed some choice, and so may take the old one's place where others are free.
 pub fn filling_laws()
-    ensures formed { (net : NetParts) (n : ℕ) (c : Cover) (out : ℕ) → WellFormed net → table_in (slot net.nets n) ≡ Some c
+    ensures formed { (net : NetParts) (n : ℕ) (c : Cover) (out : ℕ) → WellFormed net
+        → table_in (slot net.nets n) ≡ Some c
         → (IsTotal net.nets c → ⊥) → IsOutput (values_in (slot net.nets n)) out
         → WellFormed (with_nets net (with_net_table net.nets n (record c { default = Some out }))) }
-    ensures means { (net : NetParts) (n : ℕ) (c : Cover) (out : ℕ) → WellFormed net → table_in (slot net.nets n) ≡ Some c
+    ensures means { (net : NetParts) (n : ℕ) (c : Cover) (out : ℕ) → WellFormed net
+        → table_in (slot net.nets n) ≡ Some c
         → (IsTotal net.nets c → ⊥) → AllowOneAbove net.nets n
-        → SameWhereAllowed (of_net (with_nets net (with_net_table net.nets n (record c { default = Some out })))) (of_net net) }
-    ensures refines { (net : NetParts) (n : ℕ) (c : Cover) (out : ℕ) → WellFormed net → table_in (slot net.nets n) ≡ Some c
+        → SameWhereAllowed
+        (of_net (with_nets net (with_net_table net.nets n (record c { default = Some out }))))
+        (of_net net) }
+    ensures refines { (net : NetParts) (n : ℕ) (c : Cover) (out : ℕ) → WellFormed net
+        → table_in (slot net.nets n) ≡ Some c
         → (IsTotal net.nets c → ⊥) → AllowOneAbove net.nets n
-        → Refines true (of_net (with_nets net (with_net_table net.nets n (record c { default = Some out })))) (of_net net) }
+        → Refines true
+        (of_net (with_nets net (with_net_table net.nets n (record c { default = Some out }))))
+        (of_net net) }
 {}
 
 /// A net's table gives way to one that reads no net besides: the network is well formed. It may take the old one's place, without
@@ -145,13 +165,17 @@ pub fn filling_laws()
 /// some region round it what the table allows can be replaced by what was allowed, with the same values at the region's inputs and
 /// outputs.
 pub fn narrowing_laws()
-    ensures formed { (net : NetParts) (n : ℕ) (old new : Cover) → WellFormed net → table_in (slot net.nets n) ≡ Some old
+    ensures formed { (net : NetParts) (n : ℕ) (old new : Cover) → WellFormed net
+        → table_in (slot net.nets n) ≡ Some old
         → IsCover net.nets (values_in (slot net.nets n)) new → ReadsWithin old new
         → WellFormed (with_nets net (with_net_table net.nets n new)) }
-    ensures refines { (free : Bool) (net : NetParts) (n : ℕ) (old new : Cover) (inside input output : ℕ → Bool) → WellFormed net
-        → table_in (slot net.nets n) ≡ Some old → IsCover net.nets (values_in (slot net.nets n)) new → ReadsWithin old new
+    ensures refines { (free : Bool) (net : NetParts) (n : ℕ) (old new : Cover)
+        (inside input output : ℕ → Bool) → WellFormed net
+        → table_in (slot net.nets n) ≡ Some old
+        → IsCover net.nets (values_in (slot net.nets n)) new → ReadsWithin old new
         → KeepsSome net.nets old new → AreTotalBelow net.nets n
-        → IsRegion net inside input output → inside n ≡ true → StaysInside net.nets inside input output n new
+        → IsRegion net inside input output → inside n ≡ true
+        → StaysInside net.nets inside input output n new
         → Refines free (of_net (with_nets net (with_net_table net.nets n new))) (of_net net) }
 {}
 
@@ -159,13 +183,18 @@ pub fn narrowing_laws()
 /// by which one net comes.
 pub fn change_laws()
     ensures one { (net : NetParts) (n : NetId) (c : Cover)
-        → changed net (record { add = []; set = record { net = n; table = c } ∷ []; values = []; gone = [] })
+        → changed net
+        (record { add = []; set = record { net = n; table = c } ∷ []; values = []; gone = [] })
         ≡ with_nets net (with_net_table net.nets n.0 c) }
-    ensures readers { (net : NetParts) (n : ℕ) (new : Cover → Cover) (list : List NewTable) → SetsReaders new n net.nets list
-        → changed net (record { add = []; set = list; values = []; gone = [] }) ≡ with_nets net (rewritten new n net.nets) }
-    ensures gone { (net : NetParts) (n : NetId) (new : Cover → Cover) (list : List NewTable) → SetsReaders new n.0 net.nets list
+    ensures readers { (net : NetParts) (n : ℕ) (new : Cover → Cover) (list : List NewTable)
+        → SetsReaders new n net.nets list
+        → changed net (record { add = []; set = list; values = []; gone = [] })
+        ≡ with_nets net (rewritten new n net.nets) }
+    ensures gone { (net : NetParts) (n : NetId) (new : Cover → Cover) (list : List NewTable)
+        → SetsReaders new n.0 net.nets list
         → changed net (record { add = []; set = list; values = []; gone = n ∷ [] })
         ≡ with_nets net (slice_set (rewritten new n.0 net.nets) n.0 None) }
     ensures added { (net : NetParts) (m : NewNet)
-        → changed net (record { add = m ∷ []; set = []; values = []; gone = [] }) ≡ with_nets net (net.nets ++ made_net m ∷ []) }
+        → changed net (record { add = m ∷ []; set = []; values = []; gone = [] })
+        ≡ with_nets net (net.nets ++ made_net m ∷ []) }
 {}

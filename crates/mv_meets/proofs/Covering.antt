@@ -213,10 +213,10 @@ saves_less c x n m few short =
         let second : (n - 1) * (x - 1) ≤ (n - 1) * (m - 1) = mul-le-mul_left (n - 1) (omega (arith, short)) in
         omega (arith, a, b, first, second)
 
--- a common part with all symbols of the node saves no more than so many symbols as the longest of its cubes has
-pub covered_less : (cubes : List (List Lit)) (node : Node) (e : List Lit) (longest : ℕ) → IsNode cubes node → All (λ p. length (at cubes p) ≤ longest) node.places.items → has_each node.cube e ≡ true → IsMeet cubes e
-    → saving e cubes ≤ saved_by (length node.places.items) longest
-covered_less cubes node e longest is short has m =
+-- a common part with all symbols of the node has no more literals than the longest of its cubes
+pub covered_short : (cubes : List (List Lit)) (node : Node) (e : List Lit) (longest : ℕ) → IsNode cubes node → All (λ p. length (at cubes p) ≤ longest) node.places.items → has_each node.cube e ≡ true → IsMeet cubes e
+    → length e ≤ longest
+covered_short cubes node e longest is short has m =
     let all : has_each node.cube (at cubes m.one) ≡ true = each_from node.cube (at cubes m.one) (λ l t. each_at e (at cubes m.one) l (meet_left cubes e m) (each_at node.cube e l has t)) in
     let there = is.places.all m.one m.one_in all in
     let long = All-contains (λ p. length (at cubes p) ≤ longest) node.places.items m.one short there in
@@ -225,9 +225,15 @@ covered_less cubes node e longest is short has m =
     let g = count_by-le-length (has_symbol (at cubes m.other)) (at cubes m.one) in
     omega (arith, f, g)) in
     let same : length (common (at cubes m.one) (at cubes m.other)) ≡ length e = ap length m.is in
+    omega (arith, long, within, same)
+
+-- it saves no more than so many symbols
+pub covered_less : (cubes : List (List Lit)) (node : Node) (e : List Lit) (longest : ℕ) → IsNode cubes node → All (λ p. length (at cubes p) ≤ longest) node.places.items → has_each node.cube e ≡ true → IsMeet cubes e
+    → saving e cubes ≤ saved_by (length node.places.items) longest
+covered_less cubes node e longest is short has m =
     let many = holding_count cubes node.cube node.places.items is.places in
     let few = count_less node.cube e cubes has in
-    saves_less (count e cubes) (length e) (length node.places.items) longest (omega (arith, many, few)) (omega (arith, long, within, same))
+    saves_less (count e cubes) (length e) (length node.places.items) longest (omega (arith, many, few)) (covered_short cubes node e longest is short has m)
 
 -- the longest of the cubes so far
 pub longest_more : (cubes : List (List Lit)) (places : List ℕ) (i old new : ℕ) (cube : List Lit) → i < length places → get_or places i 0 < length cubes → cube ≡ get_or cubes (get_or places i 0) cube

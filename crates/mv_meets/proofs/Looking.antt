@@ -1,6 +1,6 @@
 -- The best common part so far, and one that is looked at.
-use Rattle.std.proofs.Common.{◌≡◌, ◌∙◌, ℕ, ◌<◌, ◌≤◌, ◌&&◌, true, false, nat_lt, nat_eq, Option, Some, None, List, length, inl, inr, refl, sym, ap, subst, arith}
-use Rattle.std.proofs.lemmas.Bool.{false≢true, and_parts, not-false, or_cases, or_parts, ltb-false, ltb-true, eq-eqb, eqb-true}
+use Rattle.std.proofs.Common.{◌≡◌, ◌∙◌, ℕ, ◌-◌, ◌*◌, ◌<◌, ◌≤◌, ◌&&◌, true, false, nat_lt, nat_eq, Option, Some, None, List, length, inl, inr, refl, sym, ap, subst, arith}
+use Rattle.std.proofs.lemmas.Bool.{cases_lt, false≢true, and_parts, not-false, not-true, or_cases, or_parts, ltb-false, ltb-true, eq-eqb, eqb-true}
 use Rattle.std.specs.Ordering.{is_lt, ordering_reverse}
 use Rattle.std.specs.declared.cmp.Ordering.{Ordering}
 use Rattle.std.specs.declared.cmp.Ordering.TheVariants.{Less, Equal, Greater}
@@ -27,17 +27,33 @@ flips_back a b e = cube_total.antisymm b a ∙ ap ordering_reverse e
 module _ (cubes : List (List Lit)) where
   -- ---- what isn't better
 
-  -- what saves nothing
-  pub nothing : (best : Option Found) (e : List Lit) → IsFound cubes best → saving e cubes ≡ 0 → IsNoBetter cubes best e
-  nothing None e f h = h
-  nothing (Some f) e saver h = record { most = omega (arith, h); least = λ same g. omega (arith, h, same, saver.some) }
-
   -- what saves no more than what can't win
   pub no_win : (best : Option Found) (n x : ℕ) (e : List Lit) → can_win best n x ≡ false → saving e cubes ≤ saved_by n x → IsNoBetter cubes best e
   no_win None n x e t less = let high = ltb-false 0 (saved_by n x) t in omega (arith, less, high)
   no_win (Some f) n x e t less =
       let low = ltb-true (saved_by n x) f.saved (not-false (nat_lt (saved_by n x) f.saved) t) in
       record { most = omega (arith, less, low); least = λ same g. omega (arith, less, low, same) }
+
+  no_cubes : (n x : ℕ) → (0 < n → ⊥) → saved_by n x ≡ 0
+  no_cubes n x none =
+      let zeroed : n ≡ 0 = omega (arith, none) in
+      let nothing : n * (x - 1) ≡ 0 = ap (λ k. k * (x - 1)) zeroed ∙ omega arith in
+      omega (arith, nothing)
+
+  -- what may win is part of a cube
+  pub wins_some : (best : Option Found) (n x : ℕ) → IsFound cubes best → can_win best n x ≡ true → 0 < n
+  wins_some best n x f t =
+      elim (cases_lt 0 n) [
+        | inl some ↦ some
+        | inr none ↦ absurd (loses best f t (no_cubes n x (λ some. omega (arith, none, some))))
+      ]
+    where
+      loses : (best : Option Found) → IsFound cubes best → can_win best n x ≡ true → saved_by n x ≡ 0 → ⊥
+      loses None f t nothing = let high = ltb-true 0 (saved_by n x) t in omega (arith, nothing, high)
+      loses (Some f) saver t nothing =
+          let most = ltb-false (saved_by n x) f.saved (not-true (nat_lt (saved_by n x) f.saved) t) in
+          let some = saver.some in
+          omega (arith, nothing, most, some)
 
   module _ (d : List Lit) (saved : ℕ) (is : saving d cubes ≡ saved) where
     -- what isn't ahead

@@ -1,6 +1,6 @@
 -- The search goes on: each common part that is better than the best stays covered by a node that waits.
 use Rattle.std.proofs.Common.{◌≡◌, ◌∙◌, ℕ, ◌+◌, ◌<◌, ◌≤◌, ◌⊎◌, true, false, Option, Some, None, List, [], ◌∷◌, ◌++◌, length, All, Contains, inl, inr, refl, sym, ap, subst, arith}
-use Rattle.std.proofs.lemmas.Bool.{cases_Bool, cases_lt}
+use Rattle.std.proofs.lemmas.Bool.{cases_Bool, false≢true}
 use Rattle.std.proofs.lemmas.List.Elements.{All-nil, All-cons, All-push, Contains-append_left, Contains-push}
 use Rattle.mv_cover.specs.Literal.{Lit}
 use Rattle.mv_cover.specs.Cubes.{IsCube}
@@ -11,8 +11,8 @@ use Rattle.mv_meets.specs.Search.{can_win, saved_by, Covers, HasNode, IsNoBetter
 use Rattle.mv_meets.specs.declared.found.Found.{Found}
 use Rattle.mv_meets.specs.declared.nodes.Node.{Node}
 use Rattle.mv_meets.specs.declared.search.Search.{Search}
-use Rattle.mv_meets.proofs.Looking.{nothing, no_win}
-use Rattle.mv_meets.proofs.Covering.{count_less, covered_less, covers_child, covers_own, has_missing, missing, missing_high, saves_less}
+use Rattle.mv_meets.proofs.Looking.{no_win}
+use Rattle.mv_meets.proofs.Covering.{count_less, covered_less, covered_short, covers_child, covers_own, has_missing, missing, missing_high, saves_less}
 use Rattle.mv_meets.proofs.Pairs.{meet_formed}
 
 -- an element of a list with one more at its end
@@ -71,9 +71,9 @@ module _ (cubes : List (List Lit)) where
   }
 
   -- a node was looked at, and those with one symbol more wait
-  pub open_spread : (node : Node) (waiting more : List Node) (best new : Option Found) → All IsCube cubes → IsNode cubes node → Looked cubes node.cube best new → Spreads cubes node (λ l. Unit {0}) waiting more
-      → IsOpen cubes (node ∷ waiting) best → IsOpen cubes more new
-  open_spread node waiting more best new formed is looked spread o = record {
+  pub open_spread : (node : Node) (waiting more : List Node) (best new : Option Found) (longest : ℕ) → All IsCube cubes → IsNode cubes node → All (λ p. length (at cubes p) ≤ longest) node.places.items
+      → Looked cubes node.cube best new → Spreads cubes node new longest (λ l. Unit {0}) waiting more → IsOpen cubes (node ∷ waiting) best → IsOpen cubes more new
+  open_spread node waiting more best new longest formed is short looked spread o = record {
     found = looked.found;
     all = λ e m.
         elim (o.all e m) [
@@ -95,14 +95,15 @@ module _ (cubes : List (List Lit)) where
             | inr f ↦
                 let next = missing node.cube e (meet_formed cubes e formed m).ascending f in
                 let cube = node.cube ++ next.symbol ∷ [] in
-                elim (cases_lt 1 (count cube cubes)) [
-                  | inl two ↦
-                      let h = spread.all next.symbol tt (missing_high node e c next) (omega (arith, two)) in
+                elim (cases_Bool (can_win new (count cube cubes) longest)) [
+                  | inl wins ↦
+                      let h = spread.all next.symbol tt (missing_high node e c next) wins in
                       inr (record { from = h.node; there = h.there; is = covers_child node e c next h.node h.cube_is h.low_is })
-                  | inr one ↦
+                  | inr lost ↦
                       let few = count_less cube e cubes (has_missing node e c next) in
-                      let less : saving e cubes ≤ saved_by 1 (length e) = saves_less (count e cubes) (length e) 1 (length e) (omega (arith, few, one)) (omega arith) in
-                      inl (nothing cubes new e looked.found (omega (arith, less)))
+                      let less : saving e cubes ≤ saved_by (count cube cubes) longest =
+                      saves_less (count e cubes) (length e) (count cube cubes) longest few (covered_short cubes node e longest is short c.has m) in
+                      inl (no_win cubes new (count cube cubes) longest e lost less)
                 ]
           ]
 
@@ -132,48 +133,48 @@ module _ (cubes : List (List Lit)) where
 
 -- ---- one literal after another
 
-module _ (cubes : List (List Lit)) (node : Node) where
-  pub spreads_none : (old : List Node) → All (IsNode cubes) old → Spreads cubes node (Contains []) old old
-  spreads_none old a = record { nodes = a; keeps = λ n h. h; all = λ l i high two. absurd (Contains-none l i) }
+module _ (cubes : List (List Lit)) (node : Node) (best : Option Found) (longest : ℕ) where
+  pub spreads_none : (old : List Node) → All (IsNode cubes) old → Spreads cubes node best longest (Contains []) old old
+  spreads_none old a = record { nodes = a; keeps = λ n h. h; all = λ l i high wins. absurd (Contains-none l i) }
 
   has_more : (nodes : List Node) (n : Node) (cube : List Lit) (low : ℕ) → HasNode nodes cube low → HasNode (nodes ++ n ∷ []) cube low
   has_more nodes n cube low h = record { node = h.node; there = Contains-append_left nodes (n ∷ []) h.node h.there; cube_is = h.cube_is; low_is = h.low_is }
 
   -- a node comes for the next one
   pub spreads_more : (ls : List Lit) (l : Lit) (old mid : List Node) (child : Node) → IsNode cubes child → child.cube ≡ node.cube ++ l ∷ [] → child.low ≡ l.net.0 + 1
-      → Spreads cubes node (Contains ls) old mid → Spreads cubes node (Contains (ls ++ l ∷ [])) old (mid ++ child ∷ [])
+      → Spreads cubes node best longest (Contains ls) old mid → Spreads cubes node best longest (Contains (ls ++ l ∷ [])) old (mid ++ child ∷ [])
   spreads_more ls l old mid child is cube_is low_is a = record {
     nodes = All-push (IsNode cubes) mid child a.nodes is;
     keeps = λ n h. Contains-append_left mid (child ∷ []) n (a.keeps n h);
-    all = λ m i high two.
+    all = λ m i high wins.
         elim (last_cases ls l m i) [
           | inl same ↦
               subst (λ (o : Lit). HasNode (mid ++ child ∷ []) (node.cube ++ o ∷ []) (o.net.0 + 1)) same
               (record { node = child; there = Contains-push mid child; cube_is = cube_is; low_is = low_is })
-          | inr t ↦ has_more mid child (node.cube ++ m ∷ []) (m.net.0 + 1) (a.all m t high two)
+          | inr t ↦ has_more mid child (node.cube ++ m ∷ []) (m.net.0 + 1) (a.all m t high wins)
         ];
   }
 
-  -- two cubes don't have the next one besides the node's symbols
-  pub spreads_past : (ls : List Lit) (l : Lit) (old new : List Node) → (node.low ≤ l.net.0 → count (node.cube ++ l ∷ []) cubes < 2)
-      → Spreads cubes node (Contains ls) old new → Spreads cubes node (Contains (ls ++ l ∷ [])) old new
-  spreads_past ls l old new few a = record {
+  -- what has the next one besides the node's symbols can't win
+  pub spreads_past : (ls : List Lit) (l : Lit) (old new : List Node) → (node.low ≤ l.net.0 → can_win best (count (node.cube ++ l ∷ []) cubes) longest ≡ false)
+      → Spreads cubes node best longest (Contains ls) old new → Spreads cubes node best longest (Contains (ls ++ l ∷ [])) old new
+  spreads_past ls l old new lost a = record {
     nodes = a.nodes;
     keeps = a.keeps;
-    all = λ m i high two.
+    all = λ m i high wins.
         elim (last_cases ls l m i) [
           | inl same ↦
-              let less = few (subst (λ (o : Lit). node.low ≤ o.net.0) (sym same) high) in
-              let as_many : count (node.cube ++ l ∷ []) cubes ≡ count (node.cube ++ m ∷ []) cubes = ap (λ (o : Lit). count (node.cube ++ o ∷ []) cubes) same in
-              absurd (omega (arith, less, as_many, two))
-          | inr t ↦ a.all m t high two
+              let f = lost (subst (λ (o : Lit). node.low ≤ o.net.0) (sym same) high) in
+              let t : can_win best (count (node.cube ++ l ∷ []) cubes) longest ≡ true = subst (λ (o : Lit). can_win best (count (node.cube ++ o ∷ []) cubes) longest ≡ true) (sym same) wins in
+              absurd (false≢true (sym f ∙ t))
+          | inr t ↦ a.all m t high wins
         ];
   }
 
-  -- all that two cubes have are among them
-  pub spreads_all : (ls : List Lit) (old new : List Node) → ((l : Lit) → node.low ≤ l.net.0 → 2 ≤ count (node.cube ++ l ∷ []) cubes → Contains ls l)
-      → Spreads cubes node (Contains ls) old new → Spreads cubes node (λ l. Unit {0}) old new
-  spreads_all ls old new among a = record { nodes = a.nodes; keeps = a.keeps; all = λ l u high two. a.all l (among l high two) high two }
+  -- all that may win are among them
+  pub spreads_all : (ls : List Lit) (old new : List Node) → ((l : Lit) → node.low ≤ l.net.0 → can_win best (count (node.cube ++ l ∷ []) cubes) longest ≡ true → Contains ls l)
+      → Spreads cubes node best longest (Contains ls) old new → Spreads cubes node best longest (λ l. Unit {0}) old new
+  spreads_all ls old new among a = record { nodes = a.nodes; keeps = a.keeps; all = λ l u high wins. a.all l (among l high wins) high wins }
 
 -- ---- the search as a whole
 

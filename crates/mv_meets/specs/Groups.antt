@@ -19,9 +19,12 @@ from_net low literals = filter (λ (l : Lit). not (nat_lt l.net.0 low)) literals
 
 -- each of these literals has the place behind its others
 pub record IsNoted (literals : List Lit) (place : ℕ) (old new : Lit → List ℕ) : Type 0 where
-  pub each : (l : Lit) → new l ≡ (if list_any (lit_eq l) literals then old l ++ place ∷ [] else old l)
+  pub each : (l : Lit)
+      → new l ≡ (if list_any (lit_eq l) literals then old l ++ place ∷ [] else old l)
 
--- a literal on a net from the low one on has those of the places at which the cube has it, and no other literal has one
-pub record AreGroups (cubes : List (List Lit)) (low : ℕ) (places : List ℕ) (found : Lit → List ℕ) : Type 0 where
+-- a literal on a net from the low one on has those of the places at which the cube has it, and no
+-- other literal has one
+pub record AreGroups (cubes : List (List Lit)) (low : ℕ) (places : List ℕ) (found : Lit → List ℕ)
+    : Type 0 where
   pub each : (l : Lit) → low ≤ l.net.0 → found l ≡ filter (λ p. has_symbol (at cubes p) l) places
   pub below : (l : Lit) → l.net.0 < low → found l ≡ []

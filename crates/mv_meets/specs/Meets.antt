@@ -1,4 +1,5 @@
--- What two cubes of a list have in common, and what is saved where such a part is taken out of all of them.
+-- What two cubes of a list have in common, and what is saved where such a part is taken out of all
+-- of them.
 use Rattle.std.specs.Prelude.{◌≡◌, ◌≢◌, ◌<◌, ◌≤◌, ◌-◌, ◌*◌, ℕ, List, [], filter, length, slice_index_or}
 use Rattle.std.specs.List.{count_by}
 use Rattle.std.specs.declared.cmp.Ordering.TheVariants.{Greater}
@@ -16,8 +17,8 @@ common a b = filter (has_symbol b) a
 abbrev pub count : List Lit → List (List Lit) → ℕ
 count d cubes = count_by (has_each d) cubes
 
--- what taking d out of the cubes saves: one literal takes the place of its symbols in each cube, and d is written once; 0 where
--- that is nothing
+-- what taking d out of the cubes saves: one literal takes the place of its symbols in each cube,
+-- and d is written once; 0 where that is nothing
 abbrev pub saving : List Lit → List (List Lit) → ℕ
 saving d cubes = count d cubes * (length d - 1) - length d
 
@@ -40,7 +41,8 @@ pub record IsBestMeet (cubes : List (List Lit)) (d : List Lit) : Type 0 where
   pub meet : IsMeet cubes d
   pub some : 0 < saving d cubes
   pub most : (e : List Lit) → IsMeet cubes e → saving e cubes ≤ saving d cubes
-  pub least : (e : List Lit) → IsMeet cubes e → saving e cubes ≡ saving d cubes → cube_cmp d e ≡ Greater → ⊥
+  pub least : (e : List Lit) → IsMeet cubes e → saving e cubes ≡ saving d cubes
+      → cube_cmp d e ≡ Greater → ⊥
 
 -- no common part saves anything
 pub record NoMeetSaves (cubes : List (List Lit)) : Type 0 where

@@ -20,7 +20,8 @@ pub record IsOneOf {X K : Type 0} (Is : X → K → Type 0) (xs : List X) (k : K
 -- ---- pairs of cubes
 
 -- it is what the cube has in common with the one at the place, another one
-pub record IsWith (cubes : List (List Lit)) (cube : List Lit) (own place : ℕ) (e : List Lit) : Type 0 where
+pub record IsWith (cubes : List (List Lit)) (cube : List Lit) (own place : ℕ) (e : List Lit)
+    : Type 0 where
   pub apart : place ≢ own
   pub is : common cube (at cubes place) ≡ e
 
@@ -57,7 +58,8 @@ pub record IsNode (cubes : List (List Lit)) (node : Node) : Type 0 where
 -- it has the node's symbols, and else only some on nets from the low one on
 pub record Covers (node : Node) (e : List Lit) : Type 0 where
   pub has : has_each node.cube e ≡ true
-  pub rest : (l : Lit) → has_symbol e l ≡ true → (has_symbol node.cube l ≡ true) ⊎ (node.low ≤ l.net.0)
+  pub rest : (l : Lit) → has_symbol e l ≡ true
+      → (has_symbol node.cube l ≡ true) ⊎ (node.low ≤ l.net.0)
 
 -- a node with these symbols is among them
 pub record HasNode (nodes : List Node) (cube : List Lit) (low : ℕ) : Type 0 where
@@ -65,13 +67,6 @@ pub record HasNode (nodes : List Node) (cube : List Lit) (low : ℕ) : Type 0 wh
   pub there : Contains nodes node
   pub cube_is : node.cube ≡ cube
   pub low_is : node.low ≡ low
-
--- nodes came behind the old ones, one for each of these literals on a net from the node's low one on that two cubes have
--- besides its symbols
-pub record Spreads (cubes : List (List Lit)) (node : Node) (Is : Lit → Type 0) (old new : List Node) : Type 0 where
-  pub nodes : All (IsNode cubes) new
-  pub keeps : (n : Node) → Contains old n → Contains new n
-  pub all : (l : Lit) → Is l → node.low ≤ l.net.0 → 2 ≤ count (node.cube ++ l ∷ []) cubes → HasNode new (node.cube ++ l ∷ []) (l.net.0 + 1)
 
 -- ---- the best so far
 
@@ -87,7 +82,8 @@ can_win (Some old) cubes literals = not (nat_lt (saved_by cubes literals) old.sa
 -- it saves something, and more than the best, or as much and comes before it
 abbrev pub is_ahead : Option Found → ℕ → List Lit → Bool
 is_ahead None saved cube = nat_lt 0 saved
-is_ahead (Some old) saved cube = nat_lt old.saved saved || (nat_eq saved old.saved && is_lt (cube_cmp cube old.cube))
+is_ahead (Some old) saved cube = nat_lt old.saved saved
+    || (nat_eq saved old.saved && is_lt (cube_cmp cube old.cube))
 
 -- a common part that saves so much, which is something
 pub record IsSaver (cubes : List (List Lit)) (f : Found) : Type 0 where
@@ -114,6 +110,17 @@ pub record Looked (cubes : List (List Lit)) (d : List Lit) (old new : Option Fou
   pub found : IsFound cubes new
   pub keeps : (e : List Lit) → IsNoBetter cubes old e → IsNoBetter cubes new e
   pub here : IsMeet cubes d → IsNoBetter cubes new d
+
+-- nodes came behind the old ones, one for each of these literals on a net from the node's low one
+-- on with which the node's symbols may be part of a common part of at most so many literals that
+-- saves no less than the best
+pub record Spreads (cubes : List (List Lit)) (node : Node) (best : Option Found) (longest : ℕ)
+    (Is : Lit → Type 0) (old new : List Node) : Type 0 where
+  pub nodes : All (IsNode cubes) new
+  pub keeps : (n : Node) → Contains old n → Contains new n
+  pub all : (l : Lit) → Is l → node.low ≤ l.net.0
+      → can_win best (count (node.cube ++ l ∷ []) cubes) longest ≡ true
+      → HasNode new (node.cube ++ l ∷ []) (l.net.0 + 1)
 
 -- each common part that is better than the best is covered by one of the nodes
 pub record IsOpen (cubes : List (List Lit)) (nodes : List Node) (best : Option Found) : Type 0 where

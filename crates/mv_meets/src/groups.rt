@@ -56,7 +56,8 @@ fn note_all(
     low: u64,
 ) -> Result<(), Memory>
     requires { IsDistinct lit_eq literals.now }
-    ensures { OnOk result (IsNoted (from_net low literals.now) place (places_in groups.old) (places_in groups.new)) }
+    ensures { OnOk result
+        (IsNoted (from_net low literals.now) place (places_in groups.old) (places_in groups.new)) }
 {
     for literal in literals {
         if literal.net().0 as u64 >= low {
@@ -68,7 +69,8 @@ fn note_all(
 
 /// Notes that the cube at the place has the literal.
 fn note(alloc: Global, groups: &mut Groups, place: usize, literal: &Lit) -> Result<(), Memory>
-    ensures { OnOk result (IsNoted (literal.now ∷ []) place (places_in groups.old) (places_in groups.new)) }
+    ensures { OnOk result
+        (IsNoted (literal.now ∷ []) place (places_in groups.old) (places_in groups.new)) }
 {
     if let Some(places) = groups.places.get_mut(literal) {
         return Ok(places.push(place)?);

@@ -1,6 +1,7 @@
 //! What two cubes of a list have in common, and which such part saves the most where it is taken out.
 #![tactic(auto)]
 
+mod children;
 mod common;
 mod found;
 mod groups;

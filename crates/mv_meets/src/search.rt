@@ -3,8 +3,9 @@ ghost use Rattle.mv_cover.specs.Cubes.{IsCube};
 ghost use Rattle.mv_meets.specs.Meets.{IsAnswer};
 ghost use Rattle.mv_meets.specs.Search.{IsNode, IsOpen, IsSearch};
 
+use crate::children::spread;
 use crate::found::{Found, can_win, look};
-use crate::nodes::{Node, longest, root, spread};
+use crate::nodes::{Node, longest, root};
 use mv_base::Memory;
 use mv_cover::Cube;
 use std::alloc::Global;
@@ -86,6 +87,6 @@ fn visit(alloc: Global, cubes: &[Cube], node: &Node, search: Search) -> Result<S
         return Ok(search);
     }
     let best = look(alloc, cubes, node, search.best)?;
-    let waiting = spread(alloc, cubes, node, search.waiting)?;
+    let waiting = spread(alloc, cubes, node, &best, longest, search.waiting)?;
     Ok(Search { best, waiting })
 }

@@ -16,13 +16,16 @@ table_or_none (Some c) = c
 
 -- the new table for a reader of n, and the one for n itself
 abbrev pub reader_table : Merging → NetId → List (Option FlatNet) → NetId → NewTable
-reader_table m n nets k = record { net = k; table = reader_merged m n.0 (table_or_none (table_in (slot nets k.0))) }
+reader_table m n nets k =
+    record { net = k; table = reader_merged m n.0 (table_or_none (table_in (slot nets k.0))) }
 
 abbrev pub own_table : Merging → NetId → List (Option FlatNet) → NewTable
-own_table m n nets = record { net = n; table = own_merged m (table_or_none (table_in (slot nets n.0))) }
+own_table m n nets =
+    record { net = n; table = own_merged m (table_or_none (table_in (slot nets n.0))) }
 
 -- these are a new table for n itself, and behind it one for each reader of n
-pub record AreMerged (nets : List (Option FlatNet)) (m : Merging) (n : NetId) (set : List NewTable) : Type 0 where
+pub record AreMerged (nets : List (Option FlatNet)) (m : Merging) (n : NetId) (set : List NewTable)
+    : Type 0 where
   pub readers : List NetId
   pub ascending : IsAscending (λ k. net_reads (slot nets k) n.0) readers
   pub tables : set ≡ own_table m n nets ∷ map (reader_table m n nets) readers

@@ -14,11 +14,13 @@ use Rattle.mv_merging.specs.Values.{merged_set}
 
 -- the literal of this set, on a net with so many values, unless it is full and asks nothing
 abbrev pub asked_of : NetId → ℕ → ℕ → List Lit
-asked_of net values set = if nat_eq set (full values) then [] else record { net = net; set = set } ∷ []
+asked_of net values set = if nat_eq set (full values) then []
+    else record { net = net; set = set } ∷ []
 
 -- what is left of a literal, where values of the net n are merged
 abbrev pub literal_merged : Merging → ℕ → Lit → List Lit
-literal_merged m n l = if nat_eq l.net.0 n then asked_of l.net m.left (merged_set m l.set) else l ∷ []
+literal_merged m n l = if nat_eq l.net.0 n then asked_of l.net m.left (merged_set m l.set)
+    else l ∷ []
 
 -- the literals of a cube behind the merge
 abbrev pub cube_merged : Merging → ℕ → List Lit → List Lit
@@ -38,7 +40,8 @@ line_merged m n l = line_unless (cube_merged m n l.cube) l.out
 
 -- the table of a reader of n behind the merge, absorbed
 unfoldable pub reader_merged : Merging → ℕ → Cover → Cover
-reader_merged m n c = absorbed (record { lines = flat_map (line_merged m n) c.lines; default = c.default })
+reader_merged m n c =
+    absorbed (record { lines = flat_map (line_merged m n) c.lines; default = c.default })
 
 -- ---- the net's own table
 
@@ -53,4 +56,8 @@ default_merged m (Some out) = Some (merged_set m out)
 
 -- the net's own table behind the merge, absorbed
 unfoldable pub own_merged : Merging → Cover → Cover
-own_merged m c = absorbed (record { lines = map (output_merged m) c.lines; default = default_merged m c.default })
+own_merged m c =
+    absorbed (record {
+      lines = map (output_merged m) c.lines;
+      default = default_merged m c.default;
+    })

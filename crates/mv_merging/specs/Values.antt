@@ -13,14 +13,16 @@ abbrev pub takes_place : Option Value → ℕ → Bool
 takes_place None u = false
 takes_place (Some into) u = nat_eq into.0 u
 
--- behind the merge the set has v: it had the value of which v is the number now, or the one whose place that takes
+-- behind the merge the set has v: it had the value of which v is the number now, or the one whose
+-- place that takes
 abbrev pub merged_has : Merging → ℕ → ℕ → Bool
 merged_has m set v = has set (before m v) || (takes_place m.into (before m v) && has set m.gone.0)
 
 -- the set of the values below k that pass the test
 abbrev pub members_below : ℕ → (ℕ → Bool) → ℕ
 members_below zero test = empty
-members_below (suc k) test = if test k then join (members_below k test) (one k) else members_below k test
+members_below (suc k) test = if test k then join (members_below k test) (one k)
+    else members_below k test
 
 -- the set behind the merge
 unfoldable pub merged_set : Merging → ℕ → ℕ

@@ -48,17 +48,21 @@ cover_has v c = list_any (λ (l : Line). has l.out v) c.lines || default_gives c
 pub record IsNeverGiven (nets : List (Option FlatNet)) (n v : ℕ) : Type 0 where
   pub each : (c : Cover) → table_in (slot nets n) ≡ Some c → cover_has v c ≡ false
 
--- nothing is lost where the one value goes: no table tells it from the one that takes its place, or the net never has it
+-- nothing is lost where the one value goes: no table tells it from the one that takes its place, or
+-- the net never has it
 abbrev pub IsMergeLossless : List (Option FlatNet) → ℕ → Value → Option Value → Type 0
 IsMergeLossless nets n gone None = IsNeverGiven nets n gone.0
 IsMergeLossless nets n gone (Some into) = AreAlike nets n into.0 gone.0
 
--- the first that holds: the values can't be merged by their form; something would be lost; or none of that
+-- the first that holds: the values can't be merged by their form; something would be lost; or none
+-- of that
 abbrev pub IsMergeVerdict : NetParts → ℕ → Value → Option Value → MergeVerdict → Type 0
 IsMergeVerdict net n gone into Form = AreMergeable (values_in (slot net.nets n)) gone into → ⊥
 IsMergeVerdict net n gone into NotSame =
-    AreMergeable (values_in (slot net.nets n)) gone into × (IsMergeLossless net.nets n gone into → ⊥)
-IsMergeVerdict net n gone into Lawful = AreMergeable (values_in (slot net.nets n)) gone into × IsMergeLossless net.nets n gone into
+    AreMergeable (values_in (slot net.nets n)) gone into
+    × (IsMergeLossless net.nets n gone into → ⊥)
+IsMergeVerdict net n gone into Lawful = AreMergeable (values_in (slot net.nets n)) gone into
+    × IsMergeLossless net.nets n gone into
 
 -- ---- what private functions alone cite
 

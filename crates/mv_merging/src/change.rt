@@ -24,7 +24,8 @@ pub fn merge_change(
     into: Option<Value>,
 ) -> Result<Change, Memory>
     requires { is_some (table_in (slot net.now.nets n.0)) ≡ true }
-    ensures makes { IfOk result (λ change. changed net.now change ≡ net_behind net.now n.0 gone into) }
+    ensures makes { IfOk result
+        (λ change. changed net.now change ≡ net_behind net.now n.0 gone into) }
     ensures fits { IfOk result (λ change. Fits net.now change) }
     ensures adds { IfOk result (λ change. change.add ≡ []) }
 {
@@ -98,7 +99,8 @@ fn put_readers(
     readers: &[NetId],
     all: &mut Items<NewTable>,
 ) -> Result<(), Memory>
-    requires tables { All (λ (k : a_net). is_some (table_in (slot net.now.nets k.0)) ≡ true) readers.now }
+    requires tables { All
+        (λ (k : a_net). is_some (table_in (slot net.now.nets k.0)) ≡ true) readers.now }
     requires few { m.left ≤ limit }
     ensures { OnOk result (all.new ≡ all.old ++ map (reader_table m n net.now.nets) readers.now) }
 {

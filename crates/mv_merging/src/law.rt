@@ -15,12 +15,15 @@ ghost use Rattle.mv_net.specs.declared.parts.NetParts.{NetParts};
 /// it meant, each total table stays total, and no net has more values than before.
 pub fn merging_laws()
     ensures formed { (net : NetParts) (n : ℕ) (gone : Value) (into : Option Value) → WellFormed net
-        → is_some (table_in (slot net.nets n)) ≡ true → is_seen net n ≡ false → IsMergeVerdict net n gone into Lawful
+        → is_some (table_in (slot net.nets n)) ≡ true → is_seen net n ≡ false
+        → IsMergeVerdict net n gone into Lawful
         → WellFormed (net_behind net n gone into) }
     ensures means { (net : NetParts) (n : ℕ) (gone : Value) (into : Option Value) → WellFormed net
-        → is_some (table_in (slot net.nets n)) ≡ true → is_seen net n ≡ false → IsMergeVerdict net n gone into Lawful
+        → is_some (table_in (slot net.nets n)) ≡ true → is_seen net n ≡ false
+        → IsMergeVerdict net n gone into Lawful
         → SameMeaning (of_net (net_behind net n gone into)) (of_net net) }
-    ensures total { (net : NetParts) (n : ℕ) (gone : Value) (into : Option Value) (k : ℕ) → WellFormed net
+    ensures total { (net : NetParts) (n : ℕ) (gone : Value) (into : Option Value) (k : ℕ)
+        → WellFormed net
         → is_some (table_in (slot net.nets n)) ≡ true → IsMergeVerdict net n gone into Lawful
         → IsTotalNet net.nets k → IsTotalNet (net_behind net n gone into).nets k }
     ensures few { (net : NetParts) (n : ℕ) (gone : Value) (into : Option Value) (k : ℕ)

@@ -47,7 +47,8 @@ impl Merging {
     /// The set of the number that the value has behind the merge, or the empty set where it doesn't stay.
     fn moved(self, value: Value) -> ValueSet
         requires { self.left ≤ limit }
-        ensures { (v : ℕ) → set.has result v ≡ (nat_lt v self.left && nat_eq (spec.before self v) value.0) }
+        ensures { (v : ℕ)
+            → set.has result v ≡ (nat_lt v self.left && nat_eq (spec.before self v) value.0) }
     {
         if value.0 < self.gone.0 {
             return one_below(value, self.left);

@@ -121,7 +121,8 @@ fn is_on(l: &Lit, n: NetId) -> bool
 /// Puts what the literal asks behind the merge, unless that is every value.
 fn put_asked(alloc: Global, m: Merging, l: &Lit, all: &mut Items<Lit>) -> Result<(), Memory>
     requires { m.left ≤ limit }
-    ensures { OnOk result (all.new ≡ all.old ++ spec.asked_of l.now.net m.left (merged_set m l.now.set)) }
+    ensures { OnOk result
+        (all.new ≡ all.old ++ spec.asked_of l.now.net m.left (merged_set m l.now.set)) }
 {
     let values = m.merged(l.set());
     if is_full(values, m.left) {

@@ -63,7 +63,8 @@ fn is_other(values: u16, gone: Value, into: Option<Value>) -> bool
 
 /// Whether the value is one of so many, and another.
 fn is_apart(values: u16, gone: Value, into: Value) -> bool
-    ensures { MatchBool result (IsOther values gone (Some into)) (IsOther values gone (Some into) → ⊥) }
+    ensures { MatchBool result (IsOther values gone (Some into))
+        (IsOther values gone (Some into) → ⊥) }
 {
     if into.0 >= values {
         return false;
@@ -77,7 +78,8 @@ fn is_apart(values: u16, gone: Value, into: Value) -> bool
 /// Whether nothing is lost where the one value goes.
 fn is_lossless(net: &Network, n: NetId, gone: Value, into: Option<Value>) -> bool
     requires { IsTrue (is_held net.now.nets n.0) }
-    ensures { MatchBool result (IsMergeLossless net.now.nets n.0 gone into) (IsMergeLossless net.now.nets n.0 gone into → ⊥) }
+    ensures { MatchBool result (IsMergeLossless net.now.nets n.0 gone into)
+        (IsMergeLossless net.now.nets n.0 gone into → ⊥) }
 {
     match into {
         None => is_never_given(net, n, gone),
@@ -88,7 +90,8 @@ fn is_lossless(net: &Network, n: NetId, gone: Value, into: Option<Value>) -> boo
 /// Whether the net's table never gives the value.
 fn is_never_given(net: &Network, n: NetId, v: Value) -> bool
     requires { IsTrue (is_held net.now.nets n.0) }
-    ensures { MatchBool result (IsNeverGiven net.now.nets n.0 v.0) (IsNeverGiven net.now.nets n.0 v.0 → ⊥) }
+    ensures { MatchBool result (IsNeverGiven net.now.nets n.0 v.0)
+        (IsNeverGiven net.now.nets n.0 v.0 → ⊥) }
 {
     !table_has(net, n, v)
 }
@@ -131,14 +134,17 @@ fn default_has(default: &Option<PackedSet>, v: Value) -> bool
 /// Whether no table tells the two values of the net apart.
 fn are_alike(net: &Network, n: NetId, u: Value, v: Value) -> bool
     requires { IsTrue (is_held net.now.nets n.0) }
-    ensures { MatchBool result (AreAlike net.now.nets n.0 u.0 v.0) (AreAlike net.now.nets n.0 u.0 v.0 → ⊥) }
+    ensures { MatchBool result (AreAlike net.now.nets n.0 u.0 v.0)
+        (AreAlike net.now.nets n.0 u.0 v.0 → ⊥) }
 {
     !some_splits(net, net.readers(n), n, u, v)
 }
 
 /// Whether the table of some of these nets tells the two values of the net apart.
 fn some_splits(net: &Network, readers: &[NetId], n: NetId, u: Value, v: Value) -> bool
-    ensures { result ≡ list_any (λ (m : a_net). spec.table_splits n.0 u.0 v.0 (table_in (slot net.now.nets m.0))) readers.now }
+    ensures { result
+        ≡ list_any (λ (m : a_net). spec.table_splits n.0 u.0 v.0
+        (table_in (slot net.now.nets m.0))) readers.now }
 {
     readers.iter().any(|m| table_splits(net, *m, n, u, v))
 }

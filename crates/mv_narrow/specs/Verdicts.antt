@@ -29,19 +29,26 @@ pub record IsInside (net : NetParts) (n : ℕ) (new : Cover) (w : Window) : Type
   pub narrow : TooWide net w → ⊥
   pub inside : CoverInFlex net.nets w n new
 
--- the first that holds: a table below n isn't total; the window is too wide, or its pool of nodes is full; the new table allows
--- something outside the flexibility; it allows nothing where the old one allows something; or nothing of all that
+-- the first that holds: a table below n isn't total; the window is too wide, or its pool of nodes
+-- is full; the new table allows something outside the flexibility; it allows nothing where the old
+-- one allows something; or nothing of all that
 abbrev pub IsNarrowVerdict : NetParts → ℕ → ℕ → ℕ → ℕ → Cover → Cover → NarrowVerdict → Type 0
 IsNarrowVerdict net n d u budget old new Partial = AreTotalBelow net.nets n → ⊥
-IsNarrowVerdict net n d u budget old new IsWide = AreTotalBelow net.nets n × HasWindow net n d u (TooWide net)
-IsNarrowVerdict net n d u budget old new NoNodes = AreTotalBelow net.nets n × HasWindow net n d u (λ w. NodesCause net w budget)
-IsNarrowVerdict net n d u budget old new Outside = AreTotalBelow net.nets n × HasWindow net n d u (IsOutside net n new)
+IsNarrowVerdict net n d u budget old new IsWide = AreTotalBelow net.nets n
+    × HasWindow net n d u (TooWide net)
+IsNarrowVerdict net n d u budget old new NoNodes = AreTotalBelow net.nets n
+    × HasWindow net n d u (λ w. NodesCause net w budget)
+IsNarrowVerdict net n d u budget old new Outside = AreTotalBelow net.nets n
+    × HasWindow net n d u (IsOutside net n new)
 IsNarrowVerdict net n d u budget old new Lost =
-    AreTotalBelow net.nets n × (HasWindow net n d u (IsInside net n new) × (KeepsChoice net.nets n old new → ⊥))
+    AreTotalBelow net.nets n
+    × (HasWindow net n d u (IsInside net n new) × (KeepsChoice net.nets n old new → ⊥))
 IsNarrowVerdict net n d u budget old new Lawful =
-    AreTotalBelow net.nets n × (HasWindow net n d u (IsInside net n new) × KeepsChoice net.nets n old new)
+    AreTotalBelow net.nets n
+    × (HasWindow net n d u (IsInside net n new) × KeepsChoice net.nets n old new)
 
--- f is the flexibility of n in its window that goes so far, which isn't too wide; and each table below n is total
+-- f is the flexibility of n in its window that goes so far, which isn't too wide; and each table
+-- below n is total
 pub record IsFlexHere (net : NetParts) (n d u budget : ℕ) (f : Flexibility) : Type 0 where
   pub below : AreTotalBelow net.nets n
   pub window : Window
@@ -51,5 +58,6 @@ pub record IsFlexHere (net : NetParts) (n d u budget : ℕ) (f : Flexibility) : 
 
 -- the new table allows no pair that the old one doesn't, and something wherever that does
 pub record AllowsLess (nets : List (Option FlatNet)) (n : ℕ) (old new : Cover) : Type 0 where
-  pub within : (at : ℕ → ℕ) (v : ℕ) → IsPair nets n at v → allowed new at v ≡ true → allowed old at v ≡ true
+  pub within : (at : ℕ → ℕ) (v : ℕ) → IsPair nets n at v → allowed new at v ≡ true
+      → allowed old at v ≡ true
   pub keeps : KeepsChoice nets n old new

@@ -14,7 +14,8 @@ use std::alloc::Global;
 /// Whether the table reads fanins of the net alone.
 pub fn is_over_fanins(alloc: Global, net: &Network, n: NetId, table: &Cover) -> Result<bool, Memory>
     requires { IsTrue (is_held net.now.nets n.0) }
-    ensures { IfOk result (λ yes. MatchBool yes (IsOverFanins net.now.nets n.0 (cover_reads table.now))
+    ensures { IfOk result
+        (λ yes. MatchBool yes (IsOverFanins net.now.nets n.0 (cover_reads table.now))
         (IsOverFanins net.now.nets n.0 (cover_reads table.now) → ⊥)) }
 {
     let read = fanins_of_cover(alloc, table)?;

@@ -43,7 +43,8 @@ pub fn narrow_verdict(
     budget: u32,
 ) -> Result<NarrowVerdict, Memory>
     requires table { IsTrue (is_some (table_in (slot net.now.nets n.0))) }
-    requires reads { (old : Cover) → table_in (slot net.now.nets n.0) ≡ Some old → ReadsWithin old new.now }
+    requires reads { (old : Cover) → table_in (slot net.now.nets n.0) ≡ Some old
+        → ReadsWithin old new.now }
     ensures { IfOk result (λ verdict. (old : Cover) → table_in (slot net.now.nets n.0) ≡ Some old
         → IsNarrowVerdict net.now n.0 d u budget old new.now verdict) }
 {
@@ -63,7 +64,8 @@ pub fn verdict_above_total(
     budget: u32,
 ) -> Result<NarrowVerdict, Memory>
     requires table { IsTrue (is_some (table_in (slot net.now.nets n.0))) }
-    requires reads { (old : Cover) → table_in (slot net.now.nets n.0) ≡ Some old → ReadsWithin old new.now }
+    requires reads { (old : Cover) → table_in (slot net.now.nets n.0) ≡ Some old
+        → ReadsWithin old new.now }
     requires below { AreTotalBelow net.now.nets n.0 }
     ensures { IfOk result (λ verdict. (old : Cover) → table_in (slot net.now.nets n.0) ≡ Some old
         → IsNarrowVerdict net.now n.0 d u budget old new.now verdict) }
@@ -79,8 +81,11 @@ pub fn verdict_above_total(
 /// The same of a net whose flexibility in that window, which isn't too wide, is at hand, and below which each table is total. It
 /// costs what the flexibility has to be asked.
 pub fn verdict_with(flexibility: &Flexibility, new: &Cover) -> Result<NarrowVerdict, Memory>
-    ensures { IfOk result (λ verdict. (net : NetParts) (n d u budget : ℕ) (old : Cover) → IsFlexHere net n d u budget flexibility.now
-        → table_in (slot net.nets n) ≡ Some old → ReadsWithin old new.now → IsNarrowVerdict net n d u budget old new.now verdict) }
+    ensures { IfOk result
+        (λ verdict. (net : NetParts) (n d u budget : ℕ) (old : Cover)
+        → IsFlexHere net n d u budget flexibility.now
+        → table_in (slot net.nets n) ≡ Some old → ReadsWithin old new.now
+        → IsNarrowVerdict net n d u budget old new.now verdict) }
 {
     match flexibility.judge(new) {
         Ok(verdict) => Ok(of_verdict(verdict)),
@@ -90,7 +95,9 @@ pub fn verdict_with(flexibility: &Flexibility, new: &Cover) -> Result<NarrowVerd
 
 /// Whether each table below the net is total.
 pub fn are_total_below(alloc: Global, net: &Network, n: NetId) -> Result<bool, Memory>
-    ensures { IfOk result (λ total. MatchBool total (AreTotalBelow net.now.nets n.0) (AreTotalBelow net.now.nets n.0 → ⊥)) }
+    ensures { IfOk result
+        (λ total. MatchBool total (AreTotalBelow net.now.nets n.0)
+        (AreTotalBelow net.now.nets n.0 → ⊥)) }
 {
     let below = net.below(n)?;
     all_total(alloc, net, below.as_slice())
@@ -112,7 +119,8 @@ fn all_total(alloc: Global, net: &Network, nets: &[NetId]) -> Result<bool, Memor
 
 /// Whether the net is held and has a table that is total.
 fn is_total(alloc: Global, net: &Network, m: NetId) -> Result<bool, Memory>
-    ensures { IfOk result (λ total. MatchBool total (IsTotalNet net.now.nets m.0) (IsTotalNet net.now.nets m.0 → ⊥)) }
+    ensures { IfOk result
+        (λ total. MatchBool total (IsTotalNet net.now.nets m.0) (IsTotalNet net.now.nets m.0 → ⊥)) }
 {
     if !net.holds(m) {
         return Ok(false);

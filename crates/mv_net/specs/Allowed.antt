@@ -33,9 +33,11 @@ abbrev pub resets_give : List (Option FlatNet) → (ℕ → ℕ) → List FlatLa
 resets_give nets at [] [] = Unit {0}
 resets_give nets at [] (_ ∷ _) = ⊥
 resets_give nets at (_ ∷ _) [] = ⊥
-resets_give nets at (l ∷ ls) (v ∷ vs) = reset_gives nets at l.output l.reset v × resets_give nets at ls vs
+resets_give nets at (l ∷ ls) (v ∷ vs) = reset_gives nets at l.output l.reset v
+    × resets_give nets at ls vs
 
--- the network allows outputs o, latch inputs n and resets r together, under inputs i and latch values s
+-- the network allows outputs o, latch inputs n and resets r together, under inputs i and latch
+-- values s
 pub record Allows (net : NetParts) (i s o n r : List ℕ) : Type 0 where
   pub at : ℕ → ℕ
   pub agrees : Agrees net.nets at

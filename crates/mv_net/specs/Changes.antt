@@ -35,7 +35,8 @@ with_count (Some k) f = record f { values = k; value_names = [] }
 -- the net at a number behind the change; a number that isn't held stays so
 abbrev pub changed_net : Change → ℕ → Option FlatNet → Option FlatNet
 changed_net c n None = None
-changed_net c n (Some f) = if has_id c.gone n then None else Some (with_count (count_for n c.values) (with_table (table_for n c.set) f))
+changed_net c n (Some f) = if has_id c.gone n then None
+    else Some (with_count (count_for n c.values) (with_table (table_for n c.set) f))
 
 -- the nets behind the change, of which the first has the number n
 abbrev pub changed_from : Change → ℕ → List (Option FlatNet) → List (Option FlatNet)
@@ -44,7 +45,14 @@ changed_from c n (f ∷ fs) = changed_net c n f ∷ changed_from c (n + 1) fs
 
 -- a net that comes
 abbrev pub made_net : NewNet → Option FlatNet
-made_net m = Some (record { name = m.name; values = m.values; value_names = []; kind = Table; table = Some m.table })
+made_net m =
+    Some (record {
+      name = m.name;
+      values = m.values;
+      value_names = [];
+      kind = Table;
+      table = Some m.table;
+    })
 
 -- the network behind the change: new nets get the next numbers
 unfoldable pub changed : NetParts → Change → NetParts
@@ -62,13 +70,14 @@ pub record AreHeldOnce (nets : List (Option FlatNet)) (list : List NetId) : Type
   pub held : (n : ℕ) → has_id list n ≡ true → IsTrue (is_held nets n)
   pub once : all_differ list ≡ true
 
--- the change can be made where it stands: the nets that it names are held, each at most once in a list, none that goes gets
--- anything, and no net has the name of one that comes
+-- the change can be made where it stands: the nets that it names are held, each at most once in a
+-- list, none that goes gets anything, and no net has the name of one that comes
 pub record Fits (net : NetParts) (c : Change) : Type 0 where
   pub set : AreHeldOnce net.nets (nets_set c)
   pub values : AreHeldOnce net.nets (nets_counted c)
   pub gone : AreHeldOnce net.nets c.gone
-  pub apart : (n : ℕ) → has_id c.gone n ≡ true → (has_id (nets_set c) n ≡ false) × (has_id (nets_counted c) n ≡ false)
+  pub apart : (n : ℕ) → has_id c.gone n ≡ true
+      → (has_id (nets_set c) n ≡ false) × (has_id (nets_counted c) n ≡ false)
   pub names : (k n : ℕ) (w : List ℕ) → HasName (map made_net c.add) k w → HasName net.nets n w → ⊥
 
 -- the network with other nets

@@ -46,7 +46,8 @@ AllLiterals nets (l ∷ ls) = IsLiteral nets l × AllLiterals nets ls
 -- each line's literals are such, and its output is some of the values of the output's net
 abbrev pub AllLines : List (Option FlatNet) → ℕ → List Line → Type 0
 AllLines nets values [] = Unit {0}
-AllLines nets values (l ∷ ls) = AllLiterals nets l.cube × IsOutput values l.out × AllLines nets values ls
+AllLines nets values (l ∷ ls) = AllLiterals nets l.cube × IsOutput values l.out
+    × AllLines nets values ls
 
 -- each line's literals are a cube
 abbrev pub AllCubes : List Line → Type 0
@@ -84,7 +85,8 @@ pub record IsNet (nets : List (Option FlatNet)) (f : FlatNet) : Type 0 where
   pub table : is_some f.table ≡ has_table f.kind
   pub cover : (c : Cover) → f.table ≡ Some c → IsCover nets f.values c
 
--- the reset net of a latch: it is named by a full stop and the latch's name, and has the latch's values and their names
+-- the reset net of a latch: it is named by a full stop and the latch's name, and has the latch's
+-- values and their names
 pub record IsResetNet (nets : List (Option FlatNet)) (output n : ℕ) : Type 0 where
   pub kind : IsKind nets n Reset
   pub latch : FlatNet
@@ -93,7 +95,8 @@ pub record IsResetNet (nets : List (Option FlatNet)) (output n : ℕ) : Type 0 w
   pub values : kind.net.values ≡ latch.values
   pub value_names : kind.net.value_names ≡ latch.value_names
 
--- a latch: its input can be read and has as many values as its output, and its reset net, if it has one, is such a net
+-- a latch: its input can be read and has as many values as its output, and its reset net, if it has
+-- one, is such a net
 pub record IsLatch (nets : List (Option FlatNet)) (l : FlatLatch) : Type 0 where
   pub input : IsReadable nets l.input.0
   pub output : IsKind nets l.output.0 Latch
@@ -133,7 +136,8 @@ pub record AreKind (nets : List (Option FlatNet)) (kind : Kind) (list : List Net
 pub record WellFormed (net : NetParts) : Type 0 where
   pub root : is_model_name net.root ≡ true
   pub nets : (n : ℕ) (f : FlatNet) → slot net.nets n ≡ Some f → IsNet net.nets f
-  pub names : (n m : ℕ) (f g : FlatNet) → slot net.nets n ≡ Some f → slot net.nets m ≡ Some g → f.name ≡ g.name → n ≡ m
+  pub names : (n m : ℕ) (f g : FlatNet) → slot net.nets n ≡ Some f → slot net.nets m ≡ Some g
+      → f.name ≡ g.name → n ≡ m
   pub inputs : AreKind net.nets Input net.inputs
   pub outputs : (n : NetId) → has_id net.outputs n.0 ≡ true → IsReadable net.nets n.0
   pub outputs_once : all_differ net.outputs ≡ true

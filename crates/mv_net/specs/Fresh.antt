@@ -22,7 +22,8 @@ pub record IsFreeName (nets : List (Option FlatNet)) (number : ℕ) (name : List
   pub is : name ≡ made_name number
   pub free : is_taken nets number ≡ false
 
--- the made name with a positive number, which no net has, where so many smaller positive numbers have names that no net has
+-- the made name with a positive number, which no net has, where so many smaller positive numbers
+-- have names that no net has
 pub record IsFreshName (nets : List (Option FlatNet)) (skip : ℕ) (name : List ℕ) : Type 0 where
   pub number : ℕ
   pub positive : 0 < number

@@ -45,7 +45,8 @@ is_latch_input latches n = list_any (λ (l : FlatLatch). nat_eq l.input.0 n) lat
 
 -- the net is seen: an output of the root, the input of a latch, or a reset net
 unfoldable pub is_seen : NetParts → ℕ → Bool
-is_seen net n = has_id net.outputs n || is_latch_input net.latches n || is_reset (kind_in (slot net.nets n))
+is_seen net n = has_id net.outputs n || is_latch_input net.latches n
+    || is_reset (kind_in (slot net.nets n))
 
 -- the net at the number is held and has this name
 pub record HasName (nets : List (Option FlatNet)) (n : ℕ) (name : List ℕ) : Type 0 where

@@ -44,4 +44,5 @@ IsFresh es (Some f) = number_of es f.name ≡ None
 
 -- no two nets have one name
 pub record AreNamed (nets : List (Option FlatNet)) : Type 0 where
-  pub apart : (n m : ℕ) (f g : FlatNet) → slot nets n ≡ Some f → slot nets m ≡ Some g → f.name ≡ g.name → n ≡ m
+  pub apart : (n m : ℕ) (f g : FlatNet) → slot nets n ≡ Some f → slot nets m ≡ Some g
+      → f.name ≡ g.name → n ≡ m

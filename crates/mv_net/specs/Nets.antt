@@ -72,8 +72,18 @@ has_reset (Some n) = true
 
 -- what is seen from outside of a latch
 abbrev pub latch_port_of : List (Option FlatNet) → FlatLatch → LatchPort
-latch_port_of nets l = record { name = name_in (slot nets l.output.0); values = spelled_in (slot nets l.output.0); has_reset = has_reset l.reset }
+latch_port_of nets l =
+    record {
+      name = name_in (slot nets l.output.0);
+      values = spelled_in (slot nets l.output.0);
+      has_reset = has_reset l.reset;
+    }
 
 -- what is seen of a network from outside
 unfoldable pub interface_of : NetParts → Interface
-interface_of net = record { inputs = map (port_of net.nets) net.inputs; outputs = map (port_of net.nets) net.outputs; latches = map (latch_port_of net.nets) net.latches }
+interface_of net =
+    record {
+      inputs = map (port_of net.nets) net.inputs;
+      outputs = map (port_of net.nets) net.outputs;
+      latches = map (latch_port_of net.nets) net.latches;
+    }

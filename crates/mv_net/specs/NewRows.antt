@@ -29,7 +29,8 @@ abbrev pub added_tables : ℕ → List NewNet → List (ℕ × Option Cover)
 added_tables k [] = []
 added_tables k (m ∷ ms) = (k, Some m.table) ∷ added_tables (k + 1) ms
 
--- each number whose table is another behind the change, with that table, where the nets that come get the numbers from k on
+-- each number whose table is another behind the change, with that table, where the nets that come
+-- get the numbers from k on
 abbrev pub tables_of : Change → ℕ → List (ℕ × Option Cover)
 tables_of c k = (map no_table c.gone ++ map new_table c.set) ++ added_tables k c.add
 
@@ -55,7 +56,8 @@ pub record CanTake (fanins : List (List NetId)) (added : ℕ) (rows : List NewRo
   pub acyclic : IsAcyclic (reads_by (changed_rows rows added fanins))
 
 -- what is kept by number and by name is that of the nets, and the graph is this one
-pub record IsTaken (nets : List (Option FlatNet)) (fanins : List (List NetId)) (kept : Kept) : Type 0 where
+pub record IsTaken (nets : List (Option FlatNet)) (fanins : List (List NetId)) (kept : Kept)
+    : Type 0 where
   pub tallies : AreTallies nets kept.tallies
   pub names : AreNames nets kept.names
   pub made : AreMade nets kept.made

@@ -10,4 +10,5 @@ use Rattle.mv_net.specs.Index.{is_held}
 pub record IsOrder (nets : List (Option FlatNet)) (order : List NetId) : Type 0 where
   pub members : (n : ℕ) → has_id order n ≡ is_held nets n
   pub once : all_differ order ≡ true
-  pub behind : (place : ℕ) (n : NetId) (m : ℕ) → slice_get order place ≡ Some n → net_reads (slot nets n.0) m ≡ true → has_id (take place order) m ≡ true
+  pub behind : (place : ℕ) (n : NetId) (m : ℕ) → slice_get order place ≡ Some n
+      → net_reads (slot nets n.0) m ≡ true → has_id (take place order) m ≡ true

@@ -21,13 +21,15 @@ abbrev pub bare_set : List Lit → ℕ → Option ℕ
 bare_set [] out = Some out
 bare_set (l ∷ ls) out = None
 
--- the set that the lines and the default give everywhere: that of the only line, if it has no literal, or the default where there is no line
+-- the set that the lines and the default give everywhere: that of the only line, if it has no
+-- literal, or the default where there is no line
 abbrev pub steady_set : List Line → Option ℕ → Option ℕ
 steady_set [] default = default
 steady_set (l ∷ []) default = bare_set l.cube l.out
 steady_set (l ∷ m ∷ ls) default = None
 
--- the net's table gives the value v alone: by its only line, which has no literal, or by its default, and there is no line
+-- the net's table gives the value v alone: by its only line, which has no literal, or by its
+-- default, and there is no line
 pub record IsPlainConstant (nets : List (Option FlatNet)) (n v : ℕ) : Type 0 where
   pub cover : Cover
   pub table : table_in (slot nets n) ≡ Some cover
@@ -42,7 +44,8 @@ pub record IsCopy (m : ℕ) (l : Line) : Type 0 where
   pub value : ℕ
   pub is : l ≡ copy_line m value
 
--- the net's table gives the value of the net m: it has no default, and a line for each of the values, which both nets have, and at least two
+-- the net's table gives the value of the net m: it has no default, and a line for each of the
+-- values, which both nets have, and at least two
 pub record IsPlainBuffer (nets : List (Option FlatNet)) (n m : ℕ) : Type 0 where
   pub cover : Cover
   pub table : table_in (slot nets n) ≡ Some cover
@@ -68,7 +71,8 @@ first_net (l ∷ ls) = first_literal l.cube
 abbrev pub some_has : List Line → ℕ → Bool
 some_has ls v = list_any (λ (l : Line). has l.out v) ls
 
--- the lines give the values of the net m: each gives one, and together they give the values below the number
+-- the lines give the values of the net m: each gives one, and together they give the values below
+-- the number
 pub record AreCopies (values m : ℕ) (ls : List Line) : Type 0 where
   pub some : 2 ≤ values
   pub only : All (IsCopy m) ls

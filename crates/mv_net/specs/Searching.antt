@@ -29,7 +29,8 @@ LedFrom nets Up n m = IsAbove (reads_in nets) m n
 -- at most so many steps lead to the net from one of the first nets
 unfoldable pub Reached : List (Option FlatNet) → Way → List NetId → ℕ → ℕ → Type 0
 Reached nets way first zero m = has_id first m ≡ true
-Reached nets way first (suc k) m = Reached nets way first k m ⊎ ((n : ℕ) × Reached nets way first k n × (leads nets way n m ≡ true))
+Reached nets way first (suc k) m = Reached nets way first k m
+    ⊎ ((n : ℕ) × Reached nets way first k n × (leads nets way n m ≡ true))
 
 -- each net of the list is held
 pub record AreHeld (nets : List (Option FlatNet)) (list : List NetId) : Type 0 where
@@ -47,7 +48,8 @@ pub record HasAdded (old nets new : List NetId) : Type 0 where
   pub all : (m : ℕ) → has_id nets m ≡ true → has_id new m ≡ true
 
 -- a step leads to m from a net of the list between two places
-pub record IsLed (nets : List (Option FlatNet)) (way : Way) (list : List NetId) (low high m : ℕ) : Type 0 where
+pub record IsLed (nets : List (Option FlatNet)) (way : Way) (list : List NetId) (low high m : ℕ)
+    : Type 0 where
   pub place : ℕ
   pub net : NetId
   pub from : low ≤ place
@@ -56,21 +58,25 @@ pub record IsLed (nets : List (Option FlatNet)) (way : Way) (list : List NetId) 
   pub led : leads nets way net.0 m ≡ true
 
 -- the nets to which a step leads from those between two places were put behind the others
-pub record HasSpread (nets : List (Option FlatNet)) (way : Way) (low high : ℕ) (old new : List NetId) : Type 0 where
+pub record HasSpread (nets : List (Option FlatNet)) (way : Way) (low high : ℕ)
+    (old new : List NetId) : Type 0 where
   pub added : List NetId
   pub listed : new ≡ old ++ added
   pub held : AreHeld nets new
   pub only : (m : ℕ) → has_id added m ≡ true → IsLed nets way old low high m
   pub all : (m : ℕ) → IsLed nets way old low high m → has_id new m ≡ true
 
--- exactly the nets are listed to which at most so many steps lead from the first, and the steps were taken from those before `start`
-pub record IsSearch (nets : List (Option FlatNet)) (way : Way) (first : List NetId) (steps start : ℕ) (list : List NetId) : Type 0 where
+-- exactly the nets are listed to which at most so many steps lead from the first, and the steps
+-- were taken from those before `start`
+pub record IsSearch (nets : List (Option FlatNet)) (way : Way) (first : List NetId)
+    (steps start : ℕ) (list : List NetId) : Type 0 where
   pub held : AreHeld nets list
   pub members : HasExactly (Reached nets way first steps) list
   pub taken : (m : ℕ) → IsLed nets way list 0 start m → has_id list m ≡ true
 
 -- exactly the nets are listed to which steps lead from the first
-pub record HasAll (nets : List (Option FlatNet)) (way : Way) (first list : List NetId) : Type 0 where
+pub record HasAll (nets : List (Option FlatNet)) (way : Way) (first list : List NetId)
+    : Type 0 where
   pub only : (m : ℕ) → has_id list m ≡ true → (steps : ℕ) × Reached nets way first steps m
   pub all : (steps m : ℕ) → Reached nets way first steps m → has_id list m ≡ true
 
@@ -79,7 +85,8 @@ pub record HasTables (nets : List (Option FlatNet)) (list tables : List NetId) :
   pub each : (m : ℕ) → has_id tables m ≡ (has_id list m && is_some (table_in (slot nets m)))
 
 -- a net of the list reads m, which doesn't pass the test
-pub record IsReadBy (nets : List (Option FlatNet)) (inside : ℕ → Bool) (list : List NetId) (m : ℕ) : Type 0 where
+pub record IsReadBy (nets : List (Option FlatNet)) (inside : ℕ → Bool) (list : List NetId) (m : ℕ)
+    : Type 0 where
   pub reader : ℕ
   pub listed : has_id list reader ≡ true
   pub reads : reads_in nets reader m ≡ true

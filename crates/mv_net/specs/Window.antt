@@ -10,12 +10,14 @@ use Rattle.mv_net.specs.Index.{is_seen}
 use Rattle.mv_graph.specs.Nets.{has_id, ids_ascend}
 use Rattle.mv_graph.specs.Above.{GoesOn}
 
--- the list has exactly the numbers of which the claim holds, ascending; there is one such list at most
+-- the list has exactly the numbers of which the claim holds, ascending; there is one such list at
+-- most
 pub record Lists (Claim : ℕ → Type 0) (list : List NetId) : Type 0 where
   pub ascending : ids_ascend list ≡ true
   pub members : (n : ℕ) → (has_id list n ≡ true) ↔ Claim n
 
--- a path of at most so many steps leads from the net n to the net `above`, each step to a net that the one before reads
+-- a path of at most so many steps leads from the net n to the net `above`, each step to a net that
+-- the one before reads
 pub record IsStepsAbove {N : Type 0} (reads : N → N → Bool) (steps : ℕ) (above n : N) : Type 0 where
   pub path : List N
   pub short : length path < steps
@@ -53,7 +55,8 @@ pub record IsReadOutside (nets : List (Option FlatNet)) (inside : ℕ → Bool) 
 abbrev pub IsShown : NetParts → (ℕ → Bool) → ℕ → Type 0
 IsShown net inside m = (is_seen net m ≡ true) ⊎ IsReadOutside net.nets inside m
 
--- an output of the tables that pass the test: one of them that is seen, or that a net reads which is none of them
+-- an output of the tables that pass the test: one of them that is seen, or that a net reads which
+-- is none of them
 pub record IsWindowOutput (net : NetParts) (inside : ℕ → Bool) (m : ℕ) : Type 0 where
   pub is_inside : inside m ≡ true
   pub shown : IsShown net inside m

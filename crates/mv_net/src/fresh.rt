@@ -32,7 +32,8 @@ impl Network {
     /// The made name with this number, if no net has it.
     fn free_name(&self, alloc: Global, number: u64) -> Result<Option<Name>, Memory>
         ensures { IfOk result
-            (λ free. MatchOption free (is_taken self.now.nets number ≡ true) (IsFreeName self.now.nets number)) }
+            (λ free. MatchOption free (is_taken self.now.nets number ≡ true)
+            (IsFreeName self.now.nets number)) }
     {
         let name = made_name(alloc, number)?;
         if self.find(name.bytes()).is_some() {

@@ -124,7 +124,8 @@ fn take_in(
     requires made { AreMade (take long nets.now) kept.old.made }
     requires graph { CanTake kept.old.graph (length nets.now - long) rows }
     ensures seen { kept.new.seen ≡ kept.old.seen }
-    ensures ok { OnOk result (IsTaken nets.now (changed_rows rows (length nets.now - long) kept.old.graph) kept.new) }
+    ensures ok { OnOk result
+        (IsTaken nets.now (changed_rows rows (length nets.now - long) kept.old.graph) kept.new) }
     ensures err { OnErr result (IsTaken (take long nets.now) kept.old.graph kept.new) }
 {
     add_tallies(&mut kept.tallies, nets, long)?;

@@ -9,6 +9,8 @@ ghost use Rattle.mv_net.specs.Allowed.{of_net};
 /// may be made. What may take a place without that leave may take it with it.
 pub fn refinement_laws()
     ensures itself { (free : Bool) (a : NetParts) → Refines free (of_net a) (of_net a) }
-    ensures steps { (free : Bool) (a b c : NetParts) → Refines free (of_net c) (of_net b) → Refines free (of_net b) (of_net a) → Refines free (of_net c) (of_net a) }
-    ensures free { (free : Bool) (a b : NetParts) → Refines false (of_net b) (of_net a) → Refines free (of_net b) (of_net a) }
+    ensures steps { (free : Bool) (a b c : NetParts) → Refines free (of_net c) (of_net b)
+        → Refines free (of_net b) (of_net a) → Refines free (of_net c) (of_net a) }
+    ensures free { (free : Bool) (a b : NetParts) → Refines false (of_net b) (of_net a)
+        → Refines free (of_net b) (of_net a) }
 {}

@@ -32,7 +32,8 @@ fn is_plain(digits: &[u8]) -> bool
 fn plain_number(digits: &[u8]) -> Option<u32>
     ensures some { IfSome result (λ number. digits.now ≡ decimal number) }
     ensures small { IfSome result (λ number. number < 2 ^ 32) }
-    ensures none { IsNone result → (number : ℕ) → number < 2 ^ 32 → digits.now ≡ decimal number → ⊥ }
+    ensures none { IsNone result → (number : ℕ) → number < 2 ^ 32 → digits.now ≡ decimal number
+        → ⊥ }
 {
     if !is_plain(digits) {
         return None;
@@ -47,7 +48,8 @@ fn plain_number(digits: &[u8]) -> Option<u32>
 fn made_number(name: &[u8]) -> Option<u32>
     ensures some { IfSome result (λ number. name.now ≡ made_name number) }
     ensures small { IfSome result (λ number. number < 2 ^ 32) }
-    ensures none { IsNone result → (number : ℕ) → number < 2 ^ 32 → name.now ≡ made_name number → ⊥ }
+    ensures none { IsNone result → (number : ℕ) → number < 2 ^ 32 → name.now ≡ made_name number
+        → ⊥ }
 {
     match name.strip_prefix(b"_m") {
         Some(digits) => plain_number(digits),
@@ -57,7 +59,9 @@ fn made_number(name: &[u8]) -> Option<u32>
 
 /// Whether a net has the made name with this number.
 fn is_made(alloc: Global, names: &NameIndex, number: u64) -> Result<bool, Memory>
-    ensures { IfOk result (λ yes. (nets : List (Option FlatNet)) → AreNames nets names.now → yes ≡ is_taken nets number) }
+    ensures { IfOk result
+        (λ yes. (nets : List (Option FlatNet)) → AreNames nets names.now
+        → yes ≡ is_taken nets number) }
 {
     let name = made_name(alloc, number)?;
     Ok(names.number(name.bytes()).is_some())

@@ -46,7 +46,8 @@ impl NameIndex {
 
     /// Takes a name out, if it is there.
     pub fn remove(&mut self, name: &[u8])
-        ensures { (w : List ℕ) → number_of self.new w ≡ (if same_word name.now w then None else number_of self.old w) }
+        ensures { (w : List ℕ)
+            → number_of self.new w ≡ (if same_word name.now w then None else number_of self.old w) }
     {
         self.numbers.swap_remove(name);
     }
@@ -78,7 +79,8 @@ fn add_net(
 
 /// Takes the net's name out, if it is held.
 pub fn remove_net(names: &mut NameIndex, net: &Option<FlatNet>)
-    ensures { (w : List ℕ) → number_of names.new w ≡ (if is_named net.now w then None else number_of names.old w) }
+    ensures { (w : List ℕ)
+        → number_of names.new w ≡ (if is_named net.now w then None else number_of names.old w) }
 {
     if let Some(held) = net {
         names.remove(held.name.bytes());

@@ -248,7 +248,8 @@ impl Network {
     /// in the kept order.
     pub fn is_above(&self, above: NetId, n: NetId) -> Result<bool, Memory>
         ensures { IfOk result
-            (λ yes. MatchBool yes (IsAbove (reads_in self.now.nets) above.0 n.0) (IsAbove (reads_in self.now.nets) above.0 n.0 → ⊥)) }
+            (λ yes. MatchBool yes (IsAbove (reads_in self.now.nets) above.0 n.0)
+            (IsAbove (reads_in self.now.nets) above.0 n.0 → ⊥)) }
     {
         self.kept.graph.is_above(above, n)
     }

@@ -12,7 +12,8 @@ impl Network {
     /// Whether a held net has a table that is plainly deterministic. No memory.
     pub fn is_plainly_deterministic(&self, n: NetId) -> bool
         requires { IsTrue (is_held self.now.nets n.0) }
-        ensures { MatchBool result (IsPlainNet self.now.nets n.0) (IsPlainNet self.now.nets n.0 → ⊥) }
+        ensures { MatchBool result (IsPlainNet self.now.nets n.0)
+            (IsPlainNet self.now.nets n.0 → ⊥) }
     {
         match self.table(n) {
             Some(cover) => cover.plainly_deterministic(),
@@ -134,7 +135,8 @@ fn first_literal(lits: &[Lit]) -> Option<NetId>
 /// number, which is at least two.
 fn are_copies(lines: &[Line], net: NetId, values: u16) -> bool
     requires { values ≤ MAX_VALUES }
-    ensures { MatchBool result (AreCopies values net.0 lines.now) (AreCopies values net.0 lines.now → ⊥) }
+    ensures { MatchBool result (AreCopies values net.0 lines.now)
+        (AreCopies values net.0 lines.now → ⊥) }
 {
     if values < 2 {
         return false;

@@ -31,7 +31,8 @@ impl Network {
     fn step(&self, way: Way, found: &mut IndexSet<NetId>, place: usize) -> Result<(), Memory>
         requires inside { place < length found.old.keys }
         requires held { AreHeld self.now.nets found.old.keys }
-        ensures { OnOk result (HasSpread self.now.nets way place (place + 1) found.old.keys found.new.keys) }
+        ensures { OnOk result
+            (HasSpread self.now.nets way place (place + 1) found.old.keys found.new.keys) }
     {
         self.well_formed();
         let net = found.as_slice()[place];
@@ -41,7 +42,9 @@ impl Network {
     /// Adds the nets to which a step leads from those found, from this place on.
     fn spread(&self, way: Way, found: &mut IndexSet<NetId>, start: usize) -> Result<(), Memory>
         requires { AreHeld self.now.nets found.old.keys }
-        ensures { OnOk result (HasSpread self.now.nets way start (length found.old.keys) found.old.keys found.new.keys) }
+        ensures { OnOk result
+            (HasSpread self.now.nets way start
+            (length found.old.keys) found.old.keys found.new.keys) }
     {
         for place in start..found.len() {
             self.step(way, found, place)?;
@@ -59,7 +62,8 @@ impl Network {
     ) -> Result<(), Memory>
         requires { AreHeld self.now.nets found.old.keys }
         ensures held { OnOk result (AreHeld self.now.nets found.new.keys) }
-        ensures members { OnOk result (HasExactly (Reached self.now.nets way found.old.keys steps) found.new.keys) }
+        ensures members { OnOk result
+            (HasExactly (Reached self.now.nets way found.old.keys steps) found.new.keys) }
     {
         let mut start = 0;
         for _step in 0..steps {

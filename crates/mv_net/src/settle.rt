@@ -76,7 +76,8 @@ fn set_tables(nets: &mut Items<Option<FlatNet>>, tallies: &mut Tallies, mut set:
     requires few { length nets.old ≤ MAX_NETS }
     requires tallies { AreTallies nets.old tallies.old }
     ensures long { length nets.new ≡ length nets.old }
-    ensures each { (n : ℕ) → slot nets.new n ≡ option_map (with_table (table_for n set)) (slot nets.old n) }
+    ensures each { (n : ℕ)
+        → slot nets.new n ≡ option_map (with_table (table_for n set)) (slot nets.old n) }
     ensures tallies { AreTallies nets.new tallies.new }
 {
     'all: while let Some(new) = set.pop() {
@@ -90,7 +91,8 @@ fn set_counts(nets: &mut Items<Option<FlatNet>>, tallies: &mut Tallies, mut valu
     requires few { length nets.old ≤ MAX_NETS }
     requires tallies { AreTallies nets.old tallies.old }
     ensures long { length nets.new ≡ length nets.old }
-    ensures each { (n : ℕ) → slot nets.new n ≡ option_map (with_count (count_for n values)) (slot nets.old n) }
+    ensures each { (n : ℕ)
+        → slot nets.new n ≡ option_map (with_count (count_for n values)) (slot nets.old n) }
     ensures tallies { AreTallies nets.new tallies.new }
 {
     'all: while let Some(new) = values.pop() {
@@ -165,7 +167,13 @@ pub fn write_change(
     requires names { AreNames nets.old names.old }
     requires made { AreMade nets.old made.old }
     ensures long { length nets.new ≡ length nets.old }
-    ensures each { (n : ℕ) → slot nets.new n ≡ changed_net (record { add = []; set = set; values = values; gone = gone }) n (slot nets.old n) }
+    ensures each { (n : ℕ)
+        → slot nets.new n ≡ changed_net (record {
+          add = [];
+          set = set;
+          values = values;
+          gone = gone;
+        }) n (slot nets.old n) }
     ensures tallies { AreTallies nets.new tallies.new }
     ensures names { AreNames nets.new names.new }
     ensures made { AreMade nets.new made.new }

@@ -11,7 +11,9 @@ impl Network {
     /// every point. It fails for want of memory alone.
     pub fn is_total(&self, alloc: Global, n: NetId) -> Result<bool, Memory>
         requires { IsTrue (is_held self.now.nets n.0) }
-        ensures { IfOk result (λ total. MatchBool total (IsTotalNet self.now.nets n.0) (IsTotalNet self.now.nets n.0 → ⊥)) }
+        ensures { IfOk result
+            (λ total. MatchBool total (IsTotalNet self.now.nets n.0)
+            (IsTotalNet self.now.nets n.0 → ⊥)) }
     {
         self.well_formed();
         let Some(cover) = self.table(n) else {

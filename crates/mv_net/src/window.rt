@@ -46,7 +46,8 @@ impl Network {
     fn around(&self, n: NetId, d: u8, u: u8) -> Result<IndexSet<NetId>, Memory>
         requires { IsTrue (is_held self.now.nets n.0) }
         ensures held { IfOk result (λ found. AreHeld self.now.nets found.keys) }
-        ensures members { IfOk result (λ found. HasExactly (IsAround self.now.nets n.0 d u) found.keys) }
+        ensures members { IfOk result
+            (λ found. HasExactly (IsAround self.now.nets n.0 d u) found.keys) }
     {
         let mut found = IndexSet::new(self.parts().nets.allocator());
         found.insert(n)?;
@@ -118,7 +119,8 @@ impl Network {
     /// The product of the numbers of values of a window's tables and inputs as listed. A number that isn't held counts
     /// nothing. It ends at the greatest number of its type. No memory.
     pub fn points(&self, w: &Window) -> u128
-        ensures { result ≡ min (ways_of self.now.nets (w.now.tables ++ w.now.inputs)) (2 ^ 128 - 1) }
+        ensures { result
+            ≡ min (ways_of self.now.nets (w.now.tables ++ w.now.inputs)) (2 ^ 128 - 1) }
     {
         let ways = self.times_ways(1, w.tables.as_slice());
         self.times_ways(ways, w.inputs.as_slice())
@@ -145,7 +147,8 @@ impl Network {
     /// The sum of the numbers of values of a window's tables and inputs as listed, each less one. A number that isn't held
     /// counts nothing. It ends at the greatest number of its type. No memory.
     pub fn levels(&self, w: &Window) -> u64
-        ensures { result ≡ min (levels_of self.now.nets (w.now.tables ++ w.now.inputs)) (2 ^ 64 - 1) }
+        ensures { result
+            ≡ min (levels_of self.now.nets (w.now.tables ++ w.now.inputs)) (2 ^ 64 - 1) }
     {
         let levels = self.plus_levels(0, w.tables.as_slice());
         self.plus_levels(levels, w.inputs.as_slice())
@@ -195,7 +198,8 @@ fn add_outside(
     nets: &[NetId],
 ) -> Result<(), Memory>
     ensures { OnOk result
-        (read.new.items ≡ read.old.items ++ filter (λ (m : NetId). not (has_id tables.now.keys m.0)) nets.now) }
+        (read.new.items
+        ≡ read.old.items ++ filter (λ (m : NetId). not (has_id tables.now.keys m.0)) nets.now) }
 {
     for net in nets {
         if !is_inside(tables, *net) {

@@ -1,5 +1,5 @@
 -- What a script puts to the notes is a certificate of what it did.
-use Rattle.std.proofs.Common.{◌≡◌, ◌∙◌, ℕ, ◌≤◌, Bool, true, is_some, List, [], ◌∷◌, ◌++◌, length, map, All, Option, Some, None, refl, sym, ap, subst, ⊎_elim}
+use Rattle.std.proofs.Common.{◌≡◌, ◌∙◌, ℕ, ◌≤◌, Bool, true, false, is_some, List, [], ◌∷◌, ◌++◌, length, map, All, Option, Some, None, refl, sym, ap, subst, ⊎_elim}
 use Rattle.std.proofs.lemmas.Bool.{and_parts, false≢true}
 use Rattle.std.proofs.lemmas.List.{append-nil}
 use Rattle.std.proofs.lemmas.List.Elements.{All-nil, All-cons, All-append}
@@ -8,6 +8,7 @@ use Rattle.mv_cert.specs.Certificates.{Certifies}
 use Rattle.mv_choose.specs.Choices.{Determinizing}
 use Rattle.mv_collapse.specs.Collapses.{CollapsesNet, Collapsed, Remains}
 use Rattle.mv_eliminate.specs.Eliminates.{IsEliminateStep, EliminatesAll, NotesWide, Skips, Tells}
+use Rattle.mv_encode.specs.Encodes.{Early, Encoded, EncodesAll, EncodesNet, LetBe as Unencoded, RunsOut, Stays as KeepsValues, Whole as AllVisited, rule_of as encode_of}
 use Rattle.mv_entry.specs.declared.note.Command.{Command}
 use Rattle.mv_entry.specs.declared.note.Command.TheVariants.{Drop, Sweep, Eliminate, Collapse, Kernel, Cube, Simplify, Merge, Default, Determinize, Encode, Fill}
 use Rattle.mv_entry.specs.declared.note.Note.{Note}
@@ -29,7 +30,7 @@ use Rattle.mv_net.specs.declared.parts.FlatNet.{FlatNet}
 use Rattle.mv_net.specs.declared.parts.NetParts.{NetParts}
 use Rattle.mv_net.specs.Formed.{WellFormed}
 use Rattle.mv_net.specs.Nets.{slot, name_in, table_in, literals_in}
-use Rattle.mv_pass.specs.Courses.{Course, Nothing, Repeated, VisitsAll}
+use Rattle.mv_pass.specs.Courses.{Course, Nothing, Repeated, Visits, VisitsAll}
 use Rattle.mv_pass.specs.Going.{Goes}
 use Rattle.mv_pass.proofs.Going.{goes_replays, rules_of-append}
 use Rattle.mv_pass.proofs.Turns.{Implies, of_nothing, of_turn, of_visits}
@@ -40,13 +41,13 @@ use Rattle.mv_rules.proofs.Kept.{kept_formed}
 use Rattle.mv_rules.proofs.Replayed.{replayed_formed}
 use Rattle.mv_rules.proofs.Spoken.{held_visible}
 use Rattle.mv_rules.specs.declared.terms.Terms.{Terms}
-use Rattle.mv_script_run.specs.Commands.{WholeOf, DoesCommand, RunsCommand}
+use Rattle.mv_script_run.specs.Commands.{WholeOf, DoesCommand}
 use Rattle.mv_script_run.specs.Runs.{Runs}
 use Rattle.mv_script_run.proofs.Inductions.{of_items}
 use Rattle.mv_script_run.proofs.Rules.{whole_replays, does_replays, runs_replays}
 use Rattle.mv_script.specs.Commands.{IsCommand, is_lawful, are_lawful}
 use Rattle.mv_script.specs.Scripts.{Items}
-use Rattle.mv_script.proofs.Commands.{built_lawful}
+use Rattle.mv_script.proofs.Commands.{lawful_runs}
 use Rattle.mv_simplify.specs.Simplifies.{IsTightNow, LetBe as BareNet, Narrowed, SimplifiesAll, SimplifiesNet, Stays as KeepsTable, rule_of as narrow_of}
 use Rattle.mv_sweep.specs.Drops.{IsDropStep}
 use Rattle.mv_values.specs.Defaults.{Defaulting}
@@ -188,6 +189,28 @@ treat_seen t n a es b (GivesWay table less is gives lessens) formed =
 treats_seen : (t : Treatment) → Implies (VisitsAll (Treats t)) StaysSeen
 treats_seen t a es b v = of_visits StaysSeen (λ n f. (f, All-nil IsSeenNote)) seen_then (Treats t) (treat_seen t) (length a.nets) a es b v
 
+-- a visit of `encode`, and the end of its numbers
+encode_seen : (n : ℕ) → Implies (EncodesNet n) StaysSeen
+encode_seen n a es b (Unencoded none still) formed = (subst WellFormed (sym still.1) formed, subst AreSeen (sym still.0) (All-nil IsSeenNote))
+encode_seen n a es b (KeepsValues why to_encode stays noted) formed =
+    let name = name_in (slot a.nets n) in
+    let seen = visible-one (Noted (Dropped why name)) name refl (tabled_visible a n formed to_encode.tabled) in
+    (subst WellFormed (sym noted.same) formed, subst AreSeen (sym noted.entries_are) (All-cons IsSeenNote (Dropped why name) [] seen (All-nil IsSeenNote)))
+encode_seen n a es b (Encoded names to_encode are applies is) formed =
+    (kept_formed false (encode_of a n names) a b formed applies, subst AreSeen (sym is) (All-nil IsSeenNote))
+
+encodes_visits : (k : ℕ) → Implies (Visits EncodesNet k) StaysSeen
+encodes_visits k a es b v = of_visits StaysSeen (λ n f. (f, All-nil IsSeenNote)) seen_then EncodesNet encode_seen k a es b v
+
+runs_out_seen : (n : ℕ) → Implies (RunsOut n) StaysSeen
+runs_out_seen n a es b r formed =
+    (subst WellFormed (sym r.same) formed, subst AreSeen (sym r.entries_are) (All-cons IsSeenNote (Dropped Nets r.name) [] (visible-one (Noted (Dropped Nets r.name)) r.name refl (visible-net r.name r.full.lawful)) (All-nil IsSeenNote)))
+
+encodes_seen : Implies EncodesAll StaysSeen
+encodes_seen a es b (AllVisited v) = encodes_visits (length a.nets) a es b v
+encodes_seen a es b (Early e) =
+    of_turn StaysSeen (λ n f. (f, All-nil IsSeenNote)) seen_then (Visits EncodesNet e.end) (RunsOut e.end) (encodes_visits e.end) (runs_out_seen e.end) a es b e.course
+
 whole_seen : (terms : Terms) (c : Command) (a b : NetParts) (steps : List Entry) → IsCommand c → WellFormed a → WellFormed b → WholeOf terms c a steps b → AreSeen steps
 whole_seen terms Drop a b steps is formed formed' g = goes_seen terms.free IsDropStep (λ net note never. absurd never) a b steps g.steps
 whole_seen terms Sweep a b steps is formed formed' g = goes_seen terms.free IsSweepStep (λ net note never. absurd never) a b steps g.steps
@@ -199,7 +222,7 @@ whole_seen terms (Simplify down up) a b steps is formed formed' g = (simplifies_
 whole_seen terms Merge a b steps is formed formed' g = goes_seen terms.free IsMergeStep (λ net note never. absurd never) a b steps g.steps
 whole_seen terms Default a b steps is formed formed' g = (treats_seen Defaulting a steps b g formed).1
 whole_seen terms Determinize a b steps is formed formed' g = (treats_seen Determinizing a steps b g formed).1
-whole_seen terms Encode a b steps is formed formed' g = absurd g
+whole_seen terms Encode a b steps is formed formed' g = (encodes_seen a steps b g formed).1
 whole_seen terms Fill a b steps is formed formed' g = fills_seen terms.free a b steps formed g.tables
 
 -- ---- the notes of commands
@@ -216,9 +239,9 @@ does_seen terms c a b es is formed d =
 
 -- ---- the notes of scripts
 
-command_seen : (terms : Terms) (c : Command) → is_lawful c ≡ true → (a : NetParts) (es : List Entry) (b : NetParts) → RunsCommand terms c a es b → StaysSeen a es b
-command_seen terms c lawful a es b r formed =
-    (replayed_formed terms.free (rules_of es) a b formed (does_replays terms c a b es r.does), does_seen terms c a b es (built_lawful c lawful r.built) formed r.does)
+command_seen : (terms : Terms) (c : Command) → is_lawful c ≡ true → (a : NetParts) (es : List Entry) (b : NetParts) → DoesCommand terms c a es b → StaysSeen a es b
+command_seen terms c lawful a es b d formed =
+    (replayed_formed terms.free (rules_of es) a b formed (does_replays terms c a b es d), does_seen terms c a b es (lawful_runs c lawful) formed d)
 
 runs_seen : (terms : Terms) (items : Items) (a b : NetParts) (es : List Entry) → are_lawful items ≡ true → WellFormed a → Runs terms items a es b → AreSeen es
 runs_seen terms items a b es lawful formed r =

@@ -2,4 +2,3 @@ pub mod Seen
 pub mod Certified
 pub mod Works
 pub mod Takes
-pub mod Ends

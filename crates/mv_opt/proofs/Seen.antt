@@ -17,7 +17,7 @@ use Rattle.mv_entry.specs.declared.note.Note.TheVariants.{Begin, Dropped, End, D
 use Rattle.mv_entry.specs.declared.note.Why.{Why}
 use Rattle.mv_entry.specs.declared.note.Why.TheVariants.{Literals, Lines, Nodes, Window, Kernels, Shared, Seen, Partial, Absent, Varied, Unread, Nets, Strict}
 use Rattle.mv_entry.specs.declared.rule.Rule.{Rule}
-use Rattle.mv_entry.specs.Entries.{Entry, Applied, Noted, command_names, command_word, operands, why_word, why_numbers, note_words, is_built}
+use Rattle.mv_entry.specs.Entries.{Entry, Applied, Noted, command_names, command_word, operands, why_word, why_numbers, note_words}
 use Rattle.mv_entry.specs.Entries.{rule_lines, entry_lines, entry_text, print, rules_of, is_visible_name, HasVisibleNames}
 use Rattle.mv_lex.specs.Lines.{lines_of, lex_fault, has_long_word, is_clean, is_within}
 use Rattle.mv_lex.specs.Text.{line_text}
@@ -31,7 +31,6 @@ use Rattle.mv_rules_back.proofs.Replaying.{replayed_from_print}
 use Rattle.mv_cert.specs.Certificates.{Certifies}
 use Rattle.mv_cert.specs.Replay.{rules_in}
 use Rattle.mv_base.specs.declared.limits.TheConstants.{MAX_CERTIFICATE_BYTES}
-use Rattle.mv_rules.proofs.Built.{replayed_built}
 use Rattle.mv_rules.specs.Replaying.{Replays}
 use Rattle.mv_step.specs.Certificates.{fault_of, steps_of}
 use Rattle.mv_step.specs.Printed.{IsSayable}
@@ -202,8 +201,8 @@ module _ (es : List Entry) (printable : All Printable (quiet es)) (seen : All Is
         ap is_clean (print_lines es) ∙ is_clean-text (flat_map entry_lines es) text,
       )
 
-  form : list_all is_built (rules_of es) ≡ true → fault_of (lines_of (print es)) ≡ None
-  form built = ap fault_of same_lines ∙ steps-faultless (quiet es) printable (ap (list_all is_built) (quiet_rules es) ∙ built)
+  form : fault_of (lines_of (print es)) ≡ None
+  form = ap fault_of same_lines ∙ steps-faultless (quiet es) printable
 
   read_back : (free : Bool) (a b : NetParts) → Replays free (rules_of es) a b → Replays free (rules_in (steps_of (lines_of (print es)))) a b
   read_back free a b p =
@@ -216,6 +215,6 @@ pub seen_certifies : (free : Bool) (es : List Entry) (a b : NetParts) → WellFo
 seen_certifies free es a b formed names seen p fits =
     let printable = replayed_printable free (quiet es) a b formed names (quiet_notes es) (subst (λ rs. Replays free rs a b) (sym (quiet_rules es)) p) in
     record {
-      accepted = record { lexed = lexed es printable seen MAX_CERTIFICATE_BYTES fits; form = form es printable seen (replayed_built free (rules_of es) a b p) };
+      accepted = record { lexed = lexed es printable seen MAX_CERTIFICATE_BYTES fits; form = form es printable seen };
       replays = read_back es printable seen free a b p;
     }

@@ -1,7 +1,5 @@
-pub mod Drawn
 pub mod Outputs
 pub mod Scripts
 pub mod Noted
-pub mod Outcomes
 pub mod Optimised
-pub mod Stops
+pub mod Running

@@ -8,7 +8,7 @@ use Rattle.mv_net.specs.declared.parts.Kind.{Kind}
 use Rattle.mv_net.specs.declared.parts.Kind.TheVariants.{Input, Latch, Table, Reset}
 use Rattle.mv_net.specs.declared.parts.NetParts.{NetParts}
 use Rattle.mv_net.specs.Nets.{literals_in}
-use Rattle.mv_task.specs.Inputs.{Source, File, Text}
+use Rattle.mv_task.specs.Sources.{Source, File, Text}
 use Rattle.mv_text.specs.Text.{text_of}
 use Rattle.mv_work.specs.declared.summary.Summary.{Summary as Summing}
 use Rattle.mv_work.specs.Summing.{summary_text}

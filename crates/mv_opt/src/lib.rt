@@ -2,12 +2,11 @@
 //! the same on a network that is drawn, of which a summary is written.
 #![tactic(auto)]
 
-mod laws;
+mod fault;
 mod optimising;
 mod output;
-mod stop;
 mod take;
 mod working;
 
-pub use laws::short_at_once;
+pub use fault::ScriptRefusal;
 pub use optimising::{optimise, work};

@@ -1,15 +1,12 @@
-ghost use Rattle.std.specs.Prelude.{◌≡◌, OnOk, OnErr, count_by};
-ghost use Rattle.mv_base.specs.Outside.{Gained};
-ghost use Rattle.mv_net.specs.Nets.{literals_in};
-ghost use Rattle.mv_task.specs.Ending.{IsEndCut, done_line};
-ghost use Rattle.mv_work.specs.Summing.{summary_text};
+ghost use Rattle.std.specs.Prelude.{◌≡◌, count_by};
+ghost use Rattle.mv_base.specs.Outside.{Appends};
 ghost use Rattle.mv_opt.specs.Outputs.{is_named_kind, is_told, output_text, summary_of};
 
 use mv_base::{Failed, Sink};
-use mv_entry::{Note, Tally, put_note};
+use mv_entry::Tally;
 use mv_net::{FlatNet, Kind, Network};
-use mv_task::finish;
 use mv_work::{Summary, put_summary};
+use mv_write::write;
 
 /// What a run writes at its end.
 #[derive(Clone, Copy, Debug, PartialEq, Eq)]
@@ -68,51 +65,22 @@ fn summary_of(net: &Network, before: u128, tally: Tally) -> Summary
     }
 }
 
-/// Puts the done line to the notes, and then a summary to the output. It takes no memory.
-fn sum_up<O: Sink, E: Sink>(
-    net: &Network,
-    before: u128,
-    tally: Tally,
-    out: &mut O,
-    notes: &mut E,
-) -> Result<(), Failed>
-    ensures written { OnOk result
-        (Gained (O.state out.old) (O.state out.new)
-        (summary_text (summary_of before tally net.now))) }
-    ensures noted { OnOk result (Gained (E.state notes.old) (E.state notes.new)
-        (done_line before (literals_in net.now.nets))) }
-    ensures cut { OnErr result
-        (IsEndCut (O.state out.old) (O.state out.new) (E.state notes.old) (E.state notes.new)
-        (done_line before (literals_in net.now.nets))
-        (summary_text (summary_of before tally net.now))) }
-{
-    match put_note(&Note::Done(before, net.literals()), notes) {
-        Ok(()) => {}
-        Err(failed) => return Err(failed),
-    }
-    let summary = summary_of(net, before, tally);
-    put_summary(&summary, out)
-}
-
-/// Puts the done line to the notes, and then what a run writes to the output. It takes no memory.
-pub fn end_run<O: Sink, E: Sink>(
+/// Puts what a run writes to the output. It takes no memory.
+pub fn put_output<O: Sink>(
     output: Output,
     net: &Network,
     before: u128,
     tally: Tally,
     out: &mut O,
-    notes: &mut E,
 ) -> Result<(), Failed>
-    ensures written { OnOk result
-        (Gained (O.state out.old) (O.state out.new) (output_text output before tally net.now)) }
-    ensures noted { OnOk result (Gained (E.state notes.old) (E.state notes.new)
-        (done_line before (literals_in net.now.nets))) }
-    ensures cut { OnErr result
-        (IsEndCut (O.state out.old) (O.state out.new) (E.state notes.old) (E.state notes.new)
-        (done_line before (literals_in net.now.nets)) (output_text output before tally net.now)) }
+    ensures { Appends (O.state out.old) (O.state out.new) (output_text output before tally net.now)
+        result }
 {
     match output {
-        Output::Network => finish(net, before, out, notes),
-        Output::Summary => sum_up(net, before, tally, out, notes),
+        Output::Network => write(net, out),
+        Output::Summary => {
+            let summary = summary_of(net, before, tally);
+            put_summary(&summary, out)
+        }
     }
 }

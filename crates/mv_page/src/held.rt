@@ -23,7 +23,8 @@ impl Held {
     /// Puts the piece behind the bytes.
     pub fn add(&mut self, piece: &[u8])
         requires { length piece.now + self.old.len ≤ PAGE_BYTES }
-        ensures held { take self.new.len self.new.bytes ≡ take self.old.len self.old.bytes ++ piece.now }
+        ensures held { take self.new.len self.new.bytes
+            ≡ take self.old.len self.old.bytes ++ piece.now }
         ensures len { self.new.len ≡ self.old.len + length piece.now }
     {
         let end = self.len + piece.len();

@@ -70,7 +70,8 @@ impl<const LEAST: usize> Page<LEAST> {
     #[tactic(auto, using(crate::proofs::Paging::paging))]
     fn put_alone<K: Sink>(&mut self, piece: &[u8], out: &mut K) -> Result<(), Failed>
         requires { self.old ≡ [] }
-        ensures { AddsPiece (paged (K.state out.old) []) (paged (K.state out.new) self.new) piece.now result }
+        ensures { AddsPiece (paged (K.state out.old) [])
+            (paged (K.state out.new) self.new) piece.now result }
     {
         if piece.len() <= self.held.room() {
             self.held.add(piece);
@@ -83,7 +84,8 @@ impl<const LEAST: usize> Page<LEAST> {
     /// first part of what was held and the piece, and nothing is held any more.
     #[tactic(auto, using(crate::proofs::Paging::paging))]
     pub fn put<K: Sink>(&mut self, piece: &[u8], out: &mut K) -> Result<(), Failed>
-        ensures { AddsPiece (paged (K.state out.old) self.old) (paged (K.state out.new) self.new) piece.now result }
+        ensures { AddsPiece (paged (K.state out.old) self.old)
+            (paged (K.state out.new) self.new) piece.now result }
     {
         if piece.len() <= self.held.room() {
             self.held.add(piece);
@@ -103,7 +105,8 @@ impl<const LEAST: usize> Page<LEAST> {
         second: &[u8],
         out: &mut K,
     ) -> Result<(), Failed>
-        ensures { AddsPiece (paged (K.state out.old) self.old) (paged (K.state out.new) self.new) (first.now ++ second.now) result }
+        ensures { AddsPiece (paged (K.state out.old) self.old) (paged (K.state out.new) self.new)
+            (first.now ++ second.now) result }
     {
         self.put(first, out)?;
         self.put(second, out)

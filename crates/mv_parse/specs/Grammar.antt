@@ -1,5 +1,6 @@
--- The grammar of a network file, after the description of BLIF-MV by Kukimoto: the faults of its lines, in the order in
--- which they are told. A line's faults depend on the lines before it; a file that has none is a design.
+-- The grammar of a network file, after the description of BLIF-MV by Kukimoto: the faults of its
+-- lines, in the order in which they are told. A line's faults depend on the lines before it; a file
+-- that has none is a design.
 use Rattle.std.specs.Prelude.{◌≡◌, ℕ, ◌+◌, Bool, true, false, not, ◌==◌, nat_lt, nat_le, List, []}
 use Rattle.std.specs.Prelude.{◌∷◌, ◌++◌, length, drop, filter, Option, Some, None, is_some, if◌then◌else◌}
 use Rattle.mv_base.specs.Names.{among, place_of, is_net_name, is_model_name}
@@ -32,30 +33,36 @@ use Rattle.mv_parse.specs.Known.{front_rows, latch_of, open_part, known}
 abbrev pub model_name_faults : ℕ → List ℕ → List (List ℕ) → List (List ℕ) → List ParseFault
 model_name_faults n word names [] = Missing n word ∷ []
 model_name_faults n word names (w ∷ words) =
-    when (not (is_model_name w)) (BadName n w) ++ when (among w names) (ModelTwice n w) ++ when (nat_lt 0 (length words)) (Extra n word)
+    when (not (is_model_name w)) (BadName n w) ++ when (among w names) (ModelTwice n w)
+    ++ when (nat_lt 0 (length words)) (Extra n word)
 
 -- `.model NAME`, behind models with these names: first of all there may be one more
 unfoldable pub model_faults : ℕ → List ℕ → List (List ℕ) → List (List ℕ) → List ParseFault
-model_faults n word names words = when (nat_le MAX_MODELS (length names)) (Limit n Models (MAX_MODELS + 1)) ++ model_name_faults n word names words
+model_faults n word names words =
+    when (nat_le MAX_MODELS (length names)) (Limit n Models (MAX_MODELS + 1))
+    ++ model_name_faults n word names words
 
 -- `.root NAME`: exactly one word, and no line before names the root
 unfoldable pub root_faults : ℕ → List ℕ → Option Root → List (List ℕ) → List ParseFault
 root_faults n word root [] = Missing n word ∷ []
 root_faults n word root (w ∷ words) =
-    when (not (is_model_name w)) (BadName n w) ++ when (is_some root) (RootFault n w) ++ when (nat_lt 0 (length words)) (Extra n word)
+    when (not (is_model_name w)) (BadName n w) ++ when (is_some root) (RootFault n w)
+    ++ when (nat_lt 0 (length words)) (Extra n word)
 
 -- `.inputs NAMES` and `.outputs NAMES`, behind those that stand there already
 abbrev pub port_faults : ℕ → List (List ℕ) → List (List ℕ) → List ParseFault
 port_faults n earlier [] = []
 port_faults n earlier (w ∷ words) =
-    when (not (is_net_name w)) (BadName n w) ++ when (among w earlier) (Repeated n w) ++ port_faults n (earlier ++ w ∷ []) words
+    when (not (is_net_name w)) (BadName n w) ++ when (among w earlier) (Repeated n w)
+    ++ port_faults n (earlier ++ w ∷ []) words
 
 -- `.latch IN OUT`: exactly two words
 unfoldable pub latch_faults : ℕ → List ℕ → List (List ℕ) → List ParseFault
 latch_faults n word [] = Missing n word ∷ []
 latch_faults n word (input ∷ []) = net_name_faults n input ++ Missing n word ∷ []
 latch_faults n word (input ∷ output ∷ words) =
-    net_name_faults n input ++ net_name_faults n output ++ when (nat_lt 0 (length words)) (Extra n word)
+    net_name_faults n input ++ net_name_faults n output
+    ++ when (nat_lt 0 (length words)) (Extra n word)
 
 -- a row of the open table: one entry a column
 unfoldable pub row_faults : ℕ → OpenTable → List (List ℕ) → List ParseFault
@@ -66,20 +73,24 @@ row_faults n t words =
 -- the default of the open table: once, and one entry an output
 unfoldable pub default_faults : ℕ → List ℕ → OpenTable → List (List ℕ) → List ParseFault
 default_faults n word t words =
-    when t.has_default (DefaultTwice n) ++ when (nat_lt (length words) t.outs) (Missing n word) ++ when (nat_lt t.outs (length words)) (Extra n word)
+    when t.has_default (DefaultTwice n) ++ when (nat_lt (length words) t.outs) (Missing n word)
+    ++ when (nat_lt t.outs (length words)) (Extra n word)
 
 -- the input and the output of a latch have as many values
 unfoldable pub latch_value_faults : List Decl → FileLatch → List ParseFault
-latch_value_faults ds h = when (not (count_of ds h.input == count_of ds h.output)) (LatchValues h.line h.input h.output)
+latch_value_faults ds h =
+    when (not (count_of ds h.input == count_of ds h.output)) (LatchValues h.line h.input h.output)
 
--- the faults of the values of a table or a reset table, if the line begins one and these lines stand behind it, or of a latch
+-- the faults of the values of a table or a reset table, if the line begins one and these lines
+-- stand behind it, or of a latch
 abbrev pub table_value_faults : Command → List Decl → LexLine → List LexLine → List ParseFault
 table_value_faults Table ds l ls = table_faults ds l (front_rows ls)
 table_value_faults Latch ds l ls = latch_value_faults ds (latch_of l)
 table_value_faults Reset ds l ls = table_faults ds l (front_rows ls)
 table_value_faults _ ds l ls = []
 
--- the faults of the values of a model's rows, defaults and latches, line by line, where these are its lines
+-- the faults of the values of a model's rows, defaults and latches, line by line, where these are
+-- its lines
 abbrev pub tables_faults : List Decl → List LexLine → List ParseFault
 tables_faults ds [] = []
 tables_faults ds (l ∷ ls) = table_value_faults (command_at l) ds l ls ++ tables_faults ds ls
@@ -106,17 +117,20 @@ inside_faults Mv m l = decl_faults l.number (first_word l) m.decls (behind_first
 inside_faults Table m l = columns_faults l.number (first_word l) (behind_first l)
 inside_faults Latch m l = latch_faults l.number (first_word l) (behind_first l)
 inside_faults Reset m l = reset_faults l.number (first_word l) (behind_first l)
-inside_faults Default m l = at_table l.number m.table (λ t. default_faults l.number (first_word l) t (behind_first l))
+inside_faults Default m l =
+    at_table l.number m.table (λ t. default_faults l.number (first_word l) t (behind_first l))
 inside_faults Row m l = at_table l.number m.table (λ t. row_faults l.number t l.words)
 inside_faults Part m l = part_faults l.number (first_word l) m.instances (behind_first l)
 inside_faults Unknown m l = UnknownCommand l.number (first_word l) ∷ []
 inside_faults _ m l = []
 
--- the faults of a line that may stand in a model alone, where `ls` are the lines of the open model behind its first
+-- the faults of a line that may stand in a model alone, where `ls` are the lines of the open model
+-- behind its first
 abbrev pub body_faults : Command → Option OpenModel → List LexLine → LexLine → List ParseFault
 body_faults c None ls l = outside_faults c l
 body_faults c (Some m) ls l =
-    if is_end c then end_faults l.number (first_word l) (behind_first l) m.decls ls else inside_faults c m l
+    if is_end c then end_faults l.number (first_word l) (behind_first l) m.decls ls
+    else inside_faults c m l
 
 -- a model begins behind the end of the one before
 abbrev pub unended_faults : Option OpenModel → List ParseFault
@@ -125,10 +139,11 @@ unended_faults (Some m) = NoEnd m.line ∷ []
 
 -- the faults of a line that begins a model
 abbrev pub begin_faults : Known → LexLine → List ParseFault
-begin_faults k l = unended_faults k.inside ++ model_faults l.number (first_word l) k.names (behind_first l)
+begin_faults k l = unended_faults k.inside
+    ++ model_faults l.number (first_word l) k.names (behind_first l)
 
--- all faults of a line, where the lines before say `k`: one that begins a model stands outside the others, and one that names
--- the root anywhere
+-- all faults of a line, where the lines before say `k`: one that begins a model stands outside the
+-- others, and one that names the root anywhere
 unfoldable pub line_faults : Command → Known → List LexLine → LexLine → List ParseFault
 line_faults c k ls l =
     if is_model c then begin_faults k l
@@ -148,8 +163,8 @@ abbrev pub lost_faults : Option Root → List (List ℕ) → List ParseFault
 lost_faults None names = []
 lost_faults (Some r) names = when (not (among r.name names)) (RootFault r.line r.name)
 
--- the faults of the end of a file, where this model is open, or none, and its lines say `k`: none is open, there is a model, and
--- the root is one of them
+-- the faults of the end of a file, where this model is open, or none, and its lines say `k`: none
+-- is open, there is a model, and the root is one of them
 abbrev pub last_faults : Option OpenModel → Known → List ParseFault
 last_faults (Some m) k = NoEnd m.line ∷ []
 last_faults None k = when (length k.models == 0) (NoModel 1) ++ lost_faults k.root k.names

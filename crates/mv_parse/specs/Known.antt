@@ -77,7 +77,12 @@ tables_of ds (l ∷ ls) = table_at (command_at l) ds l ls ++ tables_of ds ls
 
 -- the latch that a line says: its input and its output
 abbrev pub latch_of : LexLine → FileLatch
-latch_of l = record { line = l.number; input = first_of (behind_first l); output = first_of (drop 1 (behind_first l)) }
+latch_of l =
+    record {
+      line = l.number;
+      input = first_of (behind_first l);
+      output = first_of (drop 1 (behind_first l));
+    }
 
 -- the latch of a line, if it says one
 abbrev pub latch_at : Command → LexLine → List FileLatch
@@ -107,7 +112,8 @@ part_at _ l = []
 abbrev pub parts_of : List LexLine → List Part
 parts_of ls = flat_map (λ l. part_at (command_at l) l) ls
 
--- the table that is open behind these lines: the last one, where only rows and defaults stand behind its first line
+-- the table that is open behind these lines: the last one, where only rows and defaults stand
+-- behind its first line
 abbrev pub table_state : LexLine → List LexLine → OpenTable
 table_state l ls = record {
   ins = length (ins_of (behind_first l));
@@ -120,7 +126,9 @@ table_state l ls = record {
 abbrev pub open_table : List LexLine → Option OpenTable
 open_table [] = None
 open_table (l ∷ ls) =
-    if is_table (command_at l) && list_all (λ r. keeps_table (command_at r)) ls then Some (table_state l ls) else open_table ls
+    if is_table (command_at l)
+    && list_all (λ r. keeps_table (command_at r)) ls then Some (table_state l ls)
+    else open_table ls
 
 -- ---- the root
 
@@ -142,8 +150,8 @@ first_root ls = option_map root_said (first (filter says_root ls))
 abbrev pub ends_part : LexLine → Bool
 ends_part l = is_end (command_at l)
 
--- a part without the lines in front that name the root, which stand outside its model. Within the model such a line is one of
--- the model's, and says no more of it than that its table is closed
+-- a part without the lines in front that name the root, which stand outside its model. Within the
+-- model such a line is one of the model's, and says no more of it than that its table is closed
 abbrev pub unrooted : List LexLine → List LexLine
 unrooted [] = []
 unrooted (l ∷ ls) = if says_root l then unrooted ls else l ∷ ls
@@ -203,7 +211,8 @@ models_of ls = flat_map model_said (ended_parts ls)
 abbrev pub model_names : List FileModel → List (List ℕ)
 model_names models = map (λ m. m.name) models
 
--- what the lines say: the models that have ended and their names, the root, and the model that is open
+-- what the lines say: the models that have ended and their names, the root, and the model that is
+-- open
 unfoldable pub known : List LexLine → Known
 known ls = record {
   models = models_of ls;

@@ -1,5 +1,5 @@
--- What a line that has no fault adds to what the lines before say. The reader computes this; that it is what the longer
--- list of lines says is proved of it.
+-- What a line that has no fault adds to what the lines before say. The reader computes this; that
+-- it is what the longer list of lines says is proved of it.
 use Rattle.std.specs.Prelude.{◌≡◌, ℕ, ◌+◌, ◌<◌, ◌≤◌, Bool, true, false, not, ◌&&◌, List, [], ◌∷◌, ◌++◌, length, Option, Some, None, is_some, option_map, if◌then◌else◌}
 use Rattle.mv_base.specs.Names.{among}
 use Rattle.mv_lex.specs.declared.lines.LexLine.{LexLine}
@@ -21,11 +21,26 @@ use Rattle.mv_parse.specs.Known.{front_rows, tables_of, latch_of, latches_of, re
 
 -- a model and a table that begin
 abbrev pub new_model : LexLine → OpenModel
-new_model l = record { line = l.number; name = first_of (behind_first l); inputs = []; outputs = []; decls = []; instances = []; table = None }
+new_model l =
+    record {
+      line = l.number;
+      name = first_of (behind_first l);
+      inputs = [];
+      outputs = [];
+      decls = [];
+      instances = [];
+      table = None;
+    }
 
 -- a table that a first line with these words begins
 abbrev pub new_table : List (List ℕ) → OpenTable
-new_table words = record { ins = length (ins_of words); outs = length (outs_of words); rows = 0; has_default = false }
+new_table words =
+    record {
+      ins = length (ins_of words);
+      outs = length (outs_of words);
+      rows = 0;
+      has_default = false;
+    }
 
 -- a model with further inputs; a line that is no row and no default closes its table
 abbrev pub with_inputs : List (List ℕ) → OpenModel → OpenModel
@@ -83,7 +98,12 @@ inside_step _ l m = m
 -- a line within a model goes on with it, or ends it
 abbrev pub inside_stepped : Command → Known → OpenModel → List LexLine → LexLine → Known
 inside_stepped c k m ls l =
-    if is_end c then record k { models = k.models ++ file_model m ls ∷ []; names = k.names ++ m.name ∷ []; inside = None }
+    if is_end c then record k {
+      models = k.models ++ file_model m ls ∷ [];
+      names = k.names
+          ++ m.name ∷ [];
+      inside = None;
+    }
     else record k { inside = Some (inside_step c l m) }
 
 -- a line that may stand in a model alone
@@ -101,7 +121,8 @@ with_root l k = record k { root = Some (root_said l); inside = option_map with_n
 
 -- what is known behind a line
 unfoldable pub line_step : Command → Known → List LexLine → LexLine → Known
-line_step c k ls l = if is_model c then with_model l k else if is_root c then with_root l k else body_step c k k.inside ls l
+line_step c k ls l = if is_model c then with_model l k else if is_root c then with_root l k
+    else body_step c k k.inside ls l
 
 -- a line that has been read is one of the open model's behind its first
 abbrev pub is_inner : Command → Option OpenModel → Bool
@@ -109,7 +130,13 @@ is_inner c o = not (is_model c) && is_some o
 
 -- what these lines of a model say besides its ports and its declarations
 abbrev pub contents_of : List Decl → List LexLine → Contents
-contents_of ds ls = record { tables = tables_of ds ls; latches = latches_of ls; resets = resets_of ds ls; parts = parts_of ls }
+contents_of ds ls =
+    record {
+      tables = tables_of ds ls;
+      latches = latches_of ls;
+      resets = resets_of ds ls;
+      parts = parts_of ls;
+    }
 
 -- that of the lines before, with what a line adds, where these lines stand behind it
 abbrev pub with_line : Command → List Decl → LexLine → List LexLine → Contents → Contents
@@ -121,11 +148,13 @@ with_line _ ds l ls k = k
 
 -- a first line of a table or a reset table has no more columns than a table may have
 abbrev pub HasFewColumns : LexLine → Type 0
-HasFewColumns l = is_table (command_at l) ≡ true → length (ins_of (behind_first l)) + length (outs_of (behind_first l)) ≤ MAX_COLUMNS
+HasFewColumns l = is_table (command_at l) ≡ true
+    → length (ins_of (behind_first l)) + length (outs_of (behind_first l)) ≤ MAX_COLUMNS
 
 -- the open table has no more columns than a table may have
 pub record IsSmall (k : Known) : Type 0 where
-  pub columns : (m : OpenModel) (t : OpenTable) → k.inside ≡ Some m → m.table ≡ Some t → t.ins + t.outs ≤ MAX_COLUMNS
+  pub columns : (m : OpenModel) (t : OpenTable) → k.inside ≡ Some m → m.table ≡ Some t
+      → t.ins + t.outs ≤ MAX_COLUMNS
 
 -- a model can end behind models with these names: it is none of them, and there may be one more
 pub record CanEnd (names : List (List ℕ)) (m : OpenModel) : Type 0 where

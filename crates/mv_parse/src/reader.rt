@@ -109,5 +109,6 @@ pub fn parse_owned(alloc: Global, lines: Lines) -> Result<Design, ParseFault>
 /// Lines with a first fault say no design within the limits. So `parse` is Ok exactly where lines say a design within the
 /// limits, memory aside.
 pub fn one_answer()
-    ensures { (lines : List LexLine) (f : ParseFault) (d : Design) → FirstFault lines f → IsDesign lines d → AreWithinLimits lines → ⊥ }
+    ensures { (lines : List LexLine) (f : ParseFault) (d : Design) → FirstFault lines f
+        → IsDesign lines d → AreWithinLimits lines → ⊥ }
 {}

@@ -52,7 +52,8 @@ fn begin_model(alloc: Global, known: &mut Known, line: &LexLine) -> Result<(), P
 
 /// Keeps the root that this line names, where no line before names one.
 fn name_root(alloc: Global, known: &mut Known, line: &LexLine) -> Result<(), ParseFault>
-    ensures fault { Tells result (root_faults line.now.number (first_word line.now) known.old.root (behind_first line.now)) }
+    ensures fault { Tells result
+        (root_faults line.now.number (first_word line.now) known.old.root (behind_first line.now)) }
     ensures ok { OnOk result (known.new ≡ with_root line.now known.old) }
 {
     let word = Name::new(alloc, first_word(line))?;
@@ -86,7 +87,9 @@ fn end_line(
     line: &LexLine,
 ) -> Result<FileModel, ParseFault>
     requires { All (λ (l : LexLine). HasFewColumns l) lines }
-    ensures fault { Tells result (end_faults line.now.number (first_word line.now) (behind_first line.now) model.decls lines) }
+    ensures fault { Tells result
+        (end_faults line.now.number (first_word line.now)
+        (behind_first line.now) model.decls lines) }
     ensures ok { IfOk result (λ ended. ended ≡ file_model model lines) }
 {
     if !behind_first(line).is_empty() {
@@ -182,7 +185,8 @@ fn end_open(
     requires narrow { All (λ (l : LexLine). HasFewColumns l) body.old }
     requires opened { (m : OpenModel) → known.old.inside ≡ Some m → CanEnd known.old.names m }
     ensures fault { Tells result (body_faults Command.End known.old.inside body.old line.now) }
-    ensures ok { OnOk result (known.new ≡ body_step Command.End known.old known.old.inside body.old line.now) }
+    ensures ok { OnOk result
+        (known.new ≡ body_step Command.End known.old known.old.inside body.old line.now) }
 {
     match known.inside.take() {
         None => outside_line(alloc, Command::End, line),
@@ -203,12 +207,15 @@ fn body_line(
     command: Command,
     line: &LexLine,
 ) -> Result<(), ParseFault>
-    requires small { (m : OpenModel) (t : OpenTable) → known.old.inside ≡ Some m → m.table ≡ Some t → t.ins + t.outs ≤ most_columns }
+    requires small { (m : OpenModel) (t : OpenTable) → known.old.inside ≡ Some m → m.table ≡ Some t
+        → t.ins + t.outs ≤ most_columns }
     requires no_model { is_model command ≡ false }
     requires no_root { is_root command ≡ false }
     requires no_end { is_end command ≡ false }
-    ensures fault { (body : List LexLine) → Tells result (body_faults command known.old.inside body line.now) }
-    ensures ok { (body : List LexLine) → OnOk result (known.new ≡ body_step command known.old known.old.inside body line.now) }
+    ensures fault { (body : List LexLine)
+        → Tells result (body_faults command known.old.inside body line.now) }
+    ensures ok { (body : List LexLine)
+        → OnOk result (known.new ≡ body_step command known.old known.old.inside body line.now) }
 {
     match &mut known.inside {
         None => outside_line(alloc, command, line),

@@ -39,8 +39,11 @@ fn add_line(
     behind: &[LexLine],
 ) -> Result<(), ParseFault>
     requires { HasFewColumns line.now }
-    ensures fault { Tells result (table_value_faults (command_at line.now) decls.now line.now behind.now) }
-    ensures ok { OnOk result (contents.new ≡ with_line (command_at line.now) decls.now line.now behind.now contents.old) }
+    ensures fault { Tells result
+        (table_value_faults (command_at line.now) decls.now line.now behind.now) }
+    ensures ok { OnOk result
+        (contents.new
+        ≡ with_line (command_at line.now) decls.now line.now behind.now contents.old) }
 {
     match command_at(line) {
         Command::Table => {

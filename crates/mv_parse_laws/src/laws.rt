@@ -18,5 +18,6 @@ pub fn lines_ascend()
 /// stand by ascending line, each kind for itself, and no two of them have one line, unless a reset table has that of its own
 /// latch.
 pub fn designs_are_proper()
-    ensures { (lines : List LexLine) (d : Design) → numbers_ascend (numbers_of lines) ≡ true → IsDesign lines d → AreWithinLimits lines → IsProper d }
+    ensures { (lines : List LexLine) (d : Design) → numbers_ascend (numbers_of lines) ≡ true
+        → IsDesign lines d → AreWithinLimits lines → IsProper d }
 {}

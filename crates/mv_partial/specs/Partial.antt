@@ -25,10 +25,12 @@ pub record ArePartial (nets : List (Option FlatNet)) (marks : List Bool) : Type 
 -- ---- what private functions alone cite
 
 -- so the readers of the net are marked
-pub record HasMarkedReaders (nets : List (Option FlatNet)) (n : ℕ) (marks : List Bool) : Type 0 where
+pub record HasMarkedReaders (nets : List (Option FlatNet)) (n : ℕ) (marks : List Bool)
+    : Type 0 where
   pub each : (m : ℕ) → reads_in nets m n ≡ true → IsPartialMark nets m (is_marked marks m)
 
 -- so the nets of this list are marked
-pub record AreMarked (nets : List (Option FlatNet)) (list : List NetId) (marks : List Bool) : Type 0 where
+pub record AreMarked (nets : List (Option FlatNet)) (list : List NetId) (marks : List Bool)
+    : Type 0 where
   pub long : length marks ≡ length nets
   pub each : (n : ℕ) → has_id list n ≡ true → IsPartialMark nets n (is_marked marks n)

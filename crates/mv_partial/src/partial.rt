@@ -31,7 +31,8 @@ impl PartialNets {
     pub fn is_below(&self, net: &Network, n: NetId) -> bool
         requires held { IsTrue (is_held net.now.nets n.0) }
         requires right { ArePartial net.now.nets self.now }
-        ensures { MatchBool result (AreTotalBelow net.now.nets n.0 → ⊥) (AreTotalBelow net.now.nets n.0) }
+        ensures { MatchBool result (AreTotalBelow net.now.nets n.0 → ⊥)
+            (AreTotalBelow net.now.nets n.0) }
     {
         is_partial_below(net, self.marks.as_slice(), n)
     }
@@ -40,7 +41,8 @@ impl PartialNets {
     #[tactic(auto, using(crate::proofs::Marking::told))]
     pub fn has(&self, n: NetId) -> bool
         ensures marked { result ≡ is_marked self.now n.0 }
-        ensures told { (nets : List (Option FlatNet)) → ArePartial nets self.now → IsTrue (is_held nets n.0)
+        ensures told { (nets : List (Option FlatNet)) → ArePartial nets self.now
+            → IsTrue (is_held nets n.0)
             → MatchBool result (IsTotalDown nets n.0 → ⊥) (IsTotalDown nets n.0) }
     {
         has_mark(self.marks.as_slice(), n)

@@ -16,9 +16,11 @@ end_of net = Noted (End (literals_in net.nets))
 -- the journal took the end, or couldn't
 abbrev pub PutsEnd : NetParts → Journaled → Journaled → Result (Unit {0}) Stop → Type 0
 PutsEnd net journal journal' (Ok u) = Takes journal journal' (end_of net) (Ok tt)
-PutsEnd net journal journal' (Err stop) = (stop ≡ Note) × ((failed : Failed) × Takes journal journal' (end_of net) (Err failed))
+PutsEnd net journal journal' (Err stop) = (stop ≡ Note)
+    × ((failed : Failed) × Takes journal journal' (end_of net) (Err failed))
 
 -- so the end was put to the journal, with the literals, which are a number of 128 bits
-pub record Ends (net : NetParts) (journal journal' : Journaled) (result : Result (Unit {0}) Stop) : Type 0 where
+pub record Ends (net : NetParts) (journal journal' : Journaled) (result : Result (Unit {0}) Stop)
+    : Type 0 where
   pub puts : PutsEnd net journal journal' result
   pub few : literals_in net.nets < 2 ^ 128

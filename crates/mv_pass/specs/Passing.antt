@@ -10,10 +10,12 @@ use Rattle.mv_pass.specs.declared.stop.Stop.TheVariants.{Note, Memory}
 use Rattle.mv_pass.specs.Courses.{Course}
 use Rattle.mv_pass.specs.Taking.{Took, TookPart, GoesOn}
 
--- at Ok it ran whole, and the journal took its entries; stopped for want of memory, the journal took the entries that came;
--- stopped at an entry that the journal couldn't take, it gained some first part of their text, and its count of faults rose. The
--- network that is left may always take the place of the old one, where free under values where that one allows some choice
-pub record Passes (free : Bool) (Whole Stops : Course) (old new : NetParts) (journal journal' : Journaled) (result : Result (Unit {0}) Stop) : Type 0 where
+-- at Ok it ran whole, and the journal took its entries; stopped for want of memory, the journal
+-- took the entries that came; stopped at an entry that the journal couldn't take, it gained some
+-- first part of their text, and its count of faults rose. The network that is left may always take
+-- the place of the old one, where free under values where that one allows some choice
+pub record Passes (free : Bool) (Whole Stops : Course) (old new : NetParts)
+    (journal journal' : Journaled) (result : Result (Unit {0}) Stop) : Type 0 where
   pub ok : OnOk result (Took (λ entries. Whole old entries new) journal journal')
   pub memory : result ≡ Err Memory → Took (λ entries. Stops old entries new) journal journal'
   pub note : result ≡ Err Note → TookPart (λ entries. Stops old entries new) journal journal'

@@ -9,4 +9,4 @@ mod taking;
 
 pub use ending::end;
 pub use stop::Stop;
-pub use taking::{take, take_with, take_within};
+pub use taking::{attempt, take, take_with, take_within};

@@ -28,7 +28,6 @@ use Rattle.mv_net.specs.Formed.{IsReadable, WellFormed}
 use Rattle.mv_net.specs.Nets.{slot, values_in, table_in, table_reads, net_reads, reads_in}
 use Rattle.mv_net.specs.Index.{is_held, is_seen}
 use Rattle.mv_graph.specs.Nets.{has_id, IsAscending}
-use Rattle.mv_graph.proofs.Nets.{has_id-more}
 use Rattle.mv_cover.specs.declared.stop.CoverStop.{CoverStop}
 use Rattle.mv_entry.specs.declared.fault.RuleFault.TheVariants.{Wide}
 use Rattle.mv_net.specs.declared.change.NewTable.{NewTable}
@@ -40,11 +39,12 @@ use Rattle.mv_net.specs.Plain.{IsPlainNet}
 use Rattle.mv_net.specs.Total.{IsTotalNet}
 use Rattle.mv_net.proofs.Known.{counts_at, reads_readable}
 use Rattle.mv_net.proofs.Patches.{IsWritten-gone}
-use Rattle.mv_plans.proofs.Overs.{counts_of, over_counts, cover_in}
+use Rattle.mv_readers.proofs.Overs.{counts_of, over_counts, cover_in}
 use Rattle.mv_plans.specs.Checks.{IsTabled}
 use Rattle.mv_plans.specs.Collapsing.{IsInnerOf, IsUnshared, AreNarrow, HasComposites, CanCollapse, Collapses, CollapseRow, collapsed}
-use Rattle.mv_plans.specs.Plans.{AreRewritten, IsPlanned}
-use Rattle.mv_plans.proofs.Readers.{sets_readers, fits_tables, listed_reads, listed_reader_is}
+use Rattle.mv_readers.specs.Readers.{AreRewritten}
+use Rattle.mv_plans.specs.Plans.{IsPlanned}
+use Rattle.mv_readers.proofs.Readers.{sets_readers, fits_tables, tabled_held}
 
 -- ---- what a composite asks of the net
 
@@ -163,14 +163,6 @@ listed_one n m h =
 one_held : (nets : List (Option FlatNet)) (n : NetId) → IsTrue (is_held nets n.0) → AreHeldOnce nets (n ∷ [])
 one_held nets n held = record { held = λ m h. subst (λ k. IsTrue (is_held nets k)) (listed_one n m h) held; once = refl }
 
--- a net with a table is held
-pub tabled_held : (nets : List (Option FlatNet)) (n : ℕ) → is_some (table_in (slot nets n)) ≡ true → IsTrue (is_held nets n)
-tabled_held nets n h = by (slot nets n) h
-  where
-    by : (o : Option FlatNet) → is_some (table_in o) ≡ true → is_some o ≡ true
-    by None t = absurd (false≢true t)
-    by (Some f) t = refl
-
 -- the change by which a net goes and others get these tables
 abbrev pub going_into : NetId → List NewTable → Change
 going_into n set = record { add = []; set = set; values = []; gone = n ∷ [] }
@@ -223,35 +215,6 @@ pub readers_over : (net : NetParts) (n : ℕ) (readers : List NetId) (i : ℕ) (
     → table_in (slot net.nets (get_or readers i d).0) ≡ Some outer → AreCubesOver (counts_of net.nets) outer.lines
 readers_over net n readers i d outer formed low is held =
     (over_counts net (values_in (slot net.nets (get_or readers i d).0)) outer formed (cover_at net (get_or readers i d).0 outer formed held)).cubes
-
-pub narrow_none : (nets : List (Option FlatNet)) (inner : Inner) → AreNarrow nets inner (has_id [])
-narrow_none nets inner = record { each = λ m c h r. absurd (false≢true h) }
-
--- one composite more isn't too wide
-pub narrow_next : (nets : List (Option FlatNet)) (inner : Inner) (readers : List NetId) (i : ℕ) (d : NetId) (outer : Cover) → i < length readers → table_in (slot nets (get_or readers i d).0) ≡ Some outer
-    → (IsTooWide (counts_of nets) inner outer → ⊥) → AreNarrow nets inner (has_id (take i readers)) → AreNarrow nets inner (has_id (take (i + 1) readers))
-narrow_next nets inner readers i d outer low held narrow are = record {
-  each = λ m c h r wide.
-      ⊎_elim
-      (λ (before : has_id (take i readers) m ≡ true). are.each m c before r wide)
-      (λ (here : nat_eq (get_or readers i d).0 m ≡ true).
-      let same = eqb-true (get_or readers i d).0 m here in
-      let tables = same_Some c outer (sym r.table ∙ (sym (ap (λ k. table_in (slot nets k)) same) ∙ held)) in
-      narrow (subst (IsTooWide (counts_of nets) inner) tables wide))
-      (or_cases (has_id (take i readers) m) (nat_eq (get_or readers i d).0 m) (sym (has_id-more readers i (get_or readers i d) d m low refl) ∙ h));
-}
-
-pub narrow_all : (nets : List (Option FlatNet)) (inner : Inner) (readers : List NetId) (i : ℕ) → length readers ≤ i → IsAscending (λ m. net_reads (slot nets m) inner.net.0) readers
-    → AreNarrow nets inner (has_id (take i readers)) → AreNarrow nets inner (λ m. reads_in nets m inner.net.0)
-narrow_all nets inner readers i past is are = record { each = λ m c h r wide. are.each m c (ap (λ l. has_id l m) (take_all i readers past) ∙ (is.members m ∙ h)) r wide }
-
--- one composite is too wide
-pub one_wide : (nets : List (Option FlatNet)) (inner : Inner) (seen : List ℕ) (readers : List NetId) (i : ℕ) (d : NetId) (outer : Cover) (stop : CoverStop) → seen ≡ counts_of nets → i < length readers
-    → IsAscending (λ m. net_reads (slot nets m) inner.net.0) readers → table_in (slot nets (get_or readers i d).0) ≡ Some outer → (stop ≡ CoverStop.Wide → IsTooWide seen inner outer)
-    → stop ≡ CoverStop.Wide → AreNarrow nets inner (λ m. reads_in nets m inner.net.0) → ⊥
-one_wide nets inner seen readers i d outer stop same low is held wide e narrow =
-    narrow.each (get_or readers i d).0 outer (listed_reads nets inner.net.0 readers i d low is) (listed_reader_is nets inner.net.0 readers i d outer low is held)
-    (subst (λ k. IsTooWide k inner outer) same (wide e))
 
 -- ---- the composites of all readers
 

@@ -28,11 +28,11 @@ use Rattle.mv_net.proofs.Literals.{literals_changed}
 use Rattle.mv_plans.specs.Checks.{IsTabled}
 use Rattle.mv_plans.specs.Collapsing.{IsInnerOf, AreNarrow, CanCollapse, Collapses, FailsCollapse, collapsed}
 use Rattle.mv_plans.specs.Composites.{HasCompositeLiterals, HasWideComposite, composite_count}
-use Rattle.mv_plans.specs.Plans.{AreRewritten}
+use Rattle.mv_readers.specs.Readers.{AreRewritten}
 use Rattle.mv_plans.proofs.Collapsed.{one_inner, has_composites, wide_fails, going_into, going_fits}
 use Rattle.mv_plans.proofs.Named.{one_tabled}
-use Rattle.mv_plans.proofs.Overs.{counts_of, over_counts}
-use Rattle.mv_plans.proofs.Readers.{sets_readers}
+use Rattle.mv_readers.proofs.Overs.{counts_of, over_counts}
+use Rattle.mv_readers.proofs.Readers.{sets_readers}
 
 -- ---- one reader
 

@@ -1,6 +1,4 @@
 pub mod Named
-pub mod Overs
-mod Readers
 pub mod Removed
 pub mod Added
 pub mod Wired
@@ -15,3 +13,4 @@ mod Found
 pub mod Filled
 pub mod Narrowed
 pub mod Merged
+pub mod Encoded

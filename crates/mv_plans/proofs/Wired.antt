@@ -24,10 +24,11 @@ use Rattle.mv_net.specs.Formed.{IsReadable, IsCover, WellFormed}
 use Rattle.mv_net.specs.Nets.{slot, values_in, table_reads}
 use Rattle.mv_net.specs.Plain.{IsPlainBuffer}
 use Rattle.mv_net.proofs.Known.{counts_at, reads_readable}
-use Rattle.mv_plans.proofs.Overs.{counts_of, over_counts, cover_in}
-use Rattle.mv_plans.proofs.Readers.{sets_readers, fits_tables}
+use Rattle.mv_readers.proofs.Overs.{counts_of, over_counts, cover_in}
+use Rattle.mv_readers.proofs.Readers.{sets_readers, fits_tables}
 use Rattle.mv_plans.specs.Checks.{IsTabled, IsRead}
-use Rattle.mv_plans.specs.Plans.{AreRewritten, IsPlanned}
+use Rattle.mv_readers.specs.Readers.{AreRewritten}
+use Rattle.mv_plans.specs.Plans.{IsPlanned}
 use Rattle.mv_plans.specs.Wiring.{Wires}
 
 module _ (net : NetParts) (n m : ℕ) (formed : WellFormed net) (buffer : IsPlainBuffer net.nets n m) where

@@ -11,14 +11,16 @@ use Rattle.mv_net.specs.declared.parts.NetParts.{NetParts}
 use Rattle.mv_net.specs.Changes.{with_nets}
 use Rattle.mv_plans.specs.Checks.{IsNewName, HasRoom, Passed, Unless}
 
--- the body of a net that may come: it is tidy for two values, each line gives 1, and the default is 0
+-- the body of a net that may come: it is tidy for two values, each line gives 1, and the default is
+-- 0
 pub record IsDivisor (nets : List (Option FlatNet)) (body : Body) : Type 0 where
   pub tidy : IsTidy nets 2 body
   pub choice : IsChoice body
 
 -- a net of two values with this name and table
 abbrev pub divisor_net : List ℕ → Cover → FlatNet
-divisor_net name table = record { name = name; values = 2; value_names = []; kind = Table; table = Some table }
+divisor_net name table =
+    record { name = name; values = 2; value_names = []; kind = Table; table = Some table }
 
 -- a net with this name comes, with the next number
 pub record Adds (old : NetParts) (name : List ℕ) (body : Body) (new : NetParts) : Type 0 where
@@ -26,7 +28,8 @@ pub record Adds (old : NetParts) (name : List ℕ) (body : Body) (new : NetParts
   pub form : IsDivisor old.nets body
   pub fresh : IsNewName old.nets name
   pub room : HasRoom old.nets
-  pub new_is : new ≡ with_nets old (old.nets ++ Some (divisor_net name (cover_said old.nets body)) ∷ [])
+  pub new_is : new
+      ≡ with_nets old (old.nets ++ Some (divisor_net name (cover_said old.nets body)) ∷ [])
 
 -- the checks hold
 pub record CanAdd (nets : List (Option FlatNet)) (name : List ℕ) (body : Body) : Type 0 where

@@ -1,6 +1,6 @@
 -- What the checks of the rules ask, and the order in which they fail.
-use Rattle.std.specs.Prelude.{◌≡◌, ◌⊎◌, ℕ, ◌<◌, ◌≤◌, true, false, is_some, Option, Result, MatchResult, List, length}
-use Rattle.mv_base.specs.Names.{is_net_name}
+use Rattle.std.specs.Prelude.{◌≡◌, ◌⊎◌, ℕ, ◌+◌, ◌<◌, ◌≤◌, true, false, is_some, Option, Result, MatchResult, List, length, All}
+use Rattle.mv_base.specs.Names.{is_net_name, names_differ}
 use Rattle.mv_base.specs.declared.limits.TheConstants.{MAX_NETS, MAX_WORD_BYTES}
 use Rattle.mv_entry.specs.declared.fault.RuleFault.{RuleFault}
 use Rattle.mv_entry.specs.declared.fault.RuleFault.TheVariants.{NoNet}
@@ -34,12 +34,23 @@ pub record IsNewName (nets : List (Option FlatNet)) (name : List ℕ) : Type 0 w
   pub short : length name ≤ MAX_WORD_BYTES
   pub free : (n : ℕ) → HasName nets n name → ⊥
 
+-- names for new nets: no two of them are equal
+pub record AreNewNames (nets : List (Option FlatNet)) (names : List (List ℕ)) : Type 0 where
+  pub each : All (IsNewName nets) names
+  pub differ : names_differ names ≡ true
+
 -- one number more may be used
 pub record HasRoom (nets : List (Option FlatNet)) : Type 0 where
   pub room : length nets < MAX_NETS
 
--- what a rule answers: what satisfies the claim, or want of memory, or the fault of its first check that fails
-abbrev pub Answers : {T : Type 0} → Result T RuleFault → (T → Type 0) → (RuleFault → Type 0) → Type 0
+-- so many numbers more may be used
+pub record HasRoomFor (nets : List (Option FlatNet)) (count : ℕ) : Type 0 where
+  pub room : length nets + count ≤ MAX_NETS
+
+-- what a rule answers: what satisfies the claim, or want of memory, or the fault of its first check
+-- that fails
+abbrev pub Answers : {T : Type 0} → Result T RuleFault → (T → Type 0) → (RuleFault → Type 0)
+    → Type 0
 Answers result Claim Fault = MatchResult result Claim (λ f. (f ≡ out_of_memory) ⊎ Fault f)
 
 -- ---- the order of the checks
@@ -48,10 +59,12 @@ Answers result Claim Fault = MatchResult result Claim (λ f. (f ≡ out_of_memor
 abbrev pub Passed : RuleFault → Type 0
 Passed f = ⊥
 
--- a check and those behind it: it fails, with this fault, or it holds and one of those behind it fails
+-- a check and those behind it: it fails, with this fault, or it holds and one of those behind it
+-- fails
 abbrev pub Unless : Type 0 → RuleFault → (RuleFault → Type 0) → RuleFault → Type 0
 Unless Holds fault Rest f = ((Holds → ⊥) × (f ≡ fault)) ⊎ (Holds × Rest f)
 
--- the net that a rule is about, and the checks behind: there is none, or it is n and one of the checks of n fails
+-- the net that a rule is about, and the checks behind: there is none, or it is n and one of the
+-- checks of n fails
 abbrev pub With : (ℕ → Type 0) → (ℕ → RuleFault → Type 0) → RuleFault → Type 0
 With IsIt Rest f = (((n : ℕ) → IsIt n → ⊥) × (f ≡ NoNet)) ⊎ ((n : ℕ) × IsIt n × Rest n f)

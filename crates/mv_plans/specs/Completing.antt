@@ -16,8 +16,8 @@ abbrev pub with_zero : Bool → Cover → Cover
 with_zero false body = body
 with_zero true body = record body { default = Some (one 0) }
 
--- the body, with the default 0 besides where the old table is total and the body isn't. No assignment that agrees with the
--- net that the body is divided by meets that default
+-- the body, with the default 0 besides where the old table is total and the body isn't. No
+-- assignment that agrees with the net that the body is divided by meets that default
 pub record IsCompleted (nets : List (Option FlatNet)) (old body new : Cover) : Type 0 where
   pub less : Bool
   pub needed : MatchBool less (IsLess nets old body) (IsLess nets old body → ⊥)

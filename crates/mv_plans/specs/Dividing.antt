@@ -47,7 +47,9 @@ pub record Divides (old : NetParts) (name by : List ℕ) (body : Body) (new : Ne
 
 -- the first check that fails: of the body as a cover, of the two nets with the names, and of all
 abbrev pub DividedRow : List (Option FlatNet) → ℕ → ℕ → Cover → RuleFault → Type 0
-DividedRow nets n d body = Unless (IsDivisorNet nets d) NotSame (Unless (KeepsOrder nets n d body) Loop (Unless (IsSameTable nets n d body) NotSame Passed))
+DividedRow nets n d body =
+    Unless (IsDivisorNet nets d) NotSame
+    (Unless (KeepsOrder nets n d body) Loop (Unless (IsSameTable nets n d body) NotSame Passed))
 
 abbrev pub DivideRow : NetParts → Body → ℕ → ℕ → RuleFault → Type 0
 DivideRow net body n d =
@@ -57,4 +59,5 @@ DivideRow net body n d =
 
 abbrev pub FailsDivide : NetParts → List ℕ → List ℕ → Body → RuleFault → Type 0
 FailsDivide net name by body =
-    With (IsTabled net.nets name) (λ n. With (λ d. HasName net.nets d by) (λ d. DivideRow net body n d))
+    With (IsTabled net.nets name)
+    (λ n. With (λ d. HasName net.nets d by) (λ d. DivideRow net body n d))

@@ -28,11 +28,13 @@ abbrev pub asks_one : Option ℕ → Bool
 asks_one None = false
 asks_one (Some set) = nat_eq set (one 1)
 
--- what a line stands for where the net d is 1 exactly where one of these lines' cubes holds: with the literal `d = 1` one
--- line for each of the cubes, met with the rest, and none where the two don't meet; without it the line itself
+-- what a line stands for where the net d is 1 exactly where one of these lines' cubes holds: with
+-- the literal `d = 1` one line for each of the cubes, met with the rest, and none where the two
+-- don't meet; without it the line itself
 abbrev pub line_expanded : ℕ → List Line → Line → List Line
 line_expanded d inner l =
-    if asks_one (literal_at l.cube d) then flat_map (λ (k : Line). lines_for l.out (met (cube_without d l.cube) k.cube)) inner
+    if asks_one (literal_at l.cube d) then flat_map
+    (λ (k : Line). lines_for l.out (met (cube_without d l.cube) k.cube)) inner
     else l ∷ []
 
 -- the lines that lines stand for

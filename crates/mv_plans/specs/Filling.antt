@@ -1,5 +1,6 @@
--- The rule `fill`: a table that allows nothing somewhere gets a default. Where the network allows some choice that default isn't
--- used: above the net each table leaves one value at most, so that there the net's fanins have the values with which a line gave one.
+-- The rule `fill`: a table that allows nothing somewhere gets a default. Where the network allows
+-- some choice that default isn't used: above the net each table leaves one value at most, so that
+-- there the net's fanins have the values with which a line gave one.
 use Rattle.std.specs.Prelude.{◌≡◌, ℕ, Bool, true, is_some, Option, Some, List}
 use Rattle.mv_cover.specs.declared.cover.Cover.{Cover}
 use Rattle.mv_cover.specs.Lines.{IsOutput}
@@ -25,7 +26,8 @@ pub record IsPartial (nets : List (Option FlatNet)) (n : ℕ) : Type 0 where
 
 -- each table above the net is plainly deterministic
 pub record ArePlainAbove (nets : List (Option FlatNet)) (n : ℕ) : Type 0 where
-  pub each : (m : ℕ) → IsAbove (reads_in nets) m n → is_some (table_in (slot nets m)) ≡ true → IsPlainNet nets m
+  pub each : (m : ℕ) → IsAbove (reads_in nets) m n → is_some (table_in (slot nets m)) ≡ true
+      → IsPlainNet nets m
 
 -- this is asked for
 pub record IsAsked (free : Bool) : Type 0 where
@@ -47,7 +49,8 @@ abbrev pub with_default : Cover → ℕ → Cover
 with_default c out = record c { default = Some out }
 
 -- the net with this name has a table that allows nothing somewhere, and gets the set as its default
-pub record Fills (free : Bool) (old : NetParts) (name : List ℕ) (out : ℕ) (new : NetParts) : Type 0 where
+pub record Fills (free : Bool) (old : NetParts) (name : List ℕ) (out : ℕ) (new : NetParts)
+    : Type 0 where
   pub number : ℕ
   pub net : IsTabled old.nets name number
   pub asked : IsAsked free

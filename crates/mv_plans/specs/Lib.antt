@@ -11,4 +11,5 @@ pub mod Expanding
 pub mod Filling
 pub mod Narrowing
 pub mod Merging
+pub mod Encoding
 pub mod Completing

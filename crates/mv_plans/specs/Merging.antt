@@ -10,7 +10,8 @@ use Rattle.mv_net.specs.Nets.{slot, values_in}
 use Rattle.mv_plans.specs.Checks.{IsTabled, IsUnseen, Passed, Unless, With}
 
 -- of the net with this name the value goes, into the other one if there is one
-pub record Merges (old : NetParts) (name : List ℕ) (gone : Value) (into : Option Value) (new : NetParts) : Type 0 where
+pub record Merges (old : NetParts) (name : List ℕ) (gone : Value) (into : Option Value)
+    (new : NetParts) : Type 0 where
   pub number : ℕ
   pub net : IsTabled old.nets name number
   pub unseen : IsUnseen old number

@@ -1,4 +1,5 @@
--- The rule `narrow`: a table gives way to one that allows less, as far as what is seen of a window round its net lets it.
+-- The rule `narrow`: a table gives way to one that allows less, as far as what is seen of a window
+-- round its net lets it.
 use Rattle.std.specs.Prelude.{◌≡◌, ◌⊎◌, ℕ, ◌≤◌, Option, Some, None, List}
 use Rattle.mv_base.specs.declared.limits.TheConstants.{MAX_WINDOW_STEPS}
 use Rattle.mv_cover.specs.declared.cover.Cover.{Cover}
@@ -38,7 +39,8 @@ pub record KeepsChoices (nets : List (Option FlatNet)) (n : ℕ) (new : Cover) :
   pub each : (old : Cover) → table_in (slot nets n) ≡ Some old → KeepsChoice nets n old new
 
 -- the net with this name gets the body
-pub record Narrows (old : NetParts) (name : List ℕ) (d u : ℕ) (body : Body) (new : NetParts) : Type 0 where
+pub record Narrows (old : NetParts) (name : List ℕ) (d u : ℕ) (body : Body) (new : NetParts)
+    : Type 0 where
   pub number : ℕ
   pub net : IsTabled old.nets name number
   pub known : AreKnown old.nets body
@@ -76,8 +78,10 @@ pub record NarrowLacksNodes (budget : ℕ) (old : NetParts) (name : List ℕ) (d
   pub net : IsTabled old.nets name number
   pub full : HasWindow old number d u (λ w. NodesCause old w budget)
 
--- f is the flexibility of the net with this name, in its window that goes so far, which isn't too wide; and each table below is total
-pub record HasFlexibility (old : NetParts) (name : List ℕ) (d u budget : ℕ) (f : Flexibility) : Type 0 where
+-- f is the flexibility of the net with this name, in its window that goes so far, which isn't too
+-- wide; and each table below is total
+pub record HasFlexibility (old : NetParts) (name : List ℕ) (d u budget : ℕ) (f : Flexibility)
+    : Type 0 where
   pub number : ℕ
   pub net : IsTabled old.nets name number
   pub below : AreTotalBelow old.nets number
@@ -86,11 +90,14 @@ pub record HasFlexibility (old : NetParts) (name : List ℕ) (d u budget : ℕ) 
   pub narrow : TooWide old window → ⊥
   pub flex : IsFlex old window number budget f
 
--- where the body may be the table of the net with this name, and reads what that reads, it allows less than that
+-- where the body may be the table of the net with this name, and reads what that reads, it allows
+-- less than that
 pub record NarrowsWithin (old : NetParts) (name : List ℕ) (body : Body) : Type 0 where
-  pub less : (n : ℕ) (table : Cover) → IsTabled old.nets name n → table_in (slot old.nets n) ≡ Some table
+  pub less : (n : ℕ) (table : Cover) → IsTabled old.nets name n
+      → table_in (slot old.nets n) ≡ Some table
       → AreKnown old.nets body → IsTidy old.nets (values_in (slot old.nets n)) body
-      → ReadsWithin table (cover_said old.nets body) → AllowsLess old.nets n table (cover_said old.nets body)
+      → ReadsWithin table (cover_said old.nets body)
+      → AllowsLess old.nets n table (cover_said old.nets body)
 
 -- ---- what private functions alone cite
 
@@ -108,11 +115,13 @@ pub record IsLawfulHere (net : NetParts) (n d u : ℕ) (new : Cover) : Type 0 wh
 
 -- the nodes are too few, or one of these checks fails
 abbrev pub StopsNarrowed : ℕ → NetParts → ℕ → ℕ → ℕ → Cover → RuleFault → Type 0
-StopsNarrowed budget net n d u new f = ((f ≡ Nodes) × HasWindow net n d u (λ w. NodesCause net w budget)) ⊎ NarrowedRow net n d u new f
+StopsNarrowed budget net n d u new f =
+    ((f ≡ Nodes) × HasWindow net n d u (λ w. NodesCause net w budget)) ⊎ NarrowedRow net n d u new f
 
 -- the nodes are too few, or some check of the rule fails
 abbrev pub StopsNarrow : ℕ → NetParts → List ℕ → ℕ → ℕ → Body → RuleFault → Type 0
-StopsNarrow budget net name d u body f = ((f ≡ Nodes) × NarrowLacksNodes budget net name d u) ⊎ FailsNarrow net name d u body f
+StopsNarrow budget net name d u body f = ((f ≡ Nodes) × NarrowLacksNodes budget net name d u)
+    ⊎ FailsNarrow net name d u body f
 
 -- the fault for a verdict; a lawful table has none
 abbrev pub fault_for : NarrowVerdict → Option RuleFault

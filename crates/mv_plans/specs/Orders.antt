@@ -10,8 +10,8 @@ use Rattle.mv_net.specs.declared.parts.FlatNet.{FlatNet}
 use Rattle.mv_net.specs.declared.parts.FlatLatch.{FlatLatch}
 use Rattle.mv_net.specs.Nets.{slot, table_in, reads_in}
 
--- the net n may get this table: it is neither the net d nor above it, the table reads neither n nor a net below it, and no
--- latch output comes above a reset net
+-- the net n may get this table: it is neither the net d nor above it, the table reads neither n nor
+-- a net below it, and no latch output comes above a reset net
 pub record KeepsOrder (nets : List (Option FlatNet)) (n d : ℕ) (body : Cover) : Type 0 where
   pub other : n ≡ d → ⊥
   pub not_above : IsAbove (reads_in nets) n d → ⊥
@@ -34,11 +34,13 @@ IsFromReset nets n None = ⊥
 IsFromReset nets n (Some reset) = IsFrom nets n reset.0
 
 -- n is the reset net of one of these latches, or above one
-pub record IsUnderReset (nets : List (Option FlatNet)) (latches : List FlatLatch) (n : ℕ) : Type 0 where
+pub record IsUnderReset (nets : List (Option FlatNet)) (latches : List FlatLatch) (n : ℕ)
+    : Type 0 where
   pub some : Any (λ (l : FlatLatch). IsFromReset nets n l.reset) latches
 
 -- the output of one of these latches is one of the nets, or above one
-pub record ReadsState (nets : List (Option FlatNet)) (latches : List FlatLatch) (fanins : List NetId) : Type 0 where
+pub record ReadsState (nets : List (Option FlatNet)) (latches : List FlatLatch)
+    (fanins : List NetId) : Type 0 where
   pub some : Any (λ (l : FlatLatch). IsOver nets fanins l.output.0) latches
 
 -- each of these nets is the one, or one of the others

@@ -18,7 +18,9 @@ pub record Removes (old : NetParts) (name : List ℕ) (new : NetParts) : Type 0 
 
 -- the first check that fails, of the net with the name and of all
 abbrev pub RemoveRow : NetParts → ℕ → RuleFault → Type 0
-RemoveRow net n = Unless (IsUnseen net n) Visible (Unless (IsUnread net.nets n) Read (Unless (IsTotalNet net.nets n) Partial Passed))
+RemoveRow net n =
+    Unless (IsUnseen net n) Visible
+    (Unless (IsUnread net.nets n) Read (Unless (IsTotalNet net.nets n) Partial Passed))
 
 abbrev pub FailsRemove : NetParts → List ℕ → RuleFault → Type 0
 FailsRemove net name = With (IsTabled net.nets name) (RemoveRow net)

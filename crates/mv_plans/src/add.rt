@@ -1,15 +1,15 @@
-ghost use Rattle.std.specs.Prelude.{◌≡◌, [], ◌∷◌, IfOk, MatchBool};
+ghost use Rattle.std.specs.Prelude.{◌≡◌, [], ◌∷◌, IfOk};
 ghost use Rattle.mv_body.specs.Bodies.{cover_said};
 ghost use Rattle.mv_plans.specs.Adding.{Adds, CanAdd, FailsAdd};
-ghost use Rattle.mv_plans.specs.Checks.{Answers, IsNewName};
+ghost use Rattle.mv_plans.specs.Checks.{Answers};
 ghost use Rattle.mv_plans.specs.Plans.{IsPlanned};
 
-use mv_base::{Items, MAX_NETS, MAX_WORD_BYTES, Memory, Name};
+use crate::fresh::is_new_name;
+use mv_base::{Items, MAX_NETS, Memory, Name};
 use mv_body::{is_choice, is_known, tidy_cover};
 use mv_cover::Cover;
 use mv_entry::{Body, RuleFault};
 use mv_net::{Change, Network, NewNet};
-use mv_word::is_net_name;
 use std::alloc::Global;
 
 /// How many values a net has that a rule adds.
@@ -34,7 +34,8 @@ pub fn plan_add(alloc: Global, net: &Network, name: &Name, body: &Body) -> Resul
 /// The table of a net that may come, or the first check that fails.
 fn check_add(alloc: Global, net: &Network, name: &Name, body: &Body) -> Result<Cover, RuleFault>
     ensures { Answers result
-        (λ table. CanAdd net.now.nets name.now body.now × (table ≡ cover_said net.now.nets body.now))
+        (λ table. CanAdd net.now.nets name.now body.now
+        × (table ≡ cover_said net.now.nets body.now))
         (FailsAdd net.now name.now body.now) }
 {
     if !is_known(net, body) {
@@ -55,22 +56,6 @@ fn check_add(alloc: Global, net: &Network, name: &Name, body: &Body) -> Result<C
         return Err(RuleFault::Nets);
     }
     Ok(table)
-}
-
-/// Whether a new net may have this name.
-fn is_new_name(net: &Network, name: &Name) -> bool
-    ensures { MatchBool result (IsNewName net.now.nets name.now) (IsNewName net.now.nets name.now → ⊥) }
-{
-    if !is_net_name(name.bytes()) {
-        return false;
-    }
-    if name.bytes().len() as u64 > MAX_WORD_BYTES {
-        return false;
-    }
-    match net.find(name.bytes()) {
-        Some(_net) => false,
-        None => true,
-    }
 }
 
 /// The change by which a net of two values with this name and table comes.

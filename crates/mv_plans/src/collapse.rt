@@ -1,9 +1,10 @@
 ghost use Rattle.std.specs.Prelude.{◌≡◌, [], ◌∷◌, IsTrue, true, is_some, map, IfOk, OnOk, IfErr, MatchBool};
+ghost use Rattle.mv_readers.specs.Readers.{AreRewritten};
 ghost use Rattle.mv_composite.specs.Composite.{composed};
 ghost use Rattle.mv_net.specs.Index.{is_held};
 ghost use Rattle.mv_net.specs.Nets.{slot, values_in, table_in, reads_in};
 ghost use Rattle.mv_plans.specs.Checks.{Answers};
-ghost use Rattle.mv_plans.specs.Plans.{IsPlanned, AreRewritten};
+ghost use Rattle.mv_plans.specs.Plans.{IsPlanned};
 ghost use Rattle.mv_plans.specs.Collapsing.{
   Collapses,
   CanCollapse,
@@ -14,17 +15,19 @@ ghost use Rattle.mv_plans.specs.Collapsing.{
   AreNarrow,
 };
 
-use crate::lookup::{table_of, tabled};
+use crate::lookup::tabled;
 use mv_base::{Items, Memory, Name, NetId};
 use mv_composite::{Inner, compose};
 use mv_cover::CoverStop;
 use mv_entry::RuleFault;
 use mv_net::{Change, Network, NewTable};
+use mv_readers::table_of;
 use std::alloc::Global;
 
 /// The change by which the net with this name goes into its readers, or the first check that fails.
 pub fn plan_collapse(alloc: Global, net: &Network, name: &Name) -> Result<Change, RuleFault>
-    ensures { Answers result (IsPlanned net.now (Collapses net.now name.now)) (FailsCollapse net.now name.now) }
+    ensures { Answers result (IsPlanned net.now (Collapses net.now name.now))
+        (FailsCollapse net.now name.now) }
 {
     net.well_formed();
     net.few();
@@ -124,7 +127,8 @@ fn composites(alloc: Global, net: &Network, inner: &Inner) -> Result<Items<NewTa
 
 /// The change by which a net goes and others get these tables.
 fn going_into(alloc: Global, n: NetId, set: Items<NewTable>) -> Result<Change, Memory>
-    ensures { IfOk result (λ change. change ≡ record { add = []; set = set; values = []; gone = n ∷ [] }) }
+    ensures { IfOk result
+        (λ change. change ≡ record { add = []; set = set; values = []; gone = n ∷ [] }) }
 {
     let mut gone = Items::new(alloc);
     gone.push(n)?;

@@ -3,11 +3,11 @@ ghost use Rattle.mv_net.specs.Nets.{reads_in};
 ghost use Rattle.mv_plans.specs.Collapsing.{IsInnerOf};
 ghost use Rattle.mv_plans.specs.Composites.{HasCompositeLiterals, HasWideComposite};
 
-use crate::lookup::table_of;
 use mv_base::NetId;
 use mv_composite::{Inner, compose};
 use mv_cover::CoverStop;
 use mv_net::Network;
+use mv_readers::table_of;
 use std::alloc::Global;
 
 /// The literals of the composite of a reader's table with the net: those that the reader has once the
@@ -21,7 +21,8 @@ pub fn composite_literals(
 ) -> Result<u128, CoverStop>
     requires known { IsInnerOf net.now.nets inner.now }
     requires reader { reads_in net.now.nets reader.0 inner.now.net.0 ≡ true }
-    ensures counted { IfOk result (λ count. HasCompositeLiterals net.now.nets inner.now reader.0 count) }
+    ensures counted { IfOk result
+        (λ count. HasCompositeLiterals net.now.nets inner.now reader.0 count) }
     ensures wide { IfErr result (λ stop. stop ≡ CoverStop.Wide
         → HasWideComposite net.now.nets inner.now reader.0) }
     ensures few { IfOk result (λ count. count ≤ 2 ^ 96) }

@@ -194,7 +194,13 @@ fn is_less(alloc: Global, net: &Network, n: NetId, table: &Cover) -> Result<bool
 /// The change by which a net gets this table.
 pub fn getting(alloc: Global, n: NetId, table: Cover) -> Result<Change, Memory>
     ensures { IfOk result (λ change. change
-        ≡ record { add = []; set = record { net = n; table = table } ∷ []; values = []; gone = [] }) }
+        ≡ record {
+          add = [];
+          set = record { net = n; table = table }
+              ∷ [];
+          values = [];
+          gone = [];
+        }) }
 {
     let mut set = Items::new(alloc);
     set.push(NewTable { net: n, table })?;

@@ -54,7 +54,8 @@ fn set_of(alloc: Global, lines: &[Line]) -> Result<IndexSet<Line>, Memory>
 
 /// Whether each of the lines is in the set.
 fn are_all_in(lines: &[Line], set: &IndexSet<Line>) -> bool
-    ensures { IsTrue result ↔ All (λ (l : Line). list_any (line_eq l) set.now.keys ≡ true) lines.now }
+    ensures { IsTrue result
+        ↔ All (λ (l : Line). list_any (line_eq l) set.now.keys ≡ true) lines.now }
 {
     lines.iter().all(|line| set.contains(line))
 }
@@ -68,7 +69,8 @@ fn find_all(
     found: &mut IndexSet<Line>,
 ) -> Result<bool, Memory>
     ensures { IfOk result (λ yes. MatchBool yes
-        (HasFound wanted.now.keys found.old.keys (expanded d.0 inner.now.lines lines.now) found.new.keys)
+        (HasFound wanted.now.keys found.old.keys
+        (expanded d.0 inner.now.lines lines.now) found.new.keys)
         (HasMissed wanted.now.keys (expanded d.0 inner.now.lines lines.now))) }
 {
     for line in lines {
@@ -88,7 +90,8 @@ fn find_expanded(
     found: &mut IndexSet<Line>,
 ) -> Result<bool, Memory>
     ensures { IfOk result (λ yes. MatchBool yes
-        (HasFound wanted.now.keys found.old.keys (line_expanded d.0 inner.now.lines line.now) found.new.keys)
+        (HasFound wanted.now.keys found.old.keys
+        (line_expanded d.0 inner.now.lines line.now) found.new.keys)
         (HasMissed wanted.now.keys (line_expanded d.0 inner.now.lines line.now))) }
 {
     if !is_one(literal_on(line.cube.lits(), d)) {

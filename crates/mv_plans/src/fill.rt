@@ -14,12 +14,13 @@ ghost use Rattle.mv_plans.specs.Filling.{
 ghost use Rattle.mv_plans.specs.Plans.{IsPlanned};
 
 use crate::divide::getting;
-use crate::lookup::{table_of, tabled};
+use crate::lookup::tabled;
 use mv_base::{Memory, Name, NetId, PackedSet, ValueSet};
 use mv_body::is_output;
 use mv_cover::Cover;
 use mv_entry::RuleFault;
 use mv_net::{Change, Network};
+use mv_readers::table_of;
 use std::alloc::Global;
 
 /// The change by which the net with this name gets these values as its default, or the first check that fails.
@@ -54,7 +55,8 @@ fn check_fill(
     out: ValueSet,
 ) -> Result<(), RuleFault>
     requires { IsTrue (is_held net.now.nets n.0) }
-    ensures { Answers result (λ _. CanFill free net.now.nets n.0 out) (FillRow free out net.now n.0) }
+    ensures { Answers result (λ _. CanFill free net.now.nets n.0 out)
+        (FillRow free out net.now n.0) }
 {
     net.well_formed();
     if !free {
@@ -104,7 +106,13 @@ fn is_plain(net: &Network, m: NetId) -> bool
 /// The change by which the net gets the table with this default.
 fn filling(alloc: Global, n: NetId, table: &Cover, out: &PackedSet) -> Result<Change, Memory>
     ensures { IfOk result (λ change. change
-        ≡ record { add = []; set = record { net = n; table = with_default table.now out.now } ∷ []; values = []; gone = [] }) }
+        ≡ record {
+          add = [];
+          set = record { net = n; table = with_default table.now out.now }
+              ∷ [];
+          values = [];
+          gone = [];
+        }) }
 {
     let mut table = table.copy()?;
     table.default = Some(out.copy()?);

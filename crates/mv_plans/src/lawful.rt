@@ -45,7 +45,8 @@ pub fn narrow_body(
 ) -> Result<Cover, RuleFault>
     requires { IsTrue (is_held net.now.nets n.0) }
     ensures { Answers result
-        (λ table. IsNarrowBody net.now.nets n.0 d u body.now × (table ≡ cover_said net.now.nets body.now))
+        (λ table. IsNarrowBody net.now.nets n.0 d u body.now
+        × (table ≡ cover_said net.now.nets body.now))
         (NarrowRow d u body.now net.now n.0) }
 {
     net.well_formed();
@@ -122,7 +123,8 @@ pub fn judged_with(flexibility: &Flexibility, table: &Cover) -> Result<(), RuleF
     ensures { (net : NetParts) (n d u budget : ℕ) (old : Cover)
         → IsFlexHere net n d u budget flexibility.now → table_in (slot net.nets n) ≡ Some old
         → ReadsWithin old table.now
-        → Answers result (λ _. IsLawfulHere net n d u table.now) (StopsNarrowed budget net n d u table.now) }
+        → Answers result (λ _. IsLawfulHere net n d u table.now)
+        (StopsNarrowed budget net n d u table.now) }
 {
     match verdict_with(flexibility, table) {
         Ok(verdict) => of_verdict(verdict),

@@ -1,9 +1,7 @@
-ghost use Rattle.std.specs.Prelude.{◌≡◌, ℕ, true, is_some, Some, MatchOption};
-ghost use Rattle.mv_net.specs.Nets.{slot, table_in};
+ghost use Rattle.std.specs.Prelude.{ℕ, MatchOption};
 ghost use Rattle.mv_plans.specs.Checks.{IsTabled};
 
 use mv_base::{Name, NetId};
-use mv_cover::Cover;
 use mv_net::Network;
 
 /// The number of the net with this name, if it has a table.
@@ -19,12 +17,4 @@ pub fn tabled(net: &Network, name: &Name) -> Option<NetId>
         },
         None => None,
     }
-}
-
-/// The table of a net that has one.
-pub fn table_of(net: &Network, n: NetId) -> &Cover
-    requires { is_some (table_in (slot net.now.nets n.0)) ≡ true }
-    ensures { table_in (slot net.now.nets n.0) ≡ Some result.now }
-{
-    net.table(n).unwrap()
 }

@@ -42,7 +42,8 @@ pub fn plan_merge(
 /// Whether the value of the net can go, or the first check of it that fails.
 fn check_merge(net: &Network, n: NetId, gone: Value, into: Option<Value>) -> Result<(), RuleFault>
     requires { IsTrue (is_held net.now.nets n.0) }
-    ensures { Answers result (λ _. IsUnseen net.now n.0 × IsMergeVerdict net.now n.0 gone into Lawful)
+    ensures { Answers result
+        (λ _. IsUnseen net.now n.0 × IsMergeVerdict net.now n.0 gone into Lawful)
         (MergeRow gone into net.now n.0) }
 {
     if net.is_seen(n) {

@@ -13,7 +13,8 @@ use std::alloc::Global;
 
 /// The change by which the net with this name goes, or the first check that fails.
 pub fn plan_remove(alloc: Global, net: &Network, name: &Name) -> Result<Change, RuleFault>
-    ensures { Answers result (IsPlanned net.now (Removes net.now name.now)) (FailsRemove net.now name.now) }
+    ensures { Answers result (IsPlanned net.now (Removes net.now name.now))
+        (FailsRemove net.now name.now) }
 {
     net.well_formed();
     net.few();
@@ -50,7 +51,8 @@ fn check_remove(alloc: Global, net: &Network, n: NetId) -> Result<(), RuleFault>
 
 /// The change by which a net goes, and nothing else.
 fn leaving(alloc: Global, n: NetId) -> Result<Change, Memory>
-    ensures { IfOk result (λ change. change ≡ record { add = []; set = []; values = []; gone = n ∷ [] }) }
+    ensures { IfOk result
+        (λ change. change ≡ record { add = []; set = []; values = []; gone = n ∷ [] }) }
 {
     let mut gone = Items::new(alloc);
     gone.push(n)?;

@@ -1,21 +1,24 @@
 ghost use Rattle.std.specs.Prelude.{◌≡◌, [], IsTrue, IfOk};
+ghost use Rattle.mv_readers.specs.Readers.{AreRewritten};
 ghost use Rattle.mv_net.specs.Index.{is_held};
 ghost use Rattle.mv_net.specs.Plain.{IsPlainBuffer};
 ghost use Rattle.mv_composite.specs.Wired.{wired};
 ghost use Rattle.mv_plans.specs.Checks.{Answers, IsRead};
-ghost use Rattle.mv_plans.specs.Plans.{IsPlanned, AreRewritten};
+ghost use Rattle.mv_plans.specs.Plans.{IsPlanned};
 ghost use Rattle.mv_plans.specs.Wiring.{Wires, WireRow, FailsWire};
 
-use crate::lookup::{table_of, tabled};
+use crate::lookup::tabled;
 use mv_base::{Items, Memory, Name, NetId};
 use mv_composite::wire;
 use mv_entry::RuleFault;
 use mv_net::{Change, Network, NewTable};
+use mv_readers::table_of;
 use std::alloc::Global;
 
 /// The change by which the readers of the net with this name read its fanin, or the first check that fails.
 pub fn plan_wire(alloc: Global, net: &Network, name: &Name) -> Result<Change, RuleFault>
-    ensures { Answers result (IsPlanned net.now (Wires net.now name.now)) (FailsWire net.now name.now) }
+    ensures { Answers result (IsPlanned net.now (Wires net.now name.now))
+        (FailsWire net.now name.now) }
 {
     net.well_formed();
     net.few();
@@ -36,7 +39,8 @@ pub fn plan_wire(alloc: Global, net: &Network, name: &Name) -> Result<Change, Ru
 fn check_wire(net: &Network, n: NetId) -> Result<NetId, RuleFault>
     requires { IsTrue (is_held net.now.nets n.0) }
     ensures { Answers result
-        (λ source. IsPlainBuffer net.now.nets n.0 source.0 × IsRead net.now.nets n.0) (WireRow net.now n.0) }
+        (λ source. IsPlainBuffer net.now.nets n.0 source.0 × IsRead net.now.nets n.0)
+        (WireRow net.now n.0) }
 {
     match net.plain_buffer(n) {
         Some(source) => {

@@ -3,8 +3,10 @@ use Rattle.std.specs.Prelude.{◌≡◌, ◌<◌, ◌≤◌, ◌+◌, ◌^◌, �
 use Rattle.indexmap.specs.IndexMap.{IndexMap, get, index_map_len, spare}
 use Rattle.mv_pool.specs.Places.{place_of, least_free, held_in, AreDistinct}
 
--- the map numbers exactly the items at the places, no place below `taken` is free, and there is room for `cap` items
-pub record IsKept {T S : Type 0} (eq : T → T → Bool) (numbers : IndexMap T ℕ S) (places : List (Option T)) (room taken cap : ℕ) : Type 0 where
+-- the map numbers exactly the items at the places, no place below `taken` is free, and there is
+-- room for `cap` items
+pub record IsKept {T S : Type 0} (eq : T → T → Bool) (numbers : IndexMap T ℕ S)
+    (places : List (Option T)) (room taken cap : ℕ) : Type 0 where
   pub found : (item : T) → get eq numbers item ≡ place_of eq item places
   pub count : index_map_len numbers ≡ held_in places
   pub distinct : AreDistinct eq places

@@ -38,4 +38,5 @@ module _ {T : Type 0} (eq : T → T → Bool) where
 
   -- no item stands at two places: each is found where it stands
   abbrev pub AreDistinct : List (Option T) → Type 0
-  AreDistinct places = (n : ℕ) (item : T) → item_at places n ≡ Some item → place_of item places ≡ Some n
+  AreDistinct places = (n : ℕ) (item : T) → item_at places n ≡ Some item
+      → place_of item places ≡ Some n

@@ -6,18 +6,22 @@ use Rattle.mv_pool.specs.Places.{item_at}
 module _ {T : Type 0} (link : T → ℕ → Option Id) where
   -- the set has each place to which an item in it links
   pub record IsClosed (places : List (Option T)) (set : ℕ → Bool) : Type 0 where
-    pub each : (n k : ℕ) (item : T) (id : Id) → set n ≡ true → item_at places n ≡ Some item → k < 2 → link item k ≡ Some id → set id.0 ≡ true
+    pub each : (n k : ℕ) (item : T) (id : Id) → set n ≡ true → item_at places n ≡ Some item → k < 2
+        → link item k ≡ Some id → set id.0 ≡ true
 
   -- the place is reached from the roots by links: it is in each closed set that has the roots
   abbrev pub IsReached : List (Option T) → List Id → ℕ → Type 0
-  IsReached places roots n = (set : ℕ → Bool) → All (λ (id : Id). set id.0 ≡ true) roots → IsClosed places set → set n ≡ true
+  IsReached places roots n = (set : ℕ → Bool) → All (λ (id : Id). set id.0 ≡ true) roots
+      → IsClosed places set → set n ≡ true
 
   -- each link of a held item is to a held item
   pub record LinksAreHeld (places : List (Option T)) : Type 0 where
-    pub each : (n k : ℕ) (item : T) (id : Id) → item_at places n ≡ Some item → k < 2 → link item k ≡ Some id → is_some (item_at places id.0) ≡ true
+    pub each : (n k : ℕ) (item : T) (id : Id) → item_at places n ≡ Some item → k < 2
+        → link item k ≡ Some id → is_some (item_at places id.0) ≡ true
 
   -- the places that are reached keep what they hold, and no others hold anything
-  pub record IsReclaimed (old : List (Option T)) (roots : List Id) (new : List (Option T)) : Type 0 where
+  pub record IsReclaimed (old : List (Option T)) (roots : List Id) (new : List (Option T))
+      : Type 0 where
     pub long : length new ≡ length old
     pub kept : (n : ℕ) → IsReached old roots n → item_at new n ≡ item_at old n
     pub freed : (n : ℕ) → is_some (item_at new n) ≡ true → IsReached old roots n

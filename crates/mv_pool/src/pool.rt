@@ -73,10 +73,12 @@ impl<T: Copy + Eq + Hash> Pool<T> {
     pub fn put(&mut self, item: T) -> Result<Id, Full>
         ensures held { IfSome (place_of T.eq item self.old.places)
             (λ n. (result ≡ Ok (record { 0 = n })) × (self.new ≡ self.old)) }
-        ensures fresh { place_of T.eq item self.old.places ≡ None → held_in self.old.places < self.old.cap →
+        ensures fresh { place_of T.eq item self.old.places ≡ None
+            → held_in self.old.places < self.old.cap →
             (result ≡ Ok (record { 0 = least_free self.old.places })) ×
             (self.new ≡ record { places = with_item self.old.places item; cap = self.old.cap }) }
-        ensures full { place_of T.eq item self.old.places ≡ None → self.old.cap ≤ held_in self.old.places →
+        ensures full { place_of T.eq item self.old.places ≡ None
+            → self.old.cap ≤ held_in self.old.places →
             (result ≡ Err (record {})) × (self.new ≡ self.old) }
     {
         if let Some(number) = self.numbers.get(&item) {
@@ -95,7 +97,8 @@ impl<T: Copy + Eq + Hash> Pool<T> {
         requires fresh { place_of T.eq item self.old.places ≡ None }
         requires room { held_in self.old.places < self.old.cap }
         ensures place { result ≡ least_free self.old.places }
-        ensures new { self.new ≡ record { places = with_item self.old.places item; cap = self.old.cap } }
+        ensures new { self.new
+            ≡ record { places = with_item self.old.places item; cap = self.old.cap } }
     {
         let at = next_free(self.places.as_slice(), self.taken as usize);
         fill(&mut self.places, at, item);
@@ -158,7 +161,8 @@ impl<T: Copy + Eq + Hash> Pool<T> {
     pub fn reclaim(&mut self, roots: &[Id])
     where
         T: Linked,
-        requires roots { All (λ (id : Id). is_some (item_at self.old.places id.0) ≡ true) roots.now }
+        requires roots { All
+            (λ (id : Id). is_some (item_at self.old.places id.0) ≡ true) roots.now }
         requires links { LinksAreHeld T.link_of self.old.places }
         ensures places { IsReclaimed T.link_of self.old.places roots.now self.new.places }
         ensures cap { self.new.cap ≡ self.old.cap }
@@ -233,7 +237,8 @@ fn number_all<T: Copy + Eq + Hash>(numbers: &mut IndexMap<T, u32>, places: &[Opt
     requires room { held_in places.now ≤ index_map_len numbers.old + spare numbers.old }
     ensures found { (item : T) → get T.eq numbers.new item ≡ place_of T.eq item places.now }
     ensures count { index_map_len numbers.new ≡ held_in places.now }
-    ensures room { index_map_len numbers.old + spare numbers.old ≤ index_map_len numbers.new + spare numbers.new }
+    ensures room { index_map_len numbers.old + spare numbers.old
+        ≤ index_map_len numbers.new + spare numbers.new }
 {
     numbers.clear();
     for (at, place) in places.iter().enumerate() {

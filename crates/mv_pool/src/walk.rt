@@ -69,7 +69,8 @@ pub fn follow_all<T: Linked>(
     requires walking { IsWalking T.link_of places.now roots.now marks.old.items queue.old.items 0 }
     requires rooted { AreRooted marks.old.items roots.now (length roots.now) }
     requires room { length places.now ≤ vec_capacity queue.old }
-    ensures walking { IsWalking T.link_of places.now roots.now marks.new.items queue.new.items (length queue.new.items) }
+    ensures walking { IsWalking T.link_of places.now roots.now marks.new.items queue.new.items
+        (length queue.new.items) }
     ensures rooted { AreRooted marks.new.items roots.now (length roots.now) }
     ensures marks { vec_capacity marks.old ≤ vec_capacity marks.new }
     ensures queue { vec_capacity queue.old ≤ vec_capacity queue.new }
@@ -94,7 +95,8 @@ fn follow<T: Linked>(
     requires rooted { AreRooted marks.old.items roots.now (length roots.now) }
     requires inside { at < length queue.old.items }
     requires room { length places.now ≤ vec_capacity queue.old }
-    ensures walking { IsWalking T.link_of places.now roots.now marks.new.items queue.new.items (at + 1) }
+    ensures walking { IsWalking T.link_of places.now roots.now marks.new.items queue.new.items
+        (at + 1) }
     ensures rooted { AreRooted marks.new.items roots.now (length roots.now) }
     ensures longer { length queue.old.items ≤ length queue.new.items }
     ensures marks { vec_capacity marks.old ≤ vec_capacity marks.new }

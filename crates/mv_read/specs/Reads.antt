@@ -20,7 +20,8 @@ pub record IsNetOf (lines : List LexLine) (net : NetParts) : Type 0 where
   pub within : AreWithinLimits lines
   pub flat : IsFlat net design
 
--- lines within the limits that say a sound design, whose instances, nets and network are within theirs
+-- lines within the limits that say a sound design, whose instances, nets and network are within
+-- theirs
 pub record SaySoundDesign (lines : List LexLine) : Type 0 where
   pub design : Design
   pub is : IsDesign lines design
@@ -29,7 +30,8 @@ pub record SaySoundDesign (lines : List LexLine) : Type 0 where
   pub limits : IsWithinDesignLimits design sound.tree
   pub fits : HasSmallNetwork (model_of design sound)
 
--- lines that say a design which isn't sound, or whose instances, nets or network pass a limit, and the fault that is told of it
+-- lines that say a design which isn't sound, or whose instances, nets or network pass a limit, and
+-- the fault that is told of it
 pub record IsUnsound (lines : List LexLine) (f : FlatFault) : Type 0 where
   pub design : Design
   pub is : IsDesign lines design
@@ -37,7 +39,8 @@ pub record IsUnsound (lines : List LexLine) (f : FlatFault) : Type 0 where
   pub fault : IsRefusedDesign design f
   pub cause : f ≡ NoFlatMemory → ⊥
 
--- why lines are refused: their first fault, or the fault of their design; for want of memory any may be
+-- why lines are refused: their first fault, or the fault of their design; for want of memory any
+-- may be
 abbrev pub IsFaultOf : List LexLine → NetFault → Type 0
 IsFaultOf lines (Parse f) = FirstFault lines f
 IsFaultOf lines (Flat f) = IsUnsound lines f

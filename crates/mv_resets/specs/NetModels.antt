@@ -21,14 +21,15 @@ pub record HasLawfulValues (d : Decl) : Type 0 where
   pub lawful : list_all is_value_name d.values ≡ true
   pub differ : names_differ d.values ≡ true
 
--- a table of some outputs, whose inputs have lawful names, and whose rows and default fit it; several outputs have lawful
--- names: none of them is a reset net
+-- a table of some outputs, whose inputs have lawful names, and whose rows and default fit it;
+-- several outputs have lawful names: none of them is a reset net
 pub record IsNetTable (ds : List Decl) (t : FileTable) : Type 0 where
   pub inputs : list_all is_net_name t.inputs ≡ true
   pub some : 0 < length t.outputs
   pub several : 1 < length t.outputs → list_all is_net_name t.outputs ≡ true
   pub rows : All (IsFileRow ds t) t.rows
-  pub default : (entries : List Entry) → t.default ≡ Some entries → FitOutputs ds t.inputs t.outputs entries
+  pub default : (entries : List Entry) → t.default ≡ Some entries
+      → FitOutputs ds t.inputs t.outputs entries
 
 -- the name of a reset net: a full stop and a lawful name
 abbrev pub is_reset_name : List ℕ → Bool
@@ -57,14 +58,17 @@ pub record IsNetModel (m : FileModel) : Type 0 where
   pub driven : list_all is_flat_name (flat_map nets_driven m.tables) ≡ true
   pub resets : (latch : List ℕ) → among (reset_name latch) (drivers m) ≡ true → IsResetOf m latch
 
--- its nets are sound: each is driven once, none is above itself, and no latch's output above a reset net
+-- its nets are sound: each is driven once, none is above itself, and no latch's output above a
+-- reset net
 pub record HasSoundNets (m : FileModel) : Type 0 where
   pub once : IsDrivenOnce m
   pub acyclic : IsAcyclic (reads m)
-  pub alone : (latch reset : List ℕ) → among latch (latch_outputs m) ≡ true → among (reset_name reset) (drivers m) ≡ true
+  pub alone : (latch reset : List ℕ) → among latch (latch_outputs m) ≡ true
+      → among (reset_name reset) (drivers m) ≡ true
       → IsAbove (reads m) latch (reset_name reset) → ⊥
 
--- and there aren't too many, nor are their names too long; the name of a reset net has one byte more
+-- and there aren't too many, nor are their names too long; the name of a reset net has one byte
+-- more
 pub record HasFewNets (m : FileModel) : Type 0 where
   pub few : length (drivers m) ≤ 2 * MAX_FLAT_NETS
   pub short : (w : List ℕ) → among w (drivers m) ≡ true → length w ≤ MAX_FLAT_NAME_BYTES + 1

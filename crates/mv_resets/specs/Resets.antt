@@ -1,5 +1,6 @@
--- A model with a net for each reset value: each reset table becomes a table of a net of its own, which has the values of its
--- latch, and is named by a full stop and the latch's name, as no net of a file is.
+-- A model with a net for each reset value: each reset table becomes a table of a net of its own,
+-- which has the values of its latch, and is named by a full stop and the latch's name, as no net of
+-- a file is.
 use Rattle.std.specs.Prelude.{ℕ, List, [], ◌∷◌, ◌++◌, map}
 use Rattle.mv_design.specs.declared.design.Decl.{Decl}
 use Rattle.mv_design.specs.declared.design.FileModel.{FileModel}
@@ -14,7 +15,14 @@ reset_name latch = 46 ∷ latch
 
 -- a reset table as the table of a reset net
 abbrev pub reset_table : FileTable → FileTable
-reset_table t = record { line = t.line; inputs = t.inputs; outputs = map reset_name t.outputs; rows = t.rows; default = t.default }
+reset_table t =
+    record {
+      line = t.line;
+      inputs = t.inputs;
+      outputs = map reset_name t.outputs;
+      rows = t.rows;
+      default = t.default;
+    }
 
 -- the reset net has the values of its latch
 abbrev pub reset_decl : List Decl → FileTable → Decl

@@ -118,7 +118,8 @@ fn move_before(
     rest: &mut VecDeque<FileTable>,
     line: u32,
 ) -> Result<(), Memory>
-    ensures moved { OnOk result (all.new.items ≡ all.old.items ++ before_line (λ t. t.line) line rest.old.items) }
+    ensures moved { OnOk result
+        (all.new.items ≡ all.old.items ++ before_line (λ t. t.line) line rest.old.items) }
     ensures rest { OnOk result (rest.new.items ≡ from_line (λ t. t.line) line rest.old.items) }
 {
     while begins_before(rest, line) {

@@ -1,4 +1,5 @@
--- The columns of a table by ascending net, each with the place of its sets in the rows. For private functions.
+-- The columns of a table by ascending net, each with the place of its sets in the rows. For private
+-- functions.
 use Rattle.std.specs.Prelude.{◌≡◌, ℕ, ◌+◌, Bool, true, ◌&&◌, nat_le, List, [], ◌∷◌, slice_index}
 use Rattle.std.specs.List.Sorted.{IsPermutation}
 use Rattle.mv_rows.specs.declared.column.Column.{Column}

@@ -25,7 +25,8 @@ pub record IsTableLine (count : ℕ → ℕ) (values : ℕ) (l : Line) : Type 0 
   pub parts : AreParts count l.cube
   pub out : IsOutput values l.out
 
--- a cover over such nets: its lines are such and all different, and there is no default beside a line without literals
+-- a cover over such nets: its lines are such and all different, and there is no default beside a
+-- line without literals
 pub record IsTableCover (count : ℕ → ℕ) (values : ℕ) (c : Cover) : Type 0 where
   pub lines : All (IsTableLine count values) c.lines
   pub differ : lines_differ c.lines ≡ true
@@ -40,7 +41,8 @@ FitOutput columns values (Same k) = count_at columns k ≤ values
 -- the entry of each row, and that of the default, say values of an output net that has this many
 pub record FitOutputs (columns : List Column) (values : ℕ) (t : FileTable) : Type 0 where
   pub rows : All (λ (r : Row). FitOutput columns values (only_entry r.outs)) t.rows
-  pub default : (entries : List Entry) → t.default ≡ Some entries → FitOutput columns values (only_entry entries)
+  pub default : (entries : List Entry) → t.default ≡ Some entries
+      → FitOutput columns values (only_entry entries)
 
 -- the mark is 0 where some row matches, and 1 elsewhere
 abbrev pub mark_value : List Row → List ℕ → ℕ
@@ -51,12 +53,17 @@ abbrev pub MarkHas : Option Cover → NetId → (ℕ → ℕ) → ℕ → Type 0
 MarkHas None mark of n = Unit {0}
 MarkHas (Some _) mark of n = of mark.0 ≡ n
 
--- the cover of the output, with the mark at the value that the mark's cover gives, allows what the table allows
-pub record IsFlatTable (columns : List Column) (t : FileTable) (mark : NetId) (flat : FlatTable) : Type 0 where
-  pub allows : (at : ℕ → ℕ) → in_range at columns ≡ true → MarkHas flat.mark mark at (mark_value t.rows (column_values at columns)) → (v : ℕ)
+-- the cover of the output, with the mark at the value that the mark's cover gives, allows what the
+-- table allows
+pub record IsFlatTable (columns : List Column) (t : FileTable) (mark : NetId) (flat : FlatTable)
+    : Type 0 where
+  pub allows : (at : ℕ → ℕ) → in_range at columns ≡ true
+      → MarkHas flat.mark mark at (mark_value t.rows (column_values at columns)) → (v : ℕ)
       → allowed flat.cover at v ≡ table_allows t.rows t.default (column_values at columns) (v ∷ [])
   pub marks : (m : Cover) → flat.mark ≡ Some m → (at : ℕ → ℕ) → in_range at columns ≡ true → (v : ℕ)
       → allowed m at v ≡ nat_eq v (mark_value t.rows (column_values at columns))
-  pub formed : (count : ℕ → ℕ) → CountBy count columns → MarkHas flat.mark mark count 2 → (values : ℕ) → FitOutputs columns values t
+  pub formed : (count : ℕ → ℕ) → CountBy count columns → MarkHas flat.mark mark count 2
+      → (values : ℕ) → FitOutputs columns values t
       → IsTableCover count values flat.cover
-  pub mark_formed : (m : Cover) → flat.mark ≡ Some m → (count : ℕ → ℕ) → CountBy count columns → IsTableCover count 2 m
+  pub mark_formed : (m : Cover) → flat.mark ≡ Some m → (count : ℕ → ℕ) → CountBy count columns
+      → IsTableCover count 2 m

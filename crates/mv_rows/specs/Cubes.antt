@@ -59,11 +59,14 @@ pub record HasPoint (columns : List Column) (sets : List ℕ) : Type 0 where
 
 -- the row matches no values of the nets
 pub record HasNoPoint (columns : List Column) (sets : List ℕ) : Type 0 where
-  pub nowhere : (at : ℕ → ℕ) → in_range at columns ≡ true → row_matches sets (column_values at columns) ≡ false
+  pub nowhere : (at : ℕ → ℕ) → in_range at columns ≡ true
+      → row_matches sets (column_values at columns) ≡ false
 
--- the cube holds where the row matches, and somewhere; each literal leaves its net some values, but not all
+-- the cube holds where the row matches, and somewhere; each literal leaves its net some values, but
+-- not all
 pub record IsRowCube (columns : List Column) (sets : List ℕ) (cube : List Lit) : Type 0 where
-  pub points : (at : ℕ → ℕ) → in_range at columns ≡ true → matches at cube ≡ row_matches sets (column_values at columns)
+  pub points : (at : ℕ → ℕ) → in_range at columns ≡ true
+      → matches at cube ≡ row_matches sets (column_values at columns)
   pub point : HasPoint columns sets
   pub formed : IsCube cube
   pub parts : (count : ℕ → ℕ) → CountBy count columns → AreParts count cube

@@ -1,4 +1,5 @@
--- A table of one output as covers: the cover of its output, and of the mark net that the cover reads.
+-- A table of one output as covers: the cover of its output, and of the mark net that the cover
+-- reads.
 use Rattle.std.specs.Prelude.{◌≡◌, ℕ, Bool, false, ◌||◌, not, nat_eq, Option, Some, None, List, [], ◌∷◌, ◌++◌, length, map, filter, if◌then◌else◌, All}
 use Rattle.std.specs.List.{list_any}
 use Rattle.indexmap.specs.IndexSet.{insert_key}
@@ -41,7 +42,8 @@ pub record IsTable (columns : List Column) (t : FileTable) : Type 0 where
 -- the lines of the rows, row after row
 abbrev pub RowsLines : List Column → List Row → List Line → Type 0
 RowsLines columns [] lines = lines ≡ []
-RowsLines columns (r ∷ rows) lines = AreJoined (EntryLines columns r.ins (only_entry r.outs)) (RowsLines columns rows) lines
+RowsLines columns (r ∷ rows) lines =
+    AreJoined (EntryLines columns r.ins (only_entry r.outs)) (RowsLines columns rows) lines
 
 -- the line has an output
 abbrev pub has_output : Line → Bool
@@ -59,11 +61,13 @@ says_nothing (Same k) = false
 -- the default, unless no value lies in its entry or some row has no literal
 abbrev pub default_left : Option (List Entry) → List Line → Option Entry
 default_left None lines = None
-default_left (Some entries) lines = if says_nothing (only_entry entries) || some_bare lines then None else Some (only_entry entries)
+default_left (Some entries) lines = if says_nothing (only_entry entries)
+    || some_bare lines then None else Some (only_entry entries)
 
 -- the default that a cover can have beside the lines: a set, where each line has an output
 abbrev pub plain_default : Entry → List Line → Option ℕ
-plain_default (Set s) lines = if list_any (λ (l : Line). nat_eq l.out empty) lines then None else Some s
+plain_default (Set s) lines = if list_any (λ (l : Line). nat_eq l.out empty) lines then None
+    else Some s
 plain_default (Same k) lines = None
 
 -- the line that gives 0 where this one's cube holds
@@ -84,10 +88,12 @@ marked_sets columns = map (λ (c : Column). full c.count) columns ++ one 1 ∷ [
 
 -- the table with the lines and, if there is one, a default that is a set
 abbrev pub unmarked : List Line → Option ℕ → FlatTable
-unmarked lines default = record { cover = record { lines = kept lines; default = default }; mark = None }
+unmarked lines default =
+    record { cover = record { lines = kept lines; default = default }; mark = None }
 
 -- the table with the lines, and with the default as lines that read the mark
-pub record IsMarked (columns : List Column) (mark : NetId) (lines : List Line) (entry : Entry) (flat : FlatTable) : Type 0 where
+pub record IsMarked (columns : List Column) (mark : NetId) (lines : List Line) (entry : Entry)
+    (flat : FlatTable) : Type 0 where
   pub added : List Line
   pub are : EntryLines (with_mark columns mark) (marked_sets columns) entry added
   pub cover_is : flat.cover ≡ record { lines = kept (lines ++ added); default = None }
@@ -101,10 +107,12 @@ FlatBy columns mark lines entry (Some s) flat = flat ≡ unmarked lines (Some s)
 -- the table with the default that is left, if one is
 abbrev pub FlatOf : List Column → NetId → List Line → Option Entry → FlatTable → Type 0
 FlatOf columns mark lines None flat = flat ≡ unmarked lines None
-FlatOf columns mark lines (Some entry) flat = FlatBy columns mark lines entry (plain_default entry lines) flat
+FlatOf columns mark lines (Some entry) flat =
+    FlatBy columns mark lines entry (plain_default entry lines) flat
 
 -- the lines and the default of a table as they are written
-pub record IsMade (columns : List Column) (t : FileTable) (mark : NetId) (flat : FlatTable) : Type 0 where
+pub record IsMade (columns : List Column) (t : FileTable) (mark : NetId) (flat : FlatTable)
+    : Type 0 where
   pub lines : List Line
   pub are : RowsLines columns t.rows lines
   pub covers : FlatOf columns mark lines (default_left t.default lines) flat

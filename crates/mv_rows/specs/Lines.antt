@@ -30,10 +30,12 @@ OneLine columns sets out (_ ∷ _ ∷ _) = ⊥
 abbrev pub narrowed : List ℕ → ℕ → ℕ → List ℕ
 narrowed sets k v = slice_set sets k (meet (slice_index sets k) (one v))
 
--- for each value below n in turn, the line of the row with this value in the column at place k, which is its output
+-- for each value below n in turn, the line of the row with this value in the column at place k,
+-- which is its output
 abbrev pub EachValue : List Column → List ℕ → ℕ → ℕ → List Line → Type 0
 EachValue columns sets k zero lines = lines ≡ []
-EachValue columns sets k (suc v) lines = AreJoined (EachValue columns sets k v) (OneLine columns (narrowed sets k v) (one v)) lines
+EachValue columns sets k (suc v) lines =
+    AreJoined (EachValue columns sets k v) (OneLine columns (narrowed sets k v) (one v)) lines
 
 -- how many values the net of the column at place k has
 abbrev pub count_at : List Column → ℕ → ℕ

@@ -10,11 +10,13 @@ use Rattle.mv_rows.specs.declared.column.Column.{Column}
 use Rattle.mv_rows.specs.Lines.{narrowed, count_at}
 use Rattle.mv_rows.specs.Flat.{only_entry, says_nothing}
 
--- of some values of net n, those that a row leaves it: they lie in the set of each column of the net
+-- of some values of net n, those that a row leaves it: they lie in the set of each column of the
+-- net
 abbrev pub values_left : List Column → List ℕ → ℕ → ℕ → ℕ
 values_left [] sets n values = values
 values_left (c ∷ columns) [] n values = values
-values_left (c ∷ columns) (s ∷ sets) n values = values_left columns sets n (if nat_eq c.net.0 n then meet values s else values)
+values_left (c ∷ columns) (s ∷ sets) n values =
+    values_left columns sets n (if nat_eq c.net.0 n then meet values s else values)
 
 -- a row leaves the net of a column all of its values
 abbrev pub leaves_all : List Column → List ℕ → Column → Bool
@@ -32,16 +34,19 @@ matches_all columns sets = list_all (leaves_all columns sets) columns
 abbrev pub matches_none : List Column → List ℕ → Bool
 matches_none columns sets = list_any (leaves_none columns sets) columns
 
--- a row gives a line without literals: it matches everything, with some value alone in the column that its entry names, if it names one
+-- a row gives a line without literals: it matches everything, with some value alone in the column
+-- that its entry names, if it names one
 abbrev pub is_bare : List Column → List ℕ → Entry → Bool
 is_bare columns sets (Set s) = matches_all columns sets
-is_bare columns sets (Same k) = list_any (λ v. matches_all columns (narrowed sets k v)) (range_with_len 0 (count_at columns k))
+is_bare columns sets (Same k) =
+    list_any (λ v. matches_all columns (narrowed sets k v)) (range_with_len 0 (count_at columns k))
 
 -- some row gives a line without literals
 abbrev pub some_row_bare : List Column → List Row → Bool
 some_row_bare columns rows = list_any (λ (r : Row). is_bare columns r.ins (only_entry r.outs)) rows
 
--- a row takes the default away and gives no value: it matches something, and no value lies in its entry
+-- a row takes the default away and gives no value: it matches something, and no value lies in its
+-- entry
 abbrev pub is_silent : List Column → Row → Bool
 is_silent columns r = says_nothing (only_entry r.outs) && not (matches_none columns r.ins)
 
@@ -54,7 +59,8 @@ needs_mark columns rows (Same k) = true
 abbrev pub default_marked : List Column → List Row → Option (List Entry) → Bool
 default_marked columns rows None = false
 default_marked columns rows (Some entries) =
-    not (says_nothing (only_entry entries)) && not (some_row_bare columns rows) && needs_mark columns rows (only_entry entries)
+    not (says_nothing (only_entry entries)) && not (some_row_bare columns rows)
+    && needs_mark columns rows (only_entry entries)
 
 -- the table gets a mark
 unfoldable pub is_marked : List Column → FileTable → Bool

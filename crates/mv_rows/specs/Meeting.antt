@@ -1,4 +1,5 @@
--- The literals of a row: what the columns of each net leave it, one net after the other. For private functions.
+-- The literals of a row: what the columns of each net leave it, one net after the other. For
+-- private functions.
 use Rattle.std.specs.Prelude.{◌≡◌, ℕ, ◌==◌, Bool, true, not, nat_eq, List, [], ◌∷◌, ◌++◌, if◌then◌else◌}
 use Rattle.std.specs.List.{list_all}
 use Rattle.mv_base.specs.Set.{empty, full, meet}
@@ -14,11 +15,14 @@ opened c = record { column = c; set = full c.count }
 
 -- the net with one more set, or the column's net if it is another one
 abbrev pub continued : Group → Column → ℕ → Group
-continued o c s = if nat_eq c.net.0 o.column.net.0 then record { column = o.column; set = meet o.set s } else record { column = c; set = s }
+continued o c s =
+    if nat_eq c.net.0 o.column.net.0 then record { column = o.column; set = meet o.set s }
+    else record { column = c; set = s }
 
 -- the net's literal, if a value is left out
 abbrev pub closed : Group → List Lit
-closed o = if o.set == full o.column.count then [] else record { net = o.column.net; set = o.set } ∷ []
+closed o = if o.set == full o.column.count then []
+    else record { net = o.column.net; set = o.set } ∷ []
 
 -- the net's literal, if the column is of another net
 abbrev pub ended : Group → Column → List Lit
@@ -27,7 +31,8 @@ ended o c = if nat_eq c.net.0 o.column.net.0 then [] else closed o
 -- the literals of the net and of the columns behind it
 abbrev pub literals_from : List ℕ → Group → List Placed → List Lit
 literals_from sets o [] = closed o
-literals_from sets o (p ∷ ps) = ended o p.column ++ literals_from sets (continued o p.column (set_at sets p)) ps
+literals_from sets o (p ∷ ps) = ended o p.column
+    ++ literals_from sets (continued o p.column (set_at sets p)) ps
 
 -- the literals of all columns
 abbrev pub literals_of : List ℕ → List Placed → List Lit

@@ -53,7 +53,8 @@ StopsRows columns rows d Many = HoldMore columns rows d
 StopsRows columns rows d Memory = Unit {0}
 
 -- the distinct lines of the rows, where there may be so many
-pub record AreDistinct (columns : List Column) (rows : List Row) (most : ℕ) (d : LineSet) : Type 0 where
+pub record AreDistinct (columns : List Column) (rows : List Row) (most : ℕ) (d : LineSet)
+    : Type 0 where
   pub lines : List Line
   pub are : RowsLines columns rows lines
   pub keys : d.lines.keys ≡ insert_all line_eq [] lines

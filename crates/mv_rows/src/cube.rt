@@ -19,7 +19,9 @@ impl Frame {
     pub fn cube(&self, alloc: Global, sets: &[PackedSet]) -> Result<Option<Cube>, Memory>
         requires frame { IsFrame self.now }
         requires sets { FitRow self.now.columns sets.now }
-        ensures { IfOk result (λ found. MatchOption found (HasNoPoint self.now.columns sets.now) (λ cube. IsRowCube self.now.columns sets.now cube)) }
+        ensures { IfOk result
+            (λ found. MatchOption found (HasNoPoint self.now.columns sets.now)
+            (λ cube. IsRowCube self.now.columns sets.now cube)) }
     {
         cube(alloc, self.order.as_slice(), sets)
     }
@@ -30,7 +32,8 @@ fn cube(alloc: Global, order: &[Placed], sets: &[PackedSet]) -> Result<Option<Cu
     requires places { All (λ p. p.place < length sets.now) order.now }
     requires counts { All (λ p. p.column.count ≤ MAX_VALUES) order.now }
     requires rises { rises_after 0 order.now ≡ true }
-    ensures { IfOk result (λ found. MatchOption found (all_possible (literals_of sets.now order.now) ≡ false)
+    ensures { IfOk result
+        (λ found. MatchOption found (all_possible (literals_of sets.now order.now) ≡ false)
         (λ cube. ArePossible (literals_of sets.now order.now) cube)) }
 {
     let mut lits = SmallVec::with_capacity(alloc, narrowing(order, sets))?;

@@ -24,7 +24,8 @@ impl Frame {
         requires frame { IsFrame self.now }
         requires sets { FitRow self.now.columns sets.now }
         requires entry { FitEntry self.now.columns entry.now }
-        ensures lines { OnOk result (AddsLines (EntryLines self.now.columns sets.now entry.now) lines.old.items lines.new.items) }
+        ensures lines { OnOk result
+            (AddsLines (EntryLines self.now.columns sets.now entry.now) lines.old.items lines.new.items) }
         ensures err { OnErr result (lines.new.items ≡ lines.old.items) }
     {
         match entry {
@@ -44,7 +45,8 @@ fn put_line(
 ) -> Result<(), Memory>
     requires frame { IsFrame frame.now }
     requires sets { FitRow frame.now.columns sets.now }
-    ensures lines { OnOk result (AddsLines (OneLine frame.now.columns sets.now out) lines.old.items lines.new.items) }
+    ensures lines { OnOk result
+        (AddsLines (OneLine frame.now.columns sets.now out) lines.old.items lines.new.items) }
     ensures err { OnErr result (lines.new.items ≡ lines.old.items) }
 {
     let Some(cube) = frame.cube(alloc, sets)? else {
@@ -67,7 +69,9 @@ fn put_values(
     requires frame { IsFrame frame.now }
     requires sets { FitRow frame.now.columns sets.now }
     requires place { place < length frame.now.columns }
-    ensures lines { OnOk result (AddsLines (EachValue frame.now.columns sets.now place (count_at frame.now.columns place)) lines.old.items lines.new.items) }
+    ensures lines { OnOk result
+        (AddsLines (EachValue frame.now.columns sets.now place
+        (count_at frame.now.columns place)) lines.old.items lines.new.items) }
     ensures err { OnErr result (lines.new.items ≡ lines.old.items) }
 {
     let before = lines.len();
@@ -107,7 +111,9 @@ fn put_value(
     requires sets { FitRow frame.now.columns sets.now }
     requires place { place < length sets.now }
     requires value { value.0 < MAX_VALUES }
-    ensures lines { OnOk result (AddsLines (OneLine frame.now.columns (narrowed sets.now place value.0) (one value.0)) lines.old.items lines.new.items) }
+    ensures lines { OnOk result
+        (AddsLines (OneLine frame.now.columns (narrowed sets.now place value.0)
+        (one value.0)) lines.old.items lines.new.items) }
     ensures err { OnErr result (lines.new.items ≡ lines.old.items) }
 {
     let alone = PackedSet::one(alloc, value)?;

@@ -44,7 +44,8 @@ pub fn flat_table(
 ) -> Result<FlatTable, Memory>
     requires columns { AreColumns columns.now }
     requires with_mark { AreColumns (with_mark columns.now mark) }
-    requires unread { is_marked columns.now table.now ≡ true → list_any (λ c. nat_eq c.net.0 mark.0) columns.now ≡ false }
+    requires unread { is_marked columns.now table.now ≡ true
+        → list_any (λ c. nat_eq c.net.0 mark.0) columns.now ≡ false }
     requires table { IsTable columns.now table.now }
     ensures lines { IfOk result (λ flat. IsMade columns.now table.now mark flat) }
     ensures relation { IfOk result (λ flat. IsFlatTable columns.now table.now mark flat) }
@@ -67,7 +68,8 @@ pub fn flat_table_within(
 ) -> Result<FlatTable, RowStop>
     requires columns { AreColumns columns.now }
     requires with_mark { AreColumns (with_mark columns.now mark) }
-    requires unread { is_marked columns.now table.now ≡ true → list_any (λ c. nat_eq c.net.0 mark.0) columns.now ≡ false }
+    requires unread { is_marked columns.now table.now ≡ true
+        → list_any (λ c. nat_eq c.net.0 mark.0) columns.now ≡ false }
     requires table { IsTable columns.now table.now }
     ensures lines { IfOk result (λ flat. IsMade columns.now table.now mark flat) }
     ensures relation { IfOk result (λ flat. IsFlatTable columns.now table.now mark flat) }
@@ -86,9 +88,12 @@ pub fn flat_table_of(
     set: LineSet,
 ) -> Result<FlatTable, Memory>
     requires with_mark { AreColumns (with_mark columns.now mark) }
-    requires default { (entries : List Entry) → default.now ≡ Some entries → IsDefault columns.now entries }
+    requires default { (entries : List Entry) → default.now ≡ Some entries
+        → IsDefault columns.now entries }
     requires distinct { firsts set.lines.keys ≡ set.lines.keys }
-    ensures { IfOk result (λ flat. (t : FileTable) (most : ℕ) → t.default ≡ default.now → AreDistinct columns.now t.rows most set
+    ensures { IfOk result
+        (λ flat. (t : FileTable) (most : ℕ) → t.default ≡ default.now
+        → AreDistinct columns.now t.rows most set
         → IsMade columns.now t mark flat) }
 {
     let list = collected(alloc, set.lines)?;
@@ -132,9 +137,12 @@ fn covered(
     lines: RowLines,
 ) -> Result<FlatTable, Memory>
     requires with_mark { AreColumns (with_mark columns.now mark) }
-    requires default { (entries : List Entry) → default.now ≡ Some entries → IsDefault columns.now entries }
+    requires default { (entries : List Entry) → default.now ≡ Some entries
+        → IsDefault columns.now entries }
     requires lines { IsListed lines }
-    ensures { IfOk result (λ flat. FlatOf columns.now mark lines.list.items (default_left default.now lines.list.items) flat) }
+    ensures { IfOk result
+        (λ flat. FlatOf columns.now mark lines.list.items
+        (default_left default.now lines.list.items) flat) }
 {
     let Some(entry) = left(default, lines.list.as_slice()) else {
         return without_mark(alloc, lines, None);
@@ -224,7 +232,8 @@ fn distinct_lines(
 fn one_row(alloc: Global, frame: &Frame, row: &Row) -> Result<Vec<Line>, Memory>
     requires frame { IsFrame frame.now }
     requires row { IsRow frame.now.columns row.now }
-    ensures { IfOk result (λ lines. EntryLines frame.now.columns row.now.ins (only_entry row.now.outs) lines.items) }
+    ensures { IfOk result
+        (λ lines. EntryLines frame.now.columns row.now.ins (only_entry row.now.outs) lines.items) }
 {
     let mut lines = Vec::new(alloc);
     frame.put_row(&mut lines, alloc, row.ins.as_slice(), only(&row.outs))?;
@@ -362,7 +371,9 @@ fn put_default(
 ) -> Result<(), Memory>
     requires columns { AreColumns (with_mark columns.now mark) }
     requires entry { FitEntry columns.now entry.now }
-    ensures { OnOk result (AddsLines (EntryLines (with_mark columns.now mark) (marked_sets columns.now) entry.now) lines.old.items lines.new.items) }
+    ensures { OnOk result
+        (AddsLines (EntryLines (with_mark columns.now mark)
+        (marked_sets columns.now) entry.now) lines.old.items lines.new.items) }
 {
     let mut marked = Vec::from_slice(alloc, columns)?;
     marked.push(Column {

@@ -73,6 +73,17 @@ NotSame=NotSame | .model h;.inputs a b;.outputs z y;.table a b -> n;0 - 0;1 0 1;
 y;.table a -> n;0 0;1 1;.table n -> z;0 0;1 1;.table -> y;1;.end;
 .model j;.inputs a b;.outputs z;.mv n 3;.table a b -> n;.default 0;1 0 1;1 1 2;.table n -> z;1 0;(0,2) 1;.end; | merge \
 n 0 2 | 6=6 | .model j;.inputs a b;.outputs z;.table a b -> n;.default 1;1 0 0;1 1 1;.table n -> z;0 0;1 1;.end;
+.model k;.inputs a b;.outputs z y;.mv n 3;.table a b -> n;0 - 0;1 0 1;1 1 2;.table n -> z;0 0;(1,2) 1;.table n -> \
+y;(0,1) 1;2 0;.end; | encode q r,s 00,01,10 / encode a r,s 00,01,10 / encode z r,s 00,01,10 / encode n r,s 00,01 / \
+encode n r,s 00,01,01 / encode n r,s 00,01,1 / encode n r 0,1,1 / encode n r,r 00,01,10 / encode n a,s 00,01,10 / \
+encode n n,s 00,01,10 / encode n .r,s 00,01,10 / encode n r,s 00,01,10 | NoNet=NoNet NoNet=NoNet Visible=Visible \
+Form=Form Form=Form Form=Form Form=Form NotFresh=NotFresh NotFresh=NotFresh NotFresh=NotFresh NotFresh=NotFresh 17=17 \
+| .model k;.inputs a b;.outputs z y;.table r s -> z;0 0 0;0 1 1;1 - 1;.table r -> y;0 1;1 0;.table a b -> r;0 - 0;1 0 \
+0;1 1 1;.table a b -> s;0 - 0;1 0 1;1 1 0;.end;
+.model l;.inputs a b;.outputs z;.mv n 3;.mv m 3;.table a -> n;0 (0,1);1 2;.table a b -> m;.default 1;0 0 0;1 1 2;\
+.table n m b -> z;.default 0;(0,2) 1 - 1;0 0 1 1;.end; | encode n r,s 00 / encode m r,s 11,10,00 | Varied=Varied 17=17 \
+| .model l;.inputs a b;.outputs z;.mv n 3;.table a -> n;0 (0,1);1 2;.table b n r s -> z;.default 0;- (0,2) 1 0 1;1 0 1 \
+1 1;.table a b -> r;.default 1;0 0 1;1 1 0;.table a b -> s;.default 0;0 0 1;1 1 0;.end;
 ";
 
 /// The network, the rules, and what is answered, of a case.

@@ -1,8 +1,8 @@
-//! Rules from texts: `remove k`, `wire k`, `collapse k`, `fill k 01`, `merge k 2`, `merge k 2 1`, `add k BODY`, `divide k by BODY`
-//! and `narrow k 1 0 BODY`,
+//! Rules from texts: `remove k`, `wire k`, `collapse k`, `fill k 01`, `merge k 2`, `merge k 2 1`, `encode k p,q 00,01,10`, `add k BODY`,
+//! `divide k by BODY` and `narrow k 1 0 BODY`,
 //! where a body is words such as `a=1&b=02:1`, which are its lines, and `else:0`, which is its default.
 use mv_base::{Items, Name, PackedSet, Value, ValueSet};
-use mv_rules::{Body, BodyLine, BodyLit, Rule};
+use mv_rules::{Body, BodyLine, BodyLit, Code, Rule};
 use std::alloc::Global;
 use std::test::Fail;
 
@@ -119,6 +119,43 @@ fn merging(alloc: Global, net: &str, words: &str) -> Result<Rule, Fail> {
     }
 }
 
+/// Names with commas between them.
+fn names(alloc: Global, words: &str) -> Result<Items<Name>, Fail> {
+    let mut names = Items::new(alloc);
+    for word in words.split(',') {
+        names.push(name(alloc, word)?)?;
+    }
+    Ok(names)
+}
+
+/// The code with these bits.
+fn code(alloc: Global, digits: &str) -> Result<Code, Fail> {
+    let mut bits = Items::new(alloc);
+    for digit in digits.bytes() {
+        bits.push(digit == b'1')?;
+    }
+    Ok(Code { bits })
+}
+
+/// Codes with commas between them.
+fn codes(alloc: Global, words: &str) -> Result<Items<Code>, Fail> {
+    let mut codes = Items::new(alloc);
+    for word in words.split(',') {
+        codes.push(code(alloc, word)?)?;
+    }
+    Ok(codes)
+}
+
+/// The rule that nets with these names have the bits of these codes of the net's values.
+fn encoding(alloc: Global, net: &str, words: &str) -> Result<Rule, Fail> {
+    let (bits, digits) = words.split_once(' ').ok_or("no codes")?;
+    Ok(Rule::Encode {
+        net: name(alloc, net)?,
+        names: names(alloc, bits)?,
+        codes: codes(alloc, digits)?,
+    })
+}
+
 /// The rule that a net's table gets the values whose digits stand in the word as its default.
 fn filling(alloc: Global, net: &str, digits: &str) -> Result<Rule, Fail> {
     let net = name(alloc, net)?;
@@ -145,6 +182,7 @@ pub fn rule(alloc: Global, text: &str) -> Result<Rule, Fail> {
         Some((net, digits)) if what == "fill" => filling(alloc, net, digits),
         Some((net, words)) if what == "narrow" => narrowing(alloc, net, words),
         Some((net, words)) if what == "merge" => merging(alloc, net, words),
+        Some((net, words)) if what == "encode" => encoding(alloc, net, words),
         Some((net, words)) => division(alloc, net, words),
         None => short_rule(alloc, what, rest),
     }

@@ -1,7 +1,7 @@
 -- What every rule keeps: that the network is well formed, and its latches.
 use Rattle.std.proofs.Common.{◌≡◌, Bool, ap}
 use Rattle.mv_entry.specs.declared.rule.Rule.{Rule}
-use Rattle.mv_entry.specs.declared.rule.Rule.TheVariants.{Remove, Add, Divide, Wire, Collapse, Narrow, Fill, Merge}
+use Rattle.mv_entry.specs.declared.rule.Rule.TheVariants.{Remove, Add, Divide, Wire, Collapse, Narrow, Fill, Merge, Encode}
 use Rattle.mv_net.specs.declared.parts.NetParts.{NetParts}
 use Rattle.mv_net.specs.Changes.{with_nets}
 use Rattle.mv_net.specs.Formed.{WellFormed}
@@ -14,6 +14,8 @@ use Rattle.mv_plans.proofs.Collapsed.{collapses_formed}
 use Rattle.mv_plans.proofs.Filled.{filled_formed}
 use Rattle.mv_plans.proofs.Narrowed.{narrows_formed}
 use Rattle.mv_plans.proofs.Merged.{merged_formed}
+use Rattle.mv_plans.proofs.Encoded.{encoded_formed}
+use Rattle.mv_coding.specs.Nets.{net_coded}
 use Rattle.mv_merging.specs.Nets.{net_behind}
 
 pub kept_formed : (free : Bool) (rule : Rule) (old new : NetParts) → WellFormed old → Applies free rule old new → WellFormed new
@@ -25,10 +27,10 @@ kept_formed free (Collapse w) old new formed p = collapses_formed old w new form
 kept_formed free (Narrow w d u body) old new formed p = narrows_formed old w d u body new formed p
 kept_formed free (Fill w out) old new formed p = filled_formed free old w out new formed p
 kept_formed free (Merge w gone into) old new formed p = merged_formed old w gone into new formed p
-kept_formed free _ old new formed p = absurd p
+kept_formed free (Encode w names codes) old new formed p = encoded_formed old w names codes new formed p
 
 pub kept_latches : (free : Bool) (rule : Rule) (old new : NetParts) → Applies free rule old new → new.latches ≡ old.latches
-unfolding with_nets net_behind
+unfolding with_nets net_behind net_coded
 kept_latches free (Remove w) old new p = ap (λ (n : NetParts). n.latches) p.new_is
 kept_latches free (Add w body) old new p = ap (λ (n : NetParts). n.latches) p.new_is
 kept_latches free (Divide w by body) old new p = ap (λ (n : NetParts). n.latches) p.new_is
@@ -37,4 +39,4 @@ kept_latches free (Collapse w) old new p = ap (λ (n : NetParts). n.latches) p.n
 kept_latches free (Narrow w d u body) old new p = ap (λ (n : NetParts). n.latches) p.new_is
 kept_latches free (Fill w out) old new p = ap (λ (n : NetParts). n.latches) p.new_is
 kept_latches free (Merge w gone into) old new p = ap (λ (n : NetParts). n.latches) p.new_is
-kept_latches free _ old new p = absurd p
+kept_latches free (Encode w names codes) old new p = ap (λ (n : NetParts). n.latches) p.new_is

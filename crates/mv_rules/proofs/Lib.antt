@@ -4,7 +4,6 @@ pub mod Meanings
 pub mod Kept
 pub mod Replayed
 pub mod Spoken
-pub mod Built
 pub mod Strict
 pub mod Staying
 pub mod Nodes

@@ -8,8 +8,9 @@ use Rattle.mv_cover.specs.declared.cover.Cover.{Cover}
 use Rattle.mv_cover.specs.Literal.{Lit}
 use Rattle.mv_cover.specs.declared.line.Line.{Line}
 use Rattle.mv_entry.specs.declared.rule.Body.{Body}
+use Rattle.mv_entry.specs.declared.rule.Code.{Code}
 use Rattle.mv_entry.specs.declared.rule.Rule.{Rule}
-use Rattle.mv_entry.specs.declared.rule.Rule.TheVariants.{Remove, Add, Divide, Wire, Collapse, Narrow, Fill, Merge}
+use Rattle.mv_entry.specs.declared.rule.Rule.TheVariants.{Remove, Add, Divide, Wire, Collapse, Narrow, Fill, Merge, Encode}
 use Rattle.mv_entry.specs.declared.fault.RuleFault.{RuleFault}
 use Rattle.mv_meaning.specs.Rewriting.{rewritten, with_net_table}
 use Rattle.mv_net.specs.declared.parts.FlatNet.{FlatNet}
@@ -27,6 +28,8 @@ use Rattle.mv_plans.specs.Collapsing.{Collapses, collapsed}
 use Rattle.mv_plans.specs.Filling.{Fills, with_default}
 use Rattle.mv_plans.specs.Narrowing.{Narrows}
 use Rattle.mv_plans.specs.Merging.{Merges}
+use Rattle.mv_plans.specs.Encoding.{Encodes}
+use Rattle.mv_coding.specs.Nets.{net_coded}
 use Rattle.mv_merging.specs.Nets.{net_behind}
 use Rattle.mv_base.specs.declared.number.Value.{Value}
 use Rattle.mv_plans.proofs.Named.{one_named, one_tabled}
@@ -100,6 +103,9 @@ narrowed_one old w d u body one other formed p q =
 merged_one : (old : NetParts) (w : List ℕ) (gone : Value) (into : Option Value) (one other : NetParts) → WellFormed old → Merges old w gone into one → Merges old w gone into other → one ≡ other
 merged_one old w gone into one other formed p q = p.new_is ∙ (ap (λ n. net_behind old n gone into) (one_tabled old w p.number q.number formed p.net q.net) ∙ sym q.new_is)
 
+encoded_one : (old : NetParts) (w : List ℕ) (names : List (List ℕ)) (codes : List Code) (one other : NetParts) → WellFormed old → Encodes old w names codes one → Encodes old w names codes other → one ≡ other
+encoded_one old w names codes one other formed p q = p.new_is ∙ (ap (λ n. net_coded old n names codes) (one_tabled old w p.number q.number formed p.net q.net) ∙ sym q.new_is)
+
 pub one_network : (free : Bool) (rule : Rule) (old one other : NetParts) → WellFormed old → Applies free rule old one → Applies free rule old other → one ≡ other
 one_network free (Remove w) old one other formed p q = removed_one old w one other formed p q
 one_network free (Add w body) old one other formed p q = p.new_is ∙ sym q.new_is
@@ -109,7 +115,7 @@ one_network free (Collapse w) old one other formed p q = collapsed_one old w one
 one_network free (Narrow w d u body) old one other formed p q = narrowed_one old w d u body one other formed p q
 one_network free (Fill w out) old one other formed p q = filled_one free old w out one other formed p q
 one_network free (Merge w gone into) old one other formed p q = merged_one old w gone into one other formed p q
-one_network free _ old one other formed p q = absurd p
+one_network free (Encode w names codes) old one other formed p q = encoded_one old w names codes one other formed p q
 
 -- ---- faults
 
@@ -132,7 +138,9 @@ row_one free (Fill w out) old formed =
     with_one _ _ (λ n m. one_tabled old w n m formed) (λ n. unless_one _ _ _ (unless_one _ _ _ (unless_one _ _ _ (unless_one _ _ _ passed_one))))
 row_one free (Merge w gone into) old formed =
     with_one _ _ (λ n m. one_tabled old w n m formed) (λ n. unless_one _ _ _ (unless_one _ _ _ (unless_one _ _ _ passed_one)))
-row_one free _ old formed = record { one = λ f g p q. absurd p }
+row_one free (Encode w names codes) old formed =
+    with_one _ _ (λ n m. one_tabled old w n m formed) (λ n.
+    unless_one _ _ _ (unless_one _ _ _ (unless_one _ _ _ (unless_one _ _ _ (unless_one _ _ _ (unless_one _ _ _ passed_one))))))
 
 pub one_fault : (free : Bool) (rule : Rule) (old : NetParts) (f g : RuleFault) → WellFormed old → Fails free rule old f → Fails free rule old g → f ≡ g
 one_fault free rule old f g formed p q = (row_one free rule old formed).one f g p q
@@ -167,7 +175,10 @@ row_never free (Fill w out) old new formed p =
 row_never free (Merge w gone into) old new formed p =
     with_never _ _ p.number p.net (λ m. one_tabled old w p.number m formed p.net)
     (unless_never _ _ _ p.unseen (unless_never _ _ _ p.form (unless_never _ _ _ p.lossless passed_never)))
-row_never free _ old new formed p = absurd p
+row_never free (Encode w names codes) old new formed p =
+    with_never _ _ p.number p.net (λ m. one_tabled old w p.number m formed p.net)
+    (unless_never _ _ _ p.can.unseen (unless_never _ _ _ p.can.plain (unless_never _ _ _ p.can.form
+    (unless_never _ _ _ p.can.fresh (unless_never _ _ _ p.narrow (unless_never _ _ _ p.room passed_never))))))
 
 pub not_both : (free : Bool) (rule : Rule) (old new : NetParts) (f : RuleFault) → WellFormed old → Applies free rule old new → Fails free rule old f → ⊥
 not_both free rule old new f formed p q = (row_never free rule old new formed p).none f q

@@ -15,7 +15,7 @@ use Rattle.mv_entry.specs.declared.rule.BodyLit.{BodyLit}
 use Rattle.mv_entry.specs.declared.rule.BodyLine.{BodyLine}
 use Rattle.mv_entry.specs.declared.rule.Body.{Body}
 use Rattle.mv_entry.specs.declared.rule.Rule.{Rule}
-use Rattle.mv_entry.specs.declared.rule.Rule.TheVariants.{Remove, Add, Divide, Wire, Collapse, Narrow, Fill, Merge}
+use Rattle.mv_entry.specs.declared.rule.Rule.TheVariants.{Remove, Add, Divide, Wire, Collapse, Narrow, Fill, Merge, Encode}
 use Rattle.mv_entry.proofs.Visible.{visible-net}
 use Rattle.mv_net.specs.declared.parts.FlatNet.{FlatNet}
 use Rattle.mv_net.specs.declared.parts.FlatLatch.{FlatLatch}
@@ -101,6 +101,11 @@ module _ (pass : List ℕ → Bool) (net : NetParts) (formed : WellFormed net) (
   body_passes : (b : Body) → AreKnown net.nets b → list_all pass (body_names b) ≡ true
   body_passes b known = lines_pass b.lines known.each
 
+  new_pass : (names : List (List ℕ)) → All (IsNewName net.nets) names → list_all pass names ≡ true
+  new_pass [] new = refl
+  new_pass (w ∷ ws) new =
+      and_from (pass w) (list_all pass ws) (passes.fresh w (All-head (IsNewName net.nets) w ws new)) (new_pass ws (All-tail (IsNewName net.nets) w ws new))
+
   -- ---- rules
 
   pub rule_passes : (free : Bool) (rule : Rule) (new : NetParts) → Applies free rule net new → list_all pass (rule_names rule) ≡ true
@@ -114,7 +119,7 @@ module _ (pass : List ℕ → Bool) (net : NetParts) (formed : WellFormed net) (
   rule_passes free (Narrow w d u body) new p = and_from (pass w) (list_all pass (body_names body)) (named_passes p.number w p.net.named) (body_passes body p.known)
   rule_passes free (Fill w out) new p = and_from (pass w) true (named_passes p.number w p.net.named) refl
   rule_passes free (Merge w gone into) new p = and_from (pass w) true (named_passes p.number w p.net.named) refl
-  rule_passes free _ new p = absurd p
+  rule_passes free (Encode w names codes) new p = and_from (pass w) (list_all pass names) (named_passes p.number w p.net.named) (new_pass names p.can.fresh.each)
 
 -- ---- names that can be seen
 

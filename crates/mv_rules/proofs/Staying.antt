@@ -15,8 +15,9 @@ use Rattle.mv_cover.specs.Covers.{allowed, cover_reads, some_matches}
 use Rattle.mv_cover.specs.Covering.{IsPoint}
 use Rattle.mv_cover.proofs.Local.{allowed-local}
 use Rattle.mv_entry.specs.declared.rule.Body.{Body}
+use Rattle.mv_entry.specs.declared.rule.Code.{Code}
 use Rattle.mv_entry.specs.declared.rule.Rule.{Rule}
-use Rattle.mv_entry.specs.declared.rule.Rule.TheVariants.{Remove, Add, Divide, Wire, Collapse, Narrow, Fill, Merge}
+use Rattle.mv_entry.specs.declared.rule.Rule.TheVariants.{Remove, Add, Divide, Wire, Collapse, Narrow, Fill, Merge, Encode}
 use Rattle.mv_meaning.specs.Rewriting.{IsReader, rewritten, with_net_table}
 use Rattle.mv_meaning.proofs.Adding.{IsWritten-added}
 use Rattle.mv_meaning.proofs.OneTable.{IsReformed-given, slot-there, table-here}
@@ -42,7 +43,9 @@ use Rattle.mv_plans.specs.Dividing.{Divides}
 use Rattle.mv_plans.specs.Filling.{Fills, with_default}
 use Rattle.mv_plans.specs.Narrowing.{Narrows}
 use Rattle.mv_plans.specs.Merging.{Merges}
+use Rattle.mv_plans.specs.Encoding.{Encodes}
 use Rattle.mv_plans.proofs.Merged.{merged_few, merged_keeps_total, merged_tabled}
+use Rattle.mv_plans.proofs.Encoded.{encoded_few, encoded_total}
 use Rattle.mv_merging.proofs.Merged.{total_net}
 use Rattle.mv_base.specs.declared.number.Value.{Value}
 use Rattle.mv_plans.specs.Removing.{Removes}
@@ -341,6 +344,15 @@ merged_total old w gone into new formed total p = record {
 merged_binary : (old : NetParts) (w : List ℕ) (gone : Value) (into : Option Value) (new : NetParts) → AreBinary old.nets → Merges old w gone into new → AreBinary new.nets
 merged_binary old w gone into new binary p = record { each = λ k. omega (arith, merged_few old w gone into new p k, binary.each k) }
 
+encoded_binary : (old : NetParts) (w : List ℕ) (names : List (List ℕ)) (codes : List Code) (new : NetParts) → AreBinary old.nets → Encodes old w names codes new → AreBinary new.nets
+encoded_binary old w names codes new binary p = record {
+  each = λ k.
+      ⊎_elim
+      (λ (less : values_in (slot new.nets k) ≤ values_in (slot old.nets k)). omega (arith, less, binary.each k))
+      (λ (two : values_in (slot new.nets k) ≤ 2). two)
+      (encoded_few old w names codes new p k);
+}
+
 pub stays_total : (free : Bool) (rule : Rule) (old new : NetParts) → WellFormed old → AreTotal old.nets → Applies free rule old new → AreTotal new.nets
 stays_total free (Remove w) old new formed total p = removed_total old w new (kept_formed free (Remove w) old new formed p) total p
 stays_total free (Add w body) old new formed total p = added_total old w body new formed (kept_formed free (Add w body) old new formed p) total p
@@ -350,7 +362,7 @@ stays_total free (Collapse w) old new formed total p = collapsed_total old w new
 stays_total free (Narrow w d u body) old new formed total p = narrowed_total old w d u body new formed (kept_formed free (Narrow w d u body) old new formed p) total p
 stays_total free (Fill w out) old new formed total p = filled_total free old w out new (kept_formed free (Fill w out) old new formed p) total p
 stays_total free (Merge w gone into) old new formed total p = merged_total old w gone into new formed total p
-stays_total free _ old new formed total p = absurd p
+stays_total free (Encode w names codes) old new formed total p = record { each = encoded_total old w names codes new formed p total.each }
 
 pub replays_total : (free : Bool) (rules : List Rule) (old new : NetParts) → WellFormed old → AreTotal old.nets → Replays free rules old new → AreTotal new.nets
 replays_total free [] old new formed total p = subst (λ (net : NetParts). AreTotal net.nets) (sym p) total
@@ -417,7 +429,7 @@ stays_binary free (Collapse w) old new binary p = collapsed_binary old w new bin
 stays_binary free (Narrow w d u body) old new binary p = given_binary old new p.number p.table (cover_said old.nets body) binary p.new_is p.table_is
 stays_binary free (Fill w out) old new binary p = given_binary old new p.number p.table (with_default p.table out) binary p.new_is p.table_is
 stays_binary free (Merge w gone into) old new binary p = merged_binary old w gone into new binary p
-stays_binary free _ old new binary p = absurd p
+stays_binary free (Encode w names codes) old new binary p = encoded_binary old w names codes new binary p
 
 pub replays_binary : (free : Bool) (rules : List Rule) (old new : NetParts) → AreBinary old.nets → Replays free rules old new → AreBinary new.nets
 replays_binary free [] old new binary p = subst (λ (net : NetParts). AreBinary net.nets) (sym p) binary

@@ -2,7 +2,7 @@
 use Rattle.std.proofs.Common.{true, false, List, [], ◌∷◌}
 use Rattle.std.proofs.lemmas.Bool.{false≢true}
 use Rattle.mv_entry.specs.declared.rule.Rule.{Rule}
-use Rattle.mv_entry.specs.declared.rule.Rule.TheVariants.{Remove, Add, Divide, Wire, Collapse, Narrow, Fill, Merge}
+use Rattle.mv_entry.specs.declared.rule.Rule.TheVariants.{Remove, Add, Divide, Wire, Collapse, Narrow, Fill, Merge, Encode}
 use Rattle.mv_net.specs.declared.parts.NetParts.{NetParts}
 use Rattle.mv_rules.specs.Applies.{Applies}
 use Rattle.mv_rules.specs.Replaying.{Replays}
@@ -16,7 +16,7 @@ strict_applied (Collapse w) old new p = p
 strict_applied (Narrow w d u body) old new p = p
 strict_applied (Fill w out) old new p = absurd (false≢true p.asked.asked)
 strict_applied (Merge w gone into) old new p = p
-strict_applied _ old new p = absurd p
+strict_applied (Encode w names codes) old new p = p
 
 pub strict_replayed : (rules : List Rule) (old new : NetParts) → Replays false rules old new → Replays true rules old new
 strict_replayed [] old new p = p

@@ -1,7 +1,7 @@
 -- When a rule applies to a network, what it leaves, and which of its checks fails first.
 use Rattle.std.specs.Prelude.{◌≡◌, ◌⊎◌, ℕ, Bool, true, false}
 use Rattle.mv_entry.specs.declared.rule.Rule.{Rule}
-use Rattle.mv_entry.specs.declared.rule.Rule.TheVariants.{Remove, Add, Divide, Wire, Collapse, Narrow, Fill, Merge}
+use Rattle.mv_entry.specs.declared.rule.Rule.TheVariants.{Remove, Add, Divide, Wire, Collapse, Narrow, Fill, Merge, Encode}
 use Rattle.mv_entry.specs.declared.fault.RuleFault.{RuleFault}
 use Rattle.mv_entry.specs.declared.fault.RuleFault.TheVariants.{Nodes}
 use Rattle.mv_flex.specs.declared.flexibility.Flexibility.{Flexibility}
@@ -15,9 +15,11 @@ use Rattle.mv_plans.specs.Collapsing.{Collapses, FailsCollapse}
 use Rattle.mv_plans.specs.Filling.{Fills, FailsFill}
 use Rattle.mv_plans.specs.Narrowing.{Narrows, FailsNarrow, NarrowLacksNodes, HasFlexibility, NarrowsWithin}
 use Rattle.mv_plans.specs.Merging.{Merges, FailsMerge}
+use Rattle.mv_plans.specs.Encoding.{Encodes, FailsEncode}
 
--- every check of the rule holds in the old network, and the rule makes the new one of it. Where free, values under which the network
--- allows nothing may be given any meaning; only `fill` asks for it. A rule that isn't built in this version makes none
+-- every check of the rule holds in the old network, and the rule makes the new one of it. Where
+-- free, values under which the network allows nothing may be given any meaning; only `fill` asks
+-- for it
 abbrev pub Applies : Bool → Rule → NetParts → NetParts → Type 0
 Applies free (Remove net) old new = Removes old net new
 Applies free (Add net body) old new = Adds old net body new
@@ -27,9 +29,9 @@ Applies free (Collapse net) old new = Collapses old net new
 Applies free (Narrow net d u body) old new = Narrows old net d u body new
 Applies free (Fill net out) old new = Fills free old net out new
 Applies free (Merge net gone into) old new = Merges old net gone into new
-Applies free _ old new = ⊥
+Applies free (Encode net names codes) old new = Encodes old net names codes new
 
--- this is the fault of the first check of the rule that fails. A rule that isn't built has no checks
+-- this is the fault of the first check of the rule that fails
 abbrev pub Fails : Bool → Rule → NetParts → RuleFault → Type 0
 Fails free (Remove net) old f = FailsRemove old net f
 Fails free (Add net body) old f = FailsAdd old net body f
@@ -39,23 +41,26 @@ Fails free (Collapse net) old f = FailsCollapse old net f
 Fails free (Narrow net d u body) old f = FailsNarrow old net d u body f
 Fails free (Fill net out) old f = FailsFill free old net out f
 Fails free (Merge net gone into) old f = FailsMerge old net gone into f
-Fails free _ old f = ⊥
+Fails free (Encode net names codes) old f = FailsEncode old net names codes f
 
 -- the rule is a narrowing
 abbrev pub is_narrowing : Rule → Bool
 is_narrowing (Narrow net d u body) = true
 is_narrowing _ = false
 
--- a pool of so many nodes of diagrams is too small to judge the rule in this network: only a narrowing asks for one
+-- a pool of so many nodes of diagrams is too small to judge the rule in this network: only a
+-- narrowing asks for one
 abbrev pub LacksNodes : ℕ → Rule → NetParts → Type 0
 LacksNodes budget (Narrow net d u body) old = NarrowLacksNodes budget old net d u
 LacksNodes budget _ old = ⊥
 
--- why a rule isn't applied, but for want of memory: for want of nodes, which says nothing of it, or for its first check that fails
+-- why a rule isn't applied, but for want of memory: for want of nodes, which says nothing of it, or
+-- for its first check that fails
 abbrev pub Stops : Bool → ℕ → Rule → NetParts → RuleFault → Type 0
 Stops free budget rule old f = ((f ≡ Nodes) × LacksNodes budget rule old) ⊎ Fails free rule old f
 
--- the rule is a narrowing, and f is the flexibility by which it is judged; each table below its net is total
+-- the rule is a narrowing, and f is the flexibility by which it is judged; each table below its net
+-- is total
 abbrev pub IsAtHand : NetParts → Rule → ℕ → Flexibility → Type 0
 IsAtHand old (Narrow net d u body) budget f = HasFlexibility old net d u budget f
 IsAtHand old _ budget f = ⊥
@@ -73,6 +78,7 @@ keeps_choices (Divide net by body) = true
 keeps_choices (Wire net) = true
 keeps_choices (Collapse net) = true
 keeps_choices (Merge net gone into) = true
+keeps_choices (Encode net names codes) = true
 keeps_choices _ = false
 
 -- the rule applies, also where nothing is free, and leaves so many literals

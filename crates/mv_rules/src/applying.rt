@@ -1,7 +1,6 @@
 ghost use Rattle.std.specs.Prelude.{◌≡◌, ◌⊎◌, true, false, IfErr, OnOk, OnErr};
 ghost use Rattle.mv_base.specs.Meaning.{Refines};
 ghost use Rattle.mv_entry.specs.declared.fault.RuleFault.TheVariants.{Memory as out_of_memory};
-ghost use Rattle.mv_entry.specs.Entries.{is_built};
 ghost use Rattle.mv_net.specs.Allowed.{of_net};
 ghost use Rattle.mv_partial.specs.Partial.{ArePartial};
 ghost use Rattle.mv_plans.specs.Checks.{Answers};
@@ -22,8 +21,7 @@ use mv_net::Network;
 use mv_partial::PartialNets;
 use std::alloc::Global;
 
-/// Applies the rule, which has to be built in this version, on these terms: at Ok the network is as the
-/// rule leaves it, and may take the old one's place, as the terms have it. Else, but for want of memory or
+/// Applies the rule on these terms: at Ok the network is as the rule leaves it, and may take the old one's place, as the terms have it. Else, but for want of memory or
 /// of nodes, the fault is that of the rule's first check that fails, and the network is as before. It costs
 /// the tables that the rule names, those of their readers, the search for a loop, for a filling the tables
 /// above, and for a narrowing those below and the points of the window. The budget is that of nodes of
@@ -34,7 +32,6 @@ pub fn apply_on(
     rule: &Rule,
     terms: Terms,
 ) -> Result<(), RuleFault>
-    requires { is_built rule.now ≡ true }
     ensures applies { OnOk result (Applies terms.free rule.now net.old net.new) }
     ensures fails { IfErr result (λ f. (f ≡ out_of_memory)
         ⊎ Stops terms.free terms.budget rule.now net.old f) }
@@ -102,9 +99,9 @@ pub fn apply_within(
 /// Applies the rule where nothing is free: the network allows nothing that it didn't, and something
 /// wherever it did.
 pub fn apply(alloc: Global, net: &mut Network, rule: &Rule, budget: u32) -> Result<(), RuleFault>
-    requires { is_built rule.now ≡ true }
     ensures applies { OnOk result (Applies false rule.now net.old net.new) }
-    ensures fails { IfErr result (λ f. (f ≡ out_of_memory) ⊎ Stops false budget rule.now net.old f) }
+    ensures fails { IfErr result
+        (λ f. (f ≡ out_of_memory) ⊎ Stops false budget rule.now net.old f) }
     ensures refines { Refines false (of_net net.new) (of_net net.old) }
     ensures err { OnErr result (net.new ≡ net.old) }
 {
@@ -126,7 +123,6 @@ pub fn apply_free(
     rule: &Rule,
     budget: u32,
 ) -> Result<(), RuleFault>
-    requires { is_built rule.now ≡ true }
     ensures applies { OnOk result (Applies true rule.now net.old net.new) }
     ensures fails { IfErr result (λ f. (f ≡ out_of_memory) ⊎ Stops true budget rule.now net.old f) }
     ensures refines { Refines true (of_net net.new) (of_net net.old) }
@@ -135,16 +131,15 @@ pub fn apply_free(
     apply_on(alloc, net, rule, Terms { free: true, budget })
 }
 
-/// The literals of the network that `apply` would leave, with the same condition. It is refused as `apply`
-/// is, and changes nothing.
+/// The literals of the network that `apply` would leave. It is refused as `apply` is, and changes nothing.
 pub fn literals_after(
     alloc: Global,
     net: &Network,
     rule: &Rule,
     budget: u32,
 ) -> Result<u128, RuleFault>
-    requires { is_built rule.now ≡ true }
-    ensures { Answers result (LeavesLiterals rule.now net.now) (Stops false budget rule.now net.now) }
+    ensures { Answers result (LeavesLiterals rule.now net.now)
+        (Stops false budget rule.now net.now) }
 {
     let terms = Terms {
         free: false,

@@ -7,7 +7,7 @@ ghost use Rattle.mv_entry.specs.declared.rule.Body.{Body};
 ghost use Rattle.mv_entry.specs.declared.rule.Rule.{Rule};
 ghost use Rattle.mv_entry.specs.declared.rule.Rule.TheVariants.{Collapse, Fill, Narrow};
 ghost use Rattle.mv_entry.specs.declared.fault.RuleFault.{RuleFault};
-ghost use Rattle.mv_entry.specs.Entries.{Applied, HasVisibleNames, is_built};
+ghost use Rattle.mv_entry.specs.Entries.{Applied, HasVisibleNames};
 ghost use Rattle.mv_graph.specs.Nets.{IsAscending};
 ghost use Rattle.mv_meaning.specs.Rewriting.{SameWhereAllowed};
 ghost use Rattle.mv_net.specs.declared.parts.FlatNet.{FlatNet};
@@ -67,15 +67,6 @@ pub fn nodes_suffice()
 pub fn names_are_visible()
     ensures { (free : Bool) (rule : Rule) (old new : NetParts) → WellFormed old
         → Applies free rule old new → HasVisibleNames (Applied rule) }
-{}
-
-/// A rule that applies is built in this version, and so are rules that apply in turn.
-#[tactic(auto, using(crate::proofs::Built::applied_built, crate::proofs::Built::replayed_built))]
-pub fn only_built_apply()
-    ensures one { (free : Bool) (rule : Rule) (old new : NetParts) → Applies free rule old new
-        → is_built rule ≡ true }
-    ensures all { (free : Bool) (rules : List Rule) (old new : NetParts)
-        → Replays free rules old new → list_all is_built rules ≡ true }
 {}
 
 /// What applies where nothing is free leaves the same where others are free: a rule, and rules in turn.
@@ -165,20 +156,25 @@ pub fn collapse_laws()
         → IsInnerOf net.nets inner → IsAscending (λ m. reads_in net.nets m inner.net.0) readers
         → literals_in (collapsed net inner).nets
         + (literals_at net.nets inner.net + sum_by (literals_at net.nets) readers)
-        ≡ literals_in net.nets + sum_by (λ (r : NetId). composite_count net.nets inner r.0) readers }
-    ensures left { (net : NetParts) (name : List ℕ) (inner : Inner) (readers : List NetId) (count : ℕ)
+        ≡ literals_in net.nets + sum_by
+        (λ (r : NetId). composite_count net.nets inner r.0) readers }
+    ensures left { (net : NetParts) (name : List ℕ) (inner : Inner) (readers : List NetId)
+        (count : ℕ)
         → WellFormed net → IsTabled net.nets name inner.net.0 → IsInnerOf net.nets inner
         → IsAscending (λ m. reads_in net.nets m inner.net.0) readers
         → LeavesLiterals (Collapse name) net count
         → count + (literals_at net.nets inner.net + sum_by (literals_at net.nets) readers)
-        ≡ literals_in net.nets + sum_by (λ (r : NetId). composite_count net.nets inner r.0) readers }
+        ≡ literals_in net.nets + sum_by
+        (λ (r : NetId). composite_count net.nets inner r.0) readers }
     ensures applies { (net : NetParts) (name : List ℕ) (inner : Inner) (counts : ℕ → ℕ)
-        → IsTabled net.nets name inner.net.0 → CanCollapse net inner.net.0 → IsInnerOf net.nets inner
+        → IsTabled net.nets name inner.net.0 → CanCollapse net inner.net.0
+        → IsInnerOf net.nets inner
         → ((m : ℕ) → reads_in net.nets m inner.net.0 ≡ true
         → HasCompositeLiterals net.nets inner m (counts m))
         → Collapses net name (collapsed net inner) }
     ensures fails { (net : NetParts) (name : List ℕ) (inner : Inner) (m : ℕ)
-        → IsTabled net.nets name inner.net.0 → CanCollapse net inner.net.0 → IsInnerOf net.nets inner
+        → IsTabled net.nets name inner.net.0 → CanCollapse net inner.net.0
+        → IsInnerOf net.nets inner
         → HasWideComposite net.nets inner m → FailsCollapse net name RuleFault.Wide }
     ensures leaves { (net new : NetParts) (name : List ℕ) (inner : Inner) → WellFormed net
         → IsTabled net.nets name inner.net.0 → IsInnerOf net.nets inner → Collapses net name new

@@ -10,8 +10,8 @@ mod terms;
 pub use applying::{apply, apply_free, apply_on, apply_with, apply_within, literals_after};
 pub use laws::{
     at_most_one_fault, at_most_one_network, collapse_laws, composite_laws, fill_keeps,
-    names_are_visible, narrowing_keeps_partial, never_both, nodes_suffice, only_built_apply,
-    replay_laws, same_meaning, staying_laws, strict_applies,
+    names_are_visible, narrowing_keeps_partial, never_both, nodes_suffice, replay_laws,
+    same_meaning, staying_laws, strict_applies,
 };
 pub use mv_entry::{
     Body, BodyLine, BodyLit, Code, Command, Journal, Note, Rule, RuleFault, Tally, Why,

@@ -2,7 +2,6 @@
 ghost use Rattle.std.specs.Prelude.{◌≡◌, ◌⊎◌, ℕ, true, IfErr, IfOk, IfSome, IsTrue, OnOk, OnErr};
 ghost use Rattle.mv_base.specs.Meaning.{Refines};
 ghost use Rattle.mv_entry.specs.declared.fault.RuleFault.TheVariants.{Memory as out_of_memory};
-ghost use Rattle.mv_entry.specs.Entries.{is_built};
 ghost use Rattle.mv_net.specs.Allowed.{of_net};
 ghost use Rattle.mv_net.specs.Total.{IsTotalNet};
 ghost use Rattle.mv_partial.specs.Partial.{ArePartial};
@@ -29,8 +28,7 @@ pub fn apply_next(
     terms: Terms,
     known: &mut Option<PartialNets>,
 ) -> Result<(), RuleFault>
-    requires built { is_built rule.now ≡ true }
-    requires right { IfSome known.old (ArePartial net.old.nets) }
+    requires { IfSome known.old (ArePartial net.old.nets) }
     ensures applies { OnOk result (Applies terms.free rule.now net.old net.new) }
     ensures fails { IfErr result (λ f. (f ≡ out_of_memory)
         ⊎ Stops terms.free terms.budget rule.now net.old f) }
@@ -76,7 +74,8 @@ fn all_known(
 /// Whether there is a net with this name, and from it on all tables are total.
 fn is_total_from(net: &Network, name: &Name, partial: &PartialNets) -> bool
     requires { ArePartial net.now.nets partial.now }
-    ensures { IsTrue result → (n : ℕ) → IsTabled net.now.nets name.now n → IsTotalNet net.now.nets n }
+    ensures { IsTrue result → (n : ℕ) → IsTabled net.now.nets name.now n
+        → IsTotalNet net.now.nets n }
 {
     net.well_formed();
     match net.find(name.bytes()) {

@@ -1,5 +1,4 @@
 ghost use Rattle.std.specs.Prelude.{◌≡◌, true, false};
-ghost use Rattle.mv_entry.specs.Entries.{is_built};
 ghost use Rattle.mv_partial.specs.Partial.{ArePartial};
 ghost use Rattle.mv_plans.specs.Checks.{Answers};
 ghost use Rattle.mv_plans.specs.Plans.{IsPlanned};
@@ -11,15 +10,14 @@ use mv_flex::Flexibility;
 use mv_net::{Change, Network};
 use mv_partial::PartialNets;
 use mv_plans::{
-    plan_add, plan_collapse, plan_divide, plan_fill, plan_merge, plan_narrow, plan_narrow_next,
-    plan_narrow_with, plan_narrow_within, plan_remove, plan_wire,
+    plan_add, plan_collapse, plan_divide, plan_encode, plan_fill, plan_merge, plan_narrow,
+    plan_narrow_next, plan_narrow_with, plan_narrow_within, plan_remove, plan_wire,
 };
 use std::alloc::Global;
 
 /// The change that carries the rule out, or the fault of the first check that fails, or that there are
-/// too few nodes. The rule has to be built in this version.
+/// too few nodes.
 pub fn plan(alloc: Global, net: &Network, rule: &Rule, terms: Terms) -> Result<Change, RuleFault>
-    requires { is_built rule.now ≡ true }
     ensures { Answers result (IsPlanned net.now (Applies terms.free rule.now net.now))
         (Stops terms.free terms.budget rule.now net.now) }
 {
@@ -36,8 +34,7 @@ pub fn plan(alloc: Global, net: &Network, rule: &Rule, terms: Terms) -> Result<C
 
 /// The same for a rule that isn't a narrowing: it asks for no nodes.
 fn plan_other(alloc: Global, net: &Network, rule: &Rule, free: bool) -> Result<Change, RuleFault>
-    requires built { is_built rule.now ≡ true }
-    requires other { is_narrowing rule.now ≡ false }
+    requires { is_narrowing rule.now ≡ false }
     ensures { Answers result (IsPlanned net.now (Applies free rule.now net.now))
         (Fails free rule.now net.now) }
 {
@@ -57,7 +54,12 @@ fn plan_other(alloc: Global, net: &Network, rule: &Rule, free: bool) -> Result<C
             gone,
             into,
         } => plan_merge(alloc, net, name, *gone, *into),
-        _ => unreachable!(),
+        Rule::Encode {
+            net: name,
+            names,
+            codes,
+        } => plan_encode(alloc, net, name, names.as_slice(), codes.as_slice()),
+        Rule::Narrow { .. } => unreachable!(),
     }
 }
 

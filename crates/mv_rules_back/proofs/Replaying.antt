@@ -10,7 +10,7 @@ use Rattle.mv_step.specs.Certificates.{steps_of}
 use Rattle.mv_step.specs.Printed.{Lists}
 use Rattle.mv_entries_back.specs.Printable.{Printable}
 use Rattle.mv_entries_back.specs.Told.{steps_told}
-use Rattle.mv_entries_back.proofs.Printed.{steps-read, steps-back, steps-faultless}
+use Rattle.mv_entries_back.proofs.Printed.{steps-back, steps-faultless}
 
 -- the rules of some steps, in order
 abbrev rules_in : List Step → List Rule
@@ -24,8 +24,7 @@ rules_told number (Noted note ∷ es) = rules_told (number + 1) es
 
 pub print_lists : (es : List Entry) → All Printable es → Lists (lines_of (print es)) (rules_of es)
 print_lists es all = record {
-  read = steps-read es all;
-  accepted = steps-faultless es all;
+  faultless = steps-faultless es all;
   rules_are = ap rules_in (steps-back es all) ∙ rules_told 1 es;
 }
 

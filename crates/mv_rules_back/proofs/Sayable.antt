@@ -1,25 +1,27 @@
 -- The sets of a rule that applies can be said: each is some of the values of a net.
-use Rattle.std.proofs.Common.{◌≡◌, ◌∙◌, ℕ, ◌<◌, ◌≤◌, Bool, true, List, [], ◌∷◌, map, All, Option, Some, None, refl, sym, arith}
-use Rattle.std.specs.List.{flat_map}
+use Rattle.std.proofs.Common.{◌≡◌, ◌∙◌, ℕ, ◌<◌, ◌≤◌, Bool, true, ◌&&◌, ◌==◌, nat_le, nat_lt, List, [], ◌∷◌, length, map, All, Option, Some, None, refl, sym, arith, eq-eqb}
+use Rattle.std.specs.List.{flat_map, list_all}
 use Rattle.std.specs.Option.{option_to_list}
-use Rattle.std.proofs.lemmas.Bool.{and_from, lt-ltb, ltb-true}
+use Rattle.std.proofs.lemmas.Bool.{and_from, le-leb, lt-ltb, ltb-true}
 use Rattle.std.proofs.lemmas.List.Elements.{All-nil, All-cons, All-head, All-tail, All-append, All-push}
-use Rattle.mv_base.specs.declared.limits.TheConstants.{MAX_VALUES, MAX_WINDOW_STEPS}
+use Rattle.mv_base.specs.declared.limits.TheConstants.{MAX_CODE_BITS, MAX_VALUES, MAX_WINDOW_STEPS, MAX_WORD_BYTES}
 use Rattle.mv_base.proofs.Sets.{has-full}
+use Rattle.mv_coding.proofs.CodeValues.{some_bits}
 use Rattle.mv_cover.specs.Lines.{IsOutput}
 use Rattle.mv_body.specs.Bodies.{literals_said, IsTidy, IsTidyLine}
 use Rattle.mv_body.proofs.Tidying.{tidy_lines}
 use Rattle.mv_entry.specs.declared.rule.BodyLit.{BodyLit}
 use Rattle.mv_entry.specs.declared.rule.BodyLine.{BodyLine}
 use Rattle.mv_entry.specs.declared.rule.Body.{Body}
+use Rattle.mv_entry.specs.declared.rule.Code.{Code}
 use Rattle.mv_entry.specs.declared.rule.Rule.{Rule}
-use Rattle.mv_entry.specs.declared.rule.Rule.TheVariants.{Remove, Add, Divide, Wire, Collapse, Narrow, Fill, Merge}
+use Rattle.mv_entry.specs.declared.rule.Rule.TheVariants.{Remove, Add, Divide, Wire, Collapse, Narrow, Fill, Merge, Encode}
 use Rattle.mv_net.specs.declared.parts.NetParts.{NetParts}
 use Rattle.mv_net.specs.Formed.{IsLiteral, WellFormed}
 use Rattle.mv_net.specs.Nets.{slot, values_in}
 use Rattle.mv_net.proofs.Known.{values_few}
 use Rattle.mv_rules.specs.Applies.{Applies}
-use Rattle.mv_step.specs.Printed.{IsSayable, is_sayable_form, is_sayable_number}
+use Rattle.mv_step.specs.Printed.{IsSayable, is_sayable_code, is_sayable_form, is_sayable_number}
 use Rattle.mv_entries_back.specs.Printable.{line_sets, body_sets, rule_sets}
 
 -- some of the values of a net
@@ -36,6 +38,16 @@ few_steps d few = lt-ltb d 65536 (omega (arith, few))
 -- the values of a net are few
 few_value : (v values : ℕ) → v < values → values ≤ MAX_VALUES → is_sayable_number v ≡ true
 few_value v values low few = lt-ltb v 65536 (omega (arith, low, few))
+
+-- codes of so many bits
+sayable_codes : (bits : ℕ) (codes : List Code) → 0 < bits → bits ≤ MAX_CODE_BITS → All (λ (c : Code). length c.bits ≡ bits) codes → list_all (is_sayable_code bits) codes ≡ true
+sayable_codes bits [] some few all = refl
+sayable_codes bits (c ∷ cs) some few all =
+    let long = All-head (λ (d : Code). length d.bits ≡ bits) c cs all in
+    and_from (is_sayable_code bits c) (list_all (is_sayable_code bits) cs)
+    (and_from (length c.bits == bits && nat_lt 0 bits) (nat_le bits MAX_WORD_BYTES)
+    (and_from (length c.bits == bits) (nat_lt 0 bits) (eq-eqb (length c.bits) bits long) (lt-ltb 0 bits some)) (le-leb bits MAX_WORD_BYTES (omega (arith, few))))
+    (sayable_codes bits cs some few (All-tail (λ (d : Code). length d.bits ≡ bits) c cs all))
 
 module _ (net : NetParts) (formed : WellFormed net) where
   lits : (ls : List BodyLit) → All (IsLiteral net.nets) (literals_said net.nets ls) → All IsSayable (map (λ (m : BodyLit). m.set) ls)
@@ -71,9 +83,9 @@ module _ (net : NetParts) (formed : WellFormed net) where
   rule_sayable free (Fill w out) new p =
       All-cons IsSayable out [] (output (values_in (slot net.nets p.number)) out (values_few net p.number formed) p.form.output) (All-nil IsSayable)
   rule_sayable free (Merge w gone into) new p = All-nil IsSayable
-  rule_sayable free _ new p = absurd p
+  rule_sayable free (Encode w names codes) new p = All-nil IsSayable
 
-  -- its numbers too, which those of a narrowing's window are; a rule that is built has no codes
+  -- its numbers too, which those of a narrowing's window are, and its codes
   pub rule_formed : (free : Bool) (rule : Rule) (new : NetParts) → Applies free rule net new → is_sayable_form rule ≡ true
   rule_formed free (Remove w) new p = refl
   rule_formed free (Add w b) new p = refl
@@ -87,4 +99,7 @@ module _ (net : NetParts) (formed : WellFormed net) where
       let few = values_few net p.number formed in
       let values = values_in (slot net.nets p.number) in
       and_from (is_sayable_number gone.0) (is_sayable_number into.0) (few_value gone.0 values p.form.low few) (few_value into.0 values p.form.other.0 few)
-  rule_formed free _ new p = absurd p
+  rule_formed free (Encode w names codes) new p =
+      let form = p.can.form in
+      let some = some_bits (values_in (slot net.nets p.number)) (length names) codes form in
+      and_from (is_sayable_number (length names)) (list_all (is_sayable_code (length names)) codes) (lt-ltb (length names) 65536 (omega (arith, form.few))) (sayable_codes (length names) codes some form.few form.long)

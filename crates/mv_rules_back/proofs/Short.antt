@@ -8,7 +8,7 @@ use Rattle.mv_composite.specs.Composite.{composed}
 use Rattle.mv_composite.specs.Wired.{wired}
 use Rattle.mv_cover.specs.declared.cover.Cover.{Cover}
 use Rattle.mv_entry.specs.declared.rule.Rule.{Rule}
-use Rattle.mv_entry.specs.declared.rule.Rule.TheVariants.{Remove, Add, Divide, Wire, Collapse, Narrow, Fill, Merge}
+use Rattle.mv_entry.specs.declared.rule.Rule.TheVariants.{Remove, Add, Divide, Wire, Collapse, Narrow, Fill, Merge, Encode}
 use Rattle.mv_body.specs.Bodies.{cover_said}
 use Rattle.mv_meaning.specs.Rewriting.{given_table, with_net_table, rewritten, IsReformed}
 use Rattle.mv_meaning.proofs.Adding.{IsWritten-added}
@@ -22,6 +22,7 @@ use Rattle.mv_net.proofs.Patches.{IsWritten, IsWritten-gone}
 use Rattle.mv_plans.specs.Adding.{divisor_net}
 use Rattle.mv_rules.specs.Applies.{Applies}
 use Rattle.mv_plans.specs.Filling.{with_default}
+use Rattle.mv_plans.proofs.Encoded.{encoded_short}
 use Rattle.mv_plans.proofs.Merged.{merged_named}
 use Rattle.mv_rules.specs.Replaying.{Replays}
 use Rattle.mv_rules_back.specs.Names.{HasWordNames}
@@ -102,7 +103,7 @@ words_kept free (Fill w out) old new names p =
     (written_short old.nets p.number given (with_net_table old.nets p.number table) (IsWritten-given old.nets p.number table) (given_short table (slot old.nets p.number) (names.short p.number)) names)
 words_kept free (Merge w gone into) old new names p =
     record { short = λ k. subst (λ v. length v ≤ MAX_WORD_BYTES) (sym (merged_named old w gone into new p k)) (names.short k) }
-words_kept free _ old new names p = absurd p
+words_kept free (Encode w bits codes) old new names p = record { short = λ k. encoded_short old w bits codes new p k (names.short k) }
 
 pub replayed_words : (free : Bool) (rules : List Rule) (old new : NetParts) → HasWordNames old.nets → Replays free rules old new → HasWordNames new.nets
 replayed_words free [] old new names p = subst (λ (m : NetParts). HasWordNames m.nets) (sym p) names

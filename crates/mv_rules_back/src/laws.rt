@@ -19,24 +19,32 @@ ghost use Rattle.mv_rules_back.specs.Notes.{notes_of, IsPrintableNote};
 /// of a reset net, and stay so under each rule that applies, and under rules that apply in turn.
 pub fn name_laws()
     ensures short { (nets : List (Option FlatNet))
-        → All (λ (o : Option FlatNet). IfSome o (λ (f : FlatNet). length f.name ≤ MAX_FLAT_NAME_BYTES + 1)) nets → HasWordNames nets }
-    ensures kept { (free : Bool) (rule : Rule) (old new : NetParts) → HasWordNames old.nets → Applies free rule old new → HasWordNames new.nets }
-    ensures replayed { (free : Bool) (rules : List Rule) (old new : NetParts) → HasWordNames old.nets → Replays free rules old new
+        → All (λ (o : Option FlatNet). IfSome o
+        (λ (f : FlatNet). length f.name ≤ MAX_FLAT_NAME_BYTES + 1)) nets → HasWordNames nets }
+    ensures kept { (free : Bool) (rule : Rule) (old new : NetParts) → HasWordNames old.nets
+        → Applies free rule old new → HasWordNames new.nets }
+    ensures replayed { (free : Bool) (rules : List Rule) (old new : NetParts)
+        → HasWordNames old.nets → Replays free rules old new
         → HasWordNames new.nets }
 {}
 
 /// A rule that applies can be printed, and so can rules that apply in turn, with notes between them that can be printed.
 pub fn rule_laws()
-    ensures one { (free : Bool) (rule : Rule) (old new : NetParts) → WellFormed old → HasWordNames old.nets → Applies free rule old new
+    ensures one { (free : Bool) (rule : Rule) (old new : NetParts) → WellFormed old
+        → HasWordNames old.nets → Applies free rule old new
         → Printable (Applied rule) }
-    ensures all { (free : Bool) (es : List Entry) (old new : NetParts) → WellFormed old → HasWordNames old.nets
-        → All IsPrintableNote (notes_of es) → Replays free (rules_of es) old new → All Printable es }
+    ensures all { (free : Bool) (es : List Entry) (old new : NetParts) → WellFormed old
+        → HasWordNames old.nets
+        → All IsPrintableNote (notes_of es) → Replays free (rules_of es) old new
+        → All Printable es }
 {}
 
 /// The text of entries is read back as a certificate of the rules among them, which apply where these do and leave the same
 /// network.
 pub fn replay_laws()
-    ensures lists { (es : List Entry) → All Printable es → Lists (lines_of (print es)) (rules_of es) }
-    ensures replays { (free : Bool) (es : List Entry) (old new : NetParts) → All Printable es → Replays free (rules_of es) old new
+    ensures lists { (es : List Entry) → All Printable es
+        → Lists (lines_of (print es)) (rules_of es) }
+    ensures replays { (free : Bool) (es : List Entry) (old new : NetParts) → All Printable es
+        → Replays free (rules_of es) old new
         → Replays free (map (λ (s : Step). s.rule) (steps_of (lines_of (print es)))) old new }
 {}

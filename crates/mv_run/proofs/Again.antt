@@ -1,8 +1,8 @@
 -- A check of what an earlier run noted, and certificates that a check refuses.
-use Rattle.std.proofs.Common.{◌≡◌, ◌∙◌, ◌⊎◌, ℕ, Bool, ◌≤◌, zero, suc, List, ◌++◌, length, Option, Some, None, inl, inr, refl, sym, subst, arith, ⊎_elim}
-use Rattle.std.specs.Prelude.{IfSome, IsSomeAnd}
+use Rattle.std.proofs.Common.{◌≡◌, ◌∙◌, ◌⊎◌, ℕ, Bool, ◌≤◌, is_some, List, [], ◌∷◌, ◌++◌, length, Option, Some, None, inl, inr, refl, sym, ap, subst, arith, ⊎_elim}
+use Rattle.std.specs.Prelude.{IfSome, IsTrue, IsSomeAnd}
 use Rattle.std.proofs.lemmas.List.{append_cancel_left}
-use Rattle.mv_base.specs.Outside.{Held, Stored, Written, Still, Gained, file_named}
+use Rattle.mv_base.specs.Outside.{Held, Stored, Gained, Rose, file_named}
 use Rattle.mv_base.specs.declared.limits.TheConstants.{MAX_CERTIFICATE_BYTES}
 use Rattle.mv_lex.specs.Lines.{lines_of}
 use Rattle.mv_parse_laws.proofs.FileLines.{lines-ascend}
@@ -10,168 +10,144 @@ use Rattle.mv_entry.specs.declared.fault.RuleFault.{RuleFault}
 use Rattle.mv_net.specs.declared.parts.NetParts.{NetParts}
 use Rattle.mv_read.proofs.OneNetwork.{one_network}
 use Rattle.mv_rules.specs.Replaying.{Replays}
-use Rattle.mv_cert.specs.Certificates.{IsCertificate, Certifies, steps_in}
+use Rattle.mv_step.specs.declared.step.Step.{Step}
+use Rattle.mv_cert.specs.Certificates.{Certifies, steps_in}
 use Rattle.mv_cert.specs.Replay.{FailsAt, rules_in}
 use Rattle.mv_cert.proofs.Replayed.{never_both, one_outcome}
-use Rattle.mv_text.specs.Text.{text_of}
-use Rattle.mv_rules.specs.declared.terms.Terms.{Terms}
-use Rattle.mv_task.specs.Faults.{RefusesNetwork, TellsFault}
-use Rattle.mv_task.specs.Inputs.{File, named}
-use Rattle.mv_task.specs.Made.{IsNetOfText, WasPrepared, Prepared}
-use Rattle.mv_task.specs.Taken.{IsTaken, IsRefused, IsUnhindered}
-use Rattle.mv_task.proofs.Exactness.{taken_faulty}
-use Rattle.mv_task.proofs.Networks.{text_accepted}
+use Rattle.mv_check.specs.Certificates.{SaysSteps, certificate_stage}
+use Rattle.mv_check.specs.Checked.{check_task, check_work, HasReplayed, RefusesRule}
+use Rattle.mv_opt.specs.declared.output.Output.TheVariants.{Network}
 use Rattle.mv_opt.specs.Noted.{all_notes}
-use Rattle.mv_opt.specs.Optimised.{Told, IsOptimised, Optimises}
-use Rattle.mv_check.specs.Certificates.{IsNamed}
-use Rattle.mv_check.specs.Checked.{IsCertified, TellsText, TellsRule, Checks}
-use Rattle.mv_check.proofs.Takes.{refused_none}
-use Rattle.mv_run.specs.Again.{HoldsNoted, WriteSame, HoldsFailing, HoldsRefused}
-
--- ---- what files tell
+use Rattle.mv_opt.specs.Optimised.{opt_task, opt_work}
+use Rattle.mv_opt.specs.Scripts.{script_stage}
+use Rattle.mv_rules.specs.declared.terms.Terms.{Terms}
+use Rattle.mv_script.specs.Grammar.{IsScript}
+use Rattle.mv_text.specs.Text.{text_of}
+use Rattle.mv_task.specs.Ends.{Outside, Ends, Refused, Unread, Short, Worked, WorkEnds, Done, OutputCut, NotesCut, Stopped, Own, Says, work_on_both}
+use Rattle.mv_task.specs.Exact.{IsUnhindered}
+use Rattle.mv_task.specs.Formats.{IsNetOfText, blif_mv, network_stage}
+use Rattle.mv_task.specs.Sources.{File, IsContent, starts_with}
+use Rattle.mv_task.specs.Stages.{Takes, AreTaken, FirstOf, EndsRefused, IsRefused}
+use Rattle.mv_task.proofs.Contents.{told_sound}
+use Rattle.mv_task.proofs.Endings.{BothDone, both_done, ends_exact, ends_complete, ends_worked}
+use Rattle.mv_task.proofs.Networks.{text_accepted}
+use Rattle.mv_run.specs.Again.{HoldsNoted, WriteSame, HoldsBoth, HoldsFailing, HoldsReplay, HoldsRefused}
 
 same_content : (a b : List ℕ) → Some a ≡ Some b → a ≡ b
 same_content a b e = cc
-
--- a network that was prepared is that of the named file
-prepared_of : (name : List ℕ) (old : Held) (new : Option Held) (net : NetParts) → Still (Some old) new (λ b a. WasPrepared name b a net) → IsTaken (λ text. IsNetOfText text net) name old
-prepared_of name old None net p = absurd p
-prepared_of name old (Some new) net p = record { content = p.content; named = p.held; accepted = p.net_of }
 
 -- a text has one network
 one_first : (text : List ℕ) (one other : NetParts) → IsNetOfText text one → IsNetOfText text other → one ≡ other
 one_first text one other p q = one_network (lines_of text) one other (lines-ascend text) p.net_of q.net_of
 
--- ---- a status
+-- ---- a certificate and a network
 
--- what is so of each status up to 7 is so of all of them
-each_status : (P : ℕ → Type 0) (status : ℕ) → status ≤ 7 → P 0 → P 1 → P 2 → P 3 → P 4 → P 5 → P 6 → P 7 → P status
-each_status P zero most a b c d e f g h = a
-each_status P (suc zero) most a b c d e f g h = b
-each_status P (suc (suc zero)) most a b c d e f g h = c
-each_status P (suc (suc (suc zero))) most a b c d e f g h = d
-each_status P (suc (suc (suc (suc zero)))) most a b c d e f g h = e
-each_status P (suc (suc (suc (suc (suc zero))))) most a b c d e f g h = f
-each_status P (suc (suc (suc (suc (suc (suc zero)))))) most a b c d e f g h = g
-each_status P (suc (suc (suc (suc (suc (suc (suc zero))))))) most a b c d e f g h = h
-each_status P (suc (suc (suc (suc (suc (suc (suc (suc n)))))))) most a b c d e f g h = absurd (omega (arith, most))
+module _ (free : Bool) (bytes text : List ℕ) where
+  -- what a check does with them, and the rule that it refuses
+  abbrev Leads : List ℕ → List ℕ → Type 0
+  Leads noted written = Says SaysSteps bytes (λ steps. Says IsNetOfText text (λ first. HasReplayed free steps first noted written))
 
--- ---- a check on files that tell the network file and the certificate
+  abbrev Fails : ℕ → List ℕ → Type 0
+  Fails status line = Says SaysSteps bytes (λ steps. Says IsNetOfText text (λ first. RefusesRule free steps first status line))
 
-module _ (free : Bool) (net certificate : List ℕ) (old new : Stored) (out out' notes notes' : Written) (held : Held) (told : old.held ≡ Some held)
-    (first : NetParts) (network : IsTaken (λ text. IsNetOfText text first) net held) (bytes : List ℕ) (named_so : file_named certificate held.files ≡ Some bytes) where
-  -- it begins with this network
-  first_is : (other : NetParts) → Prepared (File net) old new other → other ≡ first
-  first_is other p =
-      let taken = prepared_of net held new.held other (subst (λ z. Still z new.held (λ b a. WasPrepared net b a other)) told p) in
-      let same = same_content taken.content network.content (sym taken.named ∙ network.named) in
-      one_first network.content other first (subst (λ t. IsNetOfText t other) same taken.accepted) network.accepted
+  -- where a rule fails they lead nowhere
+  never_leads : (first last : NetParts) (line : ℕ) (fault : RuleFault) → IsNetOfText text first → FailsAt free (steps_in bytes) first last line fault → (noted written : List ℕ) → Leads noted written → ⊥
+  never_leads first last line fault said fails noted written l =
+      let inner = l.holds in
+      let replays : Replays free (rules_in (steps_in bytes)) inner.value inner.holds.net = subst (λ ss. Replays free (rules_in ss) inner.value inner.holds.net) l.said.are inner.holds.replays in
+      never_both free (steps_in bytes) first inner.holds.net last line fault said.formed
+      (subst (λ f. Replays free (rules_in (steps_in bytes)) f inner.holds.net) (one_first text inner.value first inner.said said) replays) fails
 
-  -- and its certificate is this one
-  bytes_are : (content : List ℕ) → IsNamed certificate old content → content ≡ bytes
-  bytes_are content is =
-      same_content content bytes (sym (subst (λ z. IfSome z (λ h. file_named certificate h.files ≡ Some content)) told is) ∙ named_so)
+  -- where they lead somewhere no rule fails
+  never_fails : ((first : NetParts) → IsNetOfText text first → (last : NetParts) × Certifies free bytes first last) → (status : ℕ) (line : List ℕ) → Fails status line → ⊥
+  never_fails leads status line r =
+      let inner = r.holds in
+      let led = leads inner.value inner.said in
+      never_both free (steps_in bytes) inner.value led.0 inner.holds.net inner.holds.at inner.holds.fault inner.said.formed led.1.replays
+      (subst (λ ss. FailsAt free ss inner.value inner.holds.net inner.holds.at inner.holds.fault) r.said.are inner.holds.fails)
 
-  -- the network isn't refused
-  never_network : TellsFault (File net) old notes notes' → ⊥
-  never_network t =
-      taken_faulty (File net) held t.fault
-      (record { content = network.content; named = network.named; accepted = text_accepted network.content first network.accepted })
-      (subst (λ z. IfSome z (RefusesNetwork (File net) t.fault)) told t.refuses)
-
-  -- where the certificate leads to a network, neither its text nor a rule of it is refused
-  never_text : IsCertificate bytes → TellsText certificate old new notes notes' → ⊥
-  never_text accepted t =
-      refused_none t.refuses.content t.fault t.refuses.refused (subst IsCertificate (sym (bytes_are t.refuses.content t.refuses.named)) accepted)
-
-  never_rule : (last : NetParts) → Replays free (rules_in (steps_in bytes)) first last → TellsRule free net certificate old new notes notes' → ⊥
-  never_rule last replays t =
-      let fails = subst (λ c. FailsAt free (steps_in c) t.first t.net t.line t.fault) (bytes_are t.certificate t.named) t.fails in
-      never_both free (steps_in bytes) first last t.net t.line t.fault network.accepted.formed replays
-      (subst (λ f. FailsAt free (steps_in bytes) f t.net t.line t.fault) (first_is t.first t.made) fails)
-
-  -- what it was checked to lead to, it leads to
-  leads : (begin last : NetParts) → IsCertified free net certificate old new begin last → Certifies free bytes first last
-  leads begin last c =
-      subst (λ f. Certifies free bytes f last) (first_is begin c.made) (subst (λ b. Certifies free b begin last) (bytes_are c.certificate c.named) c.certifies)
-
-  -- where a rule of it fails, it leads nowhere
-  never_leads : (at : NetParts) (line : ℕ) (fault : RuleFault) → FailsAt free (steps_in bytes) first at line fault → (begin last : NetParts) → IsCertified free net certificate old new begin last → ⊥
-  never_leads at line fault fails begin last c =
-      never_both free (steps_in bytes) first last at line fault network.accepted.formed (leads begin last c).replays fails
-
-  -- a check of a certificate that leads to a network is refused for neither of the files
-  led_status : (last : NetParts) → Certifies free bytes first last → (status : ℕ) → Checks free net certificate old new out out' notes notes' status → (status ≡ 0) ⊎ (status ≡ 4) ⊎ (status ≡ 5) ⊎ (status ≡ 6)
-  led_status last c status checks =
-      each_status (λ s. status ≡ s → (status ≡ 0) ⊎ (status ≡ 4) ⊎ (status ≡ 5) ⊎ (status ≡ 6)) status checks.known
-      (λ e. inl e)
-      (λ e. absurd (checks.words_accepted e))
-      (λ e. absurd (never_network (checks.network e)))
-      (λ e. absurd (checks.no_script e))
-      (λ e. inr (inl e))
-      (λ e. inr (inr (inl e)))
-      (λ e. inr (inr (inr e)))
-      (λ e. absurd (⊎_elim (λ (t : TellsText certificate old new notes notes'). never_text c.accepted t) (λ (t : TellsRule free net certificate old new notes notes'). never_rule last c.replays t) (checks.certificate e)))
-      refl
-
-  -- a check of a certificate of which a rule fails ends with 7
-  failed_status : (at : NetParts) (line : ℕ) (fault : RuleFault) → FailsAt free (steps_in bytes) first at line fault → (status : ℕ) → Checks free net certificate old new out out' notes notes' status → IsUnhindered status → status ≡ 7
-  failed_status at line fault fails status checks unhindered =
-      each_status (λ s. status ≡ s → status ≡ 7) status checks.known
-      (λ e. let done = checks.done e in absurd (never_leads at line fault fails done.first done.net done.certified))
-      (λ e. absurd (checks.words_accepted e))
-      (λ e. absurd (never_network (checks.network e)))
-      (λ e. absurd (checks.no_script e))
-      (λ e. absurd (unhindered.read e))
-      (λ e. let cut = checks.cut e in absurd (never_leads at line fault fails cut.first cut.net cut.certified))
-      (λ e. absurd (unhindered.memory e))
-      (λ e. e)
-      refl
+both_taken : (net certificate : List ℕ) (files : Stored) (h : HoldsBoth net certificate files) → AreTaken (certificate_stage certificate ∷ network_stage blif_mv (File net) ∷ []) files (h.bytes ∷ h.text ∷ [])
+both_taken net certificate files h = (h.rules, (h.network, tt))
 
 -- ---- certificates that are refused
 
--- a text that is refused
-text_refused : (free : Bool) (certificate content : List ℕ) (held : Option Held) → IfSome held (λ h. file_named certificate h.files ≡ Some content) → (IsCertificate content → ⊥) → (net : List ℕ) → IfSome held (HoldsRefused free net certificate)
-text_refused free certificate content None is never net = tt
-text_refused free certificate content (Some h) is never net = inl (record { content = content; named = is; refused = never })
+module _ (free : Bool) (net certificate : List ℕ) (old new : Outside) where
+  refused_of : (status : ℕ) (line : List ℕ) → status ≡ 7 → FirstOf (EndsRefused status line old.files new.files) (check_task free net certificate).stages old.files old.files.starts → HoldsRefused free net certificate old.files
+  refused_of status line e first =
+      ⊎_elim
+      (λ (r : EndsRefused status line old.files new.files (certificate_stage certificate) (starts_with (File certificate) old.files.starts)).
+      inl (record { content = r.faulty.content; is = r.faulty.is; refused = r.faulty.refused }))
+      (λ (r : (content : List ℕ) × (Takes (certificate_stage certificate) old.files content × FirstOf (EndsRefused status line old.files new.files) (network_stage blif_mv (File net) ∷ []) old.files (starts_with (File certificate) old.files.starts))).
+      ⊎_elim
+      (λ (n : EndsRefused status line old.files new.files (network_stage blif_mv (File net)) (starts_with (File net) (starts_with (File certificate) old.files.starts))). let is = n.is in absurd (omega (arith, is, e)))
+      (λ (n : (content : List ℕ) × (Takes (network_stage blif_mv (File net)) old.files content × ⊥)). absurd n.1.1)
+      r.1.1)
+      first
 
--- a rule that fails
-rule_refused : (free : Bool) (net certificate : List ℕ) (held new : Option Held) (first last : NetParts) (line : ℕ) (fault : RuleFault) (content : List ℕ)
-    → Still held new (λ b a. WasPrepared net b a first) → IfSome held (λ h. file_named certificate h.files ≡ Some content) → IsCertificate content → FailsAt free (steps_in content) first last line fault
-    → IfSome held (HoldsRefused free net certificate)
-rule_refused free net certificate None new first last line fault content p is accepted fails = tt
-rule_refused free net certificate (Some h) new first last line fault content p is accepted fails = inr (record {
-  first = first;
-  network = prepared_of net h new first p;
-  rules = record { content = content; named = is; accepted = accepted };
-  last = last;
-  line = line;
-  fault = fault;
-  fails = fails;
-})
+  failing_of : (status : ℕ) (line : List ℕ) (contents : List (List ℕ)) → AreTaken (check_task free net certificate).stages old.files contents → ((check_task free net certificate).work contents).Refuses status line → HoldsRefused free net certificate old.files
+  failing_of status line [] taken r = absurd r
+  failing_of status line (a ∷ []) taken r = absurd r
+  failing_of status line (a ∷ b ∷ []) taken r =
+      let inner = r.holds in
+      inr (record {
+        both = record { text = b; network = taken.1.0; bytes = a; rules = taken.0 };
+        first = inner.value;
+        says = inner.said;
+        last = inner.holds.net;
+        line = inner.holds.at;
+        fault = inner.holds.fault;
+        fails = subst (λ ss. FailsAt free ss inner.value inner.holds.net inner.holds.at inner.holds.fault) r.said.are inner.holds.fails;
+      })
+  failing_of status line (a ∷ b ∷ c ∷ cs) taken r = absurd r
 
-pub only_refused : (free : Bool) (net certificate : List ℕ) (files files' : Stored) (out out' notes notes' : Written) → Checks free net certificate files files' out out' notes notes' 7 → IfSome files.held (HoldsRefused free net certificate)
-only_refused free net certificate files files' out out' notes notes' checks =
-    ⊎_elim
-    (λ (t : TellsText certificate files files' notes notes').
-    text_refused free certificate t.refuses.content files.held t.refuses.named (λ c. refused_none t.refuses.content t.fault t.refuses.refused c) net)
-    (λ (t : TellsRule free net certificate files files' notes notes').
-    rule_refused free net certificate files.held files'.held t.first t.net t.line t.fault t.certificate t.made t.named t.accepted t.fails)
-    (checks.certificate refl)
+  only_of : (status : ℕ) (contents : List (List ℕ)) → status ≡ 7 → AreTaken (check_task free net certificate).stages old.files contents → WorkEnds ((check_task free net certificate).work contents) old.sinks new.sinks status → HoldsRefused free net certificate old.files
+  only_of status contents e taken (Done is done) = absurd (omega arith)
+  only_of status contents e taken (OutputCut is rose noted written does notes part) = absurd (omega arith)
+  only_of status contents e taken (NotesCut is rose untouched noted does part) = absurd (omega arith)
+  only_of status contents e taken (Stopped is untouched noted stops tells) = absurd (omega arith)
+  only_of status contents e taken (Own apart untouched line refuses tells) = failing_of status line contents taken refuses
 
--- where the files tell, what they hold is so of them
-at_held : (P : Held → Type 0) (Q : Type 0) (o held : Option Held) → o ≡ held → IsSomeAnd held P → ((h : Held) → o ≡ Some h → P h → Q) → Q
-at_held P Q o None e p then_so = absurd p
-at_held P Q o (Some h) e p then_so = then_so h e p
+  refused_only : (status : ℕ) → status ≡ 7 → Ends (check_task free net certificate) old new status → HoldsRefused free net certificate old.files
+  refused_only status e (Refused apart line first untouched tells) = refused_of status line e first
+  refused_only status e (Unread is rose first untouched tells) = absurd (omega arith)
+  refused_only status e (Short is begun untouched tells) = absurd (omega arith)
+  refused_only status e (Worked contents read ends) = only_of status contents e read.taken ends
 
-pub always_refused : (free : Bool) (net certificate : List ℕ) (files files' : Stored) (out out' notes notes' : Written) (status : ℕ) → Checks free net certificate files files' out out' notes notes' status → IsSomeAnd files.held (HoldsRefused free net certificate) → IsUnhindered status → status ≡ 7
-always_refused free net certificate files files' out out' notes notes' status checks refused unhindered =
-    at_held (HoldsRefused free net certificate) (status ≡ 7) files.held files.held refl refused (λ h told r.
-    ⊎_elim
-    (λ (text : IsRefused IsCertificate certificate h). checks.exact.second_refused (subst (λ z. IsSomeAnd z (IsRefused IsCertificate certificate)) (sym told) text) unhindered)
-    (λ (rule : HoldsFailing free net certificate h).
-    failed_status free net certificate files files' out out' notes notes' h told rule.first rule.network rule.rules.content rule.rules.named rule.last rule.line rule.fault rule.fails status checks unhindered)
-    r)
+  pub only_refused : Ends (check_task free net certificate) old new 7 → HoldsRefused free net certificate old.files
+  only_refused ends = refused_only 7 refl ends
+
+  -- a check of a certificate of which a rule fails
+  failed_work : (status : ℕ) (h : HoldsFailing free net certificate old.files) → WorkEnds ((check_task free net certificate).work (h.both.bytes ∷ h.both.text ∷ [])) old.sinks new.sinks status → IsUnhindered status → status ≡ 7
+  failed_work status h (Done is done) u = absurd (never_leads free h.both.bytes h.both.text h.first h.last h.line h.fault h.says h.fails done.noted done.written done.does)
+  failed_work status h (OutputCut is rose noted written does notes part) u = absurd (never_leads free h.both.bytes h.both.text h.first h.last h.line h.fault h.says h.fails noted written does)
+  failed_work status h (NotesCut is rose untouched noted does part) u =
+      absurd
+      (⊎_elim
+      (λ (n : Says SaysSteps h.both.bytes (λ steps. Says IsNetOfText h.both.text (λ first. ⊥))). n.holds.holds)
+      (λ (l : (written : List ℕ) × Leads free h.both.bytes h.both.text noted written). never_leads free h.both.bytes h.both.text h.first h.last h.line h.fault h.says h.fails noted l.0 l.1)
+      does)
+  failed_work status h (Stopped is untouched noted stops tells) u = absurd (u.memory is)
+  failed_work status h (Own apart untouched line refuses tells) u = refuses.holds.holds.is
+
+  pub always_refused : (status : ℕ) → Ends (check_task free net certificate) old new status → IsTrue (is_some old.files.held) → HoldsRefused free net certificate old.files → IsUnhindered status → status ≡ 7
+  always_refused status ends told refused u =
+      ⊎_elim
+      (λ (r : IsRefused (certificate_stage certificate) old.files). ends_exact (check_task free net certificate) old new status ends 7 told (inl (record { is = refl; refused = r })) u)
+      (λ (h : HoldsFailing free net certificate old.files).
+      ⊎_elim
+      (λ (e : (status ≡ 4) ⊎ (status ≡ 6)). absurd (⊎_elim (λ (e : status ≡ 4). u.read e) (λ (e : status ≡ 6). u.memory e) e))
+      (λ (w : WorkEnds ((check_task free net certificate).work (h.both.bytes ∷ h.both.text ∷ [])) old.sinks new.sinks status). failed_work status h w u)
+      (ends_worked (check_task free net certificate) old new status (h.both.bytes ∷ h.both.text ∷ []) ends told (both_taken net certificate old.files h.both)))
+      refused
+
+  pub replays_end : (status : ℕ) → Ends (check_task free net certificate) old new status → IsSomeAnd old.files.held (λ held. IsTrue held.sound) → HoldsReplay free net certificate old.files
+      → (Rose old.sinks.out.faults new.sinks.out.faults → ⊥) → (Rose old.sinks.notes.faults new.sinks.notes.faults → ⊥) → (status ≡ 0) ⊎ (status ≡ 6)
+  replays_end status ends sound h o n =
+      ⊎_elim
+      (λ (e : status ≡ 0). inl e)
+      (λ (e : (status ≡ 6) ⊎ ((line : List ℕ) × Fails free h.both.bytes h.both.text status line)).
+      ⊎_elim (λ (e : status ≡ 6). inr e) (λ (r : (line : List ℕ) × Fails free h.both.bytes h.both.text status line). absurd (never_fails free h.both.bytes h.both.text h.leads status r.0 r.1)) e)
+      (ends_complete (check_task free net certificate) old new status ends (h.both.bytes ∷ h.both.text ∷ []) sound (both_taken net certificate old.files h.both) o n)
 
 -- ---- what an earlier run noted
 
@@ -181,46 +157,75 @@ gained_is had noted text before after b a g =
     let gained : after ≡ Some (had ++ text) = subst (λ z. IfSome z (λ h. after ≡ Some (h ++ text))) b g in
     append_cancel_left had text noted (same_content (had ++ text) (had ++ noted) (sym gained ∙ a))
 
-module _ (terms : Terms) (net script certificate : List ℕ) (files files' later later' : Stored) (out out' notes notes' : Written)
-    (optimised : IsOptimised terms (named net script) files files' out out' notes notes') (holds : HoldsNoted net certificate files later notes notes') where
-  -- the later run's network file says the same network
-  network_again : IsTaken (λ text. IsNetOfText text optimised.first) net holds.now
-  network_again =
-      let taken = prepared_of net holds.before files'.held optimised.first (subst (λ z. Still z files'.held (λ b a. WasPrepared net b a optimised.first)) holds.told optimised.made) in
-      record { content = taken.content; named = holds.network ∙ taken.named; accepted = taken.accepted }
+-- what is there, where the files tell
+told_content : (name content : List ℕ) (held : Option Held) (h : Held) → held ≡ Some h → IfSome held (λ h. file_named name h.files ≡ Some content) → file_named name h.files ≡ Some content
+told_content name content held h told is = subst (λ z. IfSome z (λ h. file_named name h.files ≡ Some content)) told is
+
+tells_content : (name content : List ℕ) (held : Option Held) (h : Held) → held ≡ Some h → file_named name h.files ≡ Some content → IfSome held (λ h. file_named name h.files ≡ Some content)
+tells_content name content held h told is = subst (λ z. IfSome z (λ h. file_named name h.files ≡ Some content)) (sym told) is
+
+module _ (terms : Terms) (net script certificate : List ℕ) (old new later later' : Outside)
+    (d : BothDone IsScript IsNetOfText (opt_work terms Network) (script_stage script) (network_stage blif_mv (File net)) old new) (holds : HoldsNoted net certificate old.files later.files old.sinks.notes new.sinks.notes) where
+  -- the later run has the same network file
+  same_file : file_named net holds.now.files ≡ Some d.b
+  same_file = holds.network ∙ told_content net d.b old.files.held holds.before holds.told d.second.is
 
   -- and its certificate leads to what the earlier run left
-  leads_again : Certifies terms.free holds.noted optimised.first optimised.net
+  leads_again : Certifies terms.free holds.noted d.w d.does.net
   leads_again =
-      let all = all_notes optimised.told.entries optimised.first optimised.net in
-      let same = gained_is holds.had holds.noted all notes.told notes'.told holds.first holds.gained optimised.told.noted in
-      let P : List ℕ → Type 0 = λ n. length n ≤ MAX_CERTIFICATE_BYTES → Certifies terms.free n optimised.first optimised.net in
-      let certified : P holds.noted = subst P same optimised.told.certified in
+      let same = sym d.does.noted_is ∙ gained_is holds.had holds.noted d.noted old.sinks.notes.told new.sinks.notes.told holds.first holds.gained d.notes in
+      let P : List ℕ → Type 0 = λ n. length n ≤ MAX_CERTIFICATE_BYTES → Certifies terms.free n d.w d.does.net in
+      let certified : P holds.noted = subst P same d.does.certified in
       certified holds.short
 
-  status_again : (again again' told told' : Written) (status : ℕ) → Checks terms.free net certificate later later' again again' told told' status → (status ≡ 0) ⊎ (status ≡ 4) ⊎ (status ≡ 5) ⊎ (status ≡ 6)
-  status_again again again' told told' status checks =
-      led_status terms.free net certificate later later' again again' told told' holds.now holds.tell optimised.first network_again holds.noted holds.named optimised.net leads_again status checks
+  both_again : HoldsBoth net certificate later.files
+  both_again = record {
+    text = d.b;
+    network = record { is = tells_content net d.b later.files.held holds.now holds.tell same_file; accepted = text_accepted d.b d.w d.speaks };
+    bytes = holds.noted;
+    rules = record { is = tells_content certificate holds.noted later.files.held holds.now holds.tell holds.named; accepted = leads_again.accepted };
+  }
 
-  same_again : (again again' told told' : Written) → Checks terms.free net certificate later later' again again' told told' 0 → WriteSame out out' again again'
-  same_again again again' told told' checks =
-      let done = checks.done refl in
-      let led = leads terms.free net certificate later later' again again' told told' holds.now holds.tell optimised.first network_again holds.noted holds.named done.first done.net done.certified in
-      let same = one_outcome terms.free holds.noted optimised.first done.net optimised.net network_again.accepted.formed led leads_again in
-      record {
-        text = text_of optimised.net;
-        first = optimised.replaces.gained;
-        second = subst (λ n. Gained again again' (text_of n)) same done.replaced.gained;
-      }
+  leads_from : (first : NetParts) → IsNetOfText d.b first → (last : NetParts) × Certifies terms.free holds.noted first last
+  leads_from first said = (d.does.net, subst (λ f. Certifies terms.free holds.noted f d.does.net) (one_first d.b d.w first d.speaks said) leads_again)
 
-pub writes_same : (terms : Terms) (net script certificate : List ℕ) (files files' later later' : Stored) (out out' notes notes' again again' told told' : Written)
-    → Optimises terms (named net script) files files' out out' notes notes' 0 → HoldsNoted net certificate files later notes notes'
-    → Checks terms.free net certificate later later' again again' told told' 0 → WriteSame out out' again again'
-writes_same terms net script certificate files files' later later' out out' notes notes' again again' told told' optimises holds checks =
-    same_again terms net script certificate files files' later later' out out' notes notes' (optimises.done refl) holds again again' told told' checks
+  work_again : (status : ℕ) → WorkEnds (work_on_both SaysSteps IsNetOfText (check_work terms.free) (holds.noted ∷ d.b ∷ [])) later.sinks later'.sinks status → (status ≡ 0) ⊎ (status ≡ 4) ⊎ (status ≡ 5) ⊎ (status ≡ 6)
+  work_again status (Done is done) = inl is
+  work_again status (OutputCut is rose noted written does notes part) = inr (inr (inl is))
+  work_again status (NotesCut is rose untouched noted does part) = inr (inr (inl is))
+  work_again status (Stopped is untouched noted stops tells) = inr (inr (inr is))
+  work_again status (Own apart untouched line refuses tells) = absurd (never_fails terms.free holds.noted d.b leads_from status line refuses)
 
-pub is_accepted : (terms : Terms) (net script certificate : List ℕ) (files files' later later' : Stored) (out out' notes notes' again again' told told' : Written) (status : ℕ)
-    → Optimises terms (named net script) files files' out out' notes notes' 0 → HoldsNoted net certificate files later notes notes'
-    → Checks terms.free net certificate later later' again again' told told' status → (status ≡ 0) ⊎ (status ≡ 4) ⊎ (status ≡ 5) ⊎ (status ≡ 6)
-is_accepted terms net script certificate files files' later later' out out' notes notes' again again' told told' status optimises holds checks =
-    status_again terms net script certificate files files' later later' out out' notes notes' (optimises.done refl) holds again again' told told' status checks
+  told_later : (o : Option Held) (h : Held) → o ≡ Some h → IsTrue (is_some o)
+  told_later o h e = ap (λ z. is_some z) e
+
+  status_again : (status : ℕ) → Ends (check_task terms.free net certificate) later later' status → (status ≡ 0) ⊎ (status ≡ 4) ⊎ (status ≡ 5) ⊎ (status ≡ 6)
+  unfolding both_again
+  status_again status ends =
+      ⊎_elim
+      (λ (e : (status ≡ 4) ⊎ (status ≡ 6)). ⊎_elim (λ (e : status ≡ 4). inr (inl e)) (λ (e : status ≡ 6). inr (inr (inr e))) e)
+      (work_again status)
+      (ends_worked (check_task terms.free net certificate) later later' status (holds.noted ∷ d.b ∷ []) ends (told_later later.files.held holds.now holds.tell) (both_taken net certificate later.files both_again))
+
+  same_again : BothDone SaysSteps IsNetOfText (check_work terms.free) (certificate_stage certificate) (network_stage blif_mv (File net)) later later' → WriteSame old.sinks.out new.sinks.out later.sinks.out later'.sinks.out
+  same_again e =
+      let text = same_content e.b d.b (sym (told_content net e.b later.files.held holds.now holds.tell e.second.is) ∙ same_file) in
+      let bytes = same_content e.a holds.noted (sym (told_content certificate e.a later.files.held holds.now holds.tell e.first.is) ∙ holds.named) in
+      let first = one_first d.b e.w d.w (subst (λ t. IsNetOfText t e.w) text e.speaks) d.speaks in
+      let steps = e.says.are ∙ ap steps_in bytes in
+      let replays : Replays terms.free (rules_in (steps_in holds.noted)) e.w e.does.net = subst (λ ss. Replays terms.free (rules_in ss) e.w e.does.net) steps e.does.replays in
+      let led : Certifies terms.free holds.noted d.w e.does.net = record { accepted = leads_again.accepted; replays = subst (λ f. Replays terms.free (rules_in (steps_in holds.noted)) f e.does.net) first replays } in
+      let same = one_outcome terms.free holds.noted d.w e.does.net d.does.net d.speaks.formed led leads_again in
+      record { text = d.written; first = d.out; second = subst (λ t. Gained later.sinks.out later'.sinks.out t) (e.does.written_is ∙ ap text_of same ∙ sym d.does.written_is) e.out }
+
+module _ (terms : Terms) (net script certificate : List ℕ) (old new later later' : Outside) (ends : Ends (opt_task terms (File net) script) old new 0) (holds : HoldsNoted net certificate old.files later.files old.sinks.notes new.sinks.notes) where
+  done : BothDone IsScript IsNetOfText (opt_work terms Network) (script_stage script) (network_stage blif_mv (File net)) old new
+  done = both_done IsScript IsNetOfText (opt_work terms Network) (script_stage script) (network_stage blif_mv (File net)) old new 0 ends refl
+
+  pub writes_same : Ends (check_task terms.free net certificate) later later' 0 → WriteSame old.sinks.out new.sinks.out later.sinks.out later'.sinks.out
+  writes_same checks =
+      same_again terms net script certificate old new later later' done holds
+      (both_done SaysSteps IsNetOfText (check_work terms.free) (certificate_stage certificate) (network_stage blif_mv (File net)) later later' 0 checks refl)
+
+  pub is_accepted : (status : ℕ) → Ends (check_task terms.free net certificate) later later' status → (status ≡ 0) ⊎ (status ≡ 4) ⊎ (status ≡ 5) ⊎ (status ≡ 6)
+  is_accepted status checks = status_again terms net script certificate old new later later' done holds status checks

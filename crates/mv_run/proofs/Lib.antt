@@ -1,3 +1,3 @@
 pub mod Again
-mod Ends
+mod Asked
 mod Sizes

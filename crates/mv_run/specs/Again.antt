@@ -4,11 +4,13 @@ use Rattle.mv_base.specs.Outside.{Held, Stored, Written, Gained, file_named}
 use Rattle.mv_base.specs.declared.limits.TheConstants.{MAX_CERTIFICATE_BYTES}
 use Rattle.mv_entry.specs.declared.fault.RuleFault.{RuleFault}
 use Rattle.mv_net.specs.declared.parts.NetParts.{NetParts}
-use Rattle.mv_cert.specs.Certificates.{IsCertificate, steps_in}
-use Rattle.mv_command_line.specs.CommandLine.{Files}
+use Rattle.mv_cert.specs.Certificates.{Certifies, steps_in}
 use Rattle.mv_cert.specs.Replay.{FailsAt}
-use Rattle.mv_task.specs.Made.{IsNetOfText}
-use Rattle.mv_task.specs.Taken.{IsTaken, IsRefused}
+use Rattle.mv_check.specs.Certificates.{certificate_stage}
+use Rattle.mv_command_line.specs.CommandLine.{Files}
+use Rattle.mv_task.specs.Formats.{IsNetOfText, blif_mv, network_stage}
+use Rattle.mv_task.specs.Sources.{File}
+use Rattle.mv_task.specs.Stages.{IsRefused, Takes}
 
 -- the same options and network file, with a certificate in the place of the script
 abbrev pub checking : Files → List ℕ → Files
@@ -37,18 +39,30 @@ pub record WriteSame (out out' again again' : Written) : Type 0 where
   pub first : Gained out out' text
   pub second : Gained again again' text
 
--- the files hold a network file that is accepted and a certificate that is one, and behind some
--- first rules of it, which apply in turn, beginning with the network, one doesn't
-pub record HoldsFailing (free : Bool) (net certificate : List ℕ) (held : Held) : Type 0 where
+-- the files hold a network file that is accepted and a certificate that is one
+pub record HoldsBoth (net certificate : List ℕ) (files : Stored) : Type 0 where
+  pub text : List ℕ
+  pub network : Takes (network_stage blif_mv (File net)) files text
+  pub bytes : List ℕ
+  pub rules : Takes (certificate_stage certificate) files bytes
+
+-- and behind some first rules of it, which apply in turn, beginning with the network, one doesn't
+pub record HoldsFailing (free : Bool) (net certificate : List ℕ) (files : Stored) : Type 0 where
+  pub both : HoldsBoth net certificate files
   pub first : NetParts
-  pub network : IsTaken (λ text. IsNetOfText text first) net held
-  pub rules : IsTaken IsCertificate certificate held
+  pub says : IsNetOfText both.text first
   pub last : NetParts
   pub line : ℕ
   pub fault : RuleFault
-  pub fails : FailsAt free (steps_in rules.content) first last line fault
+  pub fails : FailsAt free (steps_in both.bytes) first last line fault
+
+-- or its rules apply in turn, beginning with any network of the file
+pub record HoldsReplay (free : Bool) (net certificate : List ℕ) (files : Stored) : Type 0 where
+  pub both : HoldsBoth net certificate files
+  pub leads : (first : NetParts) → IsNetOfText both.text first
+      → (last : NetParts) × Certifies free both.bytes first last
 
 -- the certificate is refused: its text, or a rule of it
-abbrev pub HoldsRefused : Bool → List ℕ → List ℕ → Held → Type 0
-HoldsRefused free net certificate held = IsRefused IsCertificate certificate held
-    ⊎ HoldsFailing free net certificate held
+abbrev pub HoldsRefused : Bool → List ℕ → List ℕ → Stored → Type 0
+HoldsRefused free net certificate files = IsRefused (certificate_stage certificate) files
+    ⊎ HoldsFailing free net certificate files

@@ -1,5 +1,5 @@
 //! Tables of runs: each line of a text is a case, whose parts stand between bars.
-use crate::runs::{End, Given, checked, ends, opt, refused, run_on, written};
+use crate::runs::{End, Given, checked, ends, noted, opt, refused, run_on, written};
 use std::alloc::Global;
 use std::process::Abort;
 use std::test::Fail;
@@ -11,6 +11,8 @@ pub enum Form<'a> {
     Written(&'a [u8]),
     /// A script, and then the same.
     Run,
+    /// A network and what this script notes, which is a certificate by which a check does the same.
+    Noted(&'a [u8]),
     /// A network that stays as it stands under this script, and the notes.
     Kept(&'a [u8]),
     /// A network, what is written of it, which stays as it stands too, and the notes.
@@ -97,6 +99,7 @@ fn run_of<'a>(form: Form<'a>, parts: &'a [Vec<u8>]) -> Option<(Given<'a>, End<'a
     match (form, parts) {
         (Form::Written(script), [net, out, notes]) => Some((opt(net, script), written(out, notes))),
         (Form::Run, [script, net, out, notes]) => Some((opt(net, script), written(out, notes))),
+        (Form::Noted(script), [net, notes]) => Some((opt(net, script), noted(notes))),
         (Form::Kept(script), [net, notes]) => Some((opt(net, script), written(net, notes))),
         (Form::Again, [_net, out, notes]) => Some((opt(out, b""), written(out, notes))),
         (Form::Alike(out, notes), [net]) => Some((opt(net, b""), written(out, notes))),
@@ -123,7 +126,7 @@ fn refusal_of<'a>(form: Form<'a>, parts: &'a [Vec<u8>]) -> Option<(Given<'a>, u8
 fn is_done(rt: &impl Abort, alloc: Global, form: Form, given: Given, end: End) -> Result<(), Fail> {
     ends(rt, alloc, given, end)?;
     match form {
-        Form::Written(_) | Form::Run => checks_back(rt, alloc, given),
+        Form::Written(_) | Form::Run | Form::Noted(_) => checks_back(rt, alloc, given),
         _ => Ok(()),
     }
 }
@@ -211,9 +214,28 @@ fn times_of(piece: &str) -> Result<(u32, &str), Fail> {
 /// Adds what the piece says at this turn, the first of which is 0.
 fn add_turn(alloc: Global, text: &mut Vec<u8>, piece: &[u8], turn: u32) -> Result<(), Fail> {
     for byte in piece {
-        match number_at(*byte, turn) {
-            Some(number) => add_number(alloc, text, number)?,
-            None => text.push(plain(*byte))?,
+        if *byte == b'^' {
+            add_code(text, turn)?;
+        } else {
+            match number_at(*byte, turn) {
+                Some(number) => add_number(alloc, text, number)?,
+                None => text.push(plain(*byte))?,
+            }
+        }
+    }
+    Ok(())
+}
+
+/// What the places of ten bits count, the highest first.
+const PLACES: [u32; 10] = [512, 256, 128, 64, 32, 16, 8, 4, 2, 1];
+
+/// Adds the lowest ten bits of the turn's number, for which `^` stands, the highest of them first.
+fn add_code(text: &mut Vec<u8>, turn: u32) -> Result<(), Fail> {
+    for place in PLACES.as_slice() {
+        if turn & *place == 0 {
+            text.push(b'0')?;
+        } else {
+            text.push(b'1')?;
         }
     }
     Ok(())

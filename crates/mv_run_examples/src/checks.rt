@@ -30,6 +30,11 @@ add k;line a (2,00001,2) -> 001;default (0);end; | \
 .table n -> y;0 1;(1,2) 0;.end; | merge n 2 1; | \
 .model h;.inputs a b;.outputs z y;.table a b -> n;0 - 0;1 0 1;1 1 1;.table n -> z;0 0;1 1;\
 .table n -> y;0 1;1 0;.end; | # done 9 9;
+-- Nets for the bits of codes come in place of a net of three values; the code 11 counts as that of the value 2.
+.model h;.inputs a b;.outputs z y;.mv n 3;.table a b -> n;0 - 0;1 0 1;1 1 2;.table n -> z;0 0;(1,2) 1;\
+.table n -> y;(0,1) 1;2 0;.end; | encode n 2 r s 00 01 10; | \
+.model h;.inputs a b;.outputs z y;.table r s -> z;0 0 0;0 1 1;1 - 1;.table r -> y;0 1;1 0;\
+.table a b -> r;0 - 0;1 0 0;1 1 1;.table a b -> s;0 - 0;1 0 1;1 1 0;.end; | # done 9 17;
 ";
 
 #[test]
@@ -66,6 +71,11 @@ merge z 0 1; | 1 Visible
 merge n 3 0; | 1 Form
 merge n 0 1; | 1 NotSame
 merge n 2; | 1 NotSame
+encode a 1 k 0 1; | 1 NoNet
+encode z 1 k 0 1; | 1 Visible
+encode c 1 k 0 1; | 1 Varied
+encode n 1 k 0 1; | 1 Form
+encode n 2 k k 00 01 10; | 1 NotFresh
 remove; | 1 Syntax
 line a 0 -> 0; | 1 Syntax
 add k;line b 2000 -> 1;default 0;end; | 2 Syntax
@@ -81,7 +91,7 @@ add (a);default 0;end; | 1 NotFresh
 add k;line -> 0 -> 1;default 0;end; | 1 NoNet
 # begin simplify 1 0;narrow z 1 0;end; | 2 Lost
 merge z 1; | 1 Visible
-encode z 1 k 0 1; | 1 NotBuilt
+encode z 1 k 0 1; | 1 Visible
 encode | 1 Syntax
 add k;line a 1 -> 1; | 1 Syntax
 ;add k;default 0;line a 1 -> 1; | 4 Syntax

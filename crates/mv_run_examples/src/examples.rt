@@ -186,6 +186,30 @@ line ask 1 b 1 -> 1;line ask 1 b 2 -> 2;line ask 2 -> 2;end;# end 57;# begin mer
 # end 57;# done 61 57;
 ";
 
+/// The same of one with an inner net of six values, for which nets of two values come.
+const ENCODED: &str = "\
+-- Three nets for a command, of whose codes two stand for no value.
+# A controller of a memory chip: which command the chip gets in each step, and what its pins say then.;\
+.model sdram;.inputs request write hit due;.outputs ras cas we done;\
+.mv command 6 NOP READ WRITE REFRESH ACTIVE PRECHARGE;;\
+# a refresh that is due comes first, and a row is opened before it is used and closed before another one;\
+.table request write hit due open -> command;.default NOP;- - - 1 1 PRECHARGE;- - - 1 0 REFRESH;\
+1 - - 0 0 ACTIVE;1 - 0 0 1 PRECHARGE;1 0 1 0 1 READ;1 1 1 0 1 WRITE;;# each pin is low in some commands;\
+.table command -> ras;.default 1;(REFRESH,ACTIVE,PRECHARGE) 0;.table command -> cas;.default 1;\
+(READ,WRITE,REFRESH) 0;.table command -> we;.default 1;(WRITE,PRECHARGE) 0;;# what was asked for is done;\
+.table command -> done;.default 0;(READ,WRITE) 1;;# whether a row is open;.table command open -> next;\
+ACTIVE - 1;PRECHARGE - 0;!(ACTIVE,PRECHARGE) - =open;.latch next open;.reset open;0;.end; | \
+.model sdram;.inputs request write hit due;.outputs ras cas we done;.latch next open;\
+.table _m1 _m2 _m3 -> ras;.default 1;0 1 1 0;1 - - 0;.table _m1 _m2 _m3 -> cas;.default 1;0 0 1 0;0 1 - 0;\
+.table _m1 _m2 _m3 -> we;.default 1;0 1 0 0;1 0 1 0;1 1 - 0;.table _m1 _m2 _m3 -> done;.default 0;0 0 1 1;\
+0 1 0 1;.table open _m1 _m2 _m3 -> next;- 1 0 0 1;- 1 0 1 0;- 1 1 - 0;0 0 - - 0;1 0 - - 1;.reset -> open;0;\
+.table request write hit due open -> _m1;.default 0;- - - 1 1 1;- - - 1 0 0;1 - - 0 0 1;1 - 0 0 1 1;\
+1 0 1 0 1 0;1 1 1 0 1 0;.table request write hit due open -> _m2;.default 0;- - - 1 1 0;- - - 1 0 1;\
+1 - - 0 0 0;1 - 0 0 1 0;1 0 1 0 1 0;1 1 1 0 1 1;.table request write hit due open -> _m3;.default 0;\
+- - - 1 1 1;- - - 1 0 1;1 - - 0 0 0;1 - 0 0 1 1;1 0 1 0 1 1;1 1 1 0 1 0;.end; | \
+# begin encode;encode command 3 _m1 _m2 _m3 000 001 010 011 100 101;# end 98;# done 31 98;
+";
+
 #[test]
 fn an_example_with_choices_is_written_as_worked_out(rt: HostRuntime) -> Result<(), Fail> {
     let script =
@@ -203,6 +227,12 @@ fn an_example_with_divisors_is_written_as_worked_out(rt: HostRuntime) -> Result<
 fn a_simplified_example_is_written_as_worked_out(rt: HostRuntime) -> Result<(), Fail> {
     let script = b"simplify 1 0 # as far as the readers of each net\n";
     all_end(&rt, rt.alloc(), Form::Written(script), SIMPLIFIED)
+}
+
+#[test]
+fn an_encoded_example_is_written_as_worked_out(rt: HostRuntime) -> Result<(), Fail> {
+    let script = b"encode # nets of two values, for tools that know no others\n";
+    all_end(&rt, rt.alloc(), Form::Written(script), ENCODED)
 }
 
 #[test]

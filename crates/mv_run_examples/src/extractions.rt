@@ -88,6 +88,17 @@ cube | \
 line a (0,70) b 1 e 1 -> 1;line f 1 _m1 1 -> 1;line g 1 _m1 1 -> 1;line h 1 _m1 1 -> 1;default 0;end;\
 add _m2;line a (0,70) b 1 -> 1;default 0;end;divide z _m2;line f 1 _m1 1 -> 1;line g 1 _m1 1 -> 1;line h 1 _m1 1 -> 1;\
 line c 1 _m2 1 -> 1;line d 1 _m2 1 -> 1;line e 1 _m2 1 -> 1;default 0;end;# end 16;# done 18 16;
+-- And 2 before 64.
+cube | \
+.model s;.inputs a b c d e f g h;.outputs z;.mv a 65;.table a b c d e f g h -> z;.default 0;\
+64 1 1 - - - - - 1;64 1 - 1 - - - - 1;64 1 - - 1 - - - 1;2 1 - - - 1 - - 1;2 1 - - - - 1 - 1;2 1 - - - - - 1 1;.end; | \
+.model s;.inputs a b c d e f g h;.outputs z;.mv a 65;.table c d e f g h _m1 _m2 -> z;.default 0;\
+- - - 1 - - 1 - 1;- - - - 1 - 1 - 1;- - - - - 1 1 - 1;1 - - - - - - 1 1;- 1 - - - - - 1 1;- - 1 - - - - 1 1;\
+.table a b -> _m1;.default 0;2 1 1;.table a b -> _m2;.default 0;64 1 1;.end; | \
+# begin cube;add _m1;line a 2 b 1 -> 1;default 0;end;divide z _m1;line a 64 b 1 c 1 -> 1;line a 64 b 1 d 1 -> 1;\
+line a 64 b 1 e 1 -> 1;line f 1 _m1 1 -> 1;line g 1 _m1 1 -> 1;line h 1 _m1 1 -> 1;default 0;end;\
+add _m2;line a 64 b 1 -> 1;default 0;end;divide z _m2;line f 1 _m1 1 -> 1;line g 1 _m1 1 -> 1;line h 1 _m1 1 -> 1;\
+line c 1 _m2 1 -> 1;line d 1 _m2 1 -> 1;line e 1 _m2 1 -> 1;default 0;end;# end 16;# done 18 16;
 ";
 
 #[test]

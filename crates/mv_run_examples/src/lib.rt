@@ -12,6 +12,8 @@ mod defaulted;
 #[cfg(test)]
 mod determined;
 #[cfg(test)]
+mod encoded;
+#[cfg(test)]
 mod examples;
 #[cfg(test)]
 mod extractions;

@@ -99,8 +99,6 @@ better { drop | 4 Brace 13
 repeat 2 { sweep | 4 Brace 16
 repeat 10 { repeat 1000 { drop } } ; drop | 6 TooMany 37
 drop; repeat 101 { better { repeat 99 { drop } drop } } | 6 TooMany 6
-encode | 8 NotBuilt
-sweep; merge; better { simplify 08 1; encode } | 8 NotBuilt
 ";
 
 #[test]

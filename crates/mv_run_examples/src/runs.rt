@@ -67,9 +67,10 @@ impl<'a> Given<'a> {
     }
 }
 
-/// What a sink has to have: a text, some first part of it, or such a part that isn't all of it.
+/// What a sink has to have: a text, some first part of it, or such a part that isn't all of it; or whatever it has.
 #[derive(Clone, Copy)]
 pub enum Text<'a> {
+    Any,
     Whole(&'a [u8]),
     Front(&'a [u8]),
     Part(&'a [u8]),
@@ -119,6 +120,14 @@ pub fn written<'a>(out: &'a [u8], notes: &'a [u8]) -> End<'a> {
     }
 }
 
+/// The work is done, with these notes.
+pub fn noted<'a>(notes: &'a [u8]) -> End<'a> {
+    End {
+        out: Text::Any,
+        ..written(b"", notes)
+    }
+}
+
 /// The run is refused with this status and this line, and nothing is written.
 pub fn refused(status: u8, line: &[u8]) -> End<'_> {
     End {
@@ -131,6 +140,7 @@ pub fn refused(status: u8, line: &[u8]) -> End<'_> {
 /// The bytes, if they are what the sink has to have, and else the text.
 fn wanted<'a>(text: Text<'a>, bytes: &'a [u8]) -> &'a [u8] {
     match text {
+        Text::Any => bytes,
         Text::Whole(text) => text,
         Text::Front(text) if text.starts_with(bytes) => bytes,
         Text::Front(text) => text,

@@ -139,11 +139,11 @@ order_decides a b = (
 )
 
 -- cubes that ascend are each there once
-ascend_once : (cubes : List (List Lit)) → Ascend cubes → IsDistinct cube_eq cubes
+pub ascend_once : (cubes : List (List Lit)) → Ascend cubes → IsDistinct cube_eq cubes
 ascend_once cubes up = IsDistinct-from_AllPairs cube_eq-Decides cubes (AllPairs-from_IsDistinct order_decides cubes (IsDistinct-from_sorted cube_cmp cubes up))
 
 -- what some of a list's members, each there once, are made by a function that keeps them apart is there once
-distinct_map : (p : List Lit → Bool) (f : List Lit → List Lit) (xs : List (List Lit)) → IsDistinct cube_eq xs → ((a b : List Lit) → Contains xs a → Contains xs b → p a ≡ true → p b ≡ true → f a ≡ f b → a ≡ b) → IsDistinct cube_eq (map f (filter p xs))
+pub distinct_map : (p : List Lit → Bool) (f : List Lit → List Lit) (xs : List (List Lit)) → IsDistinct cube_eq xs → ((a b : List Lit) → Contains xs a → Contains xs b → p a ≡ true → p b ≡ true → f a ≡ f b → a ≡ b) → IsDistinct cube_eq (map f (filter p xs))
 unfolding IsDistinct
 distinct_map p f [] d h = tt
 distinct_map p f (x ∷ xs) d h =

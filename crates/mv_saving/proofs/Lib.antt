@@ -1,3 +1,4 @@
 pub mod Sums
 pub mod Counting
 pub mod Covers
+pub mod Single

@@ -24,10 +24,11 @@ pub record IsRest (cover divisor quotient rest : List (List Lit)) : Type 0 where
 
 -- the literals of all joins of the quotient's cubes to those of the divisor
 abbrev pub joined : List (List Lit) → List (List Lit) → ℕ
-joined divisor quotient = sum_by (λ (d : List Lit). literals quotient + length quotient * length d) divisor
+joined divisor quotient =
+    sum_by (λ (d : List Lit). literals quotient + length quotient * length d) divisor
 
--- what the cover's division saves: its literals now less those after it, which are those of the rest and those of the
--- quotient's cubes with one more each
+-- what the cover's division saves: its literals now less those after it, which are those of the
+-- rest and those of the quotient's cubes with one more each
 pub record IsSaving (cover divisor : List (List Lit)) (saved : ℕ) : Type 0 where
   pub quotient : List (List Lit)
   pub is : IsQuotient cover divisor quotient

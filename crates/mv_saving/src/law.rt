@@ -11,11 +11,13 @@ ghost use Rattle.mv_saving.specs.Saving.{AreCubes, IsRest, literals, joined};
 
 /// The literals of a cover are those of the rest and of all joins of the quotient's cubes to those of the divisor.
 pub fn saving_law()
-    ensures { (cover divisor quotient rest : List (List Lit)) → AreCubes cover → AreCubes divisor → IsQuotient cover divisor quotient → IsRest cover divisor quotient rest
+    ensures { (cover divisor quotient rest : List (List Lit)) → AreCubes cover → AreCubes divisor
+        → IsQuotient cover divisor quotient → IsRest cover divisor quotient rest
         → literals cover ≡ literals rest + joined divisor quotient }
 {}
 
 /// In the covers of a table of distinct lines each cube stands once.
 pub fn covers_law()
-    ensures { (lines : List Line) → lines_differ lines ≡ true → All (λ (p : Part). IsDistinct cube_eq p.cover) (parts_of lines) }
+    ensures { (lines : List Line) → lines_differ lines ≡ true
+        → All (λ (p : Part). IsDistinct cube_eq p.cover) (parts_of lines) }
 {}

@@ -28,7 +28,8 @@ fn saved(cover: &[Cube], divisor: &[Cube], quotient: &[Cube]) -> u128
     requires divisor { IsDistinct cube_eq divisor.now }
     requires some { 0 < spec.literals divisor.now }
     requires quotient { IsQuotient cover.now divisor.now quotient.now }
-    ensures saved { result + (spec.literals quotient.now + length quotient.now) ≡ joined divisor.now quotient.now }
+    ensures saved { result + (spec.literals quotient.now + length quotient.now)
+        ≡ joined divisor.now quotient.now }
     ensures terms { All IsCube divisor.now }
 {
     let now = literals(cover);

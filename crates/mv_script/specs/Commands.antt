@@ -1,18 +1,13 @@
--- The commands of scripts, and those that are built in this version.
-use Rattle.std.specs.Prelude.{◌≡◌, ◌≤◌, nat_le, Bool, true, false, ◌&&◌, ◌||◌}
+-- The commands of scripts.
+use Rattle.std.specs.Prelude.{◌≤◌, nat_le, Bool, true, false, ◌&&◌, ◌||◌}
 use Rattle.mv_base.specs.declared.limits.TheConstants.{MAX_WINDOW_STEPS}
 use Rattle.mv_entry.specs.declared.note.Command.{Command}
-use Rattle.mv_entry.specs.declared.note.Command.TheVariants.{Collapse, Simplify, Encode}
+use Rattle.mv_entry.specs.declared.note.Command.TheVariants.{Collapse, Simplify}
 use Rattle.mv_entry.specs.declared.note.Note.TheVariants.{Begin}
 use Rattle.mv_entry.specs.Entries.{Noted, HasVisibleNames, is_visible_name}
 use Rattle.mv_script.specs.Scripts.{Items, End, Do, Repeat, Better}
 
--- the command is one of those that run in this version
-abbrev pub is_built : Command → Bool
-is_built Encode = false
-is_built _ = true
-
--- each command in items is such
+-- each command in items passes the test
 abbrev pub all_commands : (Command → Bool) → Items → Bool
 all_commands is End = true
 all_commands is (Do command rest) = is command && all_commands is rest
@@ -25,10 +20,6 @@ has_command End = false
 has_command (Do command rest) = true
 has_command (Repeat times inside rest) = has_command inside || has_command rest
 has_command (Better inside rest) = has_command inside || has_command rest
-
--- each command in items is built
-abbrev pub are_built : Items → Bool
-are_built items = all_commands is_built items
 
 -- ---- names and numbers
 
@@ -48,9 +39,7 @@ abbrev pub HasFewSteps : Command → Type 0
 HasFewSteps (Simplify down up) = (down ≤ MAX_WINDOW_STEPS) × (up ≤ MAX_WINDOW_STEPS)
 HasFewSteps _ = Unit {0}
 
--- a command as it runs in this version: the note that it begins can be printed, and its window may
--- be asked for
+-- a command as it runs: the note that it begins can be printed, and its window may be asked for
 pub record IsCommand (command : Command) : Type 0 where
-  pub built : is_built command ≡ true
   pub names : HasVisibleNames (Noted (Begin command))
   pub steps : HasFewSteps command

@@ -2,13 +2,12 @@
 #![tactic(auto)]
 
 mod building;
-mod built;
 mod byte;
-mod command;
 mod copying;
 mod count;
 mod fault;
 mod fault_text;
+mod idle;
 mod laws;
 mod number;
 mod outermost;
@@ -20,9 +19,9 @@ mod script;
 mod token;
 mod turn;
 
-pub use built::{has_command, is_built};
 pub use fault::{FaultKind, ScriptFault, TextFault};
 pub use fault_text::put_text_fault;
+pub use idle::has_command;
 pub use laws::script_laws;
 pub use read::read_script;
 pub use script::Script;

@@ -7,7 +7,7 @@ use Rattle.mv_rules.specs.declared.terms.Terms.{Terms}
 use Rattle.mv_script.specs.Commands.{all_commands}
 use Rattle.mv_entry.specs.declared.note.Command.{Command}
 use Rattle.mv_script.specs.Scripts.{Items, End, Do, Repeat, Better}
-use Rattle.mv_script_run.specs.Commands.{RunsCommand, StopsCommand}
+use Rattle.mv_script_run.specs.Commands.{DoesCommand, BegunCommand}
 use Rattle.mv_pass.proofs.Turns.{Implies, of_nothing, of_turn, of_rounds}
 use Rattle.mv_pass.specs.Courses.{Course, Rounds}
 use Rattle.mv_script_run.specs.Runs.{Gains, GainsNot, RunsBetter, StopsRepeat, StopsBetter, Runs, RunsTo, StopsAt, Unbegun, Within, Later}
@@ -20,12 +20,12 @@ module _ (terms : Terms) (Holds : Course) (none : (a : NetParts) → Holds a [] 
   of_better Round each a es b r =
       of_turn Holds none then (Rounds r.gained (Gains Round)) (GainsNot Round) (of_gains Round each r.gained) (λ a es b g. each a es b g.0) a es b r.rounds
 
-  module _ (test : Command → Bool) (command : (c : Command) → test c ≡ true → Implies (RunsCommand terms c) Holds) where
+  module _ (test : Command → Bool) (command : (c : Command) → test c ≡ true → Implies (DoesCommand terms c) Holds) where
     pub of_items : (items : Items) → all_commands test items ≡ true → Implies (Runs terms items) Holds
     of_items End all = of_nothing Holds none then
     of_items (Do c rest) all =
         let both = and_parts (test c) (all_commands test rest) all in
-        of_turn Holds none then (RunsCommand terms c) (Runs terms rest) (command c both.0) (of_items rest both.1)
+        of_turn Holds none then (DoesCommand terms c) (Runs terms rest) (command c both.0) (of_items rest both.1)
     of_items (Repeat times inside rest) all =
         let both = and_parts (all_commands test inside) (all_commands test rest) all in
         of_turn Holds none then (Rounds times (Runs terms inside)) (Runs terms rest) (of_rounds Holds none then (Runs terms inside) (of_items inside both.0) times) (of_items rest both.1)
@@ -38,12 +38,12 @@ module _ (terms : Terms) (Holds : Course) (none : (a : NetParts) → Holds a [] 
     of_stop Stops Whole Behind stops whole behind a es b (Within p) = stops a es b p
     of_stop Stops Whole Behind stops whole behind a es b (Later p) = of_turn Holds none then Whole Behind whole behind a es b p
 
-    module _ (begun : (c : Command) → test c ≡ true → Implies (StopsCommand terms c) Holds) where
+    module _ (begun : (c : Command) → test c ≡ true → Implies (BegunCommand terms c) Holds) where
       pub of_stopped : (items : Items) → all_commands test items ≡ true → Implies (RunsTo terms items) Holds
       of_stopped End all = of_nothing Holds none then
       of_stopped (Do c rest) all =
           let both = and_parts (test c) (all_commands test rest) all in
-          of_stop (StopsCommand terms c) (RunsCommand terms c) (RunsTo terms rest) (begun c both.0) (command c both.0) (of_stopped rest both.1)
+          of_stop (BegunCommand terms c) (DoesCommand terms c) (RunsTo terms rest) (begun c both.0) (command c both.0) (of_stopped rest both.1)
       of_stopped (Repeat times inside rest) all =
           let both = and_parts (all_commands test inside) (all_commands test rest) all in
           let whole = of_items inside both.0 in

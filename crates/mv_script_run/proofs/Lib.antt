@@ -2,6 +2,5 @@ pub mod Inductions
 pub mod Idle
 pub mod Rounds
 pub mod Toward
-pub mod Commands
 pub mod Rules
 pub mod NoMore

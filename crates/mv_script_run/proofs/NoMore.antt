@@ -38,7 +38,7 @@ use Rattle.mv_simplify.proofs.Simplified.{some_no_more}
 use Rattle.mv_values.specs.Defaults.{Defaulting}
 use Rattle.mv_values.proofs.Defaulted.{defaults_no_more}
 use Rattle.mv_visit.specs.Visits.{Treats}
-use Rattle.mv_script_run.specs.Commands.{WholeOf, DoesCommand, RunsCommand, leaves_no_more}
+use Rattle.mv_script_run.specs.Commands.{WholeOf, DoesCommand, leaves_no_more}
 use Rattle.mv_script_run.specs.Runs.{Runs}
 use Rattle.mv_script_run.proofs.Inductions.{of_items}
 use Rattle.mv_script_run.proofs.Rules.{does_replays}
@@ -147,9 +147,9 @@ few_then a b c xs ys p q formed =
     let second = q first.0 in
     (second.0, omega (arith, first.1, second.1))
 
-command_few : (terms : Terms) (c : Command) → leaves_no_more c ≡ true → (a : NetParts) (es : List Entry) (b : NetParts) → RunsCommand terms c a es b → StaysFew a es b
-command_few terms c frugal a es b r formed =
-    (replayed_formed terms.free (rules_of es) a b formed (does_replays terms c a b es r.does), does_no_more terms c a b es frugal formed r.does)
+command_few : (terms : Terms) (c : Command) → leaves_no_more c ≡ true → (a : NetParts) (es : List Entry) (b : NetParts) → DoesCommand terms c a es b → StaysFew a es b
+command_few terms c frugal a es b d formed =
+    (replayed_formed terms.free (rules_of es) a b formed (does_replays terms c a b es d), does_no_more terms c a b es frugal formed d)
 
 pub runs_no_more : (terms : Terms) (items : Items) (a b : NetParts) (es : List Entry) → all_commands leaves_no_more items ≡ true → WellFormed a → Runs terms items a es b → literals_in b.nets ≤ literals_in a.nets
 runs_no_more terms items a b es frugal formed r =

@@ -6,6 +6,7 @@ use Rattle.mv_choose.proofs.Determinized.{determinizes_replay}
 use Rattle.mv_collapse.specs.Collapses.{CollapsesNet, Collapsed, Remains}
 use Rattle.mv_eliminate.specs.Eliminates.{IsEliminateStep, CollapsesAll, Eliminates, NotesWide, Skips, Tells}
 use Rattle.mv_eliminate.proofs.Eliminated.{all_some}
+use Rattle.mv_encode.proofs.Visited.{encodes_replay, all_some as encodes_all_some}
 use Rattle.mv_extract.proofs.Replays.{kernels_replay, cubes_replay, kernels_all_some, cubes_all_some}
 use Rattle.mv_entry.specs.declared.note.Command.{Command}
 use Rattle.mv_entry.specs.declared.note.Command.TheVariants.{Drop, Sweep, Eliminate, Collapse, Kernel, Cube, Simplify, Merge, Default, Determinize, Encode, Fill}
@@ -69,7 +70,7 @@ part_replays terms (Simplify down up) a b steps g = some_replays terms.free term
 part_replays terms Merge a b steps g = merges_replay terms.free a b steps g
 part_replays terms Default a b steps g = defaults_replay terms.free a b steps g
 part_replays terms Determinize a b steps g = determinizes_replay terms.free a b steps g
-part_replays terms Encode a b steps g = absurd g
+part_replays terms Encode a b steps g = encodes_replay terms.free a b steps g
 part_replays terms Fill a b steps g = fills_replays terms.free a b steps g
 
 -- the whole way is a part of it too
@@ -84,7 +85,7 @@ whole_part terms (Simplify down up) a b steps g = all_visits (SimplifiesNet term
 whole_part terms Merge a b steps g = g.steps
 whole_part terms Default a b steps g = all_visits (Treats Defaulting) a b steps g
 whole_part terms Determinize a b steps g = all_visits (Treats Determinizing) a b steps g
-whole_part terms Encode a b steps g = absurd g
+whole_part terms Encode a b steps g = encodes_all_some a b steps g
 whole_part terms Fill a b steps g = g.tables
 
 pub whole_replays : (terms : Terms) (c : Command) (a b : NetParts) (steps : List Entry) → WholeOf terms c a steps b → Replays terms.free (rules_of steps) a b
@@ -107,8 +108,8 @@ module _ (terms : Terms) (c : Command) (a b : NetParts) (es : List Entry) where
 
 pub runs_replays : (terms : Terms) (items : Items) (a b : NetParts) (es : List Entry) → Runs terms items a es b → Replays terms.free (rules_of es) a b
 runs_replays terms items a b es r =
-    of_items terms (ReplaysRules terms.free) (λ n. refl) (replays_then terms.free) (λ c. true) (λ c h m fs n d. does_replays terms c m n fs d.does) items (any_commands items) a es b r
+    of_items terms (ReplaysRules terms.free) (λ n. refl) (replays_then terms.free) (λ c. true) (λ c h m fs n d. does_replays terms c m n fs d) items (any_commands items) a es b r
 
 pub stops_replays : (terms : Terms) (items : Items) (a b : NetParts) (es : List Entry) → RunsTo terms items a es b → Replays terms.free (rules_of es) a b
 stops_replays terms items a b es r =
-    of_stopped terms (ReplaysRules terms.free) (λ n. refl) (replays_then terms.free) (λ c. true) (λ c h m fs n d. does_replays terms c m n fs d.does) (λ c h m fs n d. begun_replays terms c m n fs d.begun) items (any_commands items) a es b r
+    of_stopped terms (ReplaysRules terms.free) (λ n. refl) (replays_then terms.free) (λ c. true) (λ c h m fs n d. does_replays terms c m n fs d) (λ c h m fs n d. begun_replays terms c m n fs d) items (any_commands items) a es b r

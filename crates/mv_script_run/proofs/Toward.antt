@@ -6,7 +6,7 @@ use Rattle.mv_net.specs.declared.parts.NetParts.{NetParts}
 use Rattle.mv_entry.specs.declared.note.Command.{Command}
 use Rattle.mv_rules.specs.declared.terms.Terms.{Terms}
 use Rattle.mv_script.specs.Scripts.{Items, End, Do, Repeat, Better}
-use Rattle.mv_script_run.specs.Commands.{RunsCommand, StopsCommand}
+use Rattle.mv_script_run.specs.Commands.{DoesCommand, BegunCommand}
 use Rattle.mv_pass.specs.Courses.{Course, InTurn, Rounds}
 use Rattle.mv_script_run.specs.Runs.{RunsBetter, StopsRepeat, StopsBetter, Runs, RunsTo, Within, Later}
 
@@ -21,9 +21,9 @@ pub record IsFirst (terms : Terms) (items rest : Items) (Whole Stops : Course) :
   pub later : (a : NetParts) (es : List Entry) (b : NetParts) → InTurn Whole (RunsTo terms rest) a es b → RunsTo terms items a es b
   pub within : (a : NetParts) (es : List Entry) (b : NetParts) → Stops a es b → RunsTo terms items a es b
 
-pub first_command : (terms : Terms) (items rest : Items) (c : Command) → items ≡ Do c rest → IsFirst terms items rest (RunsCommand terms c) (StopsCommand terms c)
+pub first_command : (terms : Terms) (items rest : Items) (c : Command) → items ≡ Do c rest → IsFirst terms items rest (DoesCommand terms c) (BegunCommand terms c)
 first_command terms items rest c is =
-    subst (λ i. IsFirst terms i rest (RunsCommand terms c) (StopsCommand terms c)) (sym is)
+    subst (λ i. IsFirst terms i rest (DoesCommand terms c) (BegunCommand terms c)) (sym is)
     (record { whole = λ a es b p. p; later = λ a es b p. Later p; within = λ a es b p. Within p })
 
 pub first_repeat : (terms : Terms) (items inside rest : Items) (times : ℕ) → items ≡ Repeat times inside rest → IsFirst terms items rest (Rounds times (Runs terms inside)) (StopsRepeat times (Runs terms inside) (RunsTo terms inside))

@@ -1,8 +1,9 @@
 -- What one command of a script does to a network.
-use Rattle.std.specs.Prelude.{◌≡◌, Bool, true, false, List, Result}
+use Rattle.std.specs.Prelude.{Bool, true, false, List, Result}
 use Rattle.mv_choose.specs.Choices.{DeterminizesAll, DeterminizesSome}
 use Rattle.mv_collapse.specs.Collapses.{CollapsesNet}
 use Rattle.mv_eliminate.specs.Eliminates.{Eliminates, EliminatesAll}
+use Rattle.mv_encode.specs.Encodes.{EncodesAll, EncodesSome}
 use Rattle.mv_entry.specs.declared.note.Command.{Command}
 use Rattle.mv_entry.specs.declared.note.Command.TheVariants.{Drop, Sweep, Eliminate, Collapse, Kernel, Cube, Simplify, Merge, Default, Determinize, Encode, Fill}
 use Rattle.mv_entry.specs.Entries.{Entry}
@@ -15,7 +16,6 @@ use Rattle.mv_pass.specs.Courses.{Course, Perhaps}
 use Rattle.mv_pass.specs.Going.{Does, Begun}
 use Rattle.mv_pass.specs.Passing.{Passes}
 use Rattle.mv_rules.specs.declared.terms.Terms.{Terms}
-use Rattle.mv_script.specs.Commands.{is_built}
 use Rattle.mv_simplify.specs.Simplifies.{SimplifiesAll, SimplifiesSome}
 use Rattle.mv_sweep.specs.Drops.{DropsAll, DropsSome}
 use Rattle.mv_fill.specs.Fills.{FillsAll, FillsTables}
@@ -34,8 +34,8 @@ WholeOf terms (Simplify down up) old steps new = SimplifiesAll terms down up old
 WholeOf terms Merge old steps new = MergesAll terms.free old steps new
 WholeOf terms Default old steps new = DefaultsAll old steps new
 WholeOf terms Determinize old steps new = DeterminizesAll old steps new
+WholeOf terms Encode old steps new = EncodesAll old steps new
 WholeOf terms Fill old steps new = FillsAll terms.free old steps new
-WholeOf terms _ old steps new = ⊥
 
 -- the steps of a command that has come a part of its way
 abbrev pub PartOf : Terms → Command → NetParts → List Entry → NetParts → Type 0
@@ -49,8 +49,8 @@ PartOf terms (Simplify down up) old steps new = SimplifiesSome terms down up old
 PartOf terms Merge old steps new = MergesSome terms.free old steps new
 PartOf terms Default old steps new = DefaultsSome old steps new
 PartOf terms Determinize old steps new = DeterminizesSome old steps new
+PartOf terms Encode old steps new = EncodesSome old steps new
 PartOf terms Fill old steps new = FillsTables terms.free old steps new
-PartOf terms _ old steps new = ⊥
 
 -- a whole command, with its entries
 abbrev pub DoesCommand : Terms → Command → Course
@@ -71,17 +71,3 @@ abbrev pub leaves_no_more : Command → Bool
 leaves_no_more Determinize = false
 leaves_no_more Encode = false
 leaves_no_more _ = true
-
--- ---- as it stands in a script
-
--- the command is built, and a whole one
-pub record RunsCommand (terms : Terms) (c : Command) (old : NetParts) (entries : List Entry)
-    (new : NetParts) : Type 0 where
-  pub built : is_built c ≡ true
-  pub does : DoesCommand terms c old entries new
-
--- the command is built, and stops
-pub record StopsCommand (terms : Terms) (c : Command) (old : NetParts) (entries : List Entry)
-    (new : NetParts) : Type 0 where
-  pub built : is_built c ≡ true
-  pub begun : BegunCommand terms c old entries new

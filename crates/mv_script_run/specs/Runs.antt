@@ -6,7 +6,7 @@ use Rattle.mv_net.specs.Nets.{literals_in}
 use Rattle.mv_pass.specs.Courses.{Course, Nothing, InTurn, Rounds}
 use Rattle.mv_rules.specs.declared.terms.Terms.{Terms}
 use Rattle.mv_script.specs.Scripts.{Items, End, Do, Repeat, Better}
-use Rattle.mv_script_run.specs.Commands.{RunsCommand, StopsCommand}
+use Rattle.mv_script_run.specs.Commands.{DoesCommand, BegunCommand}
 
 -- ---- rounds
 
@@ -47,7 +47,7 @@ pub record StopsBetter (Round Stops : Course) (old : NetParts) (entries : List E
 -- the last
 abbrev pub Runs : Terms → Items → Course
 Runs terms End = Nothing
-Runs terms (Do command rest) = InTurn (RunsCommand terms command) (Runs terms rest)
+Runs terms (Do command rest) = InTurn (DoesCommand terms command) (Runs terms rest)
 Runs terms (Repeat times inside rest) = InTurn (Rounds times (Runs terms inside)) (Runs terms rest)
 Runs terms (Better inside rest) = InTurn (RunsBetter (Runs terms inside)) (Runs terms rest)
 
@@ -63,7 +63,7 @@ pub data StopsAt (Stops Whole Behind : Course) (old : NetParts) (entries : List 
 abbrev pub RunsTo : Terms → Items → Course
 RunsTo terms End = Nothing
 RunsTo terms (Do command rest) =
-    StopsAt (StopsCommand terms command) (RunsCommand terms command) (RunsTo terms rest)
+    StopsAt (BegunCommand terms command) (DoesCommand terms command) (RunsTo terms rest)
 RunsTo terms (Repeat times inside rest) =
     StopsAt (StopsRepeat times (Runs terms inside) (RunsTo terms inside))
     (Rounds times (Runs terms inside)) (RunsTo terms rest)

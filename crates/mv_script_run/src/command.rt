@@ -1,11 +1,11 @@
 ghost use Rattle.std.specs.Prelude.{◌≡◌, true};
-ghost use Rattle.mv_pass.specs.Passing.{Passes};
-ghost use Rattle.mv_script.specs.Commands.{IsCommand, is_built, is_lawful};
-ghost use Rattle.mv_script_run.specs.Commands.{PassesCommand, RunsCommand, StopsCommand};
+ghost use Rattle.mv_script.specs.Commands.{is_lawful};
+ghost use Rattle.mv_script_run.specs.Commands.{PassesCommand};
 
 use mv_choose::determinize;
 use mv_collapse::collapse;
 use mv_eliminate::eliminate;
+use mv_encode::encode;
 use mv_entry::{Command, Journal};
 use mv_extract::{cube, kernel};
 use mv_fill::fill;
@@ -18,15 +18,15 @@ use mv_sweep::{remove_unread, sweep};
 use mv_values::choose_default;
 use std::alloc::Global;
 
-/// Runs a command as it is built.
-fn run_built<J: Journal>(
+/// Runs a command of a script.
+pub fn run_command<J: Journal>(
     alloc: Global,
     net: &mut Network,
     command: &Command,
     terms: Terms,
     journal: &mut J,
 ) -> Result<(), Stop>
-    requires { IsCommand command.now }
+    requires { is_lawful command.now ≡ true }
     ensures { PassesCommand terms command.now net.old net.new (J.state journal.old)
         (J.state journal.new) result }
 {
@@ -41,24 +41,7 @@ fn run_built<J: Journal>(
         Command::Merge => merge(alloc, net, journal, terms),
         Command::Default => choose_default(alloc, net, journal, terms),
         Command::Determinize => determinize(alloc, net, journal, terms),
+        Command::Encode => encode(alloc, net, journal, terms),
         Command::Fill => fill(alloc, net, journal, terms),
-        _ => unreachable!(),
     }
-}
-
-/// Runs a command of a script.
-pub fn run_command<J: Journal>(
-    alloc: Global,
-    net: &mut Network,
-    command: &Command,
-    terms: Terms,
-    journal: &mut J,
-) -> Result<(), Stop>
-    requires built { is_built command.now ≡ true }
-    requires lawful { is_lawful command.now ≡ true }
-    ensures { Passes terms.free (RunsCommand terms command.now)
-        (StopsCommand terms command.now) net.old net.new
-        (J.state journal.old) (J.state journal.new) result }
-{
-    run_built(alloc, net, command, terms, journal)
 }

@@ -1,7 +1,7 @@
 ghost use Rattle.std.specs.Prelude.{◌≡◌, true};
 ghost use Rattle.mv_pass.specs.Courses.{Rounds};
 ghost use Rattle.mv_pass.specs.Passing.{Passes};
-ghost use Rattle.mv_script.specs.Commands.{are_built, are_lawful};
+ghost use Rattle.mv_script.specs.Commands.{are_lawful};
 ghost use Rattle.mv_script.specs.Scripts.{items_of};
 ghost use Rattle.mv_script_run.specs.Runs.{Runs, RunsBetter, RunsTo, StopsBetter, StopsRepeat};
 
@@ -23,8 +23,7 @@ pub fn run_script<J: Journal>(
     terms: Terms,
     journal: &mut J,
 ) -> Result<(), Stop>
-    requires built { are_built (items_of script.now) ≡ true }
-    requires lawful { are_lawful (items_of script.now) ≡ true }
+    requires { are_lawful (items_of script.now) ≡ true }
     ensures { Passes terms.free (Runs terms (items_of script.now))
         (RunsTo terms (items_of script.now)) net.old net.new
         (J.state journal.old) (J.state journal.new) result }
@@ -68,8 +67,7 @@ fn run_repeat<J: Journal>(
     terms: Terms,
     journal: &mut J,
 ) -> Result<(), Stop>
-    requires built { are_built (items_of inside.now) ≡ true }
-    requires lawful { are_lawful (items_of inside.now) ≡ true }
+    requires { are_lawful (items_of inside.now) ≡ true }
     ensures { Passes terms.free (Rounds times (Runs terms (items_of inside.now)))
         (StopsRepeat times (Runs terms (items_of inside.now))
         (RunsTo terms (items_of inside.now))) net.old net.new
@@ -96,8 +94,7 @@ fn run_better<J: Journal>(
     terms: Terms,
     journal: &mut J,
 ) -> Result<(), Stop>
-    requires built { are_built (items_of inside.now) ≡ true }
-    requires lawful { are_lawful (items_of inside.now) ≡ true }
+    requires { are_lawful (items_of inside.now) ≡ true }
     ensures { Passes terms.free (RunsBetter (Runs terms (items_of inside.now)))
         (StopsBetter (Runs terms (items_of inside.now))
         (RunsTo terms (items_of inside.now))) net.old net.new

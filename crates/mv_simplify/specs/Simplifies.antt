@@ -1,4 +1,5 @@
--- What the command `simplify` does to a network: it visits each net, and makes its table tight in a window round it.
+-- What the command `simplify` does to a network: it visits each net, and makes its table tight in a
+-- window round it.
 use Rattle.std.specs.Prelude.{◌≡◌, ℕ, true, false, is_some, Some, [], ◌∷◌, List}
 use Rattle.mv_body.specs.Bodies.{cover_said}
 use Rattle.mv_cover.specs.declared.cover.Cover.{Cover}
@@ -20,8 +21,8 @@ use Rattle.mv_rules.specs.Applies.{Applies}
 use Rattle.mv_rules.specs.declared.terms.Terms.{Terms}
 use Rattle.mv_tight.specs.Tight.{IsGrown, IsTight}
 
--- why the table of the net n stays as it is: a table below isn't total; or else the window round n is too wide, or its pool of nodes
--- is full
+-- why the table of the net n stays as it is: a table below isn't total; or else the window round n
+-- is too wide, or its pool of nodes is full
 abbrev pub KeepsFor : ℕ → ℕ → ℕ → NetParts → ℕ → Why → Type 0
 KeepsFor budget d u net n Partial = AreTotalBelow net.nets n → ⊥
 KeepsFor budget d u net n IsWide = AreTotalBelow net.nets n × HasWindow net n d u (TooWide net)
@@ -45,7 +46,8 @@ rule_of net n d u body = Narrow (name_in (slot net.nets n)) d u body
 -- a visit of the net n: it has no table, and is let be; or it is noted why its table stays; or all
 -- tables below are total and its own is tight in the window of this moment, and stays; or it gets
 -- another table, which is tight there and grown from its own
-pub data SimplifiesNet (terms : Terms) (d u n : ℕ) (old : NetParts) (entries : List Entry) (new : NetParts) : Type 0 where
+pub data SimplifiesNet (terms : Terms) (d u n : ℕ) (old : NetParts) (entries : List Entry)
+    (new : NetParts) : Type 0 where
   LetBe : is_some (table_in (slot old.nets n)) ≡ false → Nothing old entries new
       → SimplifiesNet terms d u n old entries new
   Stays : (why : Why) → is_some (table_in (slot old.nets n)) ≡ true

@@ -31,7 +31,8 @@ Visit asked n = SimplifiesNet asked.terms asked.down asked.up n
 
 -- ---- a visit
 
--- why a table stays, by what no flexibility told, or one told nothing for; want of memory says nothing
+-- why a table stays, by what no flexibility told, or one told nothing for; want of memory says
+-- nothing
 abbrev pub KeepsBy : Asked → NetParts → ℕ → FlexStop → Type 0
 KeepsBy asked net n (IsWide levels) =
     KeepsFor asked.terms.budget asked.down asked.up net n window_note
@@ -40,7 +41,8 @@ KeepsBy asked net n (NoNodes cap) =
 KeepsBy asked net n Memory = Unit {0}
 
 -- the new table is the one of the net n made tight, by the flexibility in its window
-pub record IsToTake (asked : Asked) (net : NetParts) (n : ℕ) (new : Cover) (flexibility : Flexibility) : Type 0 where
+pub record IsToTake (asked : Asked) (net : NetParts) (n : ℕ) (new : Cover)
+    (flexibility : Flexibility) : Type 0 where
   pub window : Window
   pub is : IsWindow net n asked.down asked.up window
   pub narrow : TooWide net window → ⊥

@@ -1,5 +1,5 @@
 -- The lines of rules, as they are printed, read back as those rules.
-use Rattle.std.proofs.Common.{◌≡◌, ◌∙◌, ℕ, true, false, not, ◌&&◌, ◌||◌, Option, Some, None, List, [], ◌∷◌, ◌++◌, length, drop, map, codes, decimal, refl, sym, ap, append_assoc, arith}
+use Rattle.std.proofs.Common.{◌≡◌, ◌∙◌, ℕ, true, false, not, ◌&&◌, ◌||◌, Option, Some, None, List, [], ◌∷◌, ◌++◌, length, drop, map, codes, decimal, refl, ap, append_assoc, arith}
 use Rattle.std.specs.Prelude.{nat_lt}
 use Rattle.std.specs.List.{flat_map, list_all, All}
 use Rattle.std.specs.Option.{option_or, IfSome}
@@ -7,7 +7,6 @@ use Rattle.std.proofs.Math.Seq.{take-append_seam, drop-append_seam}
 use Rattle.std.proofs.lemmas.Bool.{and_parts, le-ltb, or_from, cond-false}
 use Rattle.std.proofs.lemmas.List.{length-append}
 use Rattle.std.proofs.lemmas.List.Elements.{All-head, All-tail}
-use Rattle.std.proofs.lemmas.List.Folds.{list_all-map}
 use Rattle.mv_base.specs.declared.number.Value.{Value}
 use Rattle.mv_lex.specs.declared.lines.LexLine.{LexLine}
 use Rattle.mv_entry.specs.declared.rule.BodyLine.{BodyLine}
@@ -15,16 +14,15 @@ use Rattle.mv_entry.specs.declared.rule.Body.{Body}
 use Rattle.mv_entry.specs.declared.rule.Code.{Code}
 use Rattle.mv_entry.specs.declared.rule.Rule.{Rule}
 use Rattle.mv_entry.specs.declared.rule.Rule.TheVariants.{Remove, Add, Divide, Wire, Collapse, Narrow, Merge, Encode, Fill}
-use Rattle.mv_entry.specs.Entries.{is_built, set_word, line_words, default_lines, body_lines, into_words, code_word, rule_lines}
+use Rattle.mv_entry.specs.Entries.{set_word, line_words, default_lines, body_lines, into_words, code_word, rule_lines}
 use Rattle.mv_step.specs.declared.step.Step.{Step}
 use Rattle.mv_step.specs.declared.step.Head.{Head}
 use Rattle.mv_step.specs.declared.step.Head.TheVariants.{Add as add_to, Divide as divide_by, Narrow as narrow_to}
 use Rattle.mv_step.specs.declared.said.Said.{Said}
 use Rattle.mv_step.specs.declared.said.Said.TheVariants.{Whole, Begins, Line, Default, End, Nothing}
 use Rattle.mv_step.specs.Lines.{keyword_of, line_or_nothing, default_said, narrow_said, merge_said, merge_into_said, are_codes, code_of, encode_said, fill_said, said}
-use Rattle.mv_step.specs.Certificates.{Place, Outside, InBody, BehindDefault, fault_at, place_behind, fault_from, syntax_fault, unbuilt_line, unbuilt_fault, are_built, fault_of, with_part, front_body, rule_of, step_at, steps_of}
+use Rattle.mv_step.specs.Certificates.{Place, Outside, InBody, BehindDefault, fault_at, place_behind, fault_from, fault_of, with_part, front_body, rule_of, step_at, steps_of}
 use Rattle.mv_step.specs.Printed.{IsSayable, IsSayableLine, IsSayableBody, is_sayable_number, is_sayable_code, is_sayable_form, IsSayableRule, Lists}
-use Rattle.mv_step.proofs.Unbuilt.{unbuilt-first, built-none}
 use Rattle.mv_step.proofs.Written.{number_said-decimal, set_said-set_word, line_said-words, codes-are, codes-back}
 
 -- ---- what printed lines say
@@ -235,21 +233,11 @@ all-rules (rule ∷ rules) lines each e =
     let r = all-rules rules b.others (All-tail IsSayableRule rule rules each) b.rest_are in
     (b.fault_is ∙ r.0, b.rules_are ∙ ap (λ rs. rule ∷ rs) r.1)
 
--- steps have the rules that they have
-built_rules : (steps : List Step) → are_built steps ≡ list_all is_built (map (λ (s : Step). s.rule) steps)
-built_rules steps = sym (list_all-map is_built (λ (s : Step). s.rule) steps)
-
--- lines that may all stand where they stand and list rules that are built
-accepted : (lines : List LexLine) → syntax_fault lines ≡ None → list_all is_built (rules_of lines) ≡ true → fault_of lines ≡ None
-accepted lines none built =
-    unbuilt-first lines (steps_of lines) (unbuilt_line (steps_of lines)) none refl refl ∙ ap unbuilt_fault (built-none (steps_of lines) (built_rules (steps_of lines) ∙ built))
-
 pub lists_printed : (lines : List LexLine) (rules : List Rule) → All IsSayableRule rules → map (λ (l : LexLine). l.words) lines ≡ flat_map rule_lines rules → Lists lines rules
-unfolding syntax_fault
+unfolding fault_of
 lists_printed lines rules each e =
     let r = all-rules rules lines each e in
     record {
-      read = r.0;
-      accepted = λ built. accepted lines r.0 (ap (list_all is_built) r.1 ∙ built);
+      faultless = r.0;
       rules_are = r.1;
     }

@@ -1,14 +1,13 @@
--- Certificates: which lines are one, the first fault of lines that aren't, and the rules that they list.
-use Rattle.std.specs.Prelude.{◌≡◌, ◌⊎◌, ℕ, Bool, if◌then◌else◌, List, [], ◌∷◌, ◌++◌, Option, Some, None, Result, MatchResult}
-use Rattle.std.specs.List.{list_all}
+-- Certificates: which lines are one, the first fault of lines that aren't, and the rules that they
+-- list.
+use Rattle.std.specs.Prelude.{◌≡◌, ◌⊎◌, ℕ, List, [], ◌∷◌, ◌++◌, Option, Some, None, Result, MatchResult}
 use Rattle.std.specs.Option.{option_or}
 use Rattle.mv_lex.specs.declared.lines.LexLine.{LexLine}
 use Rattle.mv_entry.specs.declared.rule.Body.{Body}
 use Rattle.mv_entry.specs.declared.rule.Rule.{Rule}
 use Rattle.mv_entry.specs.declared.rule.Rule.TheVariants.{Add as add_rule, Divide as divide_rule, Narrow as narrow_rule}
-use Rattle.mv_entry.specs.Entries.{is_built}
 use Rattle.mv_step.specs.declared.fault.StepFault.{StepFault}
-use Rattle.mv_step.specs.declared.fault.StepFault.TheVariants.{Syntax, NotBuilt, Memory}
+use Rattle.mv_step.specs.declared.fault.StepFault.TheVariants.{Syntax, Memory}
 use Rattle.mv_step.specs.declared.step.Step.{Step}
 use Rattle.mv_step.specs.declared.step.Head.{Head}
 use Rattle.mv_step.specs.declared.step.Head.TheVariants.{Add, Divide, Narrow}
@@ -18,7 +17,8 @@ use Rattle.mv_step.specs.Lines.{said}
 
 -- ---- which lines are a certificate
 
--- where a line stands: outside a body, or in the body of the rule that began at a line, before its default or behind it
+-- where a line stands: outside a body, or in the body of the rule that began at a line, before its
+-- default or behind it
 pub data Place : Type 0 where
   Outside : Place
   InBody : (rule : ℕ) → Place
@@ -56,14 +56,16 @@ end_fault (BehindDefault rule) = Some (Syntax rule)
 abbrev pub fault_from : Place → List LexLine → Option StepFault
 fault_from place [] = end_fault place
 fault_from place (l ∷ ls) =
-    option_or (fault_at l.number place (said l.words)) (fault_from (place_behind l.number place (said l.words)) ls)
+    option_or (fault_at l.number place (said l.words))
+    (fault_from (place_behind l.number place (said l.words)) ls)
 
--- the first line that can't stand where it stands, as a fault
-unfoldable pub syntax_fault : List LexLine → Option StepFault
-syntax_fault lines = fault_from Outside lines
+-- the first fault of lines, which is the first line that can't stand where it stands; a certificate
+-- has none
+unfoldable pub fault_of : List LexLine → Option StepFault
+fault_of lines = fault_from Outside lines
 
--- a reader of lines with this first fault: it answers Ok only where there is none, and a fault only if it is that one, or
--- the one that says want of memory
+-- a reader of lines with this first fault: it answers Ok only where there is none, and a fault only
+-- if it is that one, or the one that says want of memory
 abbrev pub Tells : {T : Type 0} → Result T StepFault → Option StepFault → Type 0
 Tells result fault = MatchResult result (λ _. fault ≡ None) (λ f. (f ≡ Memory) ⊎ (fault ≡ Some f))
 
@@ -96,23 +98,3 @@ step_at n _ body = []
 abbrev pub steps_of : List LexLine → List Step
 steps_of [] = []
 steps_of (l ∷ ls) = step_at l.number (said l.words) (front_body ls) ++ steps_of ls
-
--- ---- the rules that are built
-
--- the rule of each step is built in this version
-abbrev pub are_built : List Step → Bool
-are_built steps = list_all (λ (s : Step). is_built s.rule) steps
-
--- the line of the first step whose rule isn't
-abbrev pub unbuilt_line : List Step → Option ℕ
-unbuilt_line [] = None
-unbuilt_line (s ∷ ss) = if is_built s.rule then unbuilt_line ss else Some s.line
-
--- the fault of a line that begins such a rule
-abbrev pub unbuilt_fault : Option ℕ → Option StepFault
-unbuilt_fault None = None
-unbuilt_fault (Some line) = Some (NotBuilt line)
-
--- the first fault of lines; a certificate has none. A line that can't stand where it stands comes before any rule that isn't built
-unfoldable pub fault_of : List LexLine → Option StepFault
-fault_of lines = option_or (syntax_fault lines) (unbuilt_fault (unbuilt_line (steps_of lines)))

@@ -18,14 +18,16 @@ use Rattle.mv_step.specs.Sets.{number_said, set_said}
 abbrev pub with_lit : List ℕ → Option ℕ → Option BodyLine → Option BodyLine
 with_lit net None rest = None
 with_lit net (Some set) None = None
-with_lit net (Some set) (Some l) = Some (record { lits = record { net = net; set = set } ∷ l.lits; out = l.out })
+with_lit net (Some set) (Some l) =
+    Some (record { lits = record { net = net; set = set } ∷ l.lits; out = l.out })
 
 -- a line without literals, if its output is a set
 abbrev pub with_out : Option ℕ → Option BodyLine
 with_out None = None
 with_out (Some set) = Some (record { lits = []; out = set })
 
--- the line that the words behind `line` say, taken two at a time: nets with their sets, and at last `->` with the output
+-- the line that the words behind `line` say, taken two at a time: nets with their sets, and at last
+-- `->` with the output
 abbrev pub line_said : List (List ℕ) → Option BodyLine
 line_said [] = None
 line_said (w ∷ []) = None
@@ -76,7 +78,8 @@ merge_said net (Some gone) = Whole (merge_rule net (record { 0 = gone }) None)
 abbrev pub merge_into_said : List ℕ → Option ℕ → Option ℕ → Said
 merge_into_said net None into = Nothing
 merge_into_said net (Some gone) None = Nothing
-merge_into_said net (Some gone) (Some into) = Whole (merge_rule net (record { 0 = gone }) (Some (record { 0 = into })))
+merge_into_said net (Some gone) (Some into) =
+    Whole (merge_rule net (record { 0 = gone }) (Some (record { 0 = into })))
 
 -- a digit of a bit
 abbrev pub is_bit : ℕ → Bool
@@ -94,7 +97,8 @@ are_codes count ws = list_all (is_code count) ws
 abbrev pub code_of : List ℕ → Code
 code_of w = record { bits = map (λ b. b == 49) w }
 
--- a rule that encodes a net, if there is a number, as many names, and nothing behind them but codes of as many bits
+-- a rule that encodes a net, if there is a number, as many names, and nothing behind them but codes
+-- of as many bits
 abbrev pub encode_said : List ℕ → Option ℕ → List (List ℕ) → Said
 encode_said net None words = Nothing
 encode_said net (Some count) words =
@@ -116,7 +120,8 @@ words_said Divide (net ∷ by ∷ []) = Begins (divide_by net by)
 words_said line_word words = line_or_nothing (line_said words)
 words_said Narrow (net ∷ d ∷ u ∷ []) = narrow_said net (number_said d) (number_said u)
 words_said Merge (net ∷ gone ∷ []) = merge_said net (number_said gone)
-words_said Merge (net ∷ gone ∷ into ∷ []) = merge_into_said net (number_said gone) (number_said into)
+words_said Merge (net ∷ gone ∷ into ∷ []) =
+    merge_into_said net (number_said gone) (number_said into)
 words_said Encode (net ∷ number ∷ words) = encode_said net (number_said number) words
 words_said Fill (net ∷ set ∷ []) = fill_said net (set_said set)
 words_said default_word (set ∷ []) = default_said (set_said set)

@@ -10,9 +10,8 @@ use Rattle.mv_entry.specs.declared.rule.Body.{Body}
 use Rattle.mv_entry.specs.declared.rule.Code.{Code}
 use Rattle.mv_entry.specs.declared.rule.Rule.{Rule}
 use Rattle.mv_entry.specs.declared.rule.Rule.TheVariants.{Remove, Add, Divide, Wire, Collapse, Narrow, Merge, Encode, Fill}
-use Rattle.mv_entry.specs.Entries.{is_built}
 use Rattle.mv_step.specs.declared.step.Step.{Step}
-use Rattle.mv_step.specs.Certificates.{syntax_fault, fault_of, steps_of}
+use Rattle.mv_step.specs.Certificates.{fault_of, steps_of}
 
 -- a set that a word can say: it has a value, and only such as a net may have
 pub record IsSayable (set : ℕ) : Type 0 where
@@ -59,7 +58,8 @@ is_sayable_form (Collapse net) = true
 is_sayable_form (Narrow net d u body) = is_sayable_number d && is_sayable_number u
 is_sayable_form (Merge net gone None) = is_sayable_number gone.0
 is_sayable_form (Merge net gone (Some into)) = is_sayable_number gone.0 && is_sayable_number into.0
-is_sayable_form (Encode net names list) = is_sayable_number (length names) && list_all (is_sayable_code (length names)) list
+is_sayable_form (Encode net names list) = is_sayable_number (length names)
+    && list_all (is_sayable_code (length names)) list
 is_sayable_form (Fill net out) = true
 
 -- a rule whose lines can say it
@@ -67,8 +67,7 @@ pub record IsSayableRule (rule : Rule) : Type 0 where
   pub sets : AreSayableSets rule
   pub form : is_sayable_form rule ≡ true
 
--- the lines list these rules, and are a certificate where all of them are built
+-- the lines are a certificate, and list these rules
 pub record Lists (lines : List LexLine) (rules : List Rule) : Type 0 where
-  pub read : syntax_fault lines ≡ None
-  pub accepted : list_all is_built rules ≡ true → fault_of lines ≡ None
+  pub faultless : fault_of lines ≡ None
   pub rules_are : map (λ (s : Step). s.rule) (steps_of lines) ≡ rules

@@ -7,7 +7,7 @@ use Rattle.mv_entry.specs.declared.rule.Body.{Body}
 use Rattle.mv_step.specs.declared.step.Step.{Step}
 use Rattle.mv_step.specs.declared.step.OpenRule.{OpenRule}
 use Rattle.mv_step.specs.Lines.{said}
-use Rattle.mv_step.specs.Certificates.{Place, Outside, InBody, BehindDefault, place_behind, fault_from, syntax_fault, front_body, rule_of, steps_of}
+use Rattle.mv_step.specs.Certificates.{Place, Outside, InBody, BehindDefault, place_behind, fault_from, fault_of, front_body, rule_of, steps_of}
 
 -- ---- literals of a line
 
@@ -28,7 +28,8 @@ abbrev pub place_of : Option OpenRule → Place
 place_of None = Outside
 place_of (Some rule) = place_in rule.line rule.default
 
--- a body of which these lines and this default stood so far, and the rest stands in front of what comes
+-- a body of which these lines and this default stood so far, and the rest stands in front of what
+-- comes
 abbrev pub body_with : List BodyLine → Option ℕ → Body → Body
 body_with lines None rest = record { lines = lines ++ rest.lines; default = rest.default }
 body_with lines (Some set) rest = record { lines = lines; default = Some set }
@@ -37,14 +38,21 @@ body_with lines (Some set) rest = record { lines = lines; default = Some set }
 abbrev pub steps_from : Option OpenRule → List LexLine → List Step
 steps_from None ls = steps_of ls
 steps_from (Some rule) ls =
-    record { line = rule.line; rule = rule_of rule.head (body_with rule.lines rule.default (front_body ls)) } ∷ steps_of ls
+    record {
+      line = rule.line;
+      rule = rule_of rule.head (body_with rule.lines rule.default (front_body ls));
+    } ∷ steps_of ls
 
--- behind one line more the steps and the rule that is open are what they were before it, whatever comes
-pub record Follows (line : LexLine) (before : List Step) (current : Option OpenRule) (after : List Step) (next : Option OpenRule) : Type 0 where
+-- behind one line more the steps and the rule that is open are what they were before it, whatever
+-- comes
+pub record Follows (line : LexLine) (before : List Step) (current : Option OpenRule)
+    (after : List Step) (next : Option OpenRule) : Type 0 where
   pub place : place_of next ≡ place_behind line.number (place_of current) (said line.words)
-  pub steps : (ls : List LexLine) → after ++ steps_from next ls ≡ before ++ steps_from current (line ∷ ls)
+  pub steps : (ls : List LexLine)
+      → after ++ steps_from next ls ≡ before ++ steps_from current (line ∷ ls)
 
 -- so many of the lines were read
-pub record IsAt (lines : List LexLine) (n : ℕ) (before : List Step) (current : Option OpenRule) : Type 0 where
-  pub fault : fault_from (place_of current) (drop n lines) ≡ syntax_fault lines
+pub record IsAt (lines : List LexLine) (n : ℕ) (before : List Step) (current : Option OpenRule)
+    : Type 0 where
+  pub fault : fault_from (place_of current) (drop n lines) ≡ fault_of lines
   pub steps : before ++ steps_from current (drop n lines) ≡ steps_of lines

@@ -13,7 +13,8 @@ is_number w = nat_lt 0 (length w) && nat_le (length w) 5 && list_all is_ascii_di
 
 -- the number below an end that a word says
 unfoldable pub number_below : ℕ → List ℕ → Option ℕ
-number_below end w = if is_number w && nat_lt (digits_value 10 w) end then Some (digits_value 10 w) else None
+number_below end w = if is_number w && nat_lt (digits_value 10 w) end then Some (digits_value 10 w)
+    else None
 
 -- the value that a word says: a number below the most values that a net may have
 unfoldable pub value_said : List ℕ → Option ℕ

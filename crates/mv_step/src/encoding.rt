@@ -61,7 +61,8 @@ fn codes_of(alloc: Global, words: &[Name]) -> Result<Items<Code>, Memory>
 
 /// The line of a rule that encodes a net, with these names and the codes that these words are.
 fn encoded(alloc: Global, net: &Name, names: &[Name], words: &[Name]) -> Result<Said, Memory>
-    ensures { IfOk result (λ s. s ≡ Said.Whole (Rule.Encode net.now names.now (map code_of words.now))) }
+    ensures { IfOk result
+        (λ s. s ≡ Said.Whole (Rule.Encode net.now names.now (map code_of words.now))) }
 {
     let net = net.copy()?;
     let names = Items::of_names(alloc, names)?;

@@ -8,9 +8,6 @@ pub enum StepFault {
     /// The line can't stand where it stands. Where the lines end in a body, it is the line of the body's rule.
     #[error("line {line}: no such line may stand here")]
     Syntax { line: u32 },
-    /// Each line may stand where it stands, and the line begins a rule that isn't built in this version, the first such.
-    #[error("line {line}: this rule isn't built yet")]
-    NotBuilt { line: u32 },
     /// Want of memory, which says nothing of the lines.
     #[error("out of memory")]
     Memory,

@@ -7,5 +7,6 @@ ghost use Rattle.mv_step.specs.Printed.{IsSayableRule, Lists};
 
 /// The lines of rules, as they are printed, are a certificate of those rules.
 pub fn printed_laws()
-    ensures { (lines : List LexLine) (rules : List Rule) → All IsSayableRule rules → map (λ (l : LexLine). l.words) lines ≡ flat_map rule_lines rules → Lists lines rules }
+    ensures { (lines : List LexLine) (rules : List Rule) → All IsSayableRule rules
+        → map (λ (l : LexLine). l.words) lines ≡ flat_map rule_lines rules → Lists lines rules }
 {}

@@ -33,7 +33,9 @@ pub fn line_said(alloc: Global, words: &[Name]) -> Result<Option<BodyLine>, Memo
 
 /// The line with these literals and this output, if the word before the output is the arrow.
 fn ended_line(word: &[u8], lits: Items<BodyLit>, out: PackedSet) -> Option<BodyLine>
-    ensures { result ≡ (if same_word word.now (codes "->") then Some (record { lits = lits; out = out }) else None) }
+    ensures { result
+        ≡ (if same_word word.now (codes "->") then Some (record { lits = lits; out = out })
+        else None) }
 {
     if same_bytes(word, b"->") {
         Some(BodyLine { lits, out })

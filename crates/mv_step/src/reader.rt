@@ -1,5 +1,5 @@
-ghost use Rattle.std.specs.Prelude.{◌≡◌, true, None, Some, IsSome, IfOk};
-ghost use Rattle.mv_step.specs.Certificates.{Outside, fault_at, syntax_fault, unbuilt_line, are_built, fault_of, rule_of, steps_of, Tells};
+ghost use Rattle.std.specs.Prelude.{◌≡◌, None, Some, IsSome, IfOk};
+ghost use Rattle.mv_step.specs.Certificates.{Outside, fault_at, fault_of, rule_of, steps_of, Tells};
 ghost use Rattle.mv_step.specs.Lines.{said};
 ghost use Rattle.mv_step.specs.Reading.{Follows, place_of};
 
@@ -12,7 +12,12 @@ use mv_lex::{LexLine, Lines};
 
 /// The step of a rule whose body has ended.
 fn ended(rule: OpenRule) -> Step
-    ensures { result ≡ record { line = rule.line; rule = rule_of rule.head (record { lines = rule.lines; default = rule.default }) } }
+    ensures { result
+        ≡ record {
+          line = rule.line;
+          rule =
+              rule_of rule.head (record { lines = rule.lines; default = rule.default });
+        } }
 {
     let OpenRule {
         line,
@@ -57,7 +62,8 @@ fn behind_default(
     steps: &mut Items<Step>,
 ) -> Result<Option<OpenRule>, StepFault>
     requires { IsSome rule.default }
-    ensures fault { Tells result (fault_at line.now.number (place_of (Some rule)) (said line.now.words)) }
+    ensures fault { Tells result
+        (fault_at line.now.number (place_of (Some rule)) (said line.now.words)) }
     ensures ok { IfOk result (λ next. Follows line.now steps.old (Some rule) steps.new next) }
 {
     match said_by(line)? {
@@ -75,7 +81,8 @@ fn body_line(
     line: &LexLine,
     steps: &mut Items<Step>,
 ) -> Result<Option<OpenRule>, StepFault>
-    ensures fault { Tells result (fault_at line.now.number (place_of (Some rule)) (said line.now.words)) }
+    ensures fault { Tells result
+        (fault_at line.now.number (place_of (Some rule)) (said line.now.words)) }
     ensures ok { IfOk result (λ next. Follows line.now steps.old (Some rule) steps.new next) }
 {
     if rule.default.is_some() {
@@ -105,7 +112,8 @@ fn take_line(
     line: &LexLine,
     steps: &mut Items<Step>,
 ) -> Result<Option<OpenRule>, StepFault>
-    ensures fault { Tells result (fault_at line.now.number (place_of current) (said line.now.words)) }
+    ensures fault { Tells result
+        (fault_at line.now.number (place_of current) (said line.now.words)) }
     ensures ok { IfOk result (λ next. Follows line.now steps.old current steps.new next) }
 {
     match current {
@@ -114,10 +122,11 @@ fn take_line(
     }
 }
 
-/// The rules that the lines list, each with the line of its first word, or else the first line that can't stand where it stands.
-#[tactic(auto, unfolding(crate::specs::Certificates::syntax_fault))]
-fn listed(lines: &Lines) -> Result<Items<Step>, StepFault>
-    ensures fault { Tells result (syntax_fault lines.now) }
+/// The rules that the lines of a certificate list, each with the line of its first word, or else the first fault of the
+/// lines: the first that can't stand where it stands. A name may be any word: whether there is such a net is for the rule to say.
+#[tactic(auto, unfolding(crate::specs::Certificates::fault_of))]
+pub fn read_cert(lines: &Lines) -> Result<Items<Step>, StepFault>
+    ensures fault { Tells result (fault_of lines.now) }
     ensures steps { IfOk result (λ steps. steps ≡ steps_of lines.now) }
 {
     let mut steps = Items::new(*lines.list.allocator());
@@ -128,35 +137,5 @@ fn listed(lines: &Lines) -> Result<Items<Step>, StepFault>
     match current {
         None => Ok(steps),
         Some(rule) => Err(StepFault::Syntax { line: rule.line }),
-    }
-}
-
-/// The line of the first step whose rule isn't built in this version.
-fn unbuilt_line(steps: &[Step]) -> Option<u32>
-    ensures { result ≡ unbuilt_line steps.now }
-{
-    for step in steps {
-        if !step.rule.is_built() {
-            return Some(step.line);
-        }
-    }
-    None
-}
-
-/// The rules that the lines of a certificate list, each with the line of its first word, or else the first fault of the
-/// lines. A name may be any word: whether there is such a net is for the rule to say.
-#[tactic(auto, using(crate::proofs::Unbuilt::unbuilt))]
-pub fn read_cert(lines: &Lines) -> Result<Items<Step>, StepFault>
-    ensures fault { Tells result (fault_of lines.now) }
-    ensures steps { IfOk result (λ steps. steps ≡ steps_of lines.now) }
-    ensures built { IfOk result (λ steps. are_built steps ≡ true) }
-{
-    let steps = match listed(lines) {
-        Ok(steps) => steps,
-        Err(fault) => return Err(fault),
-    };
-    match unbuilt_line(steps.as_slice()) {
-        None => Ok(steps),
-        Some(line) => Err(StepFault::NotBuilt { line }),
     }
 }

@@ -70,7 +70,8 @@ fn merge_said(net: &Name, gone: &[u8]) -> Result<Said, Memory>
 
 /// What the line of a rule says by which a value goes into another.
 fn merge_into_said(net: &Name, gone: &[u8], into: &[u8]) -> Result<Said, Memory>
-    ensures { IfOk result (λ s. s ≡ merge_into_said net.now (number_said gone.now) (number_said into.now)) }
+    ensures { IfOk result
+        (λ s. s ≡ merge_into_said net.now (number_said gone.now) (number_said into.now)) }
 {
     let Some(gone) = number_said(gone) else {
         return Ok(Said::Nothing);

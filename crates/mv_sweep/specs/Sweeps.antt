@@ -25,15 +25,16 @@ pub record IsWirable (net : NetParts) (n : ℕ) : Type 0 where
   pub read : IsRead net.nets n
   pub buffer : IsBuffer net.nets n
 
--- the net is a plain constant that other nets read and nobody else sees, and no reader's composite is too wide
+-- the net is a plain constant that other nets read and nobody else sees, and no reader's composite
+-- is too wide
 pub record IsFoldable (net : NetParts) (n : ℕ) : Type 0 where
   pub unseen : IsUnseen net n
   pub read : IsRead net.nets n
   pub constant : IsConstant net.nets n
   pub composites : HasComposites net.nets n
 
--- the net isn't one that nobody sees or reads and whose table is total; and if other nets alone read it, it is no plain buffer, and
--- no plain constant but one that is too wide in some reader
+-- the net isn't one that nobody sees or reads and whose table is total; and if other nets alone
+-- read it, it is no plain buffer, and no plain constant but one that is too wide in some reader
 pub record IsSweptNet (net : NetParts) (n : ℕ) : Type 0 where
   pub removable : IsRemovable net n → ⊥
   pub wirable : IsWirable net n → ⊥

@@ -42,7 +42,8 @@ pub record IsNext (net : NetParts) (agenda : List ℕ) (n : ℕ) (way : Way) : T
   pub first : IsLeastWay net n way
   pub others : AllWaitBut (CanSweep net) agenda n
 
--- nothing changed but near the net at n, what was kept of composites is right, and fewer steps are left
+-- nothing changed but near the net at n, what was kept of composites is right, and fewer steps are
+-- left
 pub record StepsAround (old new : NetParts) (n : ℕ) : Type 0 where
   pub around : StaysAround old.nets new.nets n
   pub same : new ≡ with_nets old new.nets

@@ -37,7 +37,9 @@ fn next_found(
 ) -> Result<Option<Found>, Memory>
     requires wait { AllWait (CanSweep net.now) agenda.old }
     requires right { AreRight net.now.nets kept.old }
-    ensures found { IfOk result (λ found. MatchOption found (IsSwept net.now) (λ f. IsNext net.now agenda.new f.n.0 f.way)) }
+    ensures found { IfOk result
+        (λ found. MatchOption found (IsSwept net.now)
+        (λ f. IsNext net.now agenda.new f.n.0 f.way)) }
     ensures right { OnOk result (AreRight net.now.nets kept.new) }
 {
     'looking: loop {
@@ -72,7 +74,8 @@ fn step<J: Journal>(
     journal: &mut J,
 ) -> Result<(), Stop>
     requires { IsLeastWay net.old found.now.n.0 found.now.way }
-    ensures passes { Passes terms.free (SweepsSome terms.free) (SweepsSome terms.free) net.old net.new
+    ensures passes { Passes terms.free (SweepsSome terms.free)
+        (SweepsSome terms.free) net.old net.new
         (J.state journal.old) (J.state journal.new) result }
     ensures around { OnOk result (StepsAround net.old net.new found.now.n.0) }
     ensures means { SameMeaning (of_net net.new) (of_net net.old) }
@@ -100,7 +103,8 @@ fn sweep_each<J: Journal>(
     terms: Terms,
     journal: &mut J,
 ) -> Result<(), Stop>
-    ensures passes { Passes terms.free (SweepsAll terms.free) (SweepsSome terms.free) net.old net.new
+    ensures passes { Passes terms.free (SweepsAll terms.free)
+        (SweepsSome terms.free) net.old net.new
         (J.state journal.old) (J.state journal.new) result }
     ensures means { SameMeaning (of_net net.new) (of_net net.old) }
 {

@@ -21,7 +21,8 @@ use std::alloc::Global;
 
 /// Whether the net of this number can go.
 fn is_removable(alloc: Global, net: &Network, n: NetId) -> Result<bool, Memory>
-    ensures { IfOk result (λ goes. MatchBool goes (IsRemovable net.now n.0) (IsRemovable net.now n.0 → ⊥)) }
+    ensures { IfOk result
+        (λ goes. MatchBool goes (IsRemovable net.now n.0) (IsRemovable net.now n.0 → ⊥)) }
 {
     if !net.holds(n) {
         return Ok(false);
@@ -42,7 +43,9 @@ fn next_removable(
     agenda: &mut Agenda,
 ) -> Result<Option<NetId>, Memory>
     requires { AllWait (IsRemovable net.now) agenda.old }
-    ensures { IfOk result (λ found. MatchOption found (NoneLeft net.now) (λ n. IsNextRemovable net.now agenda.new n.0)) }
+    ensures { IfOk result
+        (λ found. MatchOption found (NoneLeft net.now)
+        (λ n. IsNextRemovable net.now agenda.new n.0)) }
 {
     'looking: loop {
         let Some(n) = agenda.take_least() else {
@@ -122,7 +125,8 @@ pub fn remove_unread<J: Journal>(
     journal: &mut J,
     terms: Terms,
 ) -> Result<(), Stop>
-    ensures passes { Passes terms.free (Does (DropsAll terms.free) drop) (Begun (DropsAll terms.free) (DropsSome terms.free) drop)
+    ensures passes { Passes terms.free (Does (DropsAll terms.free) drop)
+        (Begun (DropsAll terms.free) (DropsSome terms.free) drop)
         net.old net.new (J.state journal.old) (J.state journal.new) result }
     ensures refines { Refines false (of_net net.new) (of_net net.old) }
 {

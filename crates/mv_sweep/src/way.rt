@@ -26,7 +26,8 @@ pub fn way_of(
     n: NetId,
 ) -> Result<Option<Way>, Memory>
     requires { AreRight net.now.nets kept.old }
-    ensures way { IfOk result (λ way. MatchOption way (IsSweptNet net.now n.0) (IsWay net.now n.0)) }
+    ensures way { IfOk result
+        (λ way. MatchOption way (IsSweptNet net.now n.0) (IsWay net.now n.0)) }
     ensures right { OnOk result (AreRight net.now.nets kept.new) }
 {
     if !net.holds(n) {
@@ -66,7 +67,8 @@ fn way_of_read(
     requires unseen { IsUnseen net.now n.0 }
     requires read { IsRead net.now.nets n.0 }
     requires right { AreRight net.now.nets kept.old }
-    ensures way { IfOk result (λ way. MatchOption way (IsSweptNet net.now n.0) (IsWay net.now n.0)) }
+    ensures way { IfOk result
+        (λ way. MatchOption way (IsSweptNet net.now n.0) (IsWay net.now n.0)) }
     ensures right { OnOk result (AreRight net.now.nets kept.new) }
 {
     net.well_formed();

@@ -1,4 +1,5 @@
--- The first line of a table, `.table COLUMNS`, and of a reset table, `.reset COLUMNS`: its columns and their faults.
+-- The first line of a table, `.table COLUMNS`, and of a reset table, `.reset COLUMNS`: its columns
+-- and their faults.
 use Rattle.std.specs.Prelude.{ℕ, ◌+◌, ◌-◌, Bool, not, ◌==◌, nat_lt, nat_le, List, [], ◌∷◌, ◌++◌, length, take, drop, codes, if◌then◌else◌}
 use Rattle.std.specs.List.{position_or_len}
 use Rattle.mv_base.specs.Names.{same_word, among, is_net_name}
@@ -20,7 +21,8 @@ arrow_at words = position_or_len is_arrow words
 abbrev pub has_arrow : List (List ℕ) → Bool
 has_arrow words = nat_lt (arrow_at words) (length words)
 
--- how many input columns there are: all names before the first `->`, or all but the last where there is none
+-- how many input columns there are: all names before the first `->`, or all but the last where
+-- there is none
 abbrev pub ins_count : List (List ℕ) → ℕ
 ins_count words = if has_arrow words then arrow_at words else length words - 1
 
@@ -34,29 +36,36 @@ outs_of words = drop (if has_arrow words then arrow_at words + 1 else length wor
 
 -- the faults of a column of this name, behind so many columns
 abbrev pub column_faults : ℕ → ℕ → List ℕ → List ParseFault
-column_faults n at w = when (nat_le MAX_COLUMNS at) (Limit n Columns (MAX_COLUMNS + 1)) ++ when (not (is_net_name w)) (BadName n w)
+column_faults n at w = when (nat_le MAX_COLUMNS at) (Limit n Columns (MAX_COLUMNS + 1))
+    ++ when (not (is_net_name w)) (BadName n w)
 
 -- the faults of columns behind so many others, where a name may stand twice, as among inputs
 abbrev pub names_faults : ℕ → ℕ → List (List ℕ) → List ParseFault
 names_faults n at [] = []
 names_faults n at (w ∷ ws) = column_faults n at w ++ names_faults n (at + 1) ws
 
--- the faults of the outputs of a table, behind so many columns, of which these are outputs: no output stands twice
+-- the faults of the outputs of a table, behind so many columns, of which these are outputs: no
+-- output stands twice
 abbrev pub outputs_faults : ℕ → ℕ → List (List ℕ) → List (List ℕ) → List ParseFault
 outputs_faults n at earlier [] = []
 outputs_faults n at earlier (w ∷ ws) =
-    column_faults n at w ++ when (among w earlier) (Repeated n w) ++ outputs_faults n (at + 1) (earlier ++ w ∷ []) ws
+    column_faults n at w ++ when (among w earlier) (Repeated n w)
+    ++ outputs_faults n (at + 1) (earlier ++ w ∷ []) ws
 
--- the faults of the words behind the command `word`: those of each column in turn, and an output that is lacking
+-- the faults of the words behind the command `word`: those of each column in turn, and an output
+-- that is lacking
 unfoldable pub columns_faults : ℕ → List ℕ → List (List ℕ) → List ParseFault
 columns_faults n word words =
-    names_faults n 0 (ins_of words) ++ outputs_faults n (length (ins_of words)) [] (outs_of words) ++ when (length (outs_of words) == 0) (Missing n word)
+    names_faults n 0 (ins_of words) ++ outputs_faults n (length (ins_of words)) [] (outs_of words)
+    ++ when (length (outs_of words) == 0) (Missing n word)
 
 -- the faults of the outputs of a reset table, which has one, behind so many columns
 abbrev pub output_faults : ℕ → List ℕ → ℕ → List (List ℕ) → List ParseFault
 output_faults n word at [] = Missing n word ∷ []
-output_faults n word at (w ∷ ws) = names_faults n at (w ∷ []) ++ when (nat_lt 0 (length ws)) (Extra n word)
+output_faults n word at (w ∷ ws) = names_faults n at (w ∷ [])
+    ++ when (nat_lt 0 (length ws)) (Extra n word)
 
 -- the faults of the words behind the command `word` of a reset table
 unfoldable pub reset_faults : ℕ → List ℕ → List (List ℕ) → List ParseFault
-reset_faults n word words = names_faults n 0 (ins_of words) ++ output_faults n word (length (ins_of words)) (outs_of words)
+reset_faults n word words = names_faults n 0 (ins_of words)
+    ++ output_faults n word (length (ins_of words)) (outs_of words)

@@ -17,7 +17,8 @@ use Rattle.mv_fault.specs.declared.fault.ParseFault.TheVariants.{UnknownValue, B
 unfoldable pub in_said : List Decl → List ℕ → List ℕ → Result ℕ EntryFault
 in_said ds net word = word_set (values_of ds net) word
 
--- an output entry is one of these, or `=x`, where x is the name of an input column of the table with as many values
+-- an output entry is one of these, or `=x`, where x is the name of an input column of the table
+-- with as many values
 abbrev pub same_at : List Decl → List (List ℕ) → List ℕ → Option ℕ → Result Entry EntryFault
 same_at ds values name None = Err (Equal name)
 same_at ds values name (Some place) =
@@ -29,9 +30,11 @@ set_entry (Ok set) = Ok (Set set)
 set_entry (Err fault) = Err fault
 
 -- what the word of an output entry says of these values: `=` begins the name of a column
-unfoldable pub out_word : List Decl → List (List ℕ) → List (List ℕ) → List ℕ → Result Entry EntryFault
+unfoldable pub out_word : List Decl → List (List ℕ) → List (List ℕ) → List ℕ
+    → Result Entry EntryFault
 out_word ds ins values word =
-    if begins_with 61 word then same_at ds values (drop 1 word) (place_of (drop 1 word) ins) else set_entry (word_set values word)
+    if begins_with 61 word then same_at ds values (drop 1 word) (place_of (drop 1 word) ins)
+    else set_entry (word_set values word)
 
 -- what an output entry says of the values of its column's net
 unfoldable pub out_said : List Decl → List (List ℕ) → List ℕ → List ℕ → Result Entry EntryFault
@@ -53,7 +56,8 @@ said_or other (Err fault) = other
 abbrev pub ins_faults : ℕ → List Decl → List (List ℕ) → List (List ℕ) → List ParseFault
 ins_faults n ds [] words = []
 ins_faults n ds (net ∷ nets) [] = []
-ins_faults n ds (net ∷ nets) (w ∷ words) = entry_faults n (in_said ds net w) ++ ins_faults n ds nets words
+ins_faults n ds (net ∷ nets) (w ∷ words) = entry_faults n (in_said ds net w)
+    ++ ins_faults n ds nets words
 
 -- the sets that input entries say
 abbrev pub ins_said : List Decl → List (List ℕ) → List (List ℕ) → List ℕ
@@ -62,16 +66,19 @@ ins_said ds (net ∷ nets) [] = []
 ins_said ds (net ∷ nets) (w ∷ words) = said_or empty (in_said ds net w) ∷ ins_said ds nets words
 
 -- the faults of output entries
-abbrev pub outs_faults : ℕ → List Decl → List (List ℕ) → List (List ℕ) → List (List ℕ) → List ParseFault
+abbrev pub outs_faults : ℕ → List Decl → List (List ℕ) → List (List ℕ) → List (List ℕ)
+    → List ParseFault
 outs_faults n ds ins [] words = []
 outs_faults n ds ins (net ∷ nets) [] = []
-outs_faults n ds ins (net ∷ nets) (w ∷ words) = entry_faults n (out_said ds ins net w) ++ outs_faults n ds ins nets words
+outs_faults n ds ins (net ∷ nets) (w ∷ words) = entry_faults n (out_said ds ins net w)
+    ++ outs_faults n ds ins nets words
 
 -- the entries that output entries say
 abbrev pub outs_said : List Decl → List (List ℕ) → List (List ℕ) → List (List ℕ) → List Entry
 outs_said ds ins [] words = []
 outs_said ds ins (net ∷ nets) [] = []
-outs_said ds ins (net ∷ nets) (w ∷ words) = said_or (Set empty) (out_said ds ins net w) ∷ outs_said ds ins nets words
+outs_said ds ins (net ∷ nets) (w ∷ words) = said_or (Set empty) (out_said ds ins net w)
+    ∷ outs_said ds ins nets words
 
 -- ---- what private functions alone cite
 

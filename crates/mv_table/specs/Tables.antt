@@ -31,11 +31,14 @@ says_default l = begins_default l.words
 
 -- a row: one entry a column, inputs first
 abbrev pub row_of_words : List Decl → List (List ℕ) → List (List ℕ) → List (List ℕ) → Row
-row_of_words ds ins outs words = record { ins = ins_said ds ins words; outs = outs_said ds ins outs (drop (length ins) words) }
+row_of_words ds ins outs words =
+    record { ins = ins_said ds ins words; outs = outs_said ds ins outs (drop (length ins) words) }
 
 -- the faults of the entries of a row
-abbrev pub entries_faults : ℕ → List Decl → List (List ℕ) → List (List ℕ) → List (List ℕ) → List ParseFault
-entries_faults n ds ins outs words = ins_faults n ds ins words ++ outs_faults n ds ins outs (drop (length ins) words)
+abbrev pub entries_faults : ℕ → List Decl → List (List ℕ) → List (List ℕ) → List (List ℕ)
+    → List ParseFault
+entries_faults n ds ins outs words = ins_faults n ds ins words
+    ++ outs_faults n ds ins outs (drop (length ins) words)
 
 -- the row of a line that is a row or a default
 abbrev pub rows_at : List Decl → List (List ℕ) → List (List ℕ) → LexLine → List Row
@@ -47,20 +50,26 @@ rows_of ds ins outs lines = flat_map (rows_at ds ins outs) lines
 
 -- the default of a line that is a row or a default
 abbrev pub default_at : List Decl → List (List ℕ) → List (List ℕ) → LexLine → Option (List Entry)
-default_at ds ins outs l = if says_default l then Some (outs_said ds ins outs (behind_first l)) else None
+default_at ds ins outs l = if says_default l then Some (outs_said ds ins outs (behind_first l))
+    else None
 
 -- the last default of these lines, if there is one
-abbrev pub default_of : List Decl → List (List ℕ) → List (List ℕ) → List LexLine → Option (List Entry)
+abbrev pub default_of : List Decl → List (List ℕ) → List (List ℕ) → List LexLine
+    → Option (List Entry)
 default_of ds ins outs [] = None
-default_of ds ins outs (l ∷ lines) = option_or (default_of ds ins outs lines) (default_at ds ins outs l)
+default_of ds ins outs (l ∷ lines) =
+    option_or (default_of ds ins outs lines) (default_at ds ins outs l)
 
 -- the faults of the values of a row or a default, from left to right
-abbrev pub line_values_faults : List Decl → List (List ℕ) → List (List ℕ) → LexLine → List ParseFault
+abbrev pub line_values_faults : List Decl → List (List ℕ) → List (List ℕ) → LexLine
+    → List ParseFault
 line_values_faults ds ins outs l =
-    if says_default l then outs_faults l.number ds ins outs (behind_first l) else entries_faults l.number ds ins outs l.words
+    if says_default l then outs_faults l.number ds ins outs (behind_first l)
+    else entries_faults l.number ds ins outs l.words
 
 -- the faults of the values of these lines, line by line
-abbrev pub lines_values_faults : List Decl → List (List ℕ) → List (List ℕ) → List LexLine → List ParseFault
+abbrev pub lines_values_faults : List Decl → List (List ℕ) → List (List ℕ) → List LexLine
+    → List ParseFault
 lines_values_faults ds ins outs lines = flat_map (line_values_faults ds ins outs) lines
 
 -- the table that its first line says, with the rows and the default behind it
@@ -75,4 +84,5 @@ table_of ds head lines = record {
 
 -- the faults of the values of a table
 unfoldable pub table_faults : List Decl → LexLine → List LexLine → List ParseFault
-table_faults ds head lines = lines_values_faults ds (ins_of (behind_first head)) (outs_of (behind_first head)) lines
+table_faults ds head lines =
+    lines_values_faults ds (ins_of (behind_first head)) (outs_of (behind_first head)) lines

@@ -96,8 +96,10 @@ fn same_entry(
 ) -> Result<Entry, ParseFault>
     requires few { length ins.now < 2 ^ 32 }
     requires places { places.now ≡ places_of decls.now ins.now }
-    ensures fault { Tells result (entry_faults number (same_at decls.now values.now name.now (place_of name.now ins.now))) }
-    ensures ok { IfOk result (λ entry. same_at decls.now values.now name.now (place_of name.now ins.now) ≡ Ok entry) }
+    ensures fault { Tells result
+        (entry_faults number (same_at decls.now values.now name.now (place_of name.now ins.now))) }
+    ensures ok { IfOk result
+        (λ entry. same_at decls.now values.now name.now (place_of name.now ins.now) ≡ Ok entry) }
 {
     let name = Name::new(alloc, name)?;
     let Some(place) = place(ins, &name) else {
@@ -123,7 +125,8 @@ fn out_entry(
     requires few { length ins.now < 2 ^ 32 }
     requires places { places.now ≡ places_of decls.now ins.now }
     requires within { length values.now ≤ most_values }
-    ensures fault { Tells result (entry_faults number (out_word decls.now ins.now values.now word.now)) }
+    ensures fault { Tells result
+        (entry_faults number (out_word decls.now ins.now values.now word.now)) }
     ensures ok { IfOk result (λ entry. out_word decls.now ins.now values.now word.now ≡ Ok entry) }
 {
     if begins_with(word, b'=') {
@@ -173,8 +176,11 @@ pub fn out_entries(
 ) -> Result<Entries, ParseFault>
     requires few { length columns.now.ins.now < 2 ^ 32 }
     requires placed { AreLookedUp decls.now columns.now }
-    ensures fault { Tells result (outs_faults number decls.now columns.now.ins.now columns.now.outs.now words.now) }
-    ensures ok { IfOk result (λ entries. entries ≡ outs_said decls.now columns.now.ins.now columns.now.outs.now words.now) }
+    ensures fault { Tells result
+        (outs_faults number decls.now columns.now.ins.now columns.now.outs.now words.now) }
+    ensures ok { IfOk result
+        (λ entries. entries
+        ≡ outs_said decls.now columns.now.ins.now columns.now.outs.now words.now) }
 {
     let count = columns.outs.len().min(words.len());
     let places = columns.out_places.as_slice();

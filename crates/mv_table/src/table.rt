@@ -62,8 +62,10 @@ fn row(
 ) -> Result<Row, ParseFault>
     requires few { length columns.now.ins.now < 2 ^ 32 }
     requires placed { AreLookedUp decls.now columns.now }
-    ensures fault { Tells result (entries_faults number decls.now columns.now.ins.now columns.now.outs.now words.now) }
-    ensures ok { IfOk result (λ row. row ≡ row_of_words decls.now columns.now.ins.now columns.now.outs.now words.now) }
+    ensures fault { Tells result
+        (entries_faults number decls.now columns.now.ins.now columns.now.outs.now words.now) }
+    ensures ok { IfOk result
+        (λ row. row ≡ row_of_words decls.now columns.now.ins.now columns.now.outs.now words.now) }
 {
     let sets = in_entries(alloc, number, decls, columns, words)?;
     let (_inputs, behind) = words.split_at(columns.ins.len().min(words.len()));
@@ -86,9 +88,14 @@ fn read_line(
 ) -> Result<(), ParseFault>
     requires few { length columns.now.ins.now < 2 ^ 32 }
     requires placed { AreLookedUp decls.now columns.now }
-    ensures fault { Tells result (line_values_faults decls.now columns.now.ins.now columns.now.outs.now line.now) }
-    ensures rows { OnOk result (rows.new ≡ rows.old ++ rows_at decls.now columns.now.ins.now columns.now.outs.now line.now) }
-    ensures default { OnOk result (default.new ≡ option_or (default_at decls.now columns.now.ins.now columns.now.outs.now line.now) default.old) }
+    ensures fault { Tells result
+        (line_values_faults decls.now columns.now.ins.now columns.now.outs.now line.now) }
+    ensures rows { OnOk result
+        (rows.new ≡ rows.old
+        ++ rows_at decls.now columns.now.ins.now columns.now.outs.now line.now) }
+    ensures default { OnOk result
+        (default.new
+        ≡ option_or (default_at decls.now columns.now.ins.now columns.now.outs.now line.now) default.old) }
 {
     if is_default(line) {
         let entries = out_entries(alloc, line.number, decls, columns, behind_first(line))?;

@@ -1,42 +1,205 @@
--- The end of a run: the done line, and then the text, each as far as it came.
-use Rattle.std.proofs.Common.{◌≡◌, ℕ, ◌≤◌, List, [], ◌++◌, Option, Some, None, Result, Ok, Err, OnOk, OnErr, inl, inr, refl, subst, arith, ⊎_elim}
-use Rattle.std.specs.Prelude.{IfSome}
-use Rattle.mv_base.specs.declared.outside.Failed.{Failed}
-use Rattle.mv_base.specs.Outside.{Written, Gained, GainedFront, GainedPart, Appends, Rose}
-use Rattle.mv_base.proofs.Gains.{Gained-none, Gained-then}
-use Rattle.mv_base.proofs.OutsideLemmas.{Rose-earlier}
-use Rattle.mv_task.specs.Ending.{IsEndCut}
-use Rattle.mv_task.specs.Lines.{TellsLine, TellsBehind}
+-- What each status says, once for all tasks.
+use Rattle.std.proofs.Common.{◌≡◌, ◌∙◌, ◌⊎◌, ℕ, true, false, is_some, List, [], ◌∷◌, inl, inr, refl, sym, ap, subst, arith, ⊎_elim}
+use Rattle.std.specs.Prelude.{IsTrue, IsSomeAnd}
+use Rattle.mv_base.specs.Outside.{Stored, Gained, Rose}
+use Rattle.mv_task.specs.Ends.{Outside, Sinks, Task, Work, Ends, Refused, Unread, Short, Worked, WorkEnds, IsDone, Done, OutputCut, NotesCut, Stopped, Own, is_common, Says, work_on, work_on_both}
+use Rattle.mv_task.specs.Exact.{IsExact, IsComplete, IsUnhindered, RefusesWith}
+use Rattle.mv_task.specs.Sources.{IsReadWhole, starts_with}
+use Rattle.mv_task.specs.Stages.{Stage, Takes, AreTaken, AreRead, FirstOf, EndsRefused, EndsUnread}
+use Rattle.mv_task.proofs.Contents.{never_misses, told_sound}
+use Rattle.mv_task.proofs.Walks.{first_never, first_both, one_contents, never_refused, never_faulty}
 
-pub on_ok : (r : Result (Unit {0}) Failed) (P : Type 0) → P → OnOk r P
-on_ok (Ok u) P p = p
-on_ok (Err f) P p = tt
+-- a status of its own isn't one that every task may have
+pub common : (k n : ℕ) → is_common k ≡ false → k ≡ n → is_common n ≡ true → ⊥
+common k n apart e c = let f : is_common k ≡ is_common n = ap is_common e in cc
 
-pub end_cut : (r : Result (Unit {0}) Failed) (out out' notes notes' : Written) (line text : List ℕ) → Gained notes notes' line → Appends out out' text r → OnErr r (IsEndCut out out' notes notes' line text)
-end_cut (Ok u) out out' notes notes' line text g p = tt
-end_cut (Err f) out out' notes notes' line text g p = record { how = inl (p.cause.failed, (g, p.part)) }
+-- ---- the work is done
 
-pub done_cut : (out notes notes' : Written) (line text : List ℕ) → GainedPart notes notes' line → Rose notes.faults notes'.faults → IsEndCut out out notes notes' line text
-done_cut out notes notes' line text p rose = record { how = inr (refl, rose, p) }
+done_of : (work : Work) (old new : Sinks) (status : ℕ) → WorkEnds work old new status → status ≡ 0 → IsDone work old new
+done_of work old new status (Done is done) e = done
+done_of work old new status (OutputCut is rose noted written does notes part) e = absurd (omega arith)
+done_of work old new status (NotesCut is rose untouched noted does part) e = absurd (omega arith)
+done_of work old new status (Stopped is untouched noted stops tells) e = absurd (omega arith)
+done_of work old new status (Own apart untouched line refuses tells) e = absurd (common status 0 apart e refl)
 
--- a part of a line stands behind what was gained before
-front_behind : (o m n : Option (List ℕ)) (text line : List ℕ) → IfSome o (λ had. m ≡ Some (had ++ text)) → IfSome m (λ had. GainedFront had n line) → IfSome o (λ had. GainedFront (had ++ text) n line)
-front_behind None m n text line g h = tt
-front_behind (Some o) m n text line g h =
-    let P : Option (List ℕ) → Type 0 = λ z. IfSome z (λ had. GainedFront had n line) in
-    subst P g h
+-- a task whose work is done
+pub record HasDone (task : Task) (old new : Outside) : Type 0 where
+  pub contents : List (List ℕ)
+  pub read : AreRead task.stages old.files new.files contents
+  pub done : IsDone (task.work contents) old.sinks new.sinks
 
--- a line that is told behind a text that was gained
-pub TellsBehind-from : (notes mid notes' : Written) (text line : List ℕ) → Gained notes mid text → notes.faults ≤ mid.faults → TellsLine mid notes' line → TellsBehind notes notes' text line
-TellsBehind-from notes mid notes' text line g later t = record {
-  how =
-      ⊎_elim
-      (λ (all : Gained mid notes' line). inl (Gained-then notes mid notes' text line g all))
-      (λ (part : GainedPart mid notes' line × Rose mid.faults notes'.faults).
-      inr (front_behind notes.told mid.told notes'.told text line g part.0, Rose-earlier notes.faults mid.faults notes'.faults later part.1))
-      t;
-}
+module _ {task : Task} {old new : Outside} {status : ℕ} where
+  pub ends_done : Ends task old new status → status ≡ 0 → HasDone task old new
+  ends_done (Refused apart line first untouched tells) e = absurd (common status 0 apart e refl)
+  ends_done (Unread is rose first untouched tells) e = absurd (omega arith)
+  ends_done (Short is begun untouched tells) e = absurd (omega arith)
+  ends_done (Worked contents read ends) e = record {
+    contents = contents;
+    read = read;
+    done = done_of (task.work contents) old.sinks new.sinks status ends e;
+  }
 
--- a line that is told behind nothing
-pub TellsBehind-nothing : (notes notes' : Written) (line : List ℕ) → TellsLine notes notes' line → TellsBehind notes notes' [] line
-TellsBehind-nothing notes notes' line t = TellsBehind-from notes notes notes' [] line (Gained-none notes) (omega arith) t
+-- ---- causes
+
+work_untouched : (work : Work) (old new : Sinks) (status : ℕ) → WorkEnds work old new status → (status ≡ 0 → ⊥) → (status ≡ 5 → ⊥) → new.out ≡ old.out
+work_untouched work old new status (Done is done) a b = absurd (a is)
+work_untouched work old new status (OutputCut is rose noted written does notes part) a b = absurd (b is)
+work_untouched work old new status (NotesCut is rose untouched noted does part) a b = untouched
+work_untouched work old new status (Stopped is untouched noted stops tells) a b = untouched
+work_untouched work old new status (Own apart untouched line refuses tells) a b = untouched
+
+never_four : (work : Work) (old new : Sinks) (status : ℕ) → WorkEnds work old new status → status ≡ 4 → ⊥
+never_four work old new status (Done is done) e = omega arith
+never_four work old new status (OutputCut is rose noted written does notes part) e = omega arith
+never_four work old new status (NotesCut is rose untouched noted does part) e = omega arith
+never_four work old new status (Stopped is untouched noted stops tells) e = omega arith
+never_four work old new status (Own apart untouched line refuses tells) e = common status 4 apart e refl
+
+module _ (task : Task) (old new : Outside) (status : ℕ) where
+  pub ends_untouched : Ends task old new status → (status ≡ 0 → ⊥) → (status ≡ 5 → ⊥) → new.sinks.out ≡ old.sinks.out
+  ends_untouched (Refused apart line first untouched tells) a b = untouched
+  ends_untouched (Unread is rose first untouched tells) a b = untouched
+  ends_untouched (Short is begun untouched tells) a b = untouched
+  ends_untouched (Worked contents read ends) a b = work_untouched (task.work contents) old.sinks new.sinks status ends a b
+
+  pub ends_rose : Ends task old new status → status ≡ 4 → Rose old.files.faults new.files.faults
+  ends_rose (Refused apart line first untouched tells) e = absurd (common status 4 apart e refl)
+  ends_rose (Unread is rose first untouched tells) e = rose
+  ends_rose (Short is begun untouched tells) e = absurd (omega arith)
+  ends_rose (Worked contents read ends) e = absurd (never_four (task.work contents) old.sinks new.sinks status ends e)
+
+-- ---- exactness
+
+module _ (task : Task) (old new : Outside) (status : ℕ) where
+  -- what is refused with a status isn't accepted
+  apart_of : (k : ℕ) → IsTrue (is_some old.files.held) → (s : Stage) (n : ℕ) (content : List ℕ) → Takes s old.files content → RefusesWith k old.files s n → ⊥
+  apart_of k told s n content t r = never_refused s old.files content told t r.refused
+
+  apart_from : (line : List ℕ) → IsTrue (is_some old.files.held) → (s : Stage) (n : ℕ) (content : List ℕ) → Takes s old.files content → EndsRefused status line old.files new.files s n → ⊥
+  apart_from line told s n content t r = never_faulty s old.files content line told t r.faulty
+
+  pub ends_exact : Ends task old new status → IsExact task.stages old.files status
+  ends_exact (Refused apart line first untouched tells) k told refused u =
+      first_both (EndsRefused status line old.files new.files) (RefusesWith k old.files) (status ≡ k) task.stages old.files old.files.starts
+      (apart_from line told) (apart_of k told) (λ s n p q. p.is ∙ sym q.is) first refused
+  ends_exact (Unread is rose first untouched tells) k told refused u = absurd (u.read is)
+  ends_exact (Short is begun untouched tells) k told refused u = absurd (u.memory is)
+  ends_exact (Worked contents read ends) k told refused u =
+      absurd (first_never (RefusesWith k old.files) task.stages old.files old.files.starts contents (apart_of k told) read.taken refused)
+
+-- ---- completeness
+
+work_complete : (work : Work) (old new : Sinks) (status : ℕ) → WorkEnds work old new status → (Rose old.out.faults new.out.faults → ⊥) → (Rose old.notes.faults new.notes.faults → ⊥)
+    → (status ≡ 0) ⊎ (status ≡ 6) ⊎ ((line : List ℕ) × work.Refuses status line)
+work_complete work old new status (Done is done) o n = inl is
+work_complete work old new status (OutputCut is rose noted written does notes part) o n = absurd (o rose)
+work_complete work old new status (NotesCut is rose untouched noted does part) o n = absurd (n rose)
+work_complete work old new status (Stopped is untouched noted stops tells) o n = inr (inl is)
+work_complete work old new status (Own apart untouched line refuses tells) o n = inr (inr (line, refuses))
+
+module _ (task : Task) (old new : Outside) (status : ℕ) where
+  pub ends_complete : Ends task old new status → IsComplete task old new status
+  ends_complete (Refused apart line first untouched tells) contents sound taken o n =
+      absurd (first_never (EndsRefused status line old.files new.files) task.stages old.files old.files.starts contents (apart_from task old new status line (told_sound old.files.held sound)) taken first)
+  ends_complete (Unread is rose first untouched tells) contents sound taken o n =
+      absurd (first_never (EndsUnread old.files new.files) task.stages old.files old.files.starts contents (λ s k content t r. never_misses s.from old.files content sound r.misses t.is) taken first)
+  ends_complete (Short is begun untouched tells) contents sound taken o n = inr (inl is)
+  ends_complete (Worked own read ends) contents sound taken o n =
+      let same : own ≡ contents = one_contents task.stages old.files own contents (told_sound old.files.held sound) read.taken taken in
+      let P : List (List ℕ) → Type 0 = λ cs. (status ≡ 0) ⊎ (status ≡ 6) ⊎ ((line : List ℕ) × (task.work cs).Refuses status line) in
+      subst P same (work_complete (task.work own) old.sinks new.sinks status ends o n)
+
+-- ---- files that tell, whose contents all stages accept
+
+module _ (task : Task) (old new : Outside) (status : ℕ) (contents : List (List ℕ)) where
+  -- the work ends on them, if it is begun
+  pub ends_worked : Ends task old new status → IsTrue (is_some old.files.held) → AreTaken task.stages old.files contents → ((status ≡ 4) ⊎ (status ≡ 6)) ⊎ WorkEnds (task.work contents) old.sinks new.sinks status
+  ends_worked (Refused apart line first untouched tells) told taken =
+      absurd (first_never (EndsRefused status line old.files new.files) task.stages old.files old.files.starts contents (apart_from task old new status line told) taken first)
+  ends_worked (Unread is rose first untouched tells) told taken = inl (inl is)
+  ends_worked (Short is begun untouched tells) told taken = inl (inr is)
+  ends_worked (Worked own read ends) told taken =
+      let same : own ≡ contents = one_contents task.stages old.files own contents told read.taken taken in
+      inr (subst (λ cs. WorkEnds (task.work cs) old.sinks new.sinks status) same ends)
+
+-- ---- what holds of each status
+
+abbrev pub EachRefusal : (ℕ → Type 0) → List Stage → Type 0
+EachRefusal P [] = Unit {0}
+EachRefusal P (s ∷ ss) = P s.refusal × EachRefusal P ss
+
+refusal_is : (P : ℕ → Type 0) (stages : List Stage) (files new : Stored) (starts status : ℕ) (line : List ℕ) → EachRefusal P stages → FirstOf (EndsRefused status line files new) stages files starts → P status
+refusal_is P [] files new starts status line each first = absurd first
+refusal_is P (s ∷ ss) files new starts status line each first =
+    ⊎_elim
+    (λ (r : EndsRefused status line files new s (starts_with s.from starts)). subst P (sym r.is) each.0)
+    (λ (r : (content : List ℕ) × (Takes s files content × FirstOf (EndsRefused status line files new) ss files (starts_with s.from starts))).
+    refusal_is P ss files new (starts_with s.from starts) status line each.1 r.1.1)
+    first
+
+work_known : (P : ℕ → Type 0) (work : Work) (old new : Sinks) (status : ℕ) → P 0 → P 5 → P 6 → ((k : ℕ) (line : List ℕ) → work.Refuses k line → P k) → WorkEnds work old new status → P status
+work_known P work old new status p0 p5 p6 own (Done is done) = subst P (sym is) p0
+work_known P work old new status p0 p5 p6 own (OutputCut is rose noted written does notes part) = subst P (sym is) p5
+work_known P work old new status p0 p5 p6 own (NotesCut is rose untouched noted does part) = subst P (sym is) p5
+work_known P work old new status p0 p5 p6 own (Stopped is untouched noted stops tells) = subst P (sym is) p6
+work_known P work old new status p0 p5 p6 own (Own apart untouched line refuses tells) = own status line refuses
+
+pub ends_known : (P : ℕ → Type 0) (task : Task) (old new : Outside) (status : ℕ) → P 0 → P 4 → P 5 → P 6 → EachRefusal P task.stages
+    → ((contents : List (List ℕ)) (k : ℕ) (line : List ℕ) → (task.work contents).Refuses k line → P k) → Ends task old new status → P status
+ends_known P task old new status p0 p4 p5 p6 each own (Refused apart line first untouched tells) =
+    refusal_is P task.stages old.files new.files old.files.starts status line each first
+ends_known P task old new status p0 p4 p5 p6 each own (Unread is rose first untouched tells) = subst P (sym is) p4
+ends_known P task old new status p0 p4 p5 p6 each own (Short is begun untouched tells) = subst P (sym is) p6
+ends_known P task old new status p0 p4 p5 p6 each own (Worked contents read ends) =
+    work_known P (task.work contents) old.sinks new.sinks status p0 p5 p6 (own contents) ends
+
+-- ---- tasks of two stages
+
+module _ {V W : Type 0} (IsFirst : List ℕ → V → Type 0) (IsSecond : List ℕ → W → Type 0) (work : V → W → Work) where
+  -- what holds of each refusal of their own
+  pub both_refuse : (P : ℕ → Type 0) → ((v : V) (w : W) (k : ℕ) (line : List ℕ) → (work v w).Refuses k line → P k) → (contents : List (List ℕ)) (k : ℕ) (line : List ℕ) → (work_on_both IsFirst IsSecond work contents).Refuses k line → P k
+  both_refuse P own [] k line r = absurd r
+  both_refuse P own (a ∷ []) k line r = absurd r
+  both_refuse P own (a ∷ b ∷ []) k line r = own r.value r.holds.value k line r.holds.holds
+  both_refuse P own (a ∷ b ∷ c ∷ cs) k line r = absurd r
+
+  -- what two stages read, and the work on it, which is done
+  pub record BothDone (s t : Stage) (old new : Outside) : Type 0 where
+    pub a : List ℕ
+    pub b : List ℕ
+    pub first : Takes s old.files a
+    pub second : Takes t old.files b
+    pub last : IsReadWhole t.from old.files new.files b
+    pub v : V
+    pub w : W
+    pub says : IsFirst a v
+    pub speaks : IsSecond b w
+    pub noted : List ℕ
+    pub written : List ℕ
+    pub does : (work v w).Does noted written
+    pub notes : Gained old.sinks.notes new.sinks.notes noted
+    pub out : Gained old.sinks.out new.sinks.out written
+
+  both_of : (s t : Stage) (old new : Outside) (contents : List (List ℕ)) → AreRead (s ∷ t ∷ []) old.files new.files contents → IsDone (work_on_both IsFirst IsSecond work contents) old.sinks new.sinks → BothDone s t old new
+  both_of s t old new [] read done = absurd read.taken
+  both_of s t old new (a ∷ []) read done = absurd read.taken.1
+  both_of s t old new (a ∷ b ∷ []) read done = record {
+    a = a;
+    b = b;
+    first = read.taken.0;
+    second = read.taken.1.0;
+    last = read.last;
+    v = done.does.value;
+    w = done.does.holds.value;
+    says = done.does.said;
+    speaks = done.does.holds.said;
+    noted = done.noted;
+    written = done.written;
+    does = done.does.holds.holds;
+    notes = done.notes;
+    out = done.out;
+  }
+  both_of s t old new (a ∷ b ∷ c ∷ cs) read done = absurd read.taken.1.1
+
+  pub both_done : (s t : Stage) (old new : Outside) (status : ℕ) → Ends (record { stages = s ∷ t ∷ []; work = work_on_both IsFirst IsSecond work }) old new status → status ≡ 0 → BothDone s t old new
+  both_done s t old new status ends e = let d = ends_done ends e in both_of s t old new d.contents d.read d.done

@@ -1,9 +1,8 @@
+pub mod Contents
+pub mod Walks
 pub mod Endings
-pub mod Exactness
-pub mod NetFiles
-pub mod Networks
+pub mod Building
 pub mod NumberLines
-pub mod Sources
-pub mod Seconds
-pub mod Statuses
-pub mod Texts
+pub mod Telling
+pub mod Networks
+pub mod Replacing

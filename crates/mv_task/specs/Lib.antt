@@ -1,9 +1,9 @@
-pub mod Inputs
-pub mod Begun
+pub mod Sources
 pub mod Lines
-pub mod Taken
-pub mod Faults
-pub mod Made
-pub mod Replaced
-pub mod Ending
+pub mod Stages
+pub mod Ends
 pub mod Exact
+pub mod Faults
+pub mod Formats
+pub mod Ending
+pub mod Stops

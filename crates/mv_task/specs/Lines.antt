@@ -24,9 +24,12 @@ memory_line = codes "# fault memory\n"
 
 -- the notes gained the line, or some first part of it where their count of faults rose
 abbrev pub TellsLine : Written → Written → List ℕ → Type 0
-TellsLine old new line = Gained old new line ⊎ (GainedPart old new line × Rose old.faults new.faults)
+TellsLine old new line = Gained old new line
+    ⊎ (GainedPart old new line × Rose old.faults new.faults)
 
--- the notes gained the text whole, and behind it the line, or some first part of the line where their count of faults rose
+-- the notes gained the text whole, and behind it the line, or some first part of the line where
+-- their count of faults rose
 pub record TellsBehind (old new : Written) (text line : List ℕ) : Type 0 where
   pub how : Gained old new (text ++ line)
-      ⊎ (IfSome old.told (λ had. GainedFront (had ++ text) new.told line) × Rose old.faults new.faults)
+      ⊎ (IfSome old.told (λ had. GainedFront (had ++ text) new.told line)
+      × Rose old.faults new.faults)

@@ -1,15 +1,15 @@
-//! What the tasks of a run share: the network that is read, the lines that tell how a run ends, and
-//! the end, where the network that is left is written.
+//! What the tasks of a run share: the stages that they read, the network among them, the lines that tell how a run ends, and all
+//! that is said of how it ends.
 #![tactic(auto)]
 
 mod ending;
 mod fault;
 mod network;
 mod numbers;
-mod text;
+mod stop;
 
-pub use ending::finish;
-pub use fault::{FileFault, SourceStop, put_source_line, source_status};
-pub use network::take_network;
+pub use ending::put_done;
+pub use fault::FileFault;
+pub use network::{network_of_text, take_network};
 pub use numbers::{put_number, put_numbers};
-pub use text::network_of_text;
+pub use stop::{Fault, Stop, refuse, tell};

@@ -6,7 +6,8 @@ use mv_base::{Failed, Sink, put_both};
 
 /// Puts a line of these words and a number. It takes no memory.
 pub fn put_number<E: Sink>(words: &[u8], number: u32, notes: &mut E) -> Result<(), Failed>
-    ensures { Appends (E.state notes.old) (E.state notes.new) (number_line words.now number) result }
+    ensures { Appends (E.state notes.old) (E.state notes.new)
+        (number_line words.now number) result }
 {
     let mut buffer = Buffer::new();
     put_both(words, buffer.format(number).as_bytes(), notes)?;
@@ -20,7 +21,8 @@ pub fn put_numbers<E: Sink>(
     second: u128,
     notes: &mut E,
 ) -> Result<(), Failed>
-    ensures { Appends (E.state notes.old) (E.state notes.new) (numbers_line words.now first second) result }
+    ensures { Appends (E.state notes.old) (E.state notes.new)
+        (numbers_line words.now first second) result }
 {
     let mut buffer = Buffer::new();
     put_both(words, buffer.format(first).as_bytes(), notes)?;

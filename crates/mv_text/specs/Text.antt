@@ -1,4 +1,5 @@
--- The text of a network: its lines as lists of words, each written with one space between its words.
+-- The text of a network: its lines as lists of words, each written with one space between its
+-- words.
 use Rattle.std.specs.Prelude.{ℕ, ◌==◌, Bool, ◌&&◌, ◌||◌, nat_eq, Option, Some, None, List, [], ◌∷◌, ◌++◌}
 use Rattle.std.specs.Prelude.{length, map, filter, drop, codes, decimal, slice_index_or, if◌then◌else◌}
 use Rattle.std.specs.List.{flat_map, range_with_len}
@@ -23,7 +24,8 @@ value_at values v = slice_index_or values v []
 
 -- the names of the values of a set, ascending
 abbrev pub names_in_set : List (List ℕ) → ℕ → List (List ℕ)
-names_in_set values set = map (value_at values) (filter (λ v. has set v) (range_with_len 0 (length values)))
+names_in_set values set =
+    map (value_at values) (filter (λ v. has set v) (range_with_len 0 (length values)))
 
 -- a name with a comma before it
 abbrev pub with_comma : List ℕ → List ℕ
@@ -34,8 +36,8 @@ abbrev pub comma_joined : List (List ℕ) → List ℕ
 comma_joined [] = []
 comma_joined (w ∷ ws) = w ++ flat_map with_comma ws
 
--- one name stands for itself, and several stand in brackets. (No set of a well-formed network is without values, so none of
--- its entries is `()`, which no file may have.)
+-- one name stands for itself, and several stand in brackets. (No set of a well-formed network is
+-- without values, so none of its entries is `()`, which no file may have.)
 abbrev pub one_or_list : List (List ℕ) → List ℕ
 one_or_list [] = codes "()"
 one_or_list (w ∷ []) = w
@@ -43,7 +45,8 @@ one_or_list (w ∷ v ∷ ws) = 40 ∷ comma_joined (w ∷ v ∷ ws) ++ 41 ∷ []
 
 -- the entry of a set: `-` for all values
 unfoldable pub entry_word : List (List ℕ) → ℕ → List ℕ
-entry_word values set = if set == full (length values) then codes "-" else one_or_list (names_in_set values set)
+entry_word values set = if set == full (length values) then codes "-"
+    else one_or_list (names_in_set values set)
 
 -- ---- tables
 
@@ -62,7 +65,8 @@ fanin_word nets cube m = entry_word (spelled_in (slot nets m)) (set_in nets cube
 
 -- a row: one entry a fanin, the output last
 abbrev pub line_words : List (Option FlatNet) → List (List ℕ) → List ℕ → Line → List (List ℕ)
-line_words nets values fanins l = map (fanin_word nets l.cube) fanins ++ entry_word values l.out ∷ []
+line_words nets values fanins l = map (fanin_word nets l.cube) fanins ++ entry_word values l.out
+    ∷ []
 
 -- the line of the default, if there is one
 abbrev pub default_words : List (List ℕ) → Option ℕ → List (List (List ℕ))
@@ -73,24 +77,30 @@ default_words values (Some set) = (codes ".default" ∷ entry_word values set �
 abbrev pub head_word : Option FlatNet → List ℕ
 head_word f = if is_reset (kind_in f) then codes ".reset" else codes ".table"
 
--- the name behind the arrow of a net's table: its own, and that of its latch for a reset net. In a well-formed network a reset
--- net is named by a full stop and its latch's name, so this is its own name without the first byte
+-- the name behind the arrow of a net's table: its own, and that of its latch for a reset net. In a
+-- well-formed network a reset net is named by a full stop and its latch's name, so this is its own
+-- name without the first byte
 abbrev pub told_name : Option FlatNet → List ℕ
 told_name f = if is_reset (kind_in f) then drop 1 (name_in f) else name_in f
 
 -- the first line of a table, begun with this word
 abbrev pub head_words : List (Option FlatNet) → List ℕ → List ℕ → List ℕ → List (List ℕ)
-head_words nets word fanins name = word ∷ map (λ m. name_in (slot nets m)) fanins ++ codes "->" ∷ name ∷ []
+head_words nets word fanins name = word ∷ map (λ m. name_in (slot nets m)) fanins ++ codes "->"
+    ∷ name ∷ []
 
 -- the lines of a table, whose output has these values
-abbrev pub cover_words : List (Option FlatNet) → List ℕ → List (List ℕ) → List ℕ → List ℕ → Cover → List (List (List ℕ))
+abbrev pub cover_words : List (Option FlatNet) → List ℕ → List (List ℕ) → List ℕ → List ℕ → Cover
+    → List (List (List ℕ))
 cover_words nets word values name fanins c =
-    head_words nets word fanins name ∷ (default_words values c.default ++ map (line_words nets values fanins) c.lines)
+    head_words nets word fanins name
+    ∷ (default_words values c.default ++ map (line_words nets values fanins) c.lines)
 
 -- the lines of a net's table, if it has one
-abbrev pub table_words : List (Option FlatNet) → List ℕ → Option Cover → List (List ℕ) → List ℕ → List (List (List ℕ))
+abbrev pub table_words : List (Option FlatNet) → List ℕ → Option Cover → List (List ℕ) → List ℕ
+    → List (List (List ℕ))
 table_words nets word None values name = []
-table_words nets word (Some c) values name = cover_words nets word values name (fanins_of (length nets) c) c
+table_words nets word (Some c) values name =
+    cover_words nets word values name (fanins_of (length nets) c) c
 
 -- the lines of the table of a number's net, if there is a net and it has one
 abbrev pub net_words : List (Option FlatNet) → Option FlatNet → List (List (List ℕ))
@@ -102,11 +112,12 @@ net_words nets f = table_words nets (head_word f) (table_in f) (spelled_in f) (t
 abbrev pub is_plain_pair : FlatNet → Bool
 is_plain_pair f = nat_eq f.values 2 && nat_eq (length f.value_names) 0
 
--- the declaration of a net, if it needs one: a reset net has the values of its latch. Its values are named where they aren't
--- the numbers from 0
+-- the declaration of a net, if it needs one: a reset net has the values of its latch. Its values
+-- are named where they aren't the numbers from 0
 abbrev pub decl_words : Option FlatNet → List (List (List ℕ))
 decl_words None = []
-decl_words (Some f) = if is_reset (Some f.kind) || is_plain_pair f then [] else (codes ".mv" ∷ f.name ∷ decimal f.values ∷ f.value_names) ∷ []
+decl_words (Some f) = if is_reset (Some f.kind) || is_plain_pair f then []
+    else (codes ".mv" ∷ f.name ∷ decimal f.values ∷ f.value_names) ∷ []
 
 -- the numbers of these nets
 abbrev pub numbers : List NetId → List ℕ
@@ -118,16 +129,20 @@ names_of nets ns = map (λ (n : NetId). name_in (slot nets n.0)) ns
 
 -- the line of a latch: its input and its output
 abbrev pub latch_words : List (Option FlatNet) → FlatLatch → List (List ℕ)
-latch_words nets l = codes ".latch" ∷ name_in (slot nets l.input.0) ∷ name_in (slot nets l.output.0) ∷ []
+latch_words nets l = codes ".latch" ∷ name_in (slot nets l.input.0)
+    ∷ name_in (slot nets l.output.0) ∷ []
 
--- the lines between the outputs and the end: declarations by ascending number, latches in order, and tables by ascending number
+-- the lines between the outputs and the end: declarations by ascending number, latches in order,
+-- and tables by ascending number
 abbrev pub inner_lines : NetParts → List (List (List ℕ))
-inner_lines net = flat_map decl_words net.nets ++ (map (latch_words net.nets) net.latches ++ flat_map (net_words net.nets) net.nets)
+inner_lines net = flat_map decl_words net.nets
+    ++ (map (latch_words net.nets) net.latches ++ flat_map (net_words net.nets) net.nets)
 
 -- the lines of a network
 unfoldable pub net_lines : NetParts → List (List (List ℕ))
 net_lines net =
-    (codes ".model" ∷ net.root ∷ []) ∷ (codes ".inputs" ∷ names_of net.nets net.inputs) ∷ (codes ".outputs" ∷ names_of net.nets net.outputs)
+    (codes ".model" ∷ net.root ∷ []) ∷ (codes ".inputs" ∷ names_of net.nets net.inputs)
+    ∷ (codes ".outputs" ∷ names_of net.nets net.outputs)
     ∷ (inner_lines net ++ (codes ".end" ∷ []) ∷ [])
 
 -- the text of a network

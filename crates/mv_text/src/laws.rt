@@ -10,8 +10,10 @@ ghost use Rattle.mv_text.specs.Text.{head_word, told_name, text_of};
 /// its arrow is that of the latch.
 pub fn text_laws()
     ensures opens { (net : NetParts) → take 6 (text_of net) ≡ codes ".model" }
-    ensures reset { (net : NetParts) (l : FlatLatch) (n : NetId) → WellFormed net → Contains net.latches l → l.reset ≡ Some n
+    ensures reset { (net : NetParts) (l : FlatLatch) (n : NetId) → WellFormed net
+        → Contains net.latches l → l.reset ≡ Some n
         → head_word (slot net.nets n.0) ≡ codes ".reset" }
-    ensures latch { (net : NetParts) (l : FlatLatch) (n : NetId) → WellFormed net → Contains net.latches l → l.reset ≡ Some n
+    ensures latch { (net : NetParts) (l : FlatLatch) (n : NetId) → WellFormed net
+        → Contains net.latches l → l.reset ≡ Some n
         → told_name (slot net.nets n.0) ≡ name_in (slot net.nets l.output.0) }
 {}

@@ -9,8 +9,8 @@ use Rattle.mv_net.specs.declared.parts.NetParts.{NetParts}
 use Rattle.mv_net.specs.Allowed.{of_net}
 use Rattle.mv_text.specs.Text.{text_of}
 
--- the bytes read as this design: they have no fault, the grammar relates their lines to the design, and it is sound. No
--- limit of the program is asked for
+-- the bytes read as this design: they have no fault, the grammar relates their lines to the design,
+-- and it is sound. No limit of the program is asked for
 pub record ReadsAs (bytes : List ℕ) (d : Design) : Type 0 where
   pub clean : is_clean bytes ≡ true
   pub design : IsDesign (lines_of bytes) d

@@ -44,10 +44,6 @@ fn listed(alloc: Global, lines: &Lines) -> Result<MemorySink, Fail> {
             let text = format!(in alloc; "Syntax {line}")?;
             sink.put(text.as_bytes()).ok().ok_or("a full sink")?;
         }
-        Err(StepFault::NotBuilt { line }) => {
-            let text = format!(in alloc; "NotBuilt {line}")?;
-            sink.put(text.as_bytes()).ok().ok_or("a full sink")?;
-        }
     }
     Ok(sink)
 }
@@ -113,15 +109,15 @@ narrow b 0;end|Syntax 1
 narrow b 0 0 0;end|Syntax 1
 remove a;merge b 300 0;wire c|1 remove a;2 merge b 300 0;3 wire c;
 merge b 00|1 merge b 0;
-remove a;encode b 1 c 0 1;wire c|NotBuilt 2
+remove a;encode b 1 c 0 1;wire c|1 remove a;2 encode b 1 c 0 1;3 wire c;
 merge|Syntax 1
 merge b|Syntax 1
 merge b x|Syntax 1
 merge b 0 65536|Syntax 1
 merge b 0 1 2|Syntax 1
-encode b 2 c d 00 01 10|NotBuilt 1
-encode b 00002 c d|NotBuilt 1
-encode b 0|NotBuilt 1
+encode b 2 c d 00 01 10|1 encode b 2 c d 00 01 10;
+encode b 00002 c d|1 encode b 2 c d;
+encode b 0|1 encode b 0;
 encode b 1 c 0 1;end|Syntax 2
 encode b 1 c 0 2|Syntax 1
 encode b 1 c 0 01|Syntax 1

@@ -19,7 +19,8 @@ joined values l = record { net = l.net; set = join l.set values }
 -- a literal on m gets these values, and goes if it has all values then
 abbrev pub grown_on : ℕ → ℕ → ℕ → Lit → List Lit
 grown_on m values all l =
-    if nat_eq l.net.0 m then (if nat_eq (join l.set values) all then [] else joined values l ∷ []) else l ∷ []
+    if nat_eq l.net.0 m then (if nat_eq (join l.set values) all then [] else joined values l ∷ [])
+    else l ∷ []
 
 -- so in a cube
 abbrev pub put_in : ℕ → ℕ → ℕ → List Lit → List Lit
@@ -27,7 +28,8 @@ put_in m values all [] = []
 put_in m values all (l ∷ ls) = grown_on m values all l ++ put_in m values all ls
 
 -- the literal of the line on m has got just those values that may be put in
-pub record IsGrownAt (nets : List (Option FlatNet)) (w : Window) (n m : ℕ) (old new : Line) : Type 0 where
+pub record IsGrownAt (nets : List (Option FlatNet)) (w : Window) (n m : ℕ) (old new : Line)
+    : Type 0 where
   pub values : ℕ
   pub cube : new.cube ≡ put_in m values (full (values_in (slot nets m))) old.cube
   pub out : new.out ≡ old.out
@@ -43,15 +45,19 @@ IsFullLiteral nets w n l lit =
     → LineInFlexWith nets w n l lit.net.0 u → ⊥
 
 -- the line is grown from the old one, and its literals on the nets of the first old ones are full
-pub record IsUnderGrowth (nets : List (Option FlatNet)) (w : Window) (n : ℕ) (old new : Line) (i : ℕ) : Type 0 where
+pub record IsUnderGrowth (nets : List (Option FlatNet)) (w : Window) (n : ℕ) (old new : Line)
+    (i : ℕ) : Type 0 where
   pub out : new.out ≡ old.out
   pub inside : LineInFlex nets w n new
   pub cube : AreSome IsGrownLiteral old.cube new.cube
   pub literals : All (IsLiteral nets) new.cube
-  pub full : All (λ (lit : Lit). cube_reads (take i old.cube) lit.net.0 ≡ true → IsFullLiteral nets w n new lit) new.cube
+  pub full : All
+      (λ (lit : Lit). cube_reads (take i old.cube) lit.net.0 ≡ true
+      → IsFullLiteral nets w n new lit) new.cube
 
 -- the line is grown from the old one, and no value can be put into it
-pub record IsGrownWhole (nets : List (Option FlatNet)) (w : Window) (n : ℕ) (old new : Line) : Type 0 where
+pub record IsGrownWhole (nets : List (Option FlatNet)) (w : Window) (n : ℕ) (old new : Line)
+    : Type 0 where
   pub formed : IsCube new.cube
   pub out : new.out ≡ old.out
   pub inside : LineInFlex nets w n new

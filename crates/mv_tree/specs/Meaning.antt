@@ -1,6 +1,7 @@
--- What a design with instances means, after the description of BLIF-MV by Kukimoto: a valuation gives each net of the root and
--- of each instance one of its values; it is allowed where each table allows the values of its columns, and each formal that
--- is bound has the value of the net round it. There is no flat list of nets, and no order of evaluation.
+-- What a design with instances means, after the description of BLIF-MV by Kukimoto: a valuation
+-- gives each net of the root and of each instance one of its values; it is allowed where each table
+-- allows the values of its columns, and each formal that is bound has the value of the net round
+-- it. There is no flat list of nets, and no order of evaluation.
 use Rattle.std.specs.Prelude.{◌≡◌, ℕ, Bool, true, List, [], ◌∷◌, ◌++◌, map, nat_eq}
 use Rattle.std.specs.List.{list_all, flat_map}
 use Rattle.mv_base.specs.Meaning.{LatchPort, Meaning}
@@ -17,7 +18,8 @@ pub data Values : Type 0 where
   NoValues : Values
   At : (here : List ℕ → ℕ) (inside rest : Values) → Values
 
--- a model allows these values of its nets: each is one of the net's, and each table allows those of its columns
+-- a model allows these values of its nets: each is one of the net's, and each table allows those of
+-- its columns
 pub record AllowsValues (m : FileModel) (here : List ℕ → ℕ) : Type 0 where
   pub range : in_values m.decls here (all_nets m) ≡ true
   pub tables : list_all (table_holds here) m.tables ≡ true
@@ -32,7 +34,8 @@ AreConsistent round NoMore NoValues = Unit {0}
 AreConsistent round NoMore (At _ _ _) = ⊥
 AreConsistent round (Instance _ _ _ _) NoValues = ⊥
 AreConsistent round (Instance part model inside rest) (At here inner others) =
-    AllowsValues model here × (binds_hold round here part.binds ≡ true) × AreConsistent here inside inner × AreConsistent round rest others
+    AllowsValues model here × (binds_hold round here part.binds ≡ true)
+    × AreConsistent here inside inner × AreConsistent round rest others
 
 -- a model, and values of its nets
 pub record Valued : Type 0 where
@@ -54,7 +57,8 @@ states_of xs = flat_map (λ x. map x.value (latch_outputs x.model)) xs
 abbrev pub nexts_of : List Valued → List ℕ
 nexts_of xs = flat_map (λ x. map x.value (latch_inputs x.model)) xs
 
--- the latches of a model may begin with the first of these values, and those of the others with the rest
+-- the latches of a model may begin with the first of these values, and those of the others with the
+-- rest
 pub record BeginsWith (x : Valued) (Others : List ℕ → Type 0) (r : List ℕ) : Type 0 where
   pub here : List ℕ
   pub rest : List ℕ
@@ -67,7 +71,8 @@ abbrev pub BeginWith : List Valued → List ℕ → Type 0
 BeginWith [] r = r ≡ []
 BeginWith (x ∷ xs) r = BeginsWith x (BeginWith xs) r
 
--- a root with instances allows outputs o, next latch values n and reset values r together, under inputs i and latch values s
+-- a root with instances allows outputs o, next latch values n and reset values r together, under
+-- inputs i and latch values s
 pub record AllowsTree (root : FileModel) (tree : Instances) (i s o n r : List ℕ) : Type 0 where
   pub value : List ℕ → ℕ
   pub inside : Values
@@ -79,18 +84,29 @@ pub record AllowsTree (root : FileModel) (tree : Instances) (i s o n r : List �
   pub next : nexts_of (record { model = root; value = value } ∷ valued_in tree inside) ≡ n
   pub resets : BeginWith (record { model = root; value = value } ∷ valued_in tree inside) r
 
--- a latch of a place as it is seen from outside: the name and values of the net that it drives, and whether it has a reset
--- table
+-- a latch of a place as it is seen from outside: the name and values of the net that it drives, and
+-- whether it has a reset table
 abbrev pub placed_port : Place → FileLatch → LatchPort
-placed_port p l = record { name = p.home l.output; values = p.values l.output; has_reset = has_reset_table p.model.resets l }
+placed_port p l =
+    record {
+      name = p.home l.output;
+      values = p.values l.output;
+      has_reset = has_reset_table p.model.resets l;
+    }
 
 -- the latches of all places
 abbrev pub ports_of : List Place → List LatchPort
 ports_of ps = flat_map (λ p. map (placed_port p) p.model.latches) ps
 
--- what a root with instances means: its inputs, its outputs and all latches as they are seen from outside, and what it allows
+-- what a root with instances means: its inputs, its outputs and all latches as they are seen from
+-- outside, and what it allows
 unfoldable pub of_tree : FileModel → Instances → Meaning
 of_tree root tree = record {
-  interface = record { inputs = map (port root) root.inputs; outputs = map (port root) root.outputs; latches = ports_of (places root tree) };
+  interface =
+      record {
+        inputs = map (port root) root.inputs;
+        outputs = map (port root) root.outputs;
+        latches = ports_of (places root tree);
+      };
   allows = AllowsTree root tree;
 }

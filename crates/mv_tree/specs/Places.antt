@@ -1,5 +1,6 @@
--- The instances of a design in unfolding order, its root first, with the names that their nets have in the whole. After the
--- description of BLIF-MV by Kukimoto, where a formal that is bound is the net to which it is bound.
+-- The instances of a design in unfolding order, its root first, with the names that their nets have
+-- in the whole. After the description of BLIF-MV by Kukimoto, where a formal that is bound is the
+-- net to which it is bound.
 use Rattle.std.specs.Prelude.{ℕ, Bool, not, Option, Some, None, List, [], ◌∷◌, ◌++◌, map, filter, codes, if◌then◌else◌}
 use Rattle.std.specs.List.{flat_map}
 use Rattle.std.specs.Option.{is_some}
@@ -38,8 +39,9 @@ actual_of (b ∷ bs) net = if same_word net b.formal then Some b.actual else act
 abbrev pub is_bound : List Bind → List ℕ → Bool
 is_bound binds net = is_some (actual_of binds net)
 
--- an instance, or the root of a design: its model; its bindings; the path of its nets, which is the names of the instances
--- down to it, each with a full stop behind; and of each net the name in the whole, and the names of the values there
+-- an instance, or the root of a design: its model; its bindings; the path of its nets, which is the
+-- names of the instances down to it, each with a full stop behind; and of each net the name in the
+-- whole, and the names of the values there
 pub record Place : Type 0 where
   pub model : FileModel
   pub binds : List Bind
@@ -49,9 +51,11 @@ pub record Place : Type 0 where
 
 -- the root, whose nets keep their names
 abbrev pub root_place : FileModel → Place
-root_place m = record { model = m; binds = []; path = []; home = λ net. net; values = values_of m.decls }
+root_place m =
+    record { model = m; binds = []; path = []; home = λ net. net; values = values_of m.decls }
 
--- what holds of a net round an instance, for a formal that is bound to it, and else what holds of the net itself
+-- what holds of a net round an instance, for a formal that is bound to it, and else what holds of
+-- the net itself
 abbrev pub through : {X : Type 0} → (List ℕ → X) → (List ℕ → X) → List Bind → List ℕ → X
 through round own binds net = of_actual round own net (actual_of binds net)
   where
@@ -63,7 +67,8 @@ through round own binds net = of_actual round own net (actual_of binds net)
 abbrev pub path_in : List ℕ → List ℕ → List ℕ
 path_in path instance = path ++ (instance ++ codes ".")
 
--- an instance: a formal that is bound is the net round it, and any other net is its own, with the path before its name
+-- an instance: a formal that is bound is the net round it, and any other net is its own, with the
+-- path before its name
 abbrev pub place_in : Place → Part → FileModel → Place
 place_in round p m = record {
   model = m;
@@ -76,7 +81,8 @@ place_in round p m = record {
 -- the instances inside a place: each stands before those inside it
 abbrev pub places_in : Place → Instances → List Place
 places_in round NoMore = []
-places_in round (Instance part model inside rest) = place_in round part model ∷ (places_in (place_in round part model) inside ++ places_in round rest)
+places_in round (Instance part model inside rest) = place_in round part model
+    ∷ (places_in (place_in round part model) inside ++ places_in round rest)
 
 -- the root and all instances
 abbrev pub places : FileModel → Instances → List Place

@@ -1,5 +1,5 @@
--- The instances of a design as a tree: below each model the instances that its commands make, and inside each of them those
--- of its own model.
+-- The instances of a design as a tree: below each model the instances that its commands make, and
+-- inside each of them those of its own model.
 use Rattle.std.specs.Prelude.{◌≡◌, ℕ, zero, suc, ◌+◌, Option, Some, None, List, [], ◌∷◌, if◌then◌else◌}
 use Rattle.mv_base.specs.Names.{same_word}
 use Rattle.mv_design.specs.declared.design.Design.{Design}
@@ -26,7 +26,8 @@ abbrev pub Unfolds : Design → List Part → Instances → Type 0
 Unfolds d [] NoMore = Unit {0}
 Unfolds d [] (Instance _ _ _ _) = ⊥
 Unfolds d (_ ∷ _) NoMore = ⊥
-Unfolds d (p ∷ ps) (Instance part model inside rest) = Opens d p part model × Unfolds d model.parts inside × Unfolds d ps rest
+Unfolds d (p ∷ ps) (Instance part model inside rest) = Opens d p part model
+    × Unfolds d model.parts inside × Unfolds d ps rest
 
 -- how many instances there are
 abbrev pub size_of : Instances → ℕ
@@ -37,4 +38,5 @@ size_of (Instance part model inside rest) = 1 + size_of inside + size_of rest
 abbrev pub IsWithinDepth : ℕ → Instances → Type 0
 IsWithinDepth levels NoMore = Unit {0}
 IsWithinDepth zero (Instance part model inside rest) = ⊥
-IsWithinDepth (suc levels) (Instance part model inside rest) = IsWithinDepth levels inside × IsWithinDepth (suc levels) rest
+IsWithinDepth (suc levels) (Instance part model inside rest) = IsWithinDepth levels inside
+    × IsWithinDepth (suc levels) rest

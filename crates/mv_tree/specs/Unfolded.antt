@@ -1,4 +1,5 @@
--- A design as one model without instances: the tables, latches and reset tables of all instances over the nets of the whole.
+-- A design as one model without instances: the tables, latches and reset tables of all instances
+-- over the nets of the whole.
 use Rattle.std.specs.Prelude.{ℕ, suc, ◌+◌, List, [], ◌∷◌, ◌++◌, length, map}
 use Rattle.std.specs.List.{flat_map}
 use Rattle.mv_design.specs.declared.design.Decl.{Decl}
@@ -12,7 +13,14 @@ use Rattle.mv_tree.specs.Places.{Place, places, own_nets}
 
 -- a table over other names, at another line
 abbrev pub renamed : (List ℕ → List ℕ) → ℕ → FileTable → FileTable
-renamed home line t = record { line = line; inputs = map home t.inputs; outputs = map home t.outputs; rows = t.rows; default = t.default }
+renamed home line t =
+    record {
+      line = line;
+      inputs = map home t.inputs;
+      outputs = map home t.outputs;
+      rows = t.rows;
+      default = t.default;
+    }
 
 -- a latch over the names of the whole
 abbrev pub placed_latch : Place → FileLatch → FileLatch
@@ -22,7 +30,8 @@ placed_latch p l = record { line = l.line; input = p.home l.input; output = p.ho
 abbrev pub placed_decl : Place → List ℕ → Decl
 placed_decl p net = record { net = p.home net; values = values_of p.model.decls net }
 
--- tables over other names, by their number: the line of each is how many tables stand before it in the whole
+-- tables over other names, by their number: the line of each is how many tables stand before it in
+-- the whole
 abbrev pub numbered : (List ℕ → List ℕ) → ℕ → List FileTable → List FileTable
 numbered home at [] = []
 numbered home at (t ∷ ts) = renamed home at t ∷ numbered home (suc at) ts
@@ -30,16 +39,20 @@ numbered home at (t ∷ ts) = renamed home at t ∷ numbered home (suc at) ts
 -- the tables of all places, behind so many others
 abbrev pub tables_in : ℕ → List Place → List FileTable
 tables_in at [] = []
-tables_in at (p ∷ ps) = numbered p.home at p.model.tables ++ tables_in (at + length p.model.tables) ps
+tables_in at (p ∷ ps) = numbered p.home at p.model.tables
+    ++ tables_in (at + length p.model.tables) ps
 
--- a reset table of a place, behind so many tables of other places: its line is how many tables stand before it in the whole
+-- a reset table of a place, behind so many tables of other places: its line is how many tables
+-- stand before it in the whole
 abbrev pub placed_reset : ℕ → Place → FileTable → FileTable
-placed_reset at p t = renamed p.home (at + length (before_line (λ x. x.line) t.line p.model.tables)) t
+placed_reset at p t =
+    renamed p.home (at + length (before_line (λ x. x.line) t.line p.model.tables)) t
 
 -- the reset tables of all places
 abbrev pub resets_in : ℕ → List Place → List FileTable
 resets_in at [] = []
-resets_in at (p ∷ ps) = map (placed_reset at p) p.model.resets ++ resets_in (at + length p.model.tables) ps
+resets_in at (p ∷ ps) = map (placed_reset at p) p.model.resets
+    ++ resets_in (at + length p.model.tables) ps
 
 -- the latches of all places
 abbrev pub latches_in : List Place → List FileLatch
@@ -65,4 +78,5 @@ joined root ps = record {
 -- a root with its instances as one model. One without instances is that already
 unfoldable pub unfolded : FileModel → Instances → FileModel
 unfolded root NoMore = root
-unfolded root (Instance part model inside rest) = joined root (places root (Instance part model inside rest))
+unfolded root (Instance part model inside rest) =
+    joined root (places root (Instance part model inside rest))

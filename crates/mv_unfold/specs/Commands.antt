@@ -1,4 +1,5 @@
--- What the commands of models make, each said once however often its model is instanced. For private functions.
+-- What the commands of models make, each said once however often its model is instanced. For
+-- private functions.
 use Rattle.std.specs.Prelude.{◌≡◌, ℕ, ◌<◌, List, [], length, slice_index_or}
 use Rattle.mv_design.specs.declared.design.FileModel.{FileModel}
 use Rattle.mv_design.specs.declared.design.Part.{Part}
@@ -13,7 +14,8 @@ use Rattle.mv_unfold.specs.Placed.{model_place, no_part}
 abbrev pub no_command : Command
 no_command = record { model = 0; own = []; formals = record { names = []; numbers = [] } }
 
--- the command makes an instance of the model with this number, of whose nets these are its own, and these are the formals that it binds
+-- the command makes an instance of the model with this number, of whose nets these are its own, and
+-- these are the formals that it binds
 pub record IsCommand (ms : List FileModel) (p : Part) (c : Command) : Type 0 where
   pub model : c.model ≡ model_place ms p.model
   pub below : c.model < length ms
@@ -21,11 +23,14 @@ pub record IsCommand (ms : List FileModel) (p : Part) (c : Command) : Type 0 whe
   pub formals : FindsFirst c.formals (formals_bound p.binds)
 
 -- what the commands of a model make
-pub record AreCommandsOf (ms : List FileModel) (parts : List Part) (row : List Command) : Type 0 where
+pub record AreCommandsOf (ms : List FileModel) (parts : List Part) (row : List Command)
+    : Type 0 where
   pub long : length row ≡ length parts
-  pub each : (j : ℕ) → j < length row → IsCommand ms (slice_index_or parts j no_part) (slice_index_or row j no_command)
+  pub each : (j : ℕ) → j < length row
+      → IsCommand ms (slice_index_or parts j no_part) (slice_index_or row j no_command)
 
 -- what the commands of each model make
 pub record AreCommands (ms : List FileModel) (all : List (List Command)) : Type 0 where
   pub long : length all ≡ length ms
-  pub each : (k : ℕ) → k < length all → AreCommandsOf ms (slice_index_or ms k no_model).parts (slice_index_or all k [])
+  pub each : (k : ℕ) → k < length all
+      → AreCommandsOf ms (slice_index_or ms k no_model).parts (slice_index_or all k [])

@@ -1,4 +1,5 @@
--- How often the nets of a model are driven, by the model itself and by what stands in it. For private functions.
+-- How often the nets of a model are driven, by the model itself and by what stands in it. For
+-- private functions.
 use Rattle.std.specs.Prelude.{◌≡◌, ℕ, zero, suc, ◌+◌, ◌<◌, ◌≤◌, min, true, Option, Some, None, List, [], ◌∷◌, ◌++◌, map, length, count_by, slice_index, slice_index_or, slice_set, unwrap_or, nat_lt, ◌==◌, if◌then◌else◌}
 use Rattle.std.specs.List.{flat_map}
 use Rattle.std.specs.Option.{is_some}
@@ -27,7 +28,8 @@ use Rattle.mv_unfold.specs.Placed.{model_at, place_at}
 
 -- ---- what is driven
 
--- the nets that a model drives itself, as often as it does: outputs of its latches and of its tables
+-- the nets that a model drives itself, as often as it does: outputs of its latches and of its
+-- tables
 abbrev pub own_driven : FileModel → List (List ℕ)
 own_driven m = latch_outputs m ++ flat_map nets_driven m.tables
 
@@ -43,9 +45,11 @@ passed binds nets = flat_map (λ net. net_in (actual_of binds net)) nets
 -- the nets of a model that what is inside these instances of it drives, as often as it does
 abbrev pub passed_up : Instances → List (List ℕ)
 passed_up NoMore = []
-passed_up (Instance part model inside rest) = passed part.binds (own_driven model ++ passed_up inside) ++ passed_up rest
+passed_up (Instance part model inside rest) =
+    passed part.binds (own_driven model ++ passed_up inside) ++ passed_up rest
 
--- the nets of a model with instances that are driven by it or from inside them, as often as they are
+-- the nets of a model with instances that are driven by it or from inside them, as often as they
+-- are
 abbrev pub driven_in : FileModel → Instances → List (List ℕ)
 driven_in m tree = own_driven m ++ passed_up tree
 
@@ -88,11 +92,16 @@ count_at counts (Some k) = slice_index counts k
 abbrev pub count_in : List (List ℕ) → List ℕ → List ℕ → ℕ
 count_in nets counts net = count_at counts (place_of net nets)
 
--- the counts of nets, with what drives the formals that are bound to them, behind bindings of those formals
-abbrev pub with_binds : List (List ℕ) → List ℕ → List (List ℕ) → List ℕ → List (List ℕ) → List Bind → List ℕ
+-- the counts of nets, with what drives the formals that are bound to them, behind bindings of those
+-- formals
+abbrev pub with_binds : List (List ℕ) → List ℕ → List (List ℕ) → List ℕ → List (List ℕ) → List Bind
+    → List ℕ
 with_binds nets counts inner inner_counts seen [] = counts
 with_binds nets counts inner inner_counts seen (b ∷ bs) =
-    with_binds nets (if among b.formal seen then counts else with_count nets counts b.actual (count_in inner inner_counts b.formal)) inner inner_counts
+    with_binds nets
+    (if among b.formal seen then counts
+    else with_count nets counts b.actual
+    (count_in inner inner_counts b.formal)) inner inner_counts
     (with_name seen b.formal) bs
 
 -- the counts of a model, where they are known
@@ -100,16 +109,21 @@ abbrev pub counts_at : List (Option (List ℕ)) → ℕ → List ℕ
 counts_at slots k = unwrap_or (slice_index_or slots k None) []
 
 -- the counts of nets, with what drives them from inside the instances that these commands make
-abbrev pub with_parts : List (List ℕ) → List (List (List ℕ)) → List (Option (List ℕ)) → List ℕ → List Part → List Command → List ℕ
+abbrev pub with_parts : List (List ℕ) → List (List (List ℕ)) → List (Option (List ℕ)) → List ℕ
+    → List Part → List Command → List ℕ
 with_parts nets all slots counts [] _ = counts
 with_parts nets all slots counts (_ ∷ _) [] = counts
 with_parts nets all slots counts (p ∷ ps) (c ∷ cs) =
-    with_parts nets all slots (with_binds nets counts (slice_index_or all c.model []) (counts_at slots c.model) [] p.binds) ps cs
+    with_parts nets all slots
+    (with_binds nets counts (slice_index_or all c.model [])
+    (counts_at slots c.model) [] p.binds) ps cs
 
 -- the counts of a model's nets
-abbrev pub counted : List (List ℕ) → List (List (List ℕ)) → List (Option (List ℕ)) → FileModel → List Command → List ℕ
+abbrev pub counted : List (List ℕ) → List (List (List ℕ)) → List (Option (List ℕ)) → FileModel
+    → List Command → List ℕ
 counted nets all slots m row =
-    with_parts nets all slots (with_tables nets (with_latches nets (map (λ net. 0) nets) m.latches) m.tables) m.parts row
+    with_parts nets all slots
+    (with_tables nets (with_latches nets (map (λ net. 0) nets) m.latches) m.tables) m.parts row
 
 -- ---- models in order
 
@@ -121,7 +135,8 @@ pub record HasInside (d : Design) (levels k : ℕ) : Type 0 where
 
 -- these are the counts of a model
 pub record IsTally (d : Design) (k : ℕ) (counts : List ℕ) : Type 0 where
-  pub is : (tree : Instances) → Unfolds d (model_at d k).parts tree → counts ≡ tally (all_nets (model_at d k)) (driven_in (model_at d k) tree)
+  pub is : (tree : Instances) → Unfolds d (model_at d k).parts tree
+      → counts ≡ tally (all_nets (model_at d k)) (driven_in (model_at d k) tree)
 
 -- the counts of a model are known
 abbrev pub IsKnown : List (Option (List ℕ)) → ℕ → Type 0
@@ -130,8 +145,10 @@ IsKnown slots k = is_some (slice_index_or slots k None) ≡ true
 -- what is known of the counts of models is right, and known of what stands in them
 pub record AreTallies (l : Layout) (slots : List (Option (List ℕ))) : Type 0 where
   pub long : length slots ≡ length l.design.now.models
-  pub right : (k : ℕ) (counts : List ℕ) → slice_index_or slots k None ≡ Some counts → IsTally l.design.now k counts
-  pub closed : (k j : ℕ) → IsKnown slots k → j < length (slice_index_or l.commands k []) → IsKnown slots (slice_index_or (slice_index_or l.commands k []) j no_command).model
+  pub right : (k : ℕ) (counts : List ℕ) → slice_index_or slots k None ≡ Some counts
+      → IsTally l.design.now k counts
+  pub closed : (k j : ℕ) → IsKnown slots k → j < length (slice_index_or l.commands k [])
+      → IsKnown slots (slice_index_or (slice_index_or l.commands k []) j no_command).model
 
 -- no more is forgotten
 pub record AreMore (old new : List (Option (List ℕ))) : Type 0 where
@@ -146,12 +163,16 @@ place_counts l slots root (suc n) = counts_at slots (slice_index_or l.models (su
 
 -- there is a count for each net of each place
 pub record AreSized (l : Layout) (slots : List (Option (List ℕ))) (root : List ℕ) : Type 0 where
-  pub each : (n : ℕ) → n ≤ length l.opened.now → length (place_counts l slots root n) ≡ length (all_nets (place_at (places_of l) n).model)
+  pub each : (n : ℕ) → n ≤ length l.opened.now
+      → length (place_counts l slots root n) ≡ length (all_nets (place_at (places_of l) n).model)
 
 -- the counts of own nets are what is told of their names in the whole
-pub record AreTold (l : Layout) (slots : List (Option (List ℕ))) (root : List ℕ) (tells : List ℕ → ℕ) : Type 0 where
-  pub each : (n : ℕ) (own : List Span) → n ≤ length l.opened.now → AreOwn (all_nets (place_at (places_of l) n).model) (place_at (places_of l) n).binds own
-      → flat_map (cut (place_counts l slots root n)) own ≡ map tells (homes_at (place_at (places_of l) n))
+pub record AreTold (l : Layout) (slots : List (Option (List ℕ))) (root : List ℕ)
+    (tells : List ℕ → ℕ) : Type 0 where
+  pub each : (n : ℕ) (own : List Span) → n ≤ length l.opened.now
+      → AreOwn (all_nets (place_at (places_of l) n).model) (place_at (places_of l) n).binds own
+      → flat_map (cut (place_counts l slots root n)) own
+      ≡ map tells (homes_at (place_at (places_of l) n))
 
 -- ---- faults
 
@@ -167,6 +188,7 @@ undriven_counted [] _ = []
 undriven_counted (_ ∷ _) [] = []
 undriven_counted (w ∷ ws) (c ∷ cs) = when (c == 0) (Undriven w) ++ undriven_counted ws cs
 
--- the faults of what drives nets: those that are driven more than once, and then those that nothing drives
+-- the faults of what drives nets: those that are driven more than once, and then those that nothing
+-- drives
 unfoldable pub driving_faults : FileModel → List (List ℕ) → List FlatFault
 driving_faults m nets = flat_map (twice_at m) nets ++ flat_map (undriven_at m) nets

@@ -5,7 +5,8 @@ use Rattle.mv_tree.specs.Tree.{Instances, NoMore, Instance}
 use Rattle.mv_tree.specs.Places.{Place, root_place, place_in}
 use Rattle.mv_unfold.specs.Driven.{driven_in}
 
--- a place, and those nets of its model that are driven by it or from inside it, as often as they are
+-- a place, and those nets of its model that are driven by it or from inside it, as often as they
+-- are
 pub record Driving : Type 0 where
   pub place : Place
   pub driven : List (List ℕ)
@@ -14,8 +15,11 @@ pub record Driving : Type 0 where
 abbrev pub drivings_in : Place → Instances → List Driving
 drivings_in round NoMore = []
 drivings_in round (Instance part model inside rest) =
-    record { place = place_in round part model; driven = driven_in model inside } ∷ (drivings_in (place_in round part model) inside ++ drivings_in round rest)
+    record { place = place_in round part model; driven = driven_in model inside }
+    ∷ (drivings_in (place_in round part model) inside ++ drivings_in round rest)
 
 -- the same of the root, whose inputs are driven, and of all instances
 abbrev pub drivings : FileModel → Instances → List Driving
-drivings root tree = record { place = root_place root; driven = root.inputs ++ driven_in root tree } ∷ drivings_in (root_place root) tree
+drivings root tree =
+    record { place = root_place root; driven = root.inputs ++ driven_in root tree }
+    ∷ drivings_in (root_place root) tree

@@ -18,4 +18,6 @@ no_places = record { names = []; numbers = [] }
 -- the nets that each of these models declares
 pub record AreDeclared (ms : List FileModel) (all : List FirstPlaces) : Type 0 where
   pub long : length all ≡ length ms
-  pub each : (k : ℕ) → k < length all → FindsFirst (slice_index_or all k no_places) (declared_of (slice_index_or ms k no_model).decls)
+  pub each : (k : ℕ) → k < length all
+      → FindsFirst (slice_index_or all k no_places)
+      (declared_of (slice_index_or ms k no_model).decls)

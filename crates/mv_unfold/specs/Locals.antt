@@ -20,7 +20,9 @@ actuals_of binds = map (λ b. b.actual) binds
 abbrev pub with_commands : List (List ℕ) → List Part → List Naming → List (List ℕ)
 with_commands names [] ns = with_named names ns
 with_commands names (p ∷ ps) ns =
-    with_commands (with_names (with_named names (before_line (λ n. n.line) p.line ns)) (actuals_of p.binds)) ps (from_line (λ n. n.line) p.line ns)
+    with_commands
+    (with_names (with_named names (before_line (λ n. n.line) p.line ns))
+    (actuals_of p.binds)) ps (from_line (λ n. n.line) p.line ns)
 
 -- ---- the nets of an instance that are its own
 

@@ -1,4 +1,5 @@
--- The names of all nets, gathered place by place, and what is wrong with the next one. For private functions.
+-- The names of all nets, gathered place by place, and what is wrong with the next one. For private
+-- functions.
 use Rattle.std.specs.Prelude.{ℕ, ◌+◌, nat_le, List, [], ◌∷◌, ◌++◌, map, length, if◌then◌else◌}
 use Rattle.mv_base.specs.Names.{among}
 use Rattle.mv_base.specs.declared.limits.TheConstants.{MAX_FLAT_NETS}
@@ -8,9 +9,11 @@ use Rattle.mv_fault.specs.declared.flat.FlatFault.{FlatFault}
 use Rattle.mv_fault.specs.declared.flat.FlatFault.TheVariants.{NameClash, Limit}
 use Rattle.mv_acyclic.specs.Sound.{long_at}
 
--- what is wrong with a name behind others: it is one too many; it is too long; an earlier net has it
+-- what is wrong with a name behind others: it is one too many; it is too long; an earlier net has
+-- it
 abbrev pub home_fault : ℕ → List (List ℕ) → List ℕ → List FlatFault
-home_fault most seen w = if nat_le most (length seen) then Limit Nets (MAX_FLAT_NETS + 1) ∷ [] else long_at w ++ when (among w seen) (NameClash w)
+home_fault most seen w = if nat_le most (length seen) then Limit Nets (MAX_FLAT_NETS + 1) ∷ []
+    else long_at w ++ when (among w seen) (NameClash w)
 
 -- what is wrong with names behind others
 abbrev pub rest_faults : ℕ → List (List ℕ) → List (List ℕ) → List FlatFault

@@ -1,4 +1,5 @@
--- The instances of a walk's list as places: each stands in the place of the instance round it, which comes before it.
+-- The instances of a walk's list as places: each stands in the place of the instance round it,
+-- which comes before it.
 use Rattle.std.specs.Prelude.{ℕ, ◌+◌, ◌<◌, ◌≡◌, Some, List, [], ◌∷◌, ◌++◌, length, slice_index_or, slice_get, unwrap_or}
 use Rattle.mv_design.specs.declared.design.Design.{Design}
 use Rattle.mv_design.specs.declared.design.FileModel.{FileModel}
@@ -45,8 +46,8 @@ with_places d ps (o ∷ os) = with_places d (ps ++ opened_place d ps o ∷ []) o
 unfoldable pub places_by : Design → List Opened → List Place
 places_by d list = with_places d (root_place (root_of d) ∷ []) list
 
--- place n is that of this instance: in one that stands before it, made by one of the commands there, of the model of the design that
--- the command names
+-- place n is that of this instance: in one that stands before it, made by one of the commands
+-- there, of the model of the design that the command names
 pub record IsPlaced (d : Design) (ps : List Place) (n : ℕ) (o : Opened) : Type 0 where
   pub round : o.round < n
   pub model : o.model < length d.models
@@ -58,4 +59,5 @@ pub record IsPlaced (d : Design) (ps : List Place) (n : ℕ) (o : Opened) : Type
 pub record ArePlaced (d : Design) (list : List Opened) : Type 0 where
   pub long : length (places_by d list) ≡ 1 + length list
   pub root : place_at (places_by d list) 0 ≡ root_place (root_of d)
-  pub each : (k : ℕ) (o : Opened) → slice_get list k ≡ Some o → IsPlaced d (places_by d list) (1 + k) o
+  pub each : (k : ℕ) (o : Opened) → slice_get list k ≡ Some o
+      → IsPlaced d (places_by d list) (1 + k) o

@@ -16,4 +16,5 @@ at_home p fault = fault
 -- the reset tables of models that were looked at are right
 pub record AreLooked (d : Design) (looked : List Bool) : Type 0 where
   pub long : length looked ≡ length d.models
-  pub right : (k : ℕ) → slice_index_or looked k false ≡ true → model_reset_faults (model_at d k) ≡ []
+  pub right : (k : ℕ) → slice_index_or looked k false ≡ true
+      → model_reset_faults (model_at d k) ≡ []

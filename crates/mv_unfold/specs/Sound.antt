@@ -18,9 +18,9 @@ use Rattle.mv_acyclic.specs.Sound.{IsFirstOnCycle, IsFirstReading, StandsAlone, 
 use Rattle.mv_walk.specs.Walk.{HasTree, walk_faults}
 use Rattle.mv_unfold.specs.Whole.{HasGoodNets, HasShortNames, HasWholeFault, whole_faults}
 
--- a sound design: its commands make a tree of instances, whose bindings fit; no two nets of the whole have one name, each is driven
--- once, and each reset table has its own latch; no net is above itself, and no latch above a reset value. Of the limits of the
--- program it says nothing
+-- a sound design: its commands make a tree of instances, whose bindings fit; no two nets of the
+-- whole have one name, each is driven once, and each reset table has its own latch; no net is above
+-- itself, and no latch above a reset value. Of the limits of the program it says nothing
 pub record IsSound (d : Design) : Type 0 where
   pub tree : Instances
   pub unfolds : Unfolds d (root_of d).parts tree
@@ -37,8 +37,8 @@ of_sound d s = of_tree (root_of d) s.tree
 abbrev pub model_of : (d : Design) → IsSound d → FileModel
 model_of d s = unfolded (root_of d) s.tree
 
--- a design whose instances are these is within the limits: none stands too deep, and there are not too many; there are not too many
--- nets, and no name is too long
+-- a design whose instances are these is within the limits: none stands too deep, and there are not
+-- too many; there are not too many nets, and no name is too long
 pub record IsWithinDesignLimits (d : Design) (tree : Instances) : Type 0 where
   pub shallow : IsWithinDepth MAX_DEPTH tree
   pub few : size_of tree ≤ MAX_INSTANCES
@@ -46,15 +46,16 @@ pub record IsWithinDesignLimits (d : Design) (tree : Instances) : Type 0 where
 
 -- ---- why a design is refused
 
--- nothing is wrong with the instances, nor with the nets and the reset tables, but for what is above what, and this is the first net
--- on a cycle, in unfolding order
+-- nothing is wrong with the instances, nor with the nets and the reset tables, but for what is
+-- above what, and this is the first net on a cycle, in unfolding order
 pub record HasCycle (d : Design) (net : List ℕ) : Type 0 where
   pub tree : Instances
   pub has : HasTree d tree
   pub none : whole_faults (root_of d) tree ≡ []
   pub first : IsFirstOnCycle (homes (places (root_of d) tree)) (unfolded (root_of d) tree) net
 
--- there is no cycle either, and this is the first latch whose reset value has a latch's output above it, and the first such output
+-- there is no cycle either, and this is the first latch whose reset value has a latch's output
+-- above it, and the first such output
 pub record HasReadingReset (d : Design) (latch reached : List ℕ) : Type 0 where
   pub tree : Instances
   pub has : HasTree d tree
@@ -62,9 +63,9 @@ pub record HasReadingReset (d : Design) (latch reached : List ℕ) : Type 0 wher
   pub acyclic : IsAcyclic (reads (unfolded (root_of d) tree))
   pub first : IsFirstReading (unfolded (root_of d) tree) latch reached
 
--- why a design is refused: the first fault of its instances; where there is none, the first of its nets and reset tables, but for
--- what is above what; where there is none, the first net on a cycle; and else the first reset value with a latch above it. For want
--- of memory any may be
+-- why a design is refused: the first fault of its instances; where there is none, the first of its
+-- nets and reset tables, but for what is above what; where there is none, the first net on a cycle;
+-- and else the first reset value with a latch above it. For want of memory any may be
 abbrev pub IsFault : Design → FlatFault → Type 0
 IsFault d (Cycle net) = HasCycle d net
 IsFault d (ResetReadsLatch latch reached) = HasReadingReset d latch reached

@@ -28,7 +28,9 @@ impl FirstPlaces {
 
     /// Adds the name at the next place of the list.
     fn add(&mut self, name: Name, place: usize) -> Result<(), Memory>
-        ensures { OnOk result ((ws : List (List ℕ)) → FindsFirst self.old ws → place ≡ length ws → FindsFirst self.new (ws ++ name ∷ [])) }
+        ensures { OnOk result
+            ((ws : List (List ℕ)) → FindsFirst self.old ws → place ≡ length ws
+            → FindsFirst self.new (ws ++ name ∷ [])) }
     {
         if self.names.add(name)? {
             self.numbers.push(place)?;

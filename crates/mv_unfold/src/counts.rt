@@ -19,7 +19,8 @@ pub fn counts_of(
 ) -> Result<Items<u8>, Memory>
     requires long { length row.now ≡ length model.now.parts }
     requires known { All (λ command. command.model < length all.now) row.now }
-    ensures { IfOk result (λ counts. counts ≡ counted nets.now all.now slots.now model.now row.now) }
+    ensures { IfOk result
+        (λ counts. counts ≡ counted nets.now all.now slots.now model.now row.now) }
 {
     let mut counts = zeros(alloc, nets)?;
     add_latches(nets, &mut counts, model.latches.as_slice());
@@ -102,7 +103,8 @@ fn add_parts(
     requires long { length row.now ≡ length parts.now }
     requires known { All (λ command. command.model < length all.now) row.now }
     requires nets { length counts.old ≡ length nets.now }
-    ensures { OnOk result (counts.new ≡ with_parts nets.now all.now slots.now counts.old parts.now row.now) }
+    ensures { OnOk result
+        (counts.new ≡ with_parts nets.now all.now slots.now counts.old parts.now row.now) }
 {
     for at in 0..parts.len() {
         let inner = row[at].model;
@@ -138,7 +140,8 @@ fn add_binds(
     binds: &[Bind],
 ) -> Result<(), Memory>
     requires { length counts.old ≡ length nets.now }
-    ensures { OnOk result (counts.new ≡ with_binds nets.now counts.old inner.now inner_counts.now [] binds.now) }
+    ensures { OnOk result
+        (counts.new ≡ with_binds nets.now counts.old inner.now inner_counts.now [] binds.now) }
 {
     let mut seen = NameSet::new(alloc);
     for bind in binds {

@@ -53,7 +53,9 @@ fn add_decls(
     requires laid { IsLaid layout.now }
     requires declared { AreDeclared layout.now.design.now.models declared.now }
     requires number { number ≤ length layout.now.opened.now }
-    ensures { let p = place_at (places_of layout.now) number in OnOk result (decls.new ≡ decls.old ++ map (placed_decl p) (own_nets p)) }
+    ensures { let p =
+        place_at (places_of layout.now) number in OnOk result (decls.new
+        ≡ decls.old ++ map (placed_decl p) (own_nets p)) }
 {
     let own = layout.own(number);
     if own.is_empty() {
@@ -88,7 +90,9 @@ fn add_spans(
 ) -> Result<(), Memory>
     requires within { All (IsSpan (length nets.now)) spans.now }
     requires places { FindsFirst values.now.places.now (declared_of values.now.decls.now) }
-    ensures { OnOk result (decls.new ≡ decls.old ++ map (decl_under path.now values.now.decls.now) (flat_map (cut nets.now) spans.now)) }
+    ensures { OnOk result
+        (decls.new ≡ decls.old
+        ++ map (decl_under path.now values.now.decls.now) (flat_map (cut nets.now) spans.now)) }
 {
     for span in spans {
         add_nets(alloc, path, values, &nets[span.start..span.end], decls)?;
@@ -105,7 +109,8 @@ fn add_nets(
     decls: &mut Items<Decl>,
 ) -> Result<(), Memory>
     requires { FindsFirst values.now.places.now (declared_of values.now.decls.now) }
-    ensures { OnOk result (decls.new ≡ decls.old ++ map (decl_under path.now values.now.decls.now) nets.now) }
+    ensures { OnOk result
+        (decls.new ≡ decls.old ++ map (decl_under path.now values.now.decls.now) nets.now) }
 {
     for net in nets {
         decls.push(Decl {

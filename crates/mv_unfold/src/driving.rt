@@ -23,7 +23,8 @@ pub fn check_driven(alloc: Global, layout: &Layout<'_>, names: &NameSet) -> Resu
     requires opened { AreOpened layout.now.design.now layout.now.opened.now }
     requires names { names.now ≡ homes (places_of layout.now) }
     ensures { (h : AreOpened layout.now.design.now layout.now.opened.now)
-        → TellsFirst FlatFault.Memory result (driving_faults (unfolded (root_of layout.now.design.now) h.tree) names.now) }
+        → TellsFirst FlatFault.Memory result
+        (driving_faults (unfolded (root_of layout.now.design.now) h.tree) names.now) }
 {
     names.distinct();
     let slots = tallies(alloc, layout)?;
@@ -46,7 +47,8 @@ fn root_counts(
     inner: &[u8],
 ) -> Result<Vec<u8>, Memory>
     requires { length inner.now ≡ length nets.now }
-    ensures { IfOk result (λ counts. counts.items ≡ with_driven nets.now inner.now root.now.inputs) }
+    ensures { IfOk result
+        (λ counts. counts.items ≡ with_driven nets.now inner.now root.now.inputs) }
 {
     let mut counts = Vec::from_slice(alloc, inner)?;
     add_all(nets, &mut counts, root.inputs.as_slice());

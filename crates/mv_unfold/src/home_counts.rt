@@ -21,7 +21,9 @@ pub fn home_counts(
 ) -> Result<Vec<u8>, Memory>
     requires laid { IsLaid layout.now }
     requires sized { AreSized layout.now slots.now root.now }
-    ensures { IfOk result (λ counts. (tells : List ℕ → ℕ) → AreTold layout.now slots.now root.now tells → counts.items ≡ map tells (homes (places_of layout.now))) }
+    ensures { IfOk result
+        (λ counts. (tells : List ℕ → ℕ) → AreTold layout.now slots.now root.now tells
+        → counts.items ≡ map tells (homes (places_of layout.now))) }
 {
     let mut counts = Vec::new(alloc);
     for number in 0..layout.models.len() {
@@ -54,7 +56,8 @@ fn counts_at<'a>(
 /// Adds the counts at the numbers of these spans.
 fn add_spans(counts: &mut Vec<u8>, inner: &[u8], spans: &[Span]) -> Result<(), Memory>
     requires { All (IsSpan (length inner.now)) spans.now }
-    ensures { OnOk result (counts.new.items ≡ counts.old.items ++ flat_map (cut inner.now) spans.now) }
+    ensures { OnOk result
+        (counts.new.items ≡ counts.old.items ++ flat_map (cut inner.now) spans.now) }
 {
     for span in spans {
         counts.extend_from_slice(&inner[span.start..span.end])?;

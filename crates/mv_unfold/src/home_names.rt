@@ -18,7 +18,8 @@ use std::alloc::Global;
 /// one net too many. The time grows with the instances and with the nets that are at home in them.
 pub fn home_names(alloc: Global, layout: &Layout<'_>) -> Result<NameSet, FlatFault>
     requires { IsLaid layout.now }
-    ensures faults { TellsFirst FlatFault.Memory result (home_faults (homes (places_of layout.now))) }
+    ensures faults { TellsFirst FlatFault.Memory result
+        (home_faults (homes (places_of layout.now))) }
     ensures names { IfOk result (λ names. names ≡ homes (places_of layout.now)) }
 {
     let mut names = NameSet::with_room(alloc, layout.nets(0).len())?;
@@ -37,8 +38,10 @@ fn add_homes(
 ) -> Result<(), FlatFault>
     requires laid { IsLaid layout.now }
     requires number { number ≤ length layout.now.opened.now }
-    ensures faults { TellsFirst FlatFault.Memory result (rest_faults most_nets names.old (homes_at (place_at (places_of layout.now) number))) }
-    ensures added { OnOk result (names.new ≡ names.old ++ homes_at (place_at (places_of layout.now) number)) }
+    ensures faults { TellsFirst FlatFault.Memory result
+        (rest_faults most_nets names.old (homes_at (place_at (places_of layout.now) number))) }
+    ensures added { OnOk result
+        (names.new ≡ names.old ++ homes_at (place_at (places_of layout.now) number)) }
 {
     let own = layout.own(number);
     if own.is_empty() {

@@ -15,7 +15,8 @@ use std::alloc::Global;
 /// The root with the nets, tables, latches and reset tables of all places.
 pub fn joined(alloc: Global, layout: &Layout<'_>) -> Result<FileModel, Memory>
     requires { IsLaid layout.now }
-    ensures { IfOk result (λ model. model ≡ joined (root_of layout.now.design.now) (places_of layout.now)) }
+    ensures { IfOk result
+        (λ model. model ≡ joined (root_of layout.now.design.now) (places_of layout.now)) }
 {
     let root = layout.file(0);
     Ok(FileModel {

@@ -18,32 +18,43 @@ ghost use Rattle.mv_unfold.specs.Whole.{HasGoodNets, HasShortNames, whole_faults
 /// A root with instances has no fault exactly where no two of its nets have one name, each is driven once, each reset table is that
 /// of a latch of its model, the only one of this latch, and no limit is passed.
 pub fn whole_laws()
-    ensures good { (root : FileModel) (tree : Instances) → whole_faults root tree ≡ [] → HasGoodNets root tree }
-    ensures short { (root : FileModel) (tree : Instances) → whole_faults root tree ≡ [] → HasShortNames root tree }
-    ensures none { (root : FileModel) (tree : Instances) → HasGoodNets root tree → HasShortNames root tree → whole_faults root tree ≡ [] }
+    ensures good { (root : FileModel) (tree : Instances) → whole_faults root tree ≡ []
+        → HasGoodNets root tree }
+    ensures short { (root : FileModel) (tree : Instances) → whole_faults root tree ≡ []
+        → HasShortNames root tree }
+    ensures none { (root : FileModel) (tree : Instances) → HasGoodNets root tree
+        → HasShortNames root tree → whole_faults root tree ≡ [] }
 {}
 
 /// Where the bindings of a root's instances fit and its nets are good, the root and the instances are one model. Its nets are those
 /// of the whole, each of them is driven once, each reset table has its own latch, and it passes no limit where the whole passes
 /// none. Of a model without instances it holds the other way round: its own nets are those of the whole.
 pub fn model_laws()
-    ensures whole { (d : Design) (root : FileModel) (tree : Instances) → Unfolds d root.parts tree → AreBound root tree → HasGoodNets root tree
+    ensures whole { (d : Design) (root : FileModel) (tree : Instances) → Unfolds d root.parts tree
+        → AreBound root tree → HasGoodNets root tree
         → IsWhole root tree }
-    ensures driven { (d : Design) (root : FileModel) (tree : Instances) → Unfolds d root.parts tree → AreBound root tree → HasGoodNets root tree
+    ensures driven { (d : Design) (root : FileModel) (tree : Instances) → Unfolds d root.parts tree
+        → AreBound root tree → HasGoodNets root tree
         → IsDrivenOnce (unfolded root tree) }
-    ensures resets { (d : Design) (root : FileModel) (tree : Instances) → Unfolds d root.parts tree → All (λ p. IsLawful p.model) (places root tree)
+    ensures resets { (d : Design) (root : FileModel) (tree : Instances) → Unfolds d root.parts tree
+        → All (λ p. IsLawful p.model) (places root tree)
         → AreBound root tree → HasGoodNets root tree → HasResetsOfLatches (unfolded root tree) }
-    ensures nets { (d : Design) (root : FileModel) (tree : Instances) → Unfolds d root.parts tree → AreBound root tree → HasGoodNets root tree
-        → (net : List ℕ) → among net (homes (places root tree)) ≡ among net (nets_of (unfolded root tree)) }
-    ensures limits { (d : Design) (root : FileModel) (tree : Instances) → Unfolds d root.parts tree → AreBound root tree → HasGoodNets root tree
+    ensures nets { (d : Design) (root : FileModel) (tree : Instances) → Unfolds d root.parts tree
+        → AreBound root tree → HasGoodNets root tree
+        → (net : List ℕ)
+        → among net (homes (places root tree)) ≡ among net (nets_of (unfolded root tree)) }
+    ensures limits { (d : Design) (root : FileModel) (tree : Instances) → Unfolds d root.parts tree
+        → AreBound root tree → HasGoodNets root tree
         → HasShortNames root tree → IsWithinLimits (unfolded root tree) }
-    ensures alone { (m : FileModel) → m.parts ≡ [] → IsDrivenOnce m → HasResetsOfLatches m → HasGoodNets m NoMore }
+    ensures alone { (m : FileModel) → m.parts ≡ [] → IsDrivenOnce m → HasResetsOfLatches m
+        → HasGoodNets m NoMore }
 {}
 
 /// A sound design whose root is the first model of its name, and which is within the limits, has no fault but want of memory; and a
 /// design has one tree of instances at most.
 pub fn sound_laws()
-    ensures none { (d : Design) → IsRootNamed d → (s : IsSound d) → IsWithinDesignLimits d s.tree → (f : FlatFault) → IsFault d f
+    ensures none { (d : Design) → IsRootNamed d → (s : IsSound d) → IsWithinDesignLimits d s.tree
+        → (f : FlatFault) → IsFault d f
         → (f ≡ FlatFault.Memory → ⊥) → ⊥ }
     ensures one { (d : Design) (a b : IsSound d) → a.tree ≡ b.tree }
 {}

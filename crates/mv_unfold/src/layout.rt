@@ -56,7 +56,8 @@ impl<'a> Layout<'a> {
         requires laid { IsLaid self.now }
         requires number { number ≤ length self.now.opened.now }
         ensures below { result < length self.now.design.now.models }
-        ensures is { (place_at (places_of self.now) number).model ≡ model_at self.now.design.now result }
+        ensures is { (place_at (places_of self.now) number).model
+            ≡ model_at self.now.design.now result }
     {
         self.models.as_slice()[number]
     }
@@ -83,7 +84,8 @@ impl<'a> Layout<'a> {
     pub fn own(&self, number: usize) -> &[Span]
         requires laid { IsLaid self.now }
         requires number { number ≤ length self.now.opened.now }
-        ensures { AreOwn (all_nets (place_at (places_of self.now) number).model) (place_at (places_of self.now) number).binds result.now }
+        ensures { AreOwn (all_nets (place_at (places_of self.now) number).model)
+            (place_at (places_of self.now) number).binds result.now }
     {
         if number == 0 {
             return self.root.as_slice();
@@ -96,8 +98,10 @@ impl<'a> Layout<'a> {
         requires laid { IsLaid self.now }
         requires some { 0 < number }
         requires number { number ≤ length self.now.opened.now }
-        ensures own { AreOwn (all_nets (place_at (places_of self.now) number).model) (place_at (places_of self.now) number).binds result.now.own }
-        ensures formals { FindsFirst result.now.formals (formals_bound (laid_part self.now number).binds) }
+        ensures own { AreOwn (all_nets (place_at (places_of self.now) number).model)
+            (place_at (places_of self.now) number).binds result.now.own }
+        ensures formals { FindsFirst result.now.formals
+            (formals_bound (laid_part self.now number).binds) }
     {
         let opened = &self.opened[number - 1];
         let round = self.model(opened.round as usize);
@@ -133,7 +137,8 @@ impl<'a> Layout<'a> {
     pub fn add_path(&self, path: &mut Vec<u8>, number: usize) -> Result<(), Memory>
         requires laid { IsLaid self.now }
         requires number { number ≤ length self.now.opened.now }
-        ensures { OnOk result (path.new.items ≡ path.old.items ++ (place_at (places_of self.now) number).path) }
+        ensures { OnOk result
+            (path.new.items ≡ path.old.items ++ (place_at (places_of self.now) number).path) }
     {
         if number == 0 {
             return Ok(());

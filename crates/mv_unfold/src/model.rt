@@ -25,10 +25,14 @@ use std::alloc::Global;
 pub fn whole(alloc: Global, design: Design, opened: &[Opened]) -> Result<Whole, FlatFault>
     requires rooted { design.root < length design.models }
     requires opened { AreOpened design opened.now }
-    ensures model { (h : AreOpened design opened.now) → IfOk result (λ w. w.model ≡ unfolded (root_of design) h.tree) }
-    ensures nets { (h : AreOpened design opened.now) → IfOk result (λ w. w.nets ≡ homes (places (root_of design) h.tree)) }
-    ensures good { (h : AreOpened design opened.now) → OnOk result (HasGoodNets (root_of design) h.tree) }
-    ensures short { (h : AreOpened design opened.now) → OnOk result (HasShortNames (root_of design) h.tree) }
+    ensures model { (h : AreOpened design opened.now)
+        → IfOk result (λ w. w.model ≡ unfolded (root_of design) h.tree) }
+    ensures nets { (h : AreOpened design opened.now)
+        → IfOk result (λ w. w.nets ≡ homes (places (root_of design) h.tree)) }
+    ensures good { (h : AreOpened design opened.now)
+        → OnOk result (HasGoodNets (root_of design) h.tree) }
+    ensures short { (h : AreOpened design opened.now)
+        → OnOk result (HasShortNames (root_of design) h.tree) }
     ensures fault { IfErr result (λ f. (f ≡ FlatFault.Memory) ⊎ HasWholeFault design f) }
 {
     built(alloc, design, opened)
@@ -38,9 +42,12 @@ pub fn whole(alloc: Global, design: Design, opened: &[Opened]) -> Result<Whole, 
 fn built(alloc: Global, design: Design, opened: &[Opened]) -> Result<Whole, FlatFault>
     requires rooted { design.root < length design.models }
     requires opened { AreOpened design opened.now }
-    ensures faults { (h : AreOpened design opened.now) → TellsFirst FlatFault.Memory result (whole_faults (root_of design) h.tree) }
-    ensures model { (h : AreOpened design opened.now) → IfOk result (λ w. w.model ≡ unfolded (root_of design) h.tree) }
-    ensures nets { (h : AreOpened design opened.now) → IfOk result (λ w. w.nets ≡ homes (places (root_of design) h.tree)) }
+    ensures faults { (h : AreOpened design opened.now)
+        → TellsFirst FlatFault.Memory result (whole_faults (root_of design) h.tree) }
+    ensures model { (h : AreOpened design opened.now)
+        → IfOk result (λ w. w.model ≡ unfolded (root_of design) h.tree) }
+    ensures nets { (h : AreOpened design opened.now)
+        → IfOk result (λ w. w.nets ≡ homes (places (root_of design) h.tree)) }
 {
     if opened.is_empty() {
         let nets = checked(alloc, &design, opened)?;
@@ -56,8 +63,10 @@ fn built(alloc: Global, design: Design, opened: &[Opened]) -> Result<Whole, Flat
 fn checked(alloc: Global, design: &Design, opened: &[Opened]) -> Result<Items<Name>, FlatFault>
     requires rooted { design.now.root < length design.now.models }
     requires opened { AreOpened design.now opened.now }
-    ensures faults { (h : AreOpened design.now opened.now) → TellsFirst FlatFault.Memory result (whole_faults (root_of design.now) h.tree) }
-    ensures nets { (h : AreOpened design.now opened.now) → IfOk result (λ nets. nets ≡ homes (places (root_of design.now) h.tree)) }
+    ensures faults { (h : AreOpened design.now opened.now)
+        → TellsFirst FlatFault.Memory result (whole_faults (root_of design.now) h.tree) }
+    ensures nets { (h : AreOpened design.now opened.now)
+        → IfOk result (λ nets. nets ≡ homes (places (root_of design.now) h.tree)) }
 {
     let layout = Layout::of(alloc, design, opened)?;
     check_layout(alloc, &layout)
@@ -67,9 +76,13 @@ fn checked(alloc: Global, design: &Design, opened: &[Opened]) -> Result<Items<Na
 fn joined_whole(alloc: Global, design: &Design, opened: &[Opened]) -> Result<Whole, FlatFault>
     requires rooted { design.now.root < length design.now.models }
     requires opened { AreOpened design.now opened.now }
-    ensures faults { (h : AreOpened design.now opened.now) → TellsFirst FlatFault.Memory result (whole_faults (root_of design.now) h.tree) }
-    ensures model { (h : AreOpened design.now opened.now) → IfOk result (λ w. w.model ≡ joined (root_of design.now) (places (root_of design.now) h.tree)) }
-    ensures nets { (h : AreOpened design.now opened.now) → IfOk result (λ w. w.nets ≡ homes (places (root_of design.now) h.tree)) }
+    ensures faults { (h : AreOpened design.now opened.now)
+        → TellsFirst FlatFault.Memory result (whole_faults (root_of design.now) h.tree) }
+    ensures model { (h : AreOpened design.now opened.now)
+        → IfOk result (λ w. w.model
+        ≡ joined (root_of design.now) (places (root_of design.now) h.tree)) }
+    ensures nets { (h : AreOpened design.now opened.now)
+        → IfOk result (λ w. w.nets ≡ homes (places (root_of design.now) h.tree)) }
 {
     let layout = Layout::of(alloc, design, opened)?;
     let nets = check_layout(alloc, &layout)?;

@@ -20,8 +20,10 @@ pub fn add_spans(
     spans: &[Span],
 ) -> Result<(), FlatFault>
     requires { All (IsSpan (length nets.now)) spans.now }
-    ensures faults { TellsFirst FlatFault.Memory result (rest_faults most_nets homes.old (under path.now (flat_map (cut nets.now) spans.now))) }
-    ensures added { OnOk result (homes.new ≡ homes.old ++ under path.now (flat_map (cut nets.now) spans.now)) }
+    ensures faults { TellsFirst FlatFault.Memory result
+        (rest_faults most_nets homes.old (under path.now (flat_map (cut nets.now) spans.now))) }
+    ensures added { OnOk result
+        (homes.new ≡ homes.old ++ under path.now (flat_map (cut nets.now) spans.now)) }
 {
     for span in spans {
         add_names(alloc, homes, path, &nets[span.start..span.end])?;
@@ -36,7 +38,8 @@ fn add_names(
     path: &[u8],
     nets: &[Name],
 ) -> Result<(), FlatFault>
-    ensures faults { TellsFirst FlatFault.Memory result (rest_faults most_nets homes.old (under path.now nets.now)) }
+    ensures faults { TellsFirst FlatFault.Memory result
+        (rest_faults most_nets homes.old (under path.now nets.now)) }
     ensures added { OnOk result (homes.new ≡ homes.old ++ under path.now nets.now) }
 {
     for net in nets {

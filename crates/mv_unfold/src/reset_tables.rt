@@ -35,7 +35,9 @@ fn add_resets(
 ) -> Result<(), Memory>
     requires laid { IsLaid layout.now }
     requires number { number ≤ length layout.now.opened.now }
-    ensures { let p = place_at (places_of layout.now) number in OnOk result (resets.new ≡ resets.old ++ map (placed_reset at p) p.model.resets) }
+    ensures { let p =
+        place_at (places_of layout.now) number in OnOk result (resets.new
+        ≡ resets.old ++ map (placed_reset at p) p.model.resets) }
 {
     let model = layout.file(number);
     let mut before = 0;

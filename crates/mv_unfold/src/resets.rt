@@ -41,7 +41,8 @@ fn unlooked(alloc: Global, count: usize) -> Result<Vec<bool>, Memory>
 fn check_place(alloc: Global, layout: &Layout<'_>, number: usize) -> Result<(), FlatFault>
     requires laid { IsLaid layout.now }
     requires number { number ≤ length layout.now.opened.now }
-    ensures { TellsFirst FlatFault.Memory result (place_faults (place_at (places_of layout.now) number)) }
+    ensures { TellsFirst FlatFault.Memory result
+        (place_faults (place_at (places_of layout.now) number)) }
 {
     match check_resets(
         alloc,

@@ -31,7 +31,9 @@ fn add_latches(
 ) -> Result<(), Memory>
     requires laid { IsLaid layout.now }
     requires number { number ≤ length layout.now.opened.now }
-    ensures { let p = place_at (places_of layout.now) number in OnOk result (latches.new ≡ latches.old ++ map (placed_latch p) p.model.latches) }
+    ensures { let p =
+        place_at (places_of layout.now) number in OnOk result (latches.new
+        ≡ latches.old ++ map (placed_latch p) p.model.latches) }
 {
     for latch in layout.file(number).latches.as_slice() {
         latches.push(FileLatch {
@@ -65,7 +67,8 @@ fn add_tables(
     requires laid { IsLaid layout.now }
     requires number { number ≤ length layout.now.opened.now }
     ensures { let p = place_at (places_of layout.now) number in
-        OnOk result (tables.new ≡ tables.old ++ numbered p.home (length tables.old) p.model.tables) }
+        OnOk result
+        (tables.new ≡ tables.old ++ numbered p.home (length tables.old) p.model.tables) }
 {
     for table in layout.file(number).tables.as_slice() {
         let line = u32::try_from(tables.len()).ok().ok_or(Memory)?;
@@ -84,7 +87,8 @@ pub fn placed_table(
 ) -> Result<FileTable, Memory>
     requires laid { IsLaid layout.now }
     requires number { number ≤ length layout.now.opened.now }
-    ensures { IfOk result (λ t. t ≡ renamed (place_at (places_of layout.now) number).home line table.now) }
+    ensures { IfOk result
+        (λ t. t ≡ renamed (place_at (places_of layout.now) number).home line table.now) }
 {
     Ok(FileTable {
         line,
@@ -114,7 +118,8 @@ fn homes(
 ) -> Result<Items<Name>, Memory>
     requires laid { IsLaid layout.now }
     requires number { number ≤ length layout.now.opened.now }
-    ensures { IfOk result (λ names. names ≡ map (place_at (places_of layout.now) number).home nets.now) }
+    ensures { IfOk result
+        (λ names. names ≡ map (place_at (places_of layout.now) number).home nets.now) }
 {
     let mut names = Items::with_room(alloc, nets.len())?;
     for net in nets {

@@ -1,4 +1,5 @@
--- What the command `default` does to a network: it visits each net, and gives its table a default that saves literals.
+-- What the command `default` does to a network: it visits each net, and gives its table a default
+-- that saves literals.
 use Rattle.std.specs.Prelude.{◌≡◌, ◌⊎◌, ℕ, ◌<◌, Option, Some, None}
 use Rattle.mv_cover.specs.declared.cover.Cover.{Cover}
 use Rattle.mv_cover.specs.Covers.{literal_count}
@@ -29,19 +30,22 @@ pub record IsDefaultWorth (net : NetParts) (n : ℕ) (table : Cover) : Type 0 wh
   pub can : CanDefault net n table
   pub literal : 0 < literal_count table.lines
 
--- why it is noted that the table of the net n stays. It has no default, and isn't plainly deterministic; or it is, and isn't total;
--- or it could take a default that saves literals, but a table below the net isn't total; or the net's own window is too wide
+-- why it is noted that the table of the net n stays. It has no default, and isn't plainly
+-- deterministic; or it is, and isn't total; or it could take a default that saves literals, but a
+-- table below the net isn't total; or the net's own window is too wide
 abbrev pub NotesDefault : NetParts → ℕ → Cover → Why → Type 0
 NotesDefault net n table Varied = (table.default ≡ None) × (IsPlainlyDeterministic table → ⊥)
 NotesDefault net n table Partial =
-    (IsPlain table × (IsTotalNet net.nets n → ⊥)) ⊎ (IsDefaultWorth net n table × (AreTotalBelow net.nets n → ⊥))
+    (IsPlain table × (IsTotalNet net.nets n → ⊥))
+    ⊎ (IsDefaultWorth net n table × (AreTotalBelow net.nets n → ⊥))
 NotesDefault net n table IsWide =
     IsDefaultWorth net n table × (AreTotalBelow net.nets n × HasWindow net n 0 0 (TooWide net))
 NotesDefault net n table _ = ⊥
 
 -- when it is let be: it has a default, or could take one, but no line has a literal
 abbrev pub LetsDefaultBe : NetParts → ℕ → Cover → Type 0
-LetsDefaultBe net n table = (table.default ≡ None → ⊥) ⊎ (CanDefault net n table × (literal_count table.lines ≡ 0))
+LetsDefaultBe net n table = (table.default ≡ None → ⊥)
+    ⊎ (CanDefault net n table × (literal_count table.lines ≡ 0))
 
 -- what it gives way to: the table with the default taken
 pub record GivesDefault (net : NetParts) (n : ℕ) (table less : Cover) : Type 0 where

@@ -32,7 +32,8 @@ fn note_reason<J: Journal>(
     requires table { IsTrue (is_some (table_in (slot net.now.nets n.0))) }
     requires notes { (table : Cover) → table_in (slot net.now.nets n.0) ≡ Some table
         → NotesDefault net.now n.0 table why }
-    ensures { Passes terms.free (Treats Defaulting n.0) (Perhaps (Treats Defaulting n.0)) net.now net.now
+    ensures { Passes terms.free (Treats Defaulting n.0)
+        (Perhaps (Treats Defaulting n.0)) net.now net.now
         (J.state journal.old) (J.state journal.new) result }
 {
     note_why(alloc, net, n, why, journal)
@@ -58,7 +59,8 @@ fn table_of(net: &Network, n: NetId) -> &Cover
 /// The net's table with the default taken: None where no line has a literal.
 fn defaulted(alloc: Global, net: &Network, n: NetId) -> Result<Option<Cover>, Memory>
     requires table { IsTrue (is_some (table_in (slot net.now.nets n.0))) }
-    requires can { (table : Cover) → table_in (slot net.now.nets n.0) ≡ Some table → CanDefault net.now n.0 table }
+    requires can { (table : Cover) → table_in (slot net.now.nets n.0) ≡ Some table
+        → CanDefault net.now n.0 table }
     ensures { IfOk result (λ made. (table : Cover) → table_in (slot net.now.nets n.0) ≡ Some table
         → IsDefaulted table made) }
 {
@@ -77,9 +79,11 @@ fn take<J: Journal>(
 ) -> Result<(), Stop>
     requires right { ArePartial net.old.nets partial.old }
     requires table { IsTrue (is_some (table_in (slot net.old.nets n.0))) }
-    requires can { (table : Cover) → table_in (slot net.old.nets n.0) ≡ Some table → CanDefault net.old n.0 table }
+    requires can { (table : Cover) → table_in (slot net.old.nets n.0) ≡ Some table
+        → CanDefault net.old n.0 table }
     ensures right { OnOk result (ArePartial net.new.nets partial.new) }
-    ensures passes { Passes terms.free (Treats Defaulting n.0) (Perhaps (Treats Defaulting n.0)) net.old net.new
+    ensures passes { Passes terms.free (Treats Defaulting n.0)
+        (Perhaps (Treats Defaulting n.0)) net.old net.new
         (J.state journal.old) (J.state journal.new) result }
 {
     net.well_formed();
@@ -105,7 +109,8 @@ pub fn visit<J: Journal>(
 ) -> Result<(), Stop>
     requires { ArePartial net.old.nets partial.old }
     ensures right { OnOk result (ArePartial net.new.nets partial.new) }
-    ensures passes { Passes terms.free (Treats Defaulting n.0) (Perhaps (Treats Defaulting n.0)) net.old net.new
+    ensures passes { Passes terms.free (Treats Defaulting n.0)
+        (Perhaps (Treats Defaulting n.0)) net.old net.new
         (J.state journal.old) (J.state journal.new) result }
 {
     if !has_table(net, n) {

@@ -70,7 +70,8 @@ pub fn choose_default<J: Journal>(
     journal: &mut J,
     terms: Terms,
 ) -> Result<(), Stop>
-    ensures passes { Passes terms.free (Does DefaultsAll default_command) (Begun DefaultsAll DefaultsSome default_command)
+    ensures passes { Passes terms.free (Does DefaultsAll default_command)
+        (Begun DefaultsAll DefaultsSome default_command)
         net.old net.new (J.state journal.old) (J.state journal.new) result }
     ensures refines { Refines false (of_net net.new) (of_net net.old) }
 {

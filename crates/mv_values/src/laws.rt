@@ -8,8 +8,10 @@ ghost use Rattle.mv_values.specs.Defaults.{DefaultsSome};
 
 /// However far `default` comes, its rules apply in turn, whatever is free, and it leaves no more literals than there were.
 pub fn default_laws()
-    ensures replays { (free : Bool) (old new : NetParts) (steps : List Entry) → DefaultsSome old steps new
+    ensures replays { (free : Bool) (old new : NetParts) (steps : List Entry)
+        → DefaultsSome old steps new
         → Replays free (rules_of steps) old new }
-    ensures no_more { (old new : NetParts) (steps : List Entry) → WellFormed old → DefaultsSome old steps new
+    ensures no_more { (old new : NetParts) (steps : List Entry) → WellFormed old
+        → DefaultsSome old steps new
         → literals_in new.nets ≤ literals_in old.nets }
 {}

@@ -8,7 +8,8 @@ use Rattle.mv_net.specs.declared.window.Window.{Window}
 use Rattle.mv_net.specs.Window.{IsWindow}
 use Rattle.mv_visit.specs.Visits.{IsLesser}
 
--- a table that allows less for the net n, whose own window isn't too wide, and below which all tables are total
+-- a table that allows less for the net n, whose own window isn't too wide, and below which all
+-- tables are total
 pub record IsToTake (net : NetParts) (n : ℕ) (new : Cover) : Type 0 where
   pub lesser : IsLesser net.nets n new
   pub below : AreTotalBelow net.nets n

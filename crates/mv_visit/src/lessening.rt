@@ -30,8 +30,10 @@ fn give<J: Journal>(
 ) -> Result<(), Stop>
     requires right { ArePartial net.old.nets partial.now }
     requires new { IsToTake net.old n.0 table.now }
-    ensures right { OnOk result (IsTotalNet net.old.nets n.0 → ArePartial net.new.nets partial.now) }
-    ensures passes { Passes terms.free (Lessens n.0 table.now) (Perhaps (Lessens n.0 table.now)) net.old net.new
+    ensures right { OnOk result
+        (IsTotalNet net.old.nets n.0 → ArePartial net.new.nets partial.now) }
+    ensures passes { Passes terms.free (Lessens n.0 table.now)
+        (Perhaps (Lessens n.0 table.now)) net.old net.new
         (J.state journal.old) (J.state journal.new) result }
 {
     net.well_formed();
@@ -59,7 +61,8 @@ fn give_and_tell<J: Journal>(
     requires right { ArePartial net.old.nets partial.old }
     requires new { IsToTake net.old n.0 table.now }
     ensures right { OnOk result (ArePartial net.new.nets partial.new) }
-    ensures passes { Passes terms.free (Lessens n.0 table.now) (Perhaps (Lessens n.0 table.now)) net.old net.new
+    ensures passes { Passes terms.free (Lessens n.0 table.now)
+        (Perhaps (Lessens n.0 table.now)) net.old net.new
         (J.state journal.old) (J.state journal.new) result }
 {
     let was_partial = partial.has(n);
@@ -92,7 +95,8 @@ pub fn lessen<J: Journal>(
     requires below { AreTotalBelow net.old.nets n.0 }
     requires lesser { IsLesser net.old.nets n.0 table.now }
     ensures right { OnOk result (ArePartial net.new.nets partial.new) }
-    ensures passes { Passes terms.free (MayLessen n.0 table.now) (Perhaps (MayLessen n.0 table.now)) net.old net.new
+    ensures passes { Passes terms.free (MayLessen n.0 table.now)
+        (Perhaps (MayLessen n.0 table.now)) net.old net.new
         (J.state journal.old) (J.state journal.new) result }
 {
     net.well_formed();

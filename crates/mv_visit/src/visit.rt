@@ -29,7 +29,8 @@ pub fn note_why<J: Journal>(
     journal: &mut J,
 ) -> Result<(), Stop>
     requires { IsTrue (is_some (table_in (slot net.now.nets n.0))) }
-    ensures { (free : Bool) → Passes free (IsNoted n.0 why) (Perhaps (IsNoted n.0 why)) net.now net.now
+    ensures { (free : Bool)
+        → Passes free (IsNoted n.0 why) (Perhaps (IsNoted n.0 why)) net.now net.now
         (J.state journal.old) (J.state journal.new) result }
 {
     net.well_formed();
@@ -54,7 +55,8 @@ pub fn narrowing(
 ) -> Result<Rule, Memory>
     requires tabled { IsTrue (is_some (table_in (slot net.now.nets n.0))) }
     requires held { AreHeld net.now.nets table.now }
-    ensures { IfOk result (λ rule. rule ≡ rule_of net.now n.0 d u (body_named net.now.nets table.now)) }
+    ensures { IfOk result
+        (λ rule. rule ≡ rule_of net.now n.0 d u (body_named net.now.nets table.now)) }
 {
     let name = Name::new(alloc, net.name(n))?;
     let body = body_of(alloc, net, table)?;

@@ -19,15 +19,18 @@ use Rattle.mv_walk.specs.Misfits.{misfits, misfit_in}
 -- ---- numbers found by name
 
 -- a map leads each name to what a function says of it
-pub record Finds {S : Type 0} (numbers : IndexMap (List ℕ) ℕ S) (says : List ℕ → Option ℕ) : Type 0 where
+pub record Finds {S : Type 0} (numbers : IndexMap (List ℕ) ℕ S) (says : List ℕ → Option ℕ)
+    : Type 0 where
   pub each : (name : List ℕ) → get (pointwise nat_eq) numbers name ≡ says name
 
 -- a number of a name, behind what is known already
 abbrev pub also : (List ℕ → Option ℕ) → List ℕ → ℕ → List ℕ → Option ℕ
-also says name number other = option_or (says other) (if same_word other name then Some number else None)
+also says name number other =
+    option_or (says other) (if same_word other name then Some number else None)
 
 -- what the maps say before and after a name got its number, unless it had one
-pub record FindsFirst {S : Type 0} (old new : IndexMap (List ℕ) ℕ S) (name : List ℕ) (number : ℕ) : Type 0 where
+pub record FindsFirst {S : Type 0} (old new : IndexMap (List ℕ) ℕ S) (name : List ℕ) (number : ℕ)
+    : Type 0 where
   pub finds : (says : List ℕ → Option ℕ) → Finds old says → Finds new (also says name number)
 
 -- ---- sets of names
@@ -49,10 +52,12 @@ pub record HasBound (binds : List Bind) (set : List (List ℕ)) : Type 0 where
 -- how many values a net has, if it is declared
 abbrev pub declared_count : List Decl → List ℕ → Option ℕ
 declared_count [] net = None
-declared_count (d ∷ ds) net = if same_word net d.net then Some (length d.values) else declared_count ds net
+declared_count (d ∷ ds) net = if same_word net d.net then Some (length d.values)
+    else declared_count ds net
 
 -- the formals of a model, and how many values its declared nets have
-pub record ArePorts {S : Type 0} (m : FileModel) (names : List (List ℕ)) (numbers : IndexMap (List ℕ) ℕ S) : Type 0 where
+pub record ArePorts {S : Type 0} (m : FileModel) (names : List (List ℕ))
+    (numbers : IndexMap (List ℕ) ℕ S) : Type 0 where
   pub formals : HasNames names (formals_of m)
   pub counts : Finds numbers (declared_count m.decls)
 
@@ -94,7 +99,8 @@ pub record AreCommands (ms : List FileModel) (round : FileModel) (cs : List Comm
   pub each : All (IsCommand ms round) cs
 
 -- the commands of models, one list for each
-pub record AreKnown {S : Type 0} (ms : List FileModel) (numbers : IndexMap (List ℕ) ℕ S) (all : List (List Command)) : Type 0 where
+pub record AreKnown {S : Type 0} (ms : List FileModel) (numbers : IndexMap (List ℕ) ℕ S)
+    (all : List (List Command)) : Type 0 where
   pub places : Finds numbers (place_named ms)
   pub many : length all ≡ length ms
   pub each : (k : ℕ) → k < length ms → AreCommands ms (model_at ms k) (slice_index_or all k [])

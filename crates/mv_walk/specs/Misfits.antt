@@ -15,7 +15,8 @@ use Rattle.mv_tree.specs.Places.{is_bound}
 use Rattle.mv_walk.specs.declared.command.PortFault.{PortFault}
 use Rattle.mv_walk.specs.declared.command.PortFault.TheVariants.{NoFormal, PortValues, PortOpen}
 
--- what doesn't fit: what is bound is no formal; the two nets haven't as many values; the input isn't bound
+-- what doesn't fit: what is bound is no formal; the two nets haven't as many values; the input
+-- isn't bound
 pub data Misfit : Type 0 where
   Unknown : (b : Bind) → Misfit
   Uneven : (b : Bind) → Misfit
@@ -24,7 +25,8 @@ pub data Misfit : Type 0 where
 -- what of a binding doesn't fit
 abbrev pub bind_misfits : FileModel → FileModel → Bind → List Misfit
 bind_misfits round m b =
-    when (not (among b.formal (formals_of m))) (Unknown b) ++ when (not (count_of m.decls b.formal == count_of round.decls b.actual)) (Uneven b)
+    when (not (among b.formal (formals_of m))) (Unknown b)
+    ++ when (not (count_of m.decls b.formal == count_of round.decls b.actual)) (Uneven b)
 
 -- what of an input doesn't fit
 abbrev pub open_misfits : (List ℕ → Bool) → List ℕ → List Misfit
@@ -32,7 +34,8 @@ open_misfits bound net = when (not (bound net)) (Unbound net)
 
 -- what of the bindings of an instance doesn't fit
 abbrev pub misfits : FileModel → Part → FileModel → List Misfit
-misfits round p m = flat_map (bind_misfits round m) p.binds ++ flat_map (open_misfits (is_bound p.binds)) m.inputs
+misfits round p m = flat_map (bind_misfits round m) p.binds
+    ++ flat_map (open_misfits (is_bound p.binds)) m.inputs
 
 -- the fault of it, where the nets round the instance and its own have these paths
 abbrev pub misfit_fault : List ℕ → List ℕ → Misfit → FlatFault

@@ -6,16 +6,18 @@ use Rattle.mv_walk.specs.declared.opened.Opened.{Opened}
 use Rattle.mv_walk.specs.Walk.{HasTree}
 use Rattle.mv_walk.specs.Commands.{place_named}
 
--- the instances of a tree in unfolding order, each before those inside it: of each the place of its model, the number of the
--- instance round it, and the place of its command. The first has the number `next`, and the one round them all has `round`; its
--- command is the one at place `part`
+-- the instances of a tree in unfolding order, each before those inside it: of each the place of its
+-- model, the number of the instance round it, and the place of its command. The first has the
+-- number `next`, and the one round them all has `round`; its command is the one at place `part`
 abbrev pub openings : Design → ℕ → ℕ → ℕ → Instances → List Opened
 openings d round next part NoMore = []
 openings d round next part (Instance p m inside rest) =
     record { model = unwrap_or (place_named d.models p.model) 0; round = round; part = part }
-    ∷ (openings d next (next + 1) 0 inside ++ openings d round (next + 1 + size_of inside) (part + 1) rest)
+    ∷ (openings d next (next + 1) 0 inside
+    ++ openings d round (next + 1 + size_of inside) (part + 1) rest)
 
--- the list of the instances of a design: those of the tree that it has, numbered from 1, with 0 for the root
+-- the list of the instances of a design: those of the tree that it has, numbered from 1, with 0 for
+-- the root
 pub record AreOpened (d : Design) (list : List Opened) : Type 0 where
   pub tree : Instances
   pub has : HasTree d tree

@@ -23,7 +23,8 @@ abbrev pub round_from : List (List ℕ) → List Part → List (List ℕ)
 round_from round [] = round
 round_from round (p ∷ ps) = round_from (p.model ∷ round) ps
 
--- the path of the nets of the last of these instances, which stand in one another, behind the path round them
+-- the path of the nets of the last of these instances, which stand in one another, behind the path
+-- round them
 abbrev pub path_from : List ℕ → List Part → List ℕ
 path_from path [] = path
 path_from path (p ∷ ps) = path_from (path_in path p.instance) ps
@@ -55,13 +56,15 @@ level_inside d w p = level_of d (instance_model d p) (trail_of w ++ p ∷ [])
 -- of each model that is the first of its name, whether that name is one of these
 pub record AreMarks (ms : List FileModel) (names : List (List ℕ)) (marks : List Bool) : Type 0 where
   pub many : length marks ≡ length ms
-  pub each : (name : List ℕ) (k : ℕ) → place_named ms name ≡ Some k → slice_index_or marks k false ≡ among name names
+  pub each : (name : List ℕ) (k : ℕ) → place_named ms name ≡ Some k
+      → slice_index_or marks k false ≡ among name names
 
 -- the marks of a walk are those of the instances in which it is
 pub record IsMarked (d : Design) (w : Walker) : Type 0 where
   pub marks : AreMarks d.models (round_of d (trail_of w)) w.marks.items
 
--- a walk is in an instance below which stand no more than so many levels, and has looked at all that it lists
+-- a walk is in an instance below which stand no more than so many levels, and has looked at all
+-- that it lists
 pub record IsAt (d : Design) (levels : ℕ) (w : Walker) : Type 0 where
   pub marked : IsMarked d w
   pub depth : levels + length (trail_of w) ≡ MAX_DEPTH
@@ -110,4 +113,5 @@ pub record CanOpen (d : Design) (w : Walker) (c : Command) : Type 0 where
 
 -- the instance of a command, and those inside it, as they are listed
 abbrev pub opening : Design → ℕ → ℕ → ℕ → Part → Instances → List Opened
-opening d round next part p inside = openings d round next part (Instance p (instance_model d p) inside NoMore)
+opening d round next part p inside =
+    openings d round next part (Instance p (instance_model d p) inside NoMore)

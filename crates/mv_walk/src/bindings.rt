@@ -20,7 +20,8 @@ pub fn port_fault<'a>(
     part: &'a Part,
     ports: &Ports<'a>,
 ) -> Result<Option<PortFault<'a>>, Memory>
-    ensures { IfOk result (λ fault. misfit_in fault ≡ first (misfits round.now part.now ports.now)) }
+    ensures { IfOk result
+        (λ fault. misfit_in fault ≡ first (misfits round.now part.now ports.now)) }
 {
     match bind_fault(round, part.binds.as_slice(), ports) {
         Some(fault) => Ok(Some(fault)),
@@ -59,7 +60,8 @@ fn bound_formals(alloc: Global, binds: &[Bind]) -> Result<NameSet, Memory>
 
 /// The first input that isn't bound.
 fn open_fault<'a>(bound: &NameSet, inputs: &'a [Name]) -> Option<PortFault<'a>>
-    ensures { misfit_in result ≡ first (flat_map (open_misfits (λ net. among net bound.now)) inputs.now) }
+    ensures { misfit_in result
+        ≡ first (flat_map (open_misfits (λ net. among net bound.now)) inputs.now) }
 {
     for input in inputs {
         if !bound.contains(input) {

@@ -11,6 +11,8 @@ ghost use Rattle.mv_walk.specs.Trees.{HasSomeTree, IsRootNamed};
 /// hold an instance of the first, and be no instance of itself.
 pub fn walk_laws()
     ensures tree { (d : Design) → walk_faults d ≡ [] → HasSomeTree d }
-    ensures none { (d : Design) (tree : Instances) → IsRootNamed d → HasTree d tree → walk_faults d ≡ [] }
-    ensures one { (d : Design) (parts : List Part) (a b : Instances) → Unfolds d parts a → Unfolds d parts b → a ≡ b }
+    ensures none { (d : Design) (tree : Instances) → IsRootNamed d → HasTree d tree
+        → walk_faults d ≡ [] }
+    ensures one { (d : Design) (parts : List Part) (a b : Instances) → Unfolds d parts a
+        → Unfolds d parts b → a ≡ b }
 {}

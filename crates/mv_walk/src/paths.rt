@@ -18,7 +18,8 @@ pub fn told_fault(
     fault: &PortFault,
 ) -> Result<FlatFault, Memory>
     ensures { let outer = path_from [] (map (λ p. p.now) round.now) in
-        IfOk result (λ f. f ≡ misfit_fault outer (path_in outer part.now.instance) (misfit_of fault.now)) }
+        IfOk result
+        (λ f. f ≡ misfit_fault outer (path_in outer part.now.instance) (misfit_of fault.now)) }
 {
     let outer = path(alloc, round)?;
     let mut inner = Vec::from_slice(alloc, outer.as_slice())?;

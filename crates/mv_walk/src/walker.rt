@@ -56,7 +56,8 @@ impl<'a> Walker<'a> {
         requires at { IsAt known.now levels self.old }
         requires model { model < length known.now.models }
         ensures faults { let level = level_at known.now model self.old in
-            TellsFirst FlatFault.Memory result (visits_faults known.now self.old.count (visits levels known.now level)) }
+            TellsFirst FlatFault.Memory result
+            (visits_faults known.now self.old.count (visits levels known.now level)) }
         ensures done { let tree = tree_of levels known.now (model_at known.now.models model) in
             let listed = openings known.now number (length self.old.list + 1) 0 tree in
             OnOk result (Walked listed (size_of tree) self.old self.new) }
@@ -84,9 +85,13 @@ impl<'a> Walker<'a> {
         requires looked { length self.old.list < self.old.count }
         requires command { CanOpen known.now self.old command.now }
         ensures faults { let level = level_inside known.now self.old (command_part command.now) in
-            TellsFirst FlatFault.Memory result (visits_faults known.now self.old.count (visits (levels - 1) known.now level)) }
-        ensures done { let tree = tree_of (levels - 1) known.now (instance_model known.now (command_part command.now)) in
-            let listed = opening known.now number (length self.old.list + 1) part (command_part command.now) tree in
+            TellsFirst FlatFault.Memory result
+            (visits_faults known.now self.old.count (visits (levels - 1) known.now level)) }
+        ensures done { let tree =
+            tree_of (levels - 1) known.now (instance_model known.now (command_part command.now)) in
+            let listed =
+            opening known.now number (length self.old.list + 1) part
+            (command_part command.now) tree in
             OnOk result (Walked listed (size_of tree) self.old self.new) }
     {
         let found = command.found.unwrap();
@@ -108,8 +113,10 @@ impl<'a> Walker<'a> {
         requires model { model < length known.now.models }
         requires few { self.now.count ≤ most_instances }
         ensures faults { let level = level_at known.now model self.now in
-            TellsFirst FlatFault.Memory result (visits_faults known.now self.now.count (visits_at level)) }
-        ensures count { IfOk result (λ count. count ≡ self.now.count + length (model_at known.now.models model).parts) }
+            TellsFirst FlatFault.Memory result
+            (visits_faults known.now self.now.count (visits_at level)) }
+        ensures count { IfOk result
+            (λ count. count ≡ self.now.count + length (model_at known.now.models model).parts) }
         ensures few { IfOk result (λ count. count ≤ most_instances) }
     {
         let mut count = self.count;
@@ -123,8 +130,10 @@ impl<'a> Walker<'a> {
     /// Looks at a command of the instance in which the walk is, behind so many others.
     fn check(&self, alloc: Global, count: usize, command: &Command<'a>) -> Result<(), FlatFault>
         requires { IfSome command.now.found (λ found. found.place < length self.now.marks.items) }
-        ensures { (d : Design) (model : ℕ) → IsMarked d self.now → IsCommand d.models (model_at d.models model) command.now
-            → TellsFirst FlatFault.Memory result (visit_faults d count (visit (level_at d model self.now) (command_part command.now))) }
+        ensures { (d : Design) (model : ℕ) → IsMarked d self.now
+            → IsCommand d.models (model_at d.models model) command.now
+            → TellsFirst FlatFault.Memory result
+            (visit_faults d count (visit (level_at d model self.now) (command_part command.now))) }
     {
         let Some(found) = command.found else {
             return Err(FlatFault::NoSuchModel {

@@ -1,6 +1,8 @@
--- What an entry of a table says of a column, as a set of values: after the description of BLIF-MV by Kukimoto.
+-- What an entry of a table says of a column, as a set of values: after the description of BLIF-MV
+-- by Kukimoto.
 --
--- `values` are the names of the values of the column's net in declared order, and value v is the one at place v.
+-- `values` are the names of the values of the column's net in declared order, and value v is the
+-- one at place v.
 use Rattle.std.specs.Prelude.{ℕ, ◌+◌, ◌-◌, Bool, not, ◌&&◌, ◌==◌, nat_le, List, [], ◌∷◌, ◌++◌, length, take}
 use Rattle.std.specs.Prelude.{codes, Option, Some, None, is_some, Result, Ok, Err, suc, zero, if◌then◌else◌}
 use Rattle.std.specs.List.{slice_split}
@@ -22,13 +24,15 @@ span_of (Some first) (Some last) = span first last
 
 -- a byte between these parts words: it is a hyphen, and both are values' names
 abbrev pub parts_range : List (List ℕ) → List ℕ → ℕ → List ℕ → Bool
-parts_range values before b bytes = (b == 45) && is_some (place_of before values) && is_some (place_of bytes values)
+parts_range values before b bytes = (b == 45) && is_some (place_of before values)
+    && is_some (place_of bytes values)
 
 -- the values of a range that is cut behind these first bytes
 abbrev pub range_from : List (List ℕ) → List ℕ → List ℕ → Option ℕ
 range_from values before [] = None
 range_from values before (b ∷ bytes) =
-    if parts_range values before b bytes then span_of (place_of before values) (place_of bytes values)
+    if parts_range values before b bytes then span_of (place_of before values)
+    (place_of bytes values)
     else range_from values (before ++ b ∷ []) bytes
 
 -- the values of a range, which is cut at its first hyphen that leaves a value's name on both sides
@@ -52,7 +56,8 @@ with_item item (Some more) rest = rest more
 -- the values of a set and of all items, or the first item that says none
 abbrev pub items_of : List (List ℕ) → ℕ → List (List ℕ) → Result ℕ EntryFault
 items_of values set [] = Ok set
-items_of values set (item ∷ items) = with_item item (item_of values item) (λ more. items_of values (join set more) items)
+items_of values set (item ∷ items) =
+    with_item item (item_of values item) (λ more. items_of values (join set more) items)
 
 -- the values of what stands in brackets: items between commas
 unfoldable pub list_of : List (List ℕ) → List ℕ → Result ℕ EntryFault
@@ -65,10 +70,11 @@ named_or whole (Some v) = Ok (one v)
 
 -- what a word outside brackets says: `-` every value, and a value's name itself
 unfoldable pub plain_of : List (List ℕ) → List ℕ → List ℕ → Result ℕ EntryFault
-plain_of values whole word = if same_word word (codes "-") then Ok (full (length values)) else named_or whole (place_of word values)
+plain_of values whole word = if same_word word (codes "-") then Ok (full (length values))
+    else named_or whole (place_of word values)
 
--- what a word without the `!` in front says: a list in brackets, `=` and a name, which says no set, or a plain one. Of a
--- plain one that isn't known the whole word is told
+-- what a word without the `!` in front says: a list in brackets, `=` and a name, which says no set,
+-- or a plain one. Of a plain one that isn't known the whole word is told
 abbrev pub base_of : List (List ℕ) → List ℕ → List ℕ → Result ℕ EntryFault
 base_of values whole [] = Err (Unknown whole)
 base_of values whole (b ∷ bytes) =
@@ -88,7 +94,9 @@ opposites count (suc n) said = opposite count (opposites count n said)
 
 -- the set that a word says: each `!` in front turns it to the values that it lacks
 unfoldable pub word_set : List (List ℕ) → List ℕ → Result ℕ EntryFault
-word_set values word = opposites (length values) (length (front is_bang word)) (base_of values word (behind is_bang word))
+word_set values word =
+    opposites (length values) (length (front is_bang word))
+    (base_of values word (behind is_bang word))
 
 -- ---- what private functions alone cite
 

@@ -35,7 +35,8 @@ pub record IsOneValue (values : List (List ℕ)) (item : List ℕ) : Type 0 wher
   pub named : place_of item values ≡ Some value
   pub members : (v : ℕ) → item_has values v item ≡ (v == value)
 
--- the item is the names of a first and of a last value with a hyphen between, and has the values from the first to the last
+-- the item is the names of a first and of a last value with a hyphen between, and has the values
+-- from the first to the last
 pub record IsRange (values : List (List ℕ)) (item : List ℕ) : Type 0 where
   pub before : List ℕ
   pub behind : List ℕ

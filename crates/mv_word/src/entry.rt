@@ -18,7 +18,8 @@ use std::alloc::Global;
 pub fn word_set(alloc: Global, values: &[Name], word: &[u8]) -> Result<PackedSet, EntryFault>
     requires { length values.now ≤ most_values }
     ensures ok { IfOk result (λ set. said values.now word.now ≡ Ok set) }
-    ensures fault { IfErr result (λ f. (f ≡ EntryFault.Memory) ⊎ (said values.now word.now ≡ Err f)) }
+    ensures fault { IfErr result
+        (λ f. (f ≡ EntryFault.Memory) ⊎ (said values.now word.now ≡ Err f)) }
 {
     let bangs = bangs_in(word);
     let (_bangs, rest) = word.split_at(bangs);
@@ -70,7 +71,8 @@ fn opposite(set: ValueSet, count: usize, times: usize) -> ValueSet
 fn base(alloc: Global, values: &[Name], word: &[u8], rest: &[u8]) -> Result<PackedSet, EntryFault>
     requires { length values.now ≤ most_values }
     ensures ok { IfOk result (λ set. base_of values.now word.now rest.now ≡ Ok set) }
-    ensures fault { IfErr result (λ f. (f ≡ EntryFault.Memory) ⊎ (base_of values.now word.now rest.now ≡ Err f)) }
+    ensures fault { IfErr result
+        (λ f. (f ≡ EntryFault.Memory) ⊎ (base_of values.now word.now rest.now ≡ Err f)) }
 {
     match rest {
         [] => Err(EntryFault::Unknown(Name::new(alloc, word)?)),
@@ -95,7 +97,8 @@ fn is_opening(b: u8) -> bool
 fn plain(alloc: Global, values: &[Name], word: &[u8], rest: &[u8]) -> Result<PackedSet, EntryFault>
     requires { length values.now ≤ most_values }
     ensures ok { IfOk result (λ set. plain_of values.now word.now rest.now ≡ Ok set) }
-    ensures fault { IfErr result (λ f. (f ≡ EntryFault.Memory) ⊎ (plain_of values.now word.now rest.now ≡ Err f)) }
+    ensures fault { IfErr result
+        (λ f. (f ≡ EntryFault.Memory) ⊎ (plain_of values.now word.now rest.now ≡ Err f)) }
 {
     if is_text(rest, b"-") {
         return Ok(PackedSet::full(alloc, values.len() as u16)?);

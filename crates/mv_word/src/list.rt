@@ -43,11 +43,16 @@ struct Ends {
 /// The values on both sides of this byte, if it is a hyphen and both sides are names of values.
 fn ends_at(values: &[Name], word: &[u8], at: usize) -> Option<Ends>
     requires { at < length word.now }
-    ensures none { IsNone result → parts_range values.now (take at word.now) (slice_index word.now at) (drop (at + 1) word.now) ≡ false }
-    ensures test { IsSome result → parts_range values.now (take at word.now) (slice_index word.now at) (drop (at + 1) word.now) ≡ true }
+    ensures none { IsNone result
+        → parts_range values.now (take at word.now) (slice_index word.now at) (drop
+        (at + 1) word.now) ≡ false }
+    ensures test { IsSome result
+        → parts_range values.now (take at word.now) (slice_index word.now at) (drop
+        (at + 1) word.now) ≡ true }
     ensures first { IfSome result (λ e. place_of (take at word.now) values.now ≡ Some e.first) }
     ensures last { IfSome result (λ e. place_of (drop (at + 1) word.now) values.now ≡ Some e.last) }
-    ensures within { IfSome result (λ e. (e.first < length values.now) × (e.last < length values.now)) }
+    ensures within { IfSome result
+        (λ e. (e.first < length values.now) × (e.last < length values.now)) }
 {
     if word[at] != b'-' {
         return None;
@@ -102,7 +107,8 @@ fn before_comma(bytes: &[u8]) -> usize
 pub fn list(alloc: Global, values: &[Name], bytes: &[u8]) -> Result<ValueSet, EntryFault>
     requires { length values.now ≤ most_values }
     ensures ok { IfOk result (λ set. list_of values.now bytes.now ≡ Ok set) }
-    ensures fault { IfErr result (λ f. (f ≡ EntryFault.Memory) ⊎ (list_of values.now bytes.now ≡ Err f)) }
+    ensures fault { IfErr result
+        (λ f. (f ≡ EntryFault.Memory) ⊎ (list_of values.now bytes.now ≡ Err f)) }
 {
     let mut set = ValueSet::empty();
     let mut from = 0;

@@ -11,7 +11,8 @@ use rand_pcg::Pcg32;
 #[tactic(auto, unfolding(crate::specs::Work::entry_drawn, crate::specs::Work::entry_text))]
 fn add_entry(values: u32, random: &mut Pcg32, text: &mut Vec<u8>) -> Result<(), Memory>
     requires { 0 < values }
-    ensures text { OnOk result (text.new.items ≡ text.old.items ++ entry_text (entry_drawn values random.old).value) }
+    ensures text { OnOk result
+        (text.new.items ≡ text.old.items ++ entry_text (entry_drawn values random.old).value) }
     ensures rest { OnOk result (random.new ≡ (entry_drawn values random.old).rest) }
 {
     if draw(random, 2) != 0 {
@@ -26,7 +27,9 @@ fn add_entry(values: u32, random: &mut Pcg32, text: &mut Vec<u8>) -> Result<(), 
 /// Draws an entry for each fanin, of which these are the numbers of values, and adds them.
 fn add_entries(counts: &[u32], random: &mut Pcg32, text: &mut Vec<u8>) -> Result<(), Memory>
     requires { All (λ n. 0 < n) counts.now }
-    ensures text { OnOk result (text.new.items ≡ text.old.items ++ flat_map entry_text (each entry_drawn counts.now random.old).value) }
+    ensures text { OnOk result
+        (text.new.items
+        ≡ text.old.items ++ flat_map entry_text (each entry_drawn counts.now random.old).value) }
     ensures rest { OnOk result (random.new ≡ (each entry_drawn counts.now random.old).rest) }
 {
     for values in counts {
@@ -78,7 +81,9 @@ fn add_row(
 ) -> Result<(), Memory>
     requires counts { All (λ n. 0 < n) counts.now }
     requires values { 0 < values }
-    ensures text { OnOk result (text.new.items ≡ text.old.items ++ row_text (row_drawn counts.now values random.old).value) }
+    ensures text { OnOk result
+        (text.new.items
+        ≡ text.old.items ++ row_text (row_drawn counts.now values random.old).value) }
     ensures rest { OnOk result (random.new ≡ (row_drawn counts.now values random.old).rest) }
 {
     add_entries(counts, random, text)?;
@@ -101,7 +106,8 @@ pub fn add_rows(
     requires values { 0 < values }
     ensures text { OnOk result (text.new.items ≡ text.old.items
         ++ flat_map row_text (several (row_drawn counts.now values) size random.old).value) }
-    ensures rest { OnOk result (random.new ≡ (several (row_drawn counts.now values) size random.old).rest) }
+    ensures rest { OnOk result
+        (random.new ≡ (several (row_drawn counts.now values) size random.old).rest) }
 {
     'rows: for _ in 0..size {
         add_row(counts, values, random, text)?;

@@ -29,7 +29,8 @@ fn put_numbers<K: Sink>(numbers: &[u128], out: &mut K) -> Result<(), Failed>
 
 /// Puts a line of a word and numbers.
 fn put_line<K: Sink>(word: &[u8], numbers: &[u128], out: &mut K) -> Result<(), Failed>
-    ensures { Appends (K.state out.old) (K.state out.new) (number_line word.now numbers.now) result }
+    ensures { Appends (K.state out.old) (K.state out.new)
+        (number_line word.now numbers.now) result }
 {
     out.put(word)?;
     put_numbers(numbers, out)?;

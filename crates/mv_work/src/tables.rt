@@ -109,8 +109,10 @@ pub fn add_table(
     requires few { length counts.now < 2 ^ 32 }
     requires counts { All (λ n. 0 < n) counts.now }
     ensures positive { IfOk result (λ values. 0 < values) }
-    ensures values { IfOk result (λ values. values ≡ (table_drawn counts.now random.old).value.values) }
-    ensures text { OnOk result (text.new.items ≡ text.old.items ++ table_text (table_drawn counts.now random.old).value) }
+    ensures values { IfOk result
+        (λ values. values ≡ (table_drawn counts.now random.old).value.values) }
+    ensures text { OnOk result
+        (text.new.items ≡ text.old.items ++ table_text (table_drawn counts.now random.old).value) }
     ensures rest { OnOk result (random.new ≡ (table_drawn counts.now random.old).rest) }
 {
     let place = counts.len() as u32;

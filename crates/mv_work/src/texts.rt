@@ -44,7 +44,8 @@ pub fn add_names(places: &[u32], text: &mut Vec<u8>) -> Result<(), Memory>
 /// Adds the names of so many nets from this place on, each behind a blank.
 pub fn add_range(first: u32, count: u32, text: &mut Vec<u8>) -> Result<(), Memory>
     requires { first + count < 2 ^ 32 }
-    ensures { OnOk result (text.new.items ≡ text.old.items ++ names_text (range_with_len first count)) }
+    ensures { OnOk result
+        (text.new.items ≡ text.old.items ++ names_text (range_with_len first count)) }
 {
     for i in 0..count {
         text.extend_from_slice(b" ")?;

@@ -42,7 +42,9 @@ fn add_tables(
     text: &mut Vec<u8>,
 ) -> Result<(), Memory>
     requires { size ≤ MAX_WORK_TABLES }
-    ensures { OnOk result (text.new.items ≡ text.old.items ++ flat_map table_text (tables_drawn size random.old).value) }
+    ensures { OnOk result
+        (text.new.items
+        ≡ text.old.items ++ flat_map table_text (tables_drawn size random.old).value) }
 {
     let mut counts = Vec::from_slice(alloc, &[2_u32; INPUTS as usize])?;
     'tables: for _ in 0..size {

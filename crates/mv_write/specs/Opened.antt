@@ -1,4 +1,5 @@
--- The text of a network behind its beginning, which is in the first piece that is put. Private functions alone cite it.
+-- The text of a network behind its beginning, which is in the first piece that is put. Private
+-- functions alone cite it.
 use Rattle.std.specs.Prelude.{ℕ, List, [], ◌∷◌, ◌++◌, codes}
 use Rattle.std.specs.List.{flat_map}
 use Rattle.mv_lex.specs.Text.{line_text}

@@ -25,8 +25,8 @@ abbrev pub named : List (List ℕ) → ℕ → List ℕ
 named [] v = decimal v
 named (w ∷ ws) v = slice_index_or (w ∷ ws) v []
 
--- the set of a net of so many values that is no higher than the literals' nets: that of the first literal, if it is
--- on this net
+-- the set of a net of so many values that is no higher than the literals' nets: that of the first
+-- literal, if it is on this net
 abbrev pub first_set : ℕ → List Lit → ℕ → ℕ
 first_set count [] m = full count
 first_set count (l ∷ ls) m = if nat_eq l.net.0 m then l.set else full count
@@ -40,7 +40,8 @@ literals_behind (l ∷ ls) m = if nat_eq l.net.0 m then ls else l ∷ ls
 abbrev pub walked : List (Option FlatNet) → List Lit → List NetId → List (List ℕ)
 walked nets ls [] = []
 walked nets ls (n ∷ ns) =
-    entry_word (spelled_in (slot nets n.0)) (first_set (values_in (slot nets n.0)) ls n.0) ∷ walked nets (literals_behind ls n.0) ns
+    entry_word (spelled_in (slot nets n.0)) (first_set (values_in (slot nets n.0)) ls n.0)
+    ∷ walked nets (literals_behind ls n.0) ns
 
 -- these entries, each with a space behind it
 abbrev pub entries_text : List (List ℕ) → List ℕ

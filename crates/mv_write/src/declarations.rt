@@ -13,7 +13,8 @@ use mv_net::Network;
 
 /// Appends these names, each behind a space.
 fn put_spaced<K: Sink>(names: &[Name], page: &mut Page, out: &mut K) -> Result<(), Failed>
-    ensures { AddsPiece (paged (K.state out.old) page.old) (paged (K.state out.new) page.new) (spaced names.now) result }
+    ensures { AddsPiece (paged (K.state out.old) page.old) (paged (K.state out.new) page.new)
+        (spaced names.now) result }
 {
     for name in names {
         page.put_both(b" ", name.bytes(), out)?;
@@ -42,7 +43,8 @@ fn put_declaration<K: Sink>(
 /// Appends the declaration of the net of this number, if it needs one: it is held, is no reset net, and has other values
 /// than 0 and 1.
 fn declare<K: Sink>(net: &Network, n: NetId, page: &mut Page, out: &mut K) -> Result<(), Failed>
-    ensures { AddsPiece (paged (K.state out.old) page.old) (paged (K.state out.new) page.new) (flat_map line_text (decl_words (slot net.now.nets n.0))) result }
+    ensures { AddsPiece (paged (K.state out.old) page.old) (paged (K.state out.new) page.new)
+        (flat_map line_text (decl_words (slot net.now.nets n.0))) result }
 {
     if !net.holds(n) || is_reset_net(net, n) {
         return Ok(());
@@ -57,7 +59,8 @@ fn declare<K: Sink>(net: &Network, n: NetId, page: &mut Page, out: &mut K) -> Re
 
 /// Appends the declarations of all nets, by ascending number.
 pub fn put_declarations<K: Sink>(net: &Network, page: &mut Page, out: &mut K) -> Result<(), Failed>
-    ensures { AddsPiece (paged (K.state out.old) page.old) (paged (K.state out.new) page.new) (flat_map line_text (flat_map decl_words net.now.nets)) result }
+    ensures { AddsPiece (paged (K.state out.old) page.old) (paged (K.state out.new) page.new)
+        (flat_map line_text (flat_map decl_words net.now.nets)) result }
 {
     for n in 0..net.next_number() {
         declare(net, NetId(n), page, out)?;

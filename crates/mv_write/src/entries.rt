@@ -22,7 +22,8 @@ fn put_value<K: Sink>(
     out: &mut K,
 ) -> Result<(), Failed>
     requires { 0 < length names.now → value.0 < length names.now }
-    ensures { AddsPiece (paged (K.state out.old) page.old) (paged (K.state out.new) page.new) (named names.now value.0) result }
+    ensures { AddsPiece (paged (K.state out.old) page.old) (paged (K.state out.new) page.new)
+        (named names.now value.0) result }
 {
     if names.is_empty() {
         let mut buffer = Buffer::new();
@@ -63,7 +64,8 @@ fn put_set<K: Sink>(
 ) -> Result<(), Failed>
     requires values { AreValues count names.now }
     requires set { IsOutput count set }
-    ensures { AddsPiece (paged (K.state out.old) page.old) (paged (K.state out.new) page.new) (entry_word (spelled_values count names.now) set) result }
+    ensures { AddsPiece (paged (K.state out.old) page.old) (paged (K.state out.new) page.new)
+        (entry_word (spelled_values count names.now) set) result }
 {
     if set == ValueSet::full(count) {
         return page.put(b"-", out);
@@ -83,7 +85,8 @@ fn put_set<K: Sink>(
 fn digit(net: &Network, n: NetId, bits: u64) -> Option<u8>
     requires held { IsTrue (is_held net.now.nets n.0) }
     requires set { IsOutput (values_in (slot net.now.nets n.0)) bits }
-    ensures { IfSome result (λ byte. entry_word (spelled_in (slot net.now.nets n.0)) bits ≡ byte ∷ []) }
+    ensures { IfSome result
+        (λ byte. entry_word (spelled_in (slot net.now.nets n.0)) bits ≡ byte ∷ []) }
 {
     net.well_formed();
     let value = bits.trailing_zeros();

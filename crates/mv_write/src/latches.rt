@@ -18,7 +18,8 @@ fn put_latch<K: Sink>(
 ) -> Result<(), Failed>
     requires input { IsTrue (is_held net.now.nets latch.input.0) }
     requires output { IsTrue (is_held net.now.nets latch.output.0) }
-    ensures { AddsPiece (paged (K.state out.old) page.old) (paged (K.state out.new) page.new) (line_text (latch_words net.now.nets latch)) result }
+    ensures { AddsPiece (paged (K.state out.old) page.old) (paged (K.state out.new) page.new)
+        (line_text (latch_words net.now.nets latch)) result }
 {
     page.put_both(b".latch ", net.name(latch.input), out)?;
     page.put_both(b" ", net.name(latch.output), out)?;

@@ -16,14 +16,16 @@ use mv_net::Network;
 
 /// Puts what stands behind the first word of the root's line.
 fn put_root<K: Sink>(root: &[u8], page: &mut Page, out: &mut K) -> Result<(), Failed>
-    ensures { AddsPiece (paged (K.state out.old) page.old) (paged (K.state out.new) page.new) (root.now ++ 10 ∷ []) result }
+    ensures { AddsPiece (paged (K.state out.old) page.old) (paged (K.state out.new) page.new)
+        (root.now ++ 10 ∷ []) result }
 {
     page.put_both(root, b"\n", out)
 }
 
 /// Appends the lines between the outputs and the end.
 fn put_inner<K: Sink>(net: &Network, page: &mut Page, out: &mut K) -> Result<(), Failed>
-    ensures { AddsPiece (paged (K.state out.old) page.old) (paged (K.state out.new) page.new) (flat_map line_text (inner_lines net.now)) result }
+    ensures { AddsPiece (paged (K.state out.old) page.old) (paged (K.state out.new) page.new)
+        (flat_map line_text (inner_lines net.now)) result }
 {
     put_declarations(net, page, out)?;
     put_latches(net, page, out)?;
@@ -32,7 +34,8 @@ fn put_inner<K: Sink>(net: &Network, page: &mut Page, out: &mut K) -> Result<(),
 
 /// Puts the lines of a network, from behind the first word.
 fn put_network<K: Sink>(net: &Network, page: &mut Page, out: &mut K) -> Result<(), Failed>
-    ensures { AddsPiece (paged (K.state out.old) page.old) (paged (K.state out.new) page.new) (unopened net.now) result }
+    ensures { AddsPiece (paged (K.state out.old) page.old) (paged (K.state out.new) page.new)
+        (unopened net.now) result }
 {
     net.well_formed();
     put_root(net.root(), page, out)?;

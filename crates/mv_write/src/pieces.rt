@@ -16,7 +16,8 @@ fn put_names<K: Sink>(
     out: &mut K,
 ) -> Result<(), Failed>
     requires { AreHeld net.now.nets nets.now }
-    ensures { AddsPiece (paged (K.state out.old) page.old) (paged (K.state out.new) page.new) (spaced (names_of net.now.nets nets.now)) result }
+    ensures { AddsPiece (paged (K.state out.old) page.old) (paged (K.state out.new) page.new)
+        (spaced (names_of net.now.nets nets.now)) result }
 {
     for n in nets {
         page.put_both(b" ", net.name(*n), out)?;
@@ -33,7 +34,8 @@ pub fn put_list<K: Sink>(
     out: &mut K,
 ) -> Result<(), Failed>
     requires { AreHeld net.now.nets nets.now }
-    ensures { AddsPiece (paged (K.state out.old) page.old) (paged (K.state out.new) page.new) (line_text (word.now ∷ names_of net.now.nets nets.now)) result }
+    ensures { AddsPiece (paged (K.state out.old) page.old) (paged (K.state out.new) page.new)
+        (line_text (word.now ∷ names_of net.now.nets nets.now)) result }
 {
     page.put(word, out)?;
     put_names(net, nets, page, out)?;
@@ -51,7 +53,8 @@ pub fn put_head<K: Sink>(
 ) -> Result<(), Failed>
     requires { AreHeld net.now.nets fanins.now }
     ensures { AddsPiece (paged (K.state out.old) page.old) (paged (K.state out.new) page.new)
-        (line_text (word.now ∷ names_of net.now.nets fanins.now ++ codes "->" ∷ name.now ∷ [])) result }
+        (line_text (word.now ∷ names_of net.now.nets fanins.now ++ codes "->" ∷ name.now
+        ∷ [])) result }
 {
     page.put(word, out)?;
     put_names(net, fanins, page, out)?;

@@ -50,7 +50,8 @@ fn put_fanin<K: Sink>(
     requires held { IsTrue (is_held net.now.nets n.0) }
     requires literals { AllLiterals net.now.nets lits.now }
     ensures { AddsPiece (paged (K.state out.old) page.old) (paged (K.state out.new) page.new)
-        (entry_word (spelled_in (slot net.now.nets n.0)) (first_set (values_in (slot net.now.nets n.0)) lits.now n.0) ++ 32 ∷ []) result }
+        (entry_word (spelled_in (slot net.now.nets n.0))
+        (first_set (values_in (slot net.now.nets n.0)) lits.now n.0) ++ 32 ∷ []) result }
 {
     net.well_formed();
     match literal_at(lits, n) {
@@ -69,7 +70,8 @@ fn put_entries<K: Sink>(
 ) -> Result<(), Failed>
     requires held { AreHeld net.now.nets fanins.now }
     requires literals { AllLiterals net.now.nets lits.now }
-    ensures { AddsPiece (paged (K.state out.old) page.old) (paged (K.state out.new) page.new) (entries_text (walked net.now.nets lits.now fanins.now)) result }
+    ensures { AddsPiece (paged (K.state out.old) page.old) (paged (K.state out.new) page.new)
+        (entries_text (walked net.now.nets lits.now fanins.now)) result }
 {
     let mut left = lits;
     for n in fanins {
@@ -93,7 +95,8 @@ fn put_row<K: Sink>(
     requires fanins { AreFaninsOf line.now.cube fanins.now }
     requires line { IsLineOver net.now.nets (values_in (slot net.now.nets n.0)) line.now }
     ensures { AddsPiece (paged (K.state out.old) page.old) (paged (K.state out.new) page.new)
-        (line_text (line_words net.now.nets (spelled_in (slot net.now.nets n.0)) (numbers fanins.now) line.now)) result }
+        (line_text (line_words net.now.nets (spelled_in (slot net.now.nets n.0))
+        (numbers fanins.now) line.now)) result }
 {
     put_entries(net, line.cube.lits(), fanins, page, out)?;
     put_entry(net, n, &line.out, b'\n', page, out)
@@ -113,7 +116,9 @@ pub fn put_rows<K: Sink>(
     requires fanins { IsAscending (lines_read lines.now) fanins.now }
     requires lines { AllLines net.now.nets (values_in (slot net.now.nets n.0)) lines.now }
     ensures { AddsPiece (paged (K.state out.old) page.old) (paged (K.state out.new) page.new)
-        (flat_map (λ l. line_text (line_words net.now.nets (spelled_in (slot net.now.nets n.0)) (numbers fanins.now) l)) lines.now) result }
+        (flat_map (λ l. line_text
+        (line_words net.now.nets (spelled_in (slot net.now.nets n.0))
+        (numbers fanins.now) l)) lines.now) result }
 {
     for line in lines {
         put_row(net, n, line, fanins, page, out)?;

@@ -27,7 +27,8 @@ fn put_default<K: Sink>(
     requires held { IsTrue (is_held net.now.nets n.0) }
     requires default { IsDefaultSet (values_in (slot net.now.nets n.0)) default.now }
     ensures { AddsPiece (paged (K.state out.old) page.old) (paged (K.state out.new) page.new)
-        (flat_map line_text (default_words (spelled_in (slot net.now.nets n.0)) default.now)) result }
+        (flat_map line_text
+        (default_words (spelled_in (slot net.now.nets n.0)) default.now)) result }
 {
     match default {
         Some(set) => {

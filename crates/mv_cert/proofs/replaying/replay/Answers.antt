@@ -4,7 +4,7 @@ use Rattle.mv_base.proofs.Meanings.{Refines-then}
 use Rattle.mv_net.specs.declared.parts.NetParts.{NetParts}
 use Rattle.mv_step.specs.declared.step.Step.{Step}
 use Rattle.mv_cert.specs.Replay.{EndsEarly}
-use Rattle.mv_cert.proofs.Replayed.{more, stops_here, step_built}
+use Rattle.mv_cert.proofs.Replayed.{more, stops_here}
 use Rattle.mv_cert.proofs.replaying.replay.Goals as goal
 
 pub loop-step-preserved : goal.loop-step-preserved
@@ -22,7 +22,3 @@ returns-in-Err-clause-stops c =
     let fails = rw c.step-item.is at c.in-Err.ensures.fails in
     subst P (sym c.in-Err.ensures.err)
     (stops_here c.args.terms.free c.args.steps.now c.loop-step.step-index c.args.net.now c.loop-step.net c.loop-step.invariant.ran c.args.terms.budget c.step-item.result _ _ _ c.loop-step-test.true (ap (λ (s : Step). s.line) c.step-item.is) fails c.refusal.ensures.memory c.refusal.ensures.rule)
-
-pub apply_next-requires-clause-built : goal.apply_next-requires-clause-built
-apply_next-requires-clause-built c =
-    rw c.step-item.is (step_built c.args.steps.now c.loop-step.step-index c.step-item.result c.requires c.loop-step-test.true)

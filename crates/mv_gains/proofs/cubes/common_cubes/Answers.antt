@@ -4,7 +4,7 @@ use Rattle.std.specs.List.{IsDistinct}
 use Rattle.mv_cover.specs.Equal.{lit_eq}
 use Rattle.mv_gains.specs.Holders.{places_in}
 use Rattle.mv_gains.proofs.Commons.{common_more, formed_more, held_more}
-use Rattle.mv_gains.proofs.Savings.{literals_once}
+use Rattle.mv_meets.proofs.Once.{literals_once}
 use Rattle.mv_gains.proofs.Sums.{ascends_at}
 use Rattle.mv_gains.proofs.cubes.common_cubes.Goals as goal
 

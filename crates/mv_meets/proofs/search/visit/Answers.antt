@@ -23,7 +23,11 @@ returns-then-not-can_win c =
 
 pub returns : goal.returns
 returns c =
+    let node = c.args.node.now in
+    let short : All (λ (p : ℕ). length (at c.args.cubes.now p) ≤ c.longest-longest.result) node.places.items =
+    subst (All (λ (p : ℕ). length (at c.args.cubes.now p) ≤ c.longest-longest.result)) c.as_slice-places.ensures.value c.longest-longest.ensures.longest in
     record {
       nodes = c.in_ok-waiting.ensures.nodes;
-      seen = open_spread c.args.cubes.now c.args.node.now c.args.search.waiting.items c.in_ok-waiting.waiting.items c.args.search.best c.in_ok-best.best c.requires.formed c.requires.node c.in_ok-best.ensures c.in_ok-waiting.ensures c.requires.seen;
+      seen = open_spread c.args.cubes.now node c.args.search.waiting.items c.in_ok-waiting.waiting.items c.args.search.best c.in_ok-best.best c.longest-longest.result c.requires.formed c.requires.node short
+          c.in_ok-best.ensures c.in_ok-waiting.ensures c.requires.seen;
     }

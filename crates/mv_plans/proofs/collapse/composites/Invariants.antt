@@ -3,7 +3,7 @@ use Rattle.mv_composite.specs.Composite.{composed}
 use Rattle.mv_graph.specs.Nets.{has_id}
 use Rattle.mv_net.specs.Nets.{values_in}
 use Rattle.mv_plans.specs.Collapsing.{AreNarrow}
-use Rattle.mv_plans.specs.Plans.{AreTablesFor}
+use Rattle.mv_readers.specs.Readers.{AreTablesFor}
 use Rattle.mv_plans.proofs.collapse.composites.Given as goal
 
 abbrev pub invariant-loop-reader : goal.invariant-loop-reader

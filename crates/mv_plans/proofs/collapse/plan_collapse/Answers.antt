@@ -2,7 +2,7 @@
 use Rattle.std.proofs.Common.{map, ap, subst, inr}
 use Rattle.mv_composite.specs.Composite.{composed}
 use Rattle.mv_net.specs.Nets.{values_in}
-use Rattle.mv_plans.specs.Plans.{AreRewritten}
+use Rattle.mv_readers.specs.Readers.{AreRewritten}
 use Rattle.mv_plans.proofs.Collapsed.{wide_fails, has_composites, planned}
 use Rattle.mv_plans.proofs.collapse.plan_collapse.Goals as goal
 

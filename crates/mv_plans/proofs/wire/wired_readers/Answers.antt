@@ -1,7 +1,7 @@
 -- Each reader has its new table.
 use Rattle.mv_base.specs.declared.number.NetId.{NetId}
 use Rattle.mv_composite.specs.Wired.{wired}
-use Rattle.mv_plans.proofs.Readers.{listed_table, tables_next}
+use Rattle.mv_readers.proofs.Readers.{listed_table, tables_next}
 use Rattle.mv_plans.proofs.wire.wired_readers.Goals as goal
 
 abbrev none : NetId

@@ -1,6 +1,6 @@
 use Rattle.std.proofs.Common.{take}
 use Rattle.mv_composite.specs.Wired.{wired}
-use Rattle.mv_plans.specs.Plans.{AreTablesFor}
+use Rattle.mv_readers.specs.Readers.{AreTablesFor}
 use Rattle.mv_plans.proofs.wire.wired_readers.Given as goal
 
 abbrev pub invariant-loop-reader : goal.invariant-loop-reader

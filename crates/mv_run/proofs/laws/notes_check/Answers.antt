@@ -7,4 +7,5 @@ pub returns-clause-same : goal.returns-clause-same
 returns-clause-same c = λ f. writes_same (terms_of f.free f.budget) f.net f.other
 
 pub returns-clause-accepted : goal.returns-clause-accepted
-returns-clause-accepted c = λ f. is_accepted (terms_of f.free f.budget) f.net f.other
+returns-clause-accepted c =
+    λ f certificate old new later later' status ends holds. is_accepted (terms_of f.free f.budget) f.net f.other certificate old new later later' ends holds status

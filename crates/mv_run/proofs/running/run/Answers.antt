@@ -1,15 +1,31 @@
--- A network that is asked for has a lawful size; and where no memory is there for the words, a run of any task ends so.
-use Rattle.mv_run.proofs.Ends.{short_at_once}
-use Rattle.mv_run.proofs.Sizes.{sizes}
+-- How the task ends says all.
+use Rattle.mv_task.proofs.Endings.{ends_exact, ends_complete, ends_rose, ends_untouched}
+use Rattle.mv_run.proofs.Asked.{run_replaced, run_words, run_begun, run_known}
 use Rattle.mv_run.proofs.running.run.Goals as goal
 
-pub work-requires-clause-least : goal.work-requires-clause-least
-work-requires-clause-least g c = (sizes _ _ (rw c.in-Ok-Work.field-0-is at c.in-Ok-Work.ensures)).0
+pub returns-clause-replaced : goal.returns-clause-replaced
+returns-clause-replaced g c = run_replaced _ _ _ _ c.perform.ensures.does
 
-pub work-requires-clause-most : goal.work-requires-clause-most
-work-requires-clause-most g c = (sizes _ _ (rw c.in-Ok-Work.field-0-is at c.in-Ok-Work.ensures)).1
+pub returns-clause-words : goal.returns-clause-words
+returns-clause-words g c = run_words _ _ _ _ c.perform.ensures.does
 
-pub returns-in-Err-Memory-clause-does : goal.returns-in-Err-Memory-clause-does
-returns-in-Err-Memory-clause-does g c =
-    let told = c.tell-in-Err-Memory.ensures in
-    short_at_once _ _ _ _ _ (λ terms given. c.short_at_once.ensures terms given _ _ _ _ told) (λ free net certificate. c.short_at_once-in-Err-Memory.ensures free net certificate _ _ _ _ told) told
+pub returns-clause-exact : goal.returns-clause-exact
+returns-clause-exact g c = ends_exact _ _ _ _ c.perform.ensures.does
+
+pub returns-clause-complete : goal.returns-clause-complete
+returns-clause-complete g c = ends_complete _ _ _ _ c.perform.ensures.does
+
+pub returns-clause-begun : goal.returns-clause-begun
+returns-clause-begun g c = run_begun _ _ _ _ c.perform.ensures.does
+
+pub returns-clause-unread : goal.returns-clause-unread
+returns-clause-unread g c = λ e. c.perform.ensures.unread (run_words _ _ _ _ c.perform.ensures.does e)
+
+pub returns-clause-read : goal.returns-clause-read
+returns-clause-read g c = ends_rose _ _ _ _ c.perform.ensures.does
+
+pub returns-clause-untouched : goal.returns-clause-untouched
+returns-clause-untouched g c = ends_untouched _ _ _ _ c.perform.ensures.does
+
+pub returns-clause-known : goal.returns-clause-known
+returns-clause-known g c = run_known _ _ _ _ c.perform.ensures.does

@@ -2,7 +2,7 @@
 use Rattle.std.proofs.Common.{◌≡◌, ◌∙◌, ◌+◌, refl, sym, ap, arith, rules}
 use Rattle.mv_script.specs.declared.script.Script.{the_lemmas}
 use Rattle.mv_script.specs.Scripts.{items_of, Do, Repeat, Better}
-use Rattle.mv_script_run.specs.Commands.{RunsCommand, StopsCommand}
+use Rattle.mv_script_run.specs.Commands.{DoesCommand, BegunCommand}
 use Rattle.mv_pass.specs.Courses.{Rounds}
 use Rattle.mv_script_run.specs.Runs.{Runs, RunsBetter, RunsTo, StopsBetter, StopsRepeat}
 use Rattle.mv_pass.proofs.Coming.{came_none, came_more, came_stop, came_as, came_whole}
@@ -81,8 +81,7 @@ run_script-loop-items-init g t c =
     let script = items_of c.args.script.now in
     record {
       came = came_none terms.free (Toward terms script script) c.args.net.now _ (toward_none terms script c.args.net.now);
-      built = c.requires.built;
-      lawful = c.requires.lawful;
+      lawful = c.requires;
       no_deeper = omega arith;
     }
 
@@ -101,8 +100,8 @@ run_script-returns-in-Err g t c =
     let items = items_of c.loop-items.items.now in
     let rest = items_of c.in-Do.rest.value in
     let is : items ≡ Do c.in-Do.command rest = ap items_of c.in-Do.is in
-    came_stop terms.free (Toward terms script items) (RunsCommand terms c.in-Do.command) (StopsCommand terms c.in-Do.command) c.args.net.now c.loop-items.net c.run_command.new.net _ _ _ c.loop-items.invariant.came (Runs terms script) (RunsTo terms script) _
-    (λ xs ys p q. toward_stop terms script items rest (RunsCommand terms c.in-Do.command) (StopsCommand terms c.in-Do.command) (first_command terms items rest c.in-Do.command is) c.args.net.now c.loop-items.net c.run_command.new.net xs ys p q) c.in-Err.ensures
+    came_stop terms.free (Toward terms script items) (DoesCommand terms c.in-Do.command) (BegunCommand terms c.in-Do.command) c.args.net.now c.loop-items.net c.run_command.new.net _ _ _ c.loop-items.invariant.came (Runs terms script) (RunsTo terms script) _
+    (λ xs ys p q. toward_stop terms script items rest (DoesCommand terms c.in-Do.command) (BegunCommand terms c.in-Do.command) (first_command terms items rest c.in-Do.command is) c.args.net.now c.loop-items.net c.run_command.new.net xs ys p q) c.in-Err.ensures
 
 pub run_script-loop-items-preserved-in-Do : goal.run_script-loop-items-preserved-in-Do
 run_script-loop-items-preserved-in-Do g t c =
@@ -113,9 +112,8 @@ run_script-loop-items-preserved-in-Do g t c =
     let is : items ≡ Do c.in-Do.command rest = rw c.deref-items.ensures (ap items_of c.in-Do.is) in
     record {
       came =
-          came_more terms.free (Toward terms script items) (RunsCommand terms c.in-Do.command) (StopsCommand terms c.in-Do.command) c.args.net.now c.loop-items.net c.run_command.new.net _ _ _ c.loop-items.invariant.came (Toward terms script rest)
-          (λ xs ys p q. toward_more terms script items rest (RunsCommand terms c.in-Do.command) (StopsCommand terms c.in-Do.command) (first_command terms items rest c.in-Do.command is) c.args.net.now c.loop-items.net c.run_command.new.net xs ys p q) c.in-Ok.ensures;
-      built = search rules;
+          came_more terms.free (Toward terms script items) (DoesCommand terms c.in-Do.command) (BegunCommand terms c.in-Do.command) c.args.net.now c.loop-items.net c.run_command.new.net _ _ _ c.loop-items.invariant.came (Toward terms script rest)
+          (λ xs ys p q. toward_more terms script items rest (DoesCommand terms c.in-Do.command) (BegunCommand terms c.in-Do.command) (first_command terms items rest c.in-Do.command is) c.args.net.now c.loop-items.net c.run_command.new.net xs ys p q) c.in-Ok.ensures;
       lawful = search rules;
       no_deeper = search (rules, the_lemmas);
     }
@@ -143,7 +141,6 @@ run_script-loop-items-preserved-in-Repeat g t c =
       came =
           came_more terms.free (Toward terms script items) (Rounds c.in-Repeat.times (Runs terms inside)) (StopsRepeat c.in-Repeat.times (Runs terms inside) (RunsTo terms inside)) c.args.net.now c.loop-items.net c.run_repeat.new.net _ _ _ c.loop-items.invariant.came (Toward terms script rest)
           (λ xs ys p q. toward_more terms script items rest (Rounds c.in-Repeat.times (Runs terms inside)) (StopsRepeat c.in-Repeat.times (Runs terms inside) (RunsTo terms inside)) (first_repeat terms items inside rest c.in-Repeat.times is) c.args.net.now c.loop-items.net c.run_repeat.new.net xs ys p q) c.in-Ok-run_repeat.ensures;
-      built = search rules;
       lawful = search rules;
       no_deeper = search (rules, the_lemmas);
     }
@@ -171,7 +168,6 @@ run_script-loop-items-preserved g t c =
       came =
           came_more terms.free (Toward terms script items) (RunsBetter (Runs terms inside)) (StopsBetter (Runs terms inside) (RunsTo terms inside)) c.args.net.now c.loop-items.net c.run_better.new.net _ _ _ c.loop-items.invariant.came (Toward terms script rest)
           (λ xs ys p q. toward_more terms script items rest (RunsBetter (Runs terms inside)) (StopsBetter (Runs terms inside) (RunsTo terms inside)) (first_better terms items inside rest is) c.args.net.now c.loop-items.net c.run_better.new.net xs ys p q) c.in-Ok-run_better.ensures;
-      built = search rules;
       lawful = search rules;
       no_deeper = search (rules, the_lemmas);
     }

@@ -2,7 +2,7 @@
 use Rattle.std.proofs.Common.{◌≡◌, ◌≤◌, true}
 use Rattle.mv_net.specs.Nets.{literals_in}
 use Rattle.mv_script.specs.declared.script.Script.{size-Script}
-use Rattle.mv_script.specs.Commands.{are_built, are_lawful}
+use Rattle.mv_script.specs.Commands.{are_lawful}
 use Rattle.mv_script.specs.Scripts.{items_of}
 use Rattle.mv_pass.specs.Courses.{Rounds}
 use Rattle.mv_script_run.specs.Runs.{Runs}
@@ -14,7 +14,6 @@ use Rattle.mv_script_run.proofs.running.+run.Given as goal
 abbrev pub invariant-run_script-loop-items : goal.invariant-run_script-loop-items
 invariant-run_script-loop-items g l = record {
   came : Came l.terms.free (Toward l.terms (items_of l.fn.script) (items_of l.items)) l.fn.net l.net (g.J.Journal.state l.fn.journal) (g.J.Journal.state l.journal);
-  built : are_built (items_of l.items) ≡ true;
   lawful : are_lawful (items_of l.items) ≡ true;
   no_deeper : size-Script l.items ≤ size-Script l.fn.script;
 }

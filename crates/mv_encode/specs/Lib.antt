@@ -1,0 +1,3 @@
+pub mod Encodes
+-- what private functions alone cite
+pub mod Encoding

@@ -1,5 +1,0 @@
-use Rattle.mv_step.specs.Reading.{IsAt}
-use Rattle.mv_step.proofs.reader.listed.Given as goal
-
-abbrev pub invariant-loop-line : goal.invariant-loop-line
-invariant-loop-line l = IsAt l.lines l.line-index l.steps l.current
