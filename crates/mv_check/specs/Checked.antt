@@ -1,15 +1,14 @@
 -- The task of checking a certificate.
 use Rattle.std.specs.Prelude.{◌≡◌, ℕ, Bool, List, [], ◌∷◌}
 use Rattle.mv_entry.specs.declared.fault.RuleFault.{RuleFault}
+use Rattle.mv_format.specs.Formats.{Format, LeavesPlace, network_stage}
 use Rattle.mv_net.specs.declared.parts.NetParts.{NetParts}
 use Rattle.mv_net.specs.Nets.{literals_in}
 use Rattle.mv_rules.specs.Replaying.{Replays}
 use Rattle.mv_step.specs.declared.step.Step.{Step}
-use Rattle.mv_text.specs.Text.{text_of}
 use Rattle.mv_cert.specs.Replay.{FailsAt, rules_in}
 use Rattle.mv_task.specs.Ending.{done_line}
 use Rattle.mv_task.specs.Ends.{Work, Task, work_on_both}
-use Rattle.mv_task.specs.Formats.{IsNetOfText, LeavesPlace, blif_mv, network_stage}
 use Rattle.mv_task.specs.Sources.{File}
 use Rattle.mv_check.specs.Certificates.{SaysSteps, certificate_stage}
 use Rattle.mv_check.specs.Tellings.{rule_line}
@@ -17,13 +16,13 @@ use Rattle.mv_check.specs.Tellings.{rule_line}
 -- the rules of the steps, of which nothing else is assumed, lead from the first network to another
 -- one: the notes are the done line alone; the output is the text of the network that is left, and
 -- replaces whatever text said the first one, as the rules leave it
-pub record HasReplayed (free : Bool) (steps : List Step) (first : NetParts)
+pub record HasReplayed (format : Format) (free : Bool) (steps : List Step) (first : NetParts)
     (noted written : List ℕ) : Type 0 where
   pub net : NetParts
   pub replays : Replays free (rules_in steps) first net
   pub noted_is : noted ≡ done_line (literals_in first.nets) (literals_in net.nets)
-  pub written_is : written ≡ text_of net
-  pub replaces : LeavesPlace blif_mv free (rules_in steps) first net
+  pub written_is : written ≡ format.text net
+  pub replaces : LeavesPlace format free (rules_in steps) first net
 
 -- the rule of a step, at some line of the certificate, doesn't apply where those before it have led
 -- from the first network; the line that is told says where and why
@@ -37,16 +36,16 @@ pub record RefusesRule (free : Bool) (steps : List Step) (first : NetParts) (sta
   pub line_is : line ≡ rule_line at fault
 
 -- the work of these steps on a network: nothing is noted before it is done
-abbrev pub check_work : Bool → List Step → NetParts → Work
-check_work free steps first = record {
-  Does = HasReplayed free steps first;
+abbrev pub check_work : Format → Bool → List Step → NetParts → Work
+check_work format free steps first = record {
+  Does = HasReplayed format free steps first;
   Notes = λ noted. ⊥;
   Refuses = RefusesRule free steps first;
 }
 
--- the task: first the named certificate is read, and then the named network
-abbrev pub check_task : Bool → List ℕ → List ℕ → Task
-check_task free network certificate = record {
-  stages = certificate_stage certificate ∷ network_stage blif_mv (File network) ∷ [];
-  work = work_on_both SaysSteps IsNetOfText (check_work free);
+-- the task: first the named certificate is read, and then the named network, of this format
+abbrev pub check_task : Format → Bool → List ℕ → List ℕ → Task
+check_task format free network certificate = record {
+  stages = certificate_stage certificate ∷ network_stage format (File network) ∷ [];
+  work = work_on_both SaysSteps format.IsNet (check_work format free);
 }

@@ -1,11 +1,13 @@
 ghost use Rattle.mv_check.specs.Checked.{check_task};
+ghost use Rattle.mv_format.specs.BlifMv.{blif_mv};
 ghost use Rattle.mv_task.specs.Ends.{Ends, seen};
 
 use crate::take::take_certificate;
 use crate::working::carry_out;
 use mv_base::{Files, Sink};
+use mv_format::take_network;
 use mv_rules::Terms;
-use mv_task::{refuse, take_network};
+use mv_task::refuse;
 use std::alloc::Global;
 
 /// Reads the certificate and the network file of these names, applies the certificate's rules to the network in turn on these terms,
@@ -21,7 +23,7 @@ pub fn check<F: Files, O: Sink, E: Sink>(
     out: &mut O,
     notes: &mut E,
 ) -> u8
-    ensures { Ends (check_task terms.free network.now certificate.now)
+    ensures { Ends (check_task blif_mv terms.free network.now certificate.now)
         (seen (F.state files.old) (O.state out.old) (E.state notes.old))
         (seen (F.state files.new) (O.state out.new) (E.state notes.new)) result }
 {

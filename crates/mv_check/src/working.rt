@@ -1,5 +1,6 @@
 ghost use Rattle.mv_check.specs.Checked.{check_work};
 ghost use Rattle.mv_check.specs.Tellings.{rule_line};
+ghost use Rattle.mv_format.specs.BlifMv.{blif_mv};
 ghost use Rattle.mv_task.specs.Ends.{WorkEnds, sinks};
 ghost use Rattle.mv_task.specs.Lines.{TellsLine};
 
@@ -10,7 +11,6 @@ use mv_entry::RuleFault;
 use mv_net::Network;
 use mv_rules::Terms;
 use mv_task::{put_done, tell};
-use mv_text_back::reads_back;
 use mv_write::write;
 use std::alloc::Global;
 
@@ -34,7 +34,7 @@ pub fn carry_out<O: Sink, E: Sink>(
     out: &mut O,
     notes: &mut E,
 ) -> u8
-    ensures { WorkEnds (check_work terms.free steps.now net)
+    ensures { WorkEnds (check_work blif_mv terms.free steps.now net)
         (sinks (O.state out.old) (E.state notes.old)) (sinks (O.state out.new) (E.state notes.new))
         result }
 {
@@ -51,7 +51,6 @@ pub fn carry_out<O: Sink, E: Sink>(
             return 6;
         }
     }
-    reads_back(&net);
     match put_done(&net, before, notes) {
         Ok(()) => {}
         Err(_failed) => return 5,

@@ -10,3 +10,4 @@ pub mod Agreement
 pub mod Matched
 pub mod Said
 pub mod Named
+pub mod Sizes

@@ -1,10 +1,10 @@
 -- What is added, as restrictions of a set.
-use Rattle.std.proofs.Common.{◌≡◌, ℕ, zero, suc, add-one, ◌+◌, ◌-◌, ◌<◌, ◌==◌, ◌⊎◌, Bool, true, List, length, slice_index, Option, Some, is_some, if◌then◌else◌, refl, sym, ap, subst, ◌∙◌, inl, inr, arith}
+use Rattle.std.proofs.Common.{◌≡◌, ℕ, zero, suc, add-one, ◌+◌, ◌-◌, ◌<◌, ◌==◌, ◌&&◌, ◌⊎◌, Bool, true, List, length, slice_index, Option, Some, is_some, if◌then◌else◌, refl, sym, ap, subst, ◌∙◌, inl, inr, arith}
 use Rattle.mv_pool.specs.Places.{Contents, with_item}
 use Rattle.mv_diagram.specs.declared.node.Node.{Node}
 use Rattle.mv_diagram.specs.declared.table.Table.{Table}
 use Rattle.mv_diagram.specs.Sets.{Point, InRange, node_at, holds, has_diagram}
-use Rattle.mv_diagram.specs.Sound.{AreCounts, IsNode, IsReduced}
+use Rattle.mv_diagram.specs.Sound.{AreCounts, IsNode, IsReduced, order}
 use Rattle.mv_diagram.specs.Works.{AddsNodes, HasPut, IsAbsent}
 use Rattle.mv_diagram.specs.Parts.{no_variable, IsRestriction, AddsParts}
 use Rattle.mv_diagram.proofs.Following.{holds_node, if_same}
@@ -14,7 +14,7 @@ use Rattle.mv_diagram.proofs.Reclaiming.{held_by, held_from, item_some, node_the
 use Rattle.mv_diagram.proofs.Restricting.{restriction_whole, restriction_same, restriction_no}
 use Rattle.mv_base.specs.Set.{has}
 use Rattle.mv_diagram.proofs.Points.{beside}
-use Rattle.mv_diagram.proofs.Literals.{literal_from, literal_reads, literal_step, literal_past, seen_all}
+use Rattle.mv_diagram.proofs.Literals.{limited, limited_reads, literal_step, limited_past, seen_all}
 use Rattle.mv_diagram.proofs.Tables.{AddsNodes-more, table_holds, table_held, table_parted}
 use Rattle.mv_diagram.specs.declared.node.Test.{Test}
 use Rattle.mv_diagram.specs.declared.memo.Operation.{Operation}
@@ -115,11 +115,12 @@ module _ (operation : Operation) (old new : Table) (s : IsReduced old.counts.ite
     ]
   ]
 
--- a test more of a literal
-literal_parts : (base : List (Option Node)) (old new : Table) → IsReduced old.counts.items old.pool.places → AddsNodes old new → (var set low : ℕ) (whole : Point → Bool) → var < length old.counts.items → low + 1 < slice_index old.counts.items var
-    → AddsParts old.counts.items base old.pool.places (literal_from old.counts.items var set (low + 1)) → AddsParts new.counts.items old.pool.places new.pool.places whole → ((p : Point) → whole p ≡ literal_from new.counts.items var set low p)
-    → AddsParts new.counts.items base new.pool.places (literal_from new.counts.items var set low)
-literal_parts base old new s adds var set low whole variable below before now is =
+-- a test more of a literal, in points of later variables
+literal_parts : (base : List (Option Node)) (old new : Table) → IsReduced old.counts.items old.pool.places → AddsNodes old new → (var set low : ℕ) (z whole : Point → Bool) → Reads new.counts.items (order (var + 1) 0) z
+    → var < length old.counts.items → low + 1 < slice_index old.counts.items var
+    → AddsParts old.counts.items base old.pool.places (limited old.counts.items var set (low + 1) z) → AddsParts new.counts.items old.pool.places new.pool.places whole → ((p : Point) → whole p ≡ limited new.counts.items var set low z p)
+    → AddsParts new.counts.items base new.pool.places (limited new.counts.items var set low z)
+literal_parts base old new s adds var set low z whole behind variable below before now is =
     let counts = new.counts.items in
     let same = ap (λ v. v.items) adds.counts in
     let t : Test = record { var = var; value = low } in
@@ -127,12 +128,12 @@ literal_parts base old new s adds var set low whole variable below before now is
     let below' : low + 1 < slice_index counts var = rw same below in
     record {
       each = λ d held. elim (now.each d held) [
-        | inr r ↦ inr (restriction_same counts adds.sound.values no_variable whole (literal_from counts var set low) _ _ (λ p range. is p) (λ p. refl) r)
+        | inr r ↦ inr (restriction_same counts adds.sound.values no_variable whole (limited counts var set low z) _ _ (λ p range. is p) (λ p. refl) r)
         | inl there ↦ elim (before.each d there) [
           | inl was ↦ inl was
-          | inr r ↦ inr (restriction_no counts adds.sound.values no_variable t (record { variable = variable'; value = below' }) (literal_from counts var set low) (literal_reads counts new.pool.places adds.sound var set variable' low below') _
-              (restriction_same counts adds.sound.values no_variable _ (λ p. literal_from counts var set low (beside counts t p)) _ _
-              (λ p range. ap (λ v. literal_from v var set (low + 1) p) (sym same) ∙ ap (has set) (literal_past counts new.pool.places adds.sound var set variable' low p))
+          | inr r ↦ inr (restriction_no counts adds.sound.values no_variable t (record { variable = variable'; value = below' }) (limited counts var set low z) (limited_reads counts new.pool.places adds.sound var set variable' z behind low below') _
+              (restriction_same counts adds.sound.values no_variable _ (λ p. limited counts var set low z (beside counts t p)) _ _
+              (λ p range. ap (λ v. limited v var set (low + 1) z p) (sym same) ∙ limited_past counts new.pool.places adds.sound var set variable' z behind low p)
               (λ p. refl)
               (table_part old new s adds d _ there r)))
         ]
@@ -140,36 +141,37 @@ literal_parts base old new s adds var set low whole variable below before now is
     }
 
 -- all tests of a literal see its set
-pub literal_whole : (counts : List ℕ) (base ns : List (Option Node)) → AreCounts counts → (var set : ℕ) → var < length counts → AddsParts counts base ns (literal_from counts var set 0) → AddsParts counts base ns (λ p. has set (p var))
-literal_whole counts base ns are var set within parts = parts_same counts base ns _ (λ p. has set (p var)) are (λ p range. ap (has set) (seen_all (slice_index counts var) (p var) (range.below var within))) parts
+pub literal_whole : (counts : List ℕ) (base ns : List (Option Node)) → AreCounts counts → (var set : ℕ) (z : Point → Bool) → var < length counts → AddsParts counts base ns (limited counts var set 0 z) → AddsParts counts base ns (λ p. has set (p var) && z p)
+literal_whole counts base ns are var set z within parts = parts_same counts base ns _ (λ p. has set (p var) && z p) are (λ p range. ap (λ v. has set v && z p) (seen_all (slice_index counts var) (p var) (range.below var within))) parts
 
 -- what the later tests see is a restriction of the whole literal
-pub literal_down : (counts : List ℕ) (base ns : List (Option Node)) → IsReduced counts ns → (var set low : ℕ) → var < length counts → low < slice_index counts var → AddsParts counts base ns (literal_from counts var set low) → AddsParts counts base ns (λ p. has set (p var))
-literal_down counts base ns s var set zero within below parts = literal_whole counts base ns s.values var set within parts
-literal_down counts base ns s var set (suc low) within below parts = literal_down counts base ns s var set low within (omega arith) (record {
+pub literal_down : (counts : List ℕ) (base ns : List (Option Node)) → IsReduced counts ns → (var set low : ℕ) (z : Point → Bool) → Reads counts (order (var + 1) 0) z → var < length counts → low < slice_index counts var → AddsParts counts base ns (limited counts var set low z)
+    → AddsParts counts base ns (λ p. has set (p var) && z p)
+literal_down counts base ns s var set zero z behind within below parts = literal_whole counts base ns s.values var set z within parts
+literal_down counts base ns s var set (suc low) z behind within below parts = literal_down counts base ns s var set low z behind within (omega arith) (record {
   each = λ d held. elim (parts.each d held) [
     | inl was ↦ inl was
-    | inr r ↦ inr (restriction_no counts s.values no_variable (record { var = var; value = low }) (record { variable = within; value = omega arith }) (literal_from counts var set low) (literal_reads counts ns s var set within low (omega arith)) _
-        (restriction_same counts s.values no_variable (literal_from counts var set (suc low)) (λ p. literal_from counts var set low (beside counts (record { var = var; value = low }) p)) _ _
-        (λ p range. ap (λ x. literal_from counts var set x p) (sym (add-one low)) ∙ ap (has set) (literal_past counts ns s var set within low p)) (λ p. refl) r))
+    | inr r ↦ inr (restriction_no counts s.values no_variable (record { var = var; value = low }) (record { variable = within; value = omega arith }) (limited counts var set low z) (limited_reads counts ns s var set within z behind low (omega arith)) _
+        (restriction_same counts s.values no_variable (limited counts var set (suc low) z) (λ p. limited counts var set low z (beside counts (record { var = var; value = low }) p)) _ _
+        (λ p range. ap (λ x. limited counts var set x z p) (sym (add-one low)) ∙ limited_past counts ns s var set within z behind low p) (λ p. refl) r))
   ];
 })
 
 -- a test more of a literal, of the value before the last one
-module _ (old new : Table) (s : IsReduced old.counts.items old.pool.places) (adds : AddsNodes old new) (var set value : ℕ) (within : var < length old.counts.items) (below : value < slice_index old.counts.items var) (some : 0 < value)
-    (y rest : ℕ) (here : (p : Point) → holds old.counts.items old.pool.places y p ≡ has set (value - 1)) (later : (p : Point) → holds old.counts.items old.pool.places rest p ≡ literal_from old.counts.items var set value p) where
+module _ (old new : Table) (s : IsReduced old.counts.items old.pool.places) (adds : AddsNodes old new) (var set value : ℕ) (z : Point → Bool) (within : var < length old.counts.items) (below : value < slice_index old.counts.items var) (some : 0 < value)
+    (y rest : ℕ) (here : (p : Point) → holds old.counts.items old.pool.places y p ≡ (has set (value - 1) && z p)) (later : (p : Point) → holds old.counts.items old.pool.places rest p ≡ limited old.counts.items var set value z p) where
   next : value - 1 + 1 ≡ value
   next = omega arith
 
   abbrev made : Point → Bool
   made p = if p var == (value - 1) then holds old.counts.items old.pool.places y p else holds old.counts.items old.pool.places rest p
 
-  pub made_set : (p : Point) → made p ≡ literal_from new.counts.items var set (value - 1) p
+  pub made_set : (p : Point) → made p ≡ limited new.counts.items var set (value - 1) z p
   made_set p =
-      literal_step old.counts.items old.pool.places s var set within (value - 1) p _ _ (omega arith) (here p) (later p ∙ ap (λ x. literal_from old.counts.items var set x p) (sym next))
-      ∙ ap (λ v. literal_from v var set (value - 1) p) (sym (ap (λ v. v.items) adds.counts))
+      literal_step old.counts.items old.pool.places s var set within (z p) (value - 1) p _ _ (omega arith) (here p) (later p ∙ ap (λ x. limited old.counts.items var set x z p) (sym next))
+      ∙ ap (λ v. limited v var set (value - 1) z p) (sym (ap (λ v. v.items) adds.counts))
 
-  pub made_parts : (base : List (Option Node)) → AddsParts old.counts.items base old.pool.places (literal_from old.counts.items var set value) → AddsParts new.counts.items old.pool.places new.pool.places made
-      → AddsParts new.counts.items base new.pool.places (literal_from new.counts.items var set (value - 1))
-  made_parts base before now = literal_parts base old new s adds var set (value - 1) made within (omega arith)
-      (subst (λ x. AddsParts old.counts.items base old.pool.places (literal_from old.counts.items var set x)) (sym next) before) now made_set
+  pub made_parts : (base : List (Option Node)) → Reads new.counts.items (order (var + 1) 0) z → AddsParts old.counts.items base old.pool.places (limited old.counts.items var set value z) → AddsParts new.counts.items old.pool.places new.pool.places made
+      → AddsParts new.counts.items base new.pool.places (limited new.counts.items var set (value - 1) z)
+  made_parts base behind before now = literal_parts base old new s adds var set (value - 1) z made behind within (omega arith)
+      (subst (λ x. AddsParts old.counts.items base old.pool.places (limited old.counts.items var set x z)) (sym next) before) now made_set

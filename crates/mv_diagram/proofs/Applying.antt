@@ -79,7 +79,7 @@ module _ (counts : List ℕ) (ns : List (Option Node)) (s : IsReduced counts ns)
     set = set;
   }
 
-  combined_reads : Reads counts (order t.var t.value) combined
+  pub combined_reads : Reads counts (order t.var t.value) combined
   combined_reads = record { each = λ p q agree. both_same operation _ _ _ _ ((Reads-diagram counts ns s a (order t.var t.value) parted.test.left).each p q agree) ((Reads-diagram counts ns s b (order t.var t.value) parted.test.right).each p q agree) }
 
   side_yes : (d y n : ℕ) (p : Point) → IsSplit counts ns d t y n → holds counts ns y p ≡ holds counts ns d (with_value p t.var t.value)
@@ -94,20 +94,36 @@ module _ (counts : List ℕ) (ns : List (Option Node)) (s : IsReduced counts ns)
       sym (holds_beside counts ns s n t p is.no_later)
       ∙ sym (is.set q ∙ ap (λ x. if x then holds counts ns y q else holds counts ns n q) (ne_eqb _ _ (beside_fails counts ns s t p parted.test.test)))
 
+  -- the results of the sides, and the whole at points where the test says yes, and no
+  pub both_yes : (p : Point) → result_of operation (holds counts ns ay p) (holds counts ns by p) ≡ combined (with_value p t.var t.value)
+  both_yes p = both_same operation _ _ _ _ (side_yes a ay an p parted.left) (side_yes b by bn p parted.right)
+
+  pub both_no : (p : Point) → result_of operation (holds counts ns an p) (holds counts ns bn p) ≡ combined (beside counts t p)
+  both_no p = both_same operation _ _ _ _ (side_no a ay an p parted.left) (side_no b by bn p parted.right)
+
+  pub combined_tested : (p : Point) (x : Bool) → (p t.var == t.value) ≡ x → combined p ≡ (if x then result_of operation (holds counts ns ay p) (holds counts ns by p) else result_of operation (holds counts ns an p) (holds counts ns bn p))
+  combined_tested p x e =
+      both_same operation _ _ _ _ (parted.left.set p ∙ ap (λ z. if z then holds counts ns ay p else holds counts ns an p) e) (parted.right.set p ∙ ap (λ z. if z then holds counts ns by p else holds counts ns bn p) e) ∙ cases x
+    where
+      cases : (x : Bool) → result_of operation (if x then holds counts ns ay p else holds counts ns an p) (if x then holds counts ns by p else holds counts ns bn p)
+          ≡ (if x then result_of operation (holds counts ns ay p) (holds counts ns by p) else result_of operation (holds counts ns an p) (holds counts ns bn p))
+      cases true = refl
+      cases false = refl
+
   -- where no diagram has the result of one side, none has the whole
   pub result_lacks_yes : IsLacking counts ns (λ p. result_of operation (holds counts ns ay p) (holds counts ns by p)) → IsLacking counts ns combined
   result_lacks_yes lacking =
-      lacking_yes counts ns s t parted.test.test combined combined_reads (lacking_same counts ns s _ _ (λ p. both_same operation _ _ _ _ (side_yes a ay an p parted.left) (side_yes b by bn p parted.right)) lacking)
+      lacking_yes counts ns s t parted.test.test combined combined_reads (lacking_same counts ns s _ _ both_yes lacking)
 
   pub result_lacks_no : IsLacking counts ns (λ p. result_of operation (holds counts ns an p) (holds counts ns bn p)) → IsLacking counts ns combined
   result_lacks_no lacking =
-      lacking_no counts ns s t parted.test.test combined combined_reads (lacking_same counts ns s _ _ (λ p. both_same operation _ _ _ _ (side_no a ay an p parted.left) (side_no b by bn p parted.right)) lacking)
+      lacking_no counts ns s t parted.test.test combined combined_reads (lacking_same counts ns s _ _ both_no lacking)
 
   -- restrictions of the result of one side, and of the whole
   pub parts_yes : (part : Point → Bool) → IsRestriction counts no_variable (λ p. result_of operation (holds counts ns ay p) (holds counts ns by p)) part → IsRestriction counts no_variable combined part
   parts_yes part r = restriction_yes counts s.values no_variable t parted.test.test combined combined_reads part
-      (restriction_same counts s.values no_variable _ (λ p. combined (with_value p t.var t.value)) part part (λ p range. both_same operation _ _ _ _ (side_yes a ay an p parted.left) (side_yes b by bn p parted.right)) (λ p. refl) r)
+      (restriction_same counts s.values no_variable _ (λ p. combined (with_value p t.var t.value)) part part (λ p range. both_yes p) (λ p. refl) r)
 
   pub parts_no : (part : Point → Bool) → IsRestriction counts no_variable (λ p. result_of operation (holds counts ns an p) (holds counts ns bn p)) part → IsRestriction counts no_variable combined part
   parts_no part r = restriction_no counts s.values no_variable t parted.test.test combined combined_reads part
-      (restriction_same counts s.values no_variable _ (λ p. combined (beside counts t p)) part part (λ p range. both_same operation _ _ _ _ (side_no a ay an p parted.left) (side_no b by bn p parted.right)) (λ p. refl) r)
+      (restriction_same counts s.values no_variable _ (λ p. combined (beside counts t p)) part part (λ p range. both_no p) (λ p. refl) r)

@@ -1,21 +1,23 @@
 -- Unions and meets of restrictions: what they are of a set where a test says yes or no, and of a set whose chosen
 -- variables are no longer seen.
-use Rattle.std.proofs.Common.{◌≡◌, ℕ, ◌<◌, ◌==◌, ◌&&◌, ◌||◌, ◌⊎◌, Bool, true, List, Option, Some, nat_lt, slice_index, if◌then◌else◌, refl, sym, ap, subst, ◌∙◌, inl, inr, arith}
+use Rattle.std.proofs.Common.{◌≡◌, ℕ, ◌<◌, ◌==◌, ◌&&◌, ◌||◌, ◌⊎◌, Bool, true, List, Option, nat_lt, slice_index, if◌then◌else◌, refl, sym, ap, subst, ◌∙◌, inl, inr}
 use Rattle.std.proofs.lemmas.Bool.{cases_Bool}
+use Rattle.mv_diagram.specs.declared.apply.Parted.{Parted}
+use Rattle.mv_diagram.specs.declared.memo.Operation.TheVariants.{And}
 use Rattle.mv_diagram.specs.declared.node.Node.{Node}
 use Rattle.mv_diagram.specs.declared.node.Test.{Test}
 use Rattle.mv_diagram.specs.declared.table.Table.{Table}
-use Rattle.mv_diagram.specs.Sets.{Point, InRange, with_value, greatest, node_at, holds, has_diagram}
+use Rattle.mv_diagram.specs.Sets.{Point, InRange, with_value, greatest, holds, has_diagram}
 use Rattle.mv_diagram.specs.Sound.{order, IsTest, IsReduced, AreCounts}
 use Rattle.mv_diagram.specs.Works.{AddsNodes}
-use Rattle.mv_diagram.specs.Quantified.{AgreesOutside, IsQuantified, joined_set}
+use Rattle.mv_diagram.specs.Quantified.{AgreesOutside, IsQuantified, joined_set, meet_of}
 use Rattle.mv_diagram.specs.Parts.{restricted, no_variable, IsRestriction, IsCombined, AddsParts, AddsCombined}
-use Rattle.mv_diagram.proofs.Following.{node_is, first-node}
-use Rattle.mv_diagram.proofs.Points.{beside, holds_yes, holds_no_beside}
-use Rattle.mv_diagram.proofs.Lacking.{Reads, Reads-diagram}
+use Rattle.mv_diagram.proofs.Applying.{both_same, both_yes, both_no, combined_reads}
+use Rattle.mv_diagram.proofs.Points.{beside}
+use Rattle.mv_diagram.proofs.Lacking.{Reads}
 use Rattle.mv_diagram.proofs.Restricting.{InRange-restricted, restriction_same, restriction_yes, restriction_no}
-use Rattle.mv_diagram.proofs.Tables.{AddsNodes-more, table_held, table_holds, table_node}
-use Rattle.mv_diagram.proofs.Quantifying.{Answers, answers_joined, MadeOfBoth, adds_all, yes_in_all, no_in_all}
+use Rattle.mv_diagram.proofs.Tables.{AddsNodes-more, table_held, table_holds, table_parted}
+use Rattle.mv_diagram.proofs.Quantifying.{Answers, PartedAt, answers_joined, MadeOfBoth, adds_all, yes_in_all, no_in_all}
 
 module _ (counts : List ℕ) (are : AreCounts counts) (chosen : ℕ → Bool) (answer : Bool) where
   -- the same sets in other words
@@ -86,72 +88,69 @@ pub or_before : {A B C : Type 0} → A ⊎ C → (A → B ⊎ C) → B ⊎ C
 or_before (inl a) before = before a
 or_before (inr c) before = inr c
 
--- what is added for the two children of a node, and what joins them, is combined of the set of its diagram
-module _ (chosen : ℕ → Bool) (answer : Bool) (old new : Table) (s : IsReduced old.counts.items old.pool.places) (adds : AddsNodes old new) (d : ℕ) (n : Node) (e : node_at old.pool.places d ≡ Some n) where
+-- what is added for the two sides of a test, and what joins them, is combined of the meet of two diagrams
+module _ (chosen : ℕ → Bool) (answer : Bool) (old new : Table) (s : IsReduced old.counts.items old.pool.places) (adds : AddsNodes old new) (a b : ℕ) (at : Parted) (parted : PartedAt old a b at) where
   abbrev whole : Point → Bool
-  whole p = holds new.counts.items new.pool.places d p
+  whole p = meet_of new.counts.items new.pool.places a b p
 
-  there : node_at new.pool.places d ≡ Some n
-  there = table_node old new adds d n e
+  there : PartedAt new a b at
+  there = table_parted old new s adds a b at.test at.yes.0.0 at.no.0.0 at.yes.1.0 at.no.1.0 parted
 
-  reads : Reads new.counts.items (order n.test.var n.test.value) whole
-  reads = let level = first-node new.counts.items new.pool.places d n there in Reads-diagram new.counts.items new.pool.places adds.sound d (order n.test.var n.test.value) (omega arith)
-
-  test : IsTest new.counts.items n.test
-  test = (node_is new.counts.items new.pool.places adds.sound d n there).test
+  reads : Reads new.counts.items (order at.test.var at.test.value) whole
+  reads = combined_reads new.counts.items new.pool.places adds.sound And a b at.test at.yes.0.0 at.no.0.0 at.yes.1.0 at.no.1.0 there
 
   -- what is combined stays so as nodes are added
-  combined_later : (mid : Table) → IsReduced mid.counts.items mid.pool.places → AddsNodes mid new → (c x : ℕ) → has_diagram mid.pool.places c ≡ true → has_diagram mid.pool.places x ≡ true
-      → IsCombined mid.counts.items chosen answer (λ p. holds mid.counts.items mid.pool.places c p) (λ p. holds mid.counts.items mid.pool.places x p)
-      → IsCombined new.counts.items chosen answer (λ p. holds new.counts.items new.pool.places c p) (λ p. holds new.counts.items new.pool.places x p)
-  combined_later mid sm more c x hc hx m = combined_same new.counts.items adds.sound.values chosen answer _ _ _ _
-      (λ p range. sym (table_holds mid new sm more c p hc)) (λ p. sym (table_holds mid new sm more x p hx))
-      (subst (λ v. IsCombined v chosen answer (λ p. holds mid.counts.items mid.pool.places c p) (λ p. holds mid.counts.items mid.pool.places x p)) (sym (ap (λ v. v.items) more.counts)) m)
+  combined_later : (mid : Table) → IsReduced mid.counts.items mid.pool.places → AddsNodes mid new → (c e x : ℕ) → has_diagram mid.pool.places c ≡ true → has_diagram mid.pool.places e ≡ true → has_diagram mid.pool.places x ≡ true
+      → IsCombined mid.counts.items chosen answer (λ p. meet_of mid.counts.items mid.pool.places c e p) (λ p. holds mid.counts.items mid.pool.places x p)
+      → IsCombined new.counts.items chosen answer (λ p. meet_of new.counts.items new.pool.places c e p) (λ p. holds new.counts.items new.pool.places x p)
+  combined_later mid sm more c e x hc he hx m = combined_same new.counts.items adds.sound.values chosen answer _ _ _ _
+      (λ p range. both_same And _ _ _ _ (sym (table_holds mid new sm more c p hc)) (sym (table_holds mid new sm more e p he))) (λ p. sym (table_holds mid new sm more x p hx))
+      (subst (λ v. IsCombined v chosen answer (λ p. meet_of mid.counts.items mid.pool.places c e p) (λ p. holds mid.counts.items mid.pool.places x p)) (sym (ap (λ v. v.items) more.counts)) m)
 
   pub added_yes : (base : List (Option Node)) (mid : Table) → AddsNodes old mid → AddsNodes mid new
-      → AddsCombined mid.counts.items chosen answer base mid.pool.places (λ p. holds mid.counts.items mid.pool.places n.yes.0 p)
+      → AddsCombined mid.counts.items chosen answer base mid.pool.places (λ p. meet_of mid.counts.items mid.pool.places at.yes.0.0 at.yes.1.0 p)
       → (x : ℕ) → has_diagram mid.pool.places x ≡ true → (has_diagram base x ≡ true) ⊎ IsCombined new.counts.items chosen answer whole (λ p. holds new.counts.items new.pool.places x p)
   added_yes base mid first more added x held = elim (added.each x held) [
     | inl was ↦ inl was
-    | inr m ↦ inr (combined_yes new.counts.items adds.sound.values chosen answer n.test test whole reads _
-        (combined_same new.counts.items adds.sound.values chosen answer _ _ _ _ (λ p range. holds_yes new.counts.items new.pool.places adds.sound d n p there) (λ p. refl)
-        (combined_later mid first.sound more n.yes.0 x (table_held old mid s first n.yes.0 (node_is old.counts.items old.pool.places s d n e).yes_held) held m)))
+    | inr m ↦ inr (combined_yes new.counts.items adds.sound.values chosen answer at.test there.test.test whole reads _
+        (combined_same new.counts.items adds.sound.values chosen answer _ _ _ _ (λ p range. both_yes new.counts.items new.pool.places adds.sound And a b at.test at.yes.0.0 at.no.0.0 at.yes.1.0 at.no.1.0 there p) (λ p. refl)
+        (combined_later mid first.sound more at.yes.0.0 at.yes.1.0 x (table_held old mid s first at.yes.0.0 parted.left.yes_held) (table_held old mid s first at.yes.1.0 parted.right.yes_held) held m)))
   ]
 
   pub added_no : (base : List (Option Node)) (mid : Table) → AddsNodes old mid → AddsNodes mid new
-      → AddsCombined mid.counts.items chosen answer base mid.pool.places (λ p. holds mid.counts.items mid.pool.places n.no.0 p)
+      → AddsCombined mid.counts.items chosen answer base mid.pool.places (λ p. meet_of mid.counts.items mid.pool.places at.no.0.0 at.no.1.0 p)
       → (x : ℕ) → has_diagram mid.pool.places x ≡ true → (has_diagram base x ≡ true) ⊎ IsCombined new.counts.items chosen answer whole (λ p. holds new.counts.items new.pool.places x p)
   added_no base mid first more added x held = elim (added.each x held) [
     | inl was ↦ inl was
-    | inr m ↦ inr (combined_no new.counts.items adds.sound.values chosen answer n.test test whole reads _
-        (combined_same new.counts.items adds.sound.values chosen answer _ _ _ _ (λ p range. holds_no_beside new.counts.items new.pool.places adds.sound d n p there) (λ p. refl)
-        (combined_later mid first.sound more n.no.0 x (table_held old mid s first n.no.0 (node_is old.counts.items old.pool.places s d n e).no_held) held m)))
+    | inr m ↦ inr (combined_no new.counts.items adds.sound.values chosen answer at.test there.test.test whole reads _
+        (combined_same new.counts.items adds.sound.values chosen answer _ _ _ _ (λ p range. both_no new.counts.items new.pool.places adds.sound And a b at.test at.yes.0.0 at.no.0.0 at.yes.1.0 at.no.1.0 there p) (λ p. refl)
+        (combined_later mid first.sound more at.no.0.0 at.no.1.0 x (table_held old mid s first at.no.0.0 parted.left.no_held) (table_held old mid s first at.no.1.0 parted.right.no_held) held m)))
   ]
 
-  pub added_join : (base : List (Option Node)) (joined : Bool) (y m : ℕ) → joined ≡ chosen n.test.var
-      → IsQuantified new.counts.items new.pool.places chosen answer n.yes.0 y → IsQuantified new.counts.items new.pool.places chosen answer n.no.0 m
-      → AddsParts new.counts.items base new.pool.places (λ p. joined_set new.counts.items new.pool.places joined answer n.test y m p)
+  pub added_join : (base : List (Option Node)) (joined : Bool) (y m : ℕ) → joined ≡ chosen at.test.var
+      → IsQuantified new.counts.items new.pool.places chosen answer at.yes.0.0 at.yes.1.0 y → IsQuantified new.counts.items new.pool.places chosen answer at.no.0.0 at.no.1.0 m
+      → AddsParts new.counts.items base new.pool.places (λ p. joined_set new.counts.items new.pool.places joined answer at.test y m p)
       → (x : ℕ) → has_diagram new.pool.places x ≡ true → (has_diagram base x ≡ true) ⊎ IsCombined new.counts.items chosen answer whole (λ p. holds new.counts.items new.pool.places x p)
   added_join base joined y m is iy im added x held = elim (added.each x held) [
     | inl was ↦ inl was
-    | inr r ↦ inr (combined_answers new.counts.items adds.sound.values chosen answer whole _ _ (order n.test.var n.test.value) reads
-        (answers_joined new.counts.items new.pool.places adds.sound chosen answer d y m n joined there is iy im _ (λ p. refl)) r)
+    | inr r ↦ inr (combined_answers new.counts.items adds.sound.values chosen answer whole _ _ (order at.test.var at.test.value) reads
+        (answers_joined new.counts.items new.pool.places adds.sound chosen answer a b at.test at.yes.0.0 at.no.0.0 at.yes.1.0 at.no.1.0 there joined is y m iy im _ (λ p. refl)) r)
   ]
 
 -- what is added in all
-pub added_all : (chosen : ℕ → Bool) (answer : Bool) (old one two new : Table) (d : ℕ) (n : Node) (joined : Bool) (y m : ℕ) → MadeOfBoth chosen answer old one two new d n joined y m
-    → AddsCombined one.counts.items chosen answer old.pool.places one.pool.places (λ p. holds one.counts.items one.pool.places n.yes.0 p)
-    → AddsCombined two.counts.items chosen answer one.pool.places two.pool.places (λ p. holds two.counts.items two.pool.places n.no.0 p)
-    → AddsParts new.counts.items two.pool.places new.pool.places (λ p. joined_set new.counts.items new.pool.places joined answer n.test y m p)
-    → AddsCombined new.counts.items chosen answer old.pool.places new.pool.places (λ p. holds new.counts.items new.pool.places d p)
-added_all chosen answer old one two new d n joined y m made yes' no' last =
+pub added_all : (chosen : ℕ → Bool) (answer : Bool) (old one two new : Table) (a b : ℕ) (at : Parted) (joined : Bool) (y m : ℕ) → MadeOfBoth chosen answer old one two new a b at joined y m
+    → AddsCombined one.counts.items chosen answer old.pool.places one.pool.places (λ p. meet_of one.counts.items one.pool.places at.yes.0.0 at.yes.1.0 p)
+    → AddsCombined two.counts.items chosen answer one.pool.places two.pool.places (λ p. meet_of two.counts.items two.pool.places at.no.0.0 at.no.1.0 p)
+    → AddsParts new.counts.items two.pool.places new.pool.places (λ p. joined_set new.counts.items new.pool.places joined answer at.test y m p)
+    → AddsCombined new.counts.items chosen answer old.pool.places new.pool.places (λ p. meet_of new.counts.items new.pool.places a b p)
+added_all chosen answer old one two new a b at joined y m made yes' no' last =
     let both = AddsNodes-more old one two made.first made.second in
-    let adds = adds_all chosen answer old one two new d n joined y m made in
-    let iy = yes_in_all chosen answer old one two new d n joined y m made in
-    let im = no_in_all chosen answer old one two new d n joined y m made in
+    let adds = adds_all chosen answer old one two new a b at joined y m made in
+    let iy = yes_in_all chosen answer old one two new a b at joined y m made in
+    let im = no_in_all chosen answer old one two new a b at joined y m made in
     record {
       each = λ x held. or_before
-          (added_join chosen answer old new made.sound adds d n made.node two.pool.places joined y m made.chosen iy im last x held)
-          (λ in-two. or_before (added_no chosen answer old new made.sound adds d n made.node one.pool.places two both made.third no' x in-two)
-          (added_yes chosen answer old new made.sound adds d n made.node old.pool.places one made.first (AddsNodes-more one two new made.second made.third) yes' x));
+          (added_join chosen answer old new made.sound adds a b at made.parted two.pool.places joined y m made.chosen iy im last x held)
+          (λ in-two. or_before (added_no chosen answer old new made.sound adds a b at made.parted one.pool.places two both made.third no' x in-two)
+          (added_yes chosen answer old new made.sound adds a b at made.parted old.pool.places one made.first (AddsNodes-more one two new made.second made.third) yes' x));
     }

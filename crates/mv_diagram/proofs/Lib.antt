@@ -20,3 +20,6 @@ pub mod Counting
 pub mod Restricting
 pub mod Adding
 pub mod Combining
+pub mod Cubing
+pub mod Meeting
+pub mod Finding

@@ -11,7 +11,9 @@ use Rattle.mv_diagram.specs.Works.{IsLacking}
 use Rattle.mv_diagram.proofs.Following.{Agree, first-end, holds_end}
 use Rattle.mv_diagram.proofs.Points.{beside, beside_there, beside_elsewhere, value_there}
 use Rattle.mv_diagram.proofs.Growing.{no_node, held_low}
-use Rattle.mv_diagram.proofs.Lacking.{Reads, lacking_no, lacking_same}
+use Rattle.mv_diagram.proofs.Lacking.{Reads, Agree-more, lacking_no, lacking_same, lacking_within, reads_beside}
+use Rattle.mv_diagram.proofs.Applying.{both_same}
+use Rattle.mv_diagram.specs.declared.memo.Operation.TheVariants.{And}
 
 -- the value that tests from some value on see: no test is of the greatest
 unfoldable pub seen : ℕ → ℕ → ℕ → ℕ
@@ -53,6 +55,10 @@ seen_more count low v apart = elim (cases_lt v (count - 1)) [
 abbrev pub literal_from : List ℕ → ℕ → ℕ → ℕ → Point → Bool
 literal_from counts var set low p = has set (seen (slice_index counts var) low (p var))
 
+-- the points of a set with such a literal
+abbrev pub limited : List ℕ → ℕ → ℕ → ℕ → (Point → Bool) → Point → Bool
+limited counts var set low z p = literal_from counts var set low p && z p
+
 -- zero or one, by whether it has all points
 pub record IsEnd (counts : List ℕ) (ns : List (Option Node)) (b : Bool) (d : ℕ) : Type 0 where
   pub held : has_diagram ns d ≡ true
@@ -83,14 +89,14 @@ literal_last counts var set low p e = ap (has set) (elim (cases_lt (p var) low) 
 
 module _ (counts : List ℕ) (ns : List (Option Node)) (s : IsReduced counts ns) (var set : ℕ) (variable : var < length counts) where
   -- a test more
-  pub literal_step : (low : ℕ) (p : Point) (y n : Bool) → low + 1 < slice_index counts var → y ≡ has set low → n ≡ literal_from counts var set (low + 1) p
-      → (if p var == low then y else n) ≡ literal_from counts var set low p
-  literal_step low p y n below ey en = elim (cases_eq (p var) low) [
-    | inl same ↦ ap (λ b. if b then y else n) (eq-eqb _ _ same) ∙ ey ∙ ap (has set) (sym (seen_there (slice_index counts var) low low (omega arith) (omega arith)) ∙ ap (seen (slice_index counts var) low) (sym same))
-    | inr other ↦ ap (λ b. if b then y else n) (ne_eqb _ _ other) ∙ en ∙ ap (has set) (sym (seen_more (slice_index counts var) low (p var) other))
+  pub literal_step : (z : Bool) (low : ℕ) (p : Point) (y n : Bool) → low + 1 < slice_index counts var → y ≡ (has set low && z) → n ≡ (literal_from counts var set (low + 1) p && z)
+      → (if p var == low then y else n) ≡ (literal_from counts var set low p && z)
+  literal_step z low p y n below ey en = elim (cases_eq (p var) low) [
+    | inl same ↦ ap (λ b. if b then y else n) (eq-eqb _ _ same) ∙ ey ∙ ap (λ v. has set v && z) (sym (seen_there (slice_index counts var) low low (omega arith) (omega arith)) ∙ ap (seen (slice_index counts var) low) (sym same))
+    | inr other ↦ ap (λ b. if b then y else n) (ne_eqb _ _ other) ∙ en ∙ ap (λ v. has set v && z) (sym (seen_more (slice_index counts var) low (p var) other))
   ]
 
-  pub literal_reads : (low : ℕ) → low + 1 < slice_index counts var → Reads counts (order var low) (literal_from counts var set low)
+  literal_reads : (low : ℕ) → low + 1 < slice_index counts var → Reads counts (order var low) (literal_from counts var set low)
   literal_reads low below = record { each = λ p q agree. ap (has set) (same p q agree) }
     where
       count : ℕ
@@ -137,12 +143,21 @@ module _ (counts : List ℕ) (ns : List (Option Node)) (s : IsReduced counts ns)
         ∙ ap (λ (q : Point). seen (slice_index counts var) low (q var)) (sym (beside_elsewhere counts (record { var = var; value = low }) p other))
   ]
 
-  -- where no diagram has the literal that the later tests see, none has the whole
-  lacking_more : (low : ℕ) → low + 1 < slice_index counts var → IsLacking counts ns (literal_from counts var set (low + 1)) → IsLacking counts ns (literal_from counts var set low)
-  lacking_more low below lacking =
-      lacking_no counts ns s (record { var = var; value = low }) (record { variable = variable; value = below }) (literal_from counts var set low) (literal_reads low below)
-      (lacking_same counts ns s _ _ (λ p. ap (has set) (literal_past low p)) lacking)
+  module _ (z : Point → Bool) (behind : Reads counts (order (var + 1) 0) z) where
+    pub limited_reads : (low : ℕ) → low + 1 < slice_index counts var → Reads counts (order var low) (limited counts var set low z)
+    limited_reads low below = let few = s.values.few var variable in record {
+      each = λ p q agree. both_same And _ _ _ _ ((literal_reads low below).each p q agree) (behind.each p q (Agree-more counts (order var low) (order (var + 1) 0) p q (omega arith) agree));
+    }
 
-  pub lacking_literal : (low : ℕ) → low < slice_index counts var → IsLacking counts ns (literal_from counts var set low) → IsLacking counts ns (λ p. has set (p var))
-  lacking_literal zero below lacking = record { none = λ d held same. lacking.none d held (record { each = λ p range. same.each p range ∙ ap (has set) (sym (seen_all (slice_index counts var) (p var) (range.below var variable))) }) }
-  lacking_literal (suc low) below lacking = lacking_literal low (omega arith) (lacking_more low (omega arith) (rw add-one lacking))
+    pub limited_past : (low : ℕ) (p : Point) → limited counts var set (low + 1) z p ≡ limited counts var set low z (beside counts (record { var = var; value = low }) p)
+    limited_past low p = both_same And _ _ _ _ (ap (has set) (literal_past low p)) (sym (reads_beside counts ns s z p (record { var = var; value = low }) behind))
+
+    -- where no diagram has the points that the later tests see, none has the whole
+    lacking_more : (low : ℕ) → low + 1 < slice_index counts var → IsLacking counts ns (limited counts var set (low + 1) z) → IsLacking counts ns (limited counts var set low z)
+    lacking_more low below lacking =
+        lacking_no counts ns s (record { var = var; value = low }) (record { variable = variable; value = below }) (limited counts var set low z) (limited_reads low below)
+        (lacking_same counts ns s _ _ (limited_past low) lacking)
+
+    pub lacking_literal : (low : ℕ) → low < slice_index counts var → IsLacking counts ns (limited counts var set low z) → IsLacking counts ns (λ p. has set (p var) && z p)
+    lacking_literal zero below lacking = lacking_within counts ns s _ _ (λ p range. ap (λ v. has set v && z p) (seen_all (slice_index counts var) (p var) (range.below var variable))) lacking
+    lacking_literal (suc low) below lacking = lacking_literal low (omega arith) (lacking_more low (omega arith) (rw add-one lacking))

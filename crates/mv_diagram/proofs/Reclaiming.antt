@@ -103,6 +103,21 @@ module _ (counts : List ℕ) (ns : List (Option Node)) (s : IsReduced counts ns)
 abbrev pub link_of : Node → ℕ → Option Id
 link_of n k = place_of (if k == 0 then n.yes.0 else n.no.0)
 
+-- a set of diagrams that has those of each node is closed as a set of places
+pub closed_placed : (ns : List (Option Node)) → length ns < 2 ^ 32 → (set : ℕ → Bool) → ((c : ℕ) (n : Node) → set c ≡ true → node_at ns c ≡ Some n → (set n.yes.0 ≡ true) × (set n.no.0 ≡ true)) → IsClosed link_of ns (λ p. set (p + 2))
+closed_placed ns small set step = record { each = λ n k item id in_set there less is. by (k == 0) n item id in_set there is }
+  where
+    side : (b : Bool) (item : Node) → set item.yes.0 ≡ true → set item.no.0 ≡ true → set (if b then item.yes.0 else item.no.0) ≡ true
+    side true item y x = y
+    side false item y x = x
+
+    by : (b : Bool) (n : ℕ) (item : Node) (id : Id) → set (n + 2) ≡ true → item_at ns n ≡ Some item → place_of (if b then item.yes.0 else item.no.0) ≡ Some id → set (id.0 + 2) ≡ true
+    by b n item id in_set there is =
+        let within = passes_within is_some refl ns n (ap is_some there) in
+        let here = node_there ns (n + 2) (record { 0 = n }) (place_made n (n + 2) (omega arith) refl) ∙ there in
+        let both = step (n + 2) item in_set here in
+        ap set (sym (placed_is _ id is)) ∙ side b item both.0 both.1
+
 module _ (counts : List ℕ) (ns : List (Option Node)) (s : IsReduced counts ns) where
   pub links_held : LinksAreHeld link_of ns
   links_held = record { each = λ n k item id there low is. by (k == 0) n item id there is }
@@ -148,25 +163,10 @@ module _ (counts : List ℕ) (ns : List (Option Node)) (s : IsReduced counts ns)
 
       pub reclaimed_only : (d : ℕ) → has_diagram new d ≡ true → Reaches ns roots d
       reclaimed_only d hd set zero_in one_in all step = held_by new d hd low (λ id at some.
-          rw (placed_is d id at) (r.freed id.0 some (λ p. set (p + 2)) in_ids closed))
+          rw (placed_is d id at) (r.freed id.0 some (λ p. set (p + 2)) in_ids (closed_placed ns (omega (arith, r.long)) set step)))
         where
           low : d < 2 → set d ≡ true
           low less = elim (cases_eq d 0) [ inl same ↦ ap set same ∙ zero_in | inr other ↦ let one : d ≡ 1 = omega arith in ap set one ∙ one_in ]
 
           in_ids : All (λ (id : Id). set (id.0 + 2) ≡ true) ids
           in_ids = gathered.inside (λ p. set (p + 2)) (λ k id e less is. ap set (sym (placed_is (get_or roots k e).0 id is)) ∙ All-get_or (λ (root : Dd). set root.0 ≡ true) roots k e less all)
-
-          by : (b : Bool) (n : ℕ) (item : Node) (id : Id) → set (n + 2) ≡ true → item_at ns n ≡ Some item → place_of (if b then item.yes.0 else item.no.0) ≡ Some id → set (id.0 + 2) ≡ true
-          by b n item id in_set there is =
-              let within = passes_within is_some refl ns n (ap is_some there) in
-              let long = r.long in
-              let here = node_there ns (n + 2) (record { 0 = n }) (place_made n (n + 2) (omega arith) refl) ∙ there in
-              let both = step (n + 2) item in_set here in
-              ap set (sym (placed_is _ id is)) ∙ side b item both.0 both.1
-            where
-              side : (b : Bool) (item : Node) → set item.yes.0 ≡ true → set item.no.0 ≡ true → set (if b then item.yes.0 else item.no.0) ≡ true
-              side true item y x = y
-              side false item y x = x
-
-          closed : IsClosed link_of ns (λ p. set (p + 2))
-          closed = record { each = λ n k item id in_set there less is. by (k == 0) n item id in_set there is }

@@ -93,6 +93,52 @@ module _ (counts : List ℕ) (are : AreCounts counts) where
     is = λ p range. sym (e p) ∙ r.is p range ∙ w (restricted counts chosen r.given r.var r.below p) (InRange-restricted counts chosen r.given r.var r.below p are r.range range);
   }
 
+  -- at another variable another value of this one is not seen
+  elsewhere : (chosen : ℕ → Bool) (g h p : Point) (var below v : ℕ) → h v ≡ g v → restricted counts chosen g var below p v ≡ restricted counts chosen h var below p v
+  elsewhere chosen g h p var below v same = ap (λ x. if is_given chosen var v then x else (if v == var && nat_lt (p v) below then greatest counts v else p v)) (sym same)
+
+  module _ (chosen : ℕ → Bool) (var value : ℕ) (within : value < slice_index counts var) (whole : Point → Bool) (reads : Reads counts (order var 0) whole) where
+    -- points with the same values from this variable on
+    same_at : (x y : Point) → ((v : ℕ) → var ≤ v → x v ≡ y v) → whole x ≡ whole y
+    same_at x y same = reads.each x y (record {
+      each = λ u iu later. let low = iu.value in let few = are.few u.var iu.variable in ap (λ z. z == u.value) (same u.var (omega arith));
+    })
+
+    -- a restriction of what the set is at a value of a variable
+    pub restriction_value : (part : Point → Bool) → IsRestriction counts chosen (λ p. whole (with_value p var value)) part → IsRestriction counts chosen whole part
+    restriction_value part r = elim (cases_Bool (is_given chosen r.var var)) [
+      | inl fixed ↦ record {
+        given = with_value r.given var value;
+        var = r.var;
+        below = r.below;
+        range = InRange-with counts r.given var value r.range within;
+        is = λ p range. r.is p range ∙ same_at _ _ (λ v from. elim (cases_eq v var) [
+          | inl same ↦
+              value_there (restricted counts chosen r.given r.var r.below p) var value v same
+              ∙ sym (restricted_given counts chosen (with_value r.given var value) r.var r.below p v (ap (is_given chosen r.var) same ∙ fixed) ∙ value_there r.given var value v same)
+          | inr other ↦
+              value_elsewhere (restricted counts chosen r.given r.var r.below p) var value v other
+              ∙ elsewhere chosen r.given (with_value r.given var value) p r.var r.below v (value_elsewhere r.given var value v other)
+        ]);
+      }
+      | inr free ↦ record {
+        given = with_value r.given var value;
+        var = var + 1;
+        below = 0;
+        range = InRange-with counts r.given var value r.range within;
+        is = λ p range. r.is p range ∙ same_at _ _ (λ v from. let before = free_after chosen r.var var free in elim (cases_eq v var) [
+          | inl same ↦
+              value_there (restricted counts chosen r.given r.var r.below p) var value v same
+              ∙ sym (restricted_given counts chosen (with_value r.given var value) (var + 1) 0 p v (or_right (chosen v) (nat_lt v (var + 1)) (lt-ltb v (var + 1) (omega arith))) ∙ value_there r.given var value v same)
+          | inr other ↦
+              value_elsewhere (restricted counts chosen r.given r.var r.below p) var value v other
+              ∙ restricted_behind counts chosen r.given r.var r.below p v (omega arith) (λ same. absurd (omega arith))
+              ∙ ap (λ x. if chosen v then x else p v) (sym (value_elsewhere r.given var value v other))
+              ∙ sym (restricted_behind counts chosen (with_value r.given var value) (var + 1) 0 p v (omega arith) (λ same. refl))
+        ]);
+      }
+    ]
+
   module _ (chosen : ℕ → Bool) (t : Test) (is : IsTest counts t) (whole : Point → Bool) (reads : Reads counts (order t.var t.value) whole) where
     -- a test from this one on is of this variable, or of a later one
     from_here : (u : Test) → IsTest counts u → order t.var t.value ≤ order u.var u.value → ((u.var ≡ t.var) × (t.value ≤ u.value)) ⊎ (t.var < u.var)
@@ -115,44 +161,11 @@ module _ (counts : List ℕ) (are : AreCounts counts) where
       ];
     })
 
-    -- at another variable another value of this one is not seen
-    elsewhere : (g h p : Point) (var below v : ℕ) → h v ≡ g v → restricted counts chosen g var below p v ≡ restricted counts chosen h var below p v
-    elsewhere g h p var below v same = ap (λ x. if is_given chosen var v then x else (if v == var && nat_lt (p v) below then greatest counts v else p v)) (sym same)
-
     -- a restriction of what the set is where the test says yes
     pub restriction_yes : (part : Point → Bool) → IsRestriction counts chosen (λ p. whole (with_value p t.var t.value)) part → IsRestriction counts chosen whole part
-    restriction_yes part r = elim (cases_Bool (is_given chosen r.var t.var)) [
-      | inl fixed ↦ record {
-        given = with_value r.given t.var t.value;
-        var = r.var;
-        below = r.below;
-        range = InRange-with counts r.given t.var t.value r.range (let more = is.value in omega arith);
-        is = λ p range. r.is p range ∙ same_from _ _ (λ v from. elim (cases_eq v t.var) [
-          | inl same ↦
-              value_there (restricted counts chosen r.given r.var r.below p) t.var t.value v same
-              ∙ sym (restricted_given counts chosen (with_value r.given t.var t.value) r.var r.below p v (ap (is_given chosen r.var) same ∙ fixed) ∙ value_there r.given t.var t.value v same)
-          | inr other ↦
-              value_elsewhere (restricted counts chosen r.given r.var r.below p) t.var t.value v other
-              ∙ elsewhere r.given (with_value r.given t.var t.value) p r.var r.below v (value_elsewhere r.given t.var t.value v other)
-        ]);
-      }
-      | inr free ↦ record {
-        given = with_value r.given t.var t.value;
-        var = t.var + 1;
-        below = 0;
-        range = InRange-with counts r.given t.var t.value r.range (let more = is.value in omega arith);
-        is = λ p range. r.is p range ∙ same_from _ _ (λ v from. let before = free_after chosen r.var t.var free in elim (cases_eq v t.var) [
-          | inl same ↦
-              value_there (restricted counts chosen r.given r.var r.below p) t.var t.value v same
-              ∙ sym (restricted_given counts chosen (with_value r.given t.var t.value) (t.var + 1) 0 p v (or_right (chosen v) (nat_lt v (t.var + 1)) (lt-ltb v (t.var + 1) (omega arith))) ∙ value_there r.given t.var t.value v same)
-          | inr other ↦
-              value_elsewhere (restricted counts chosen r.given r.var r.below p) t.var t.value v other
-              ∙ restricted_behind counts chosen r.given r.var r.below p v (omega arith) (λ same. absurd (omega arith))
-              ∙ ap (λ x. if chosen v then x else p v) (sym (value_elsewhere r.given t.var t.value v other))
-              ∙ sym (restricted_behind counts chosen (with_value r.given t.var t.value) (t.var + 1) 0 p v (omega arith) (λ same. refl))
-        ]);
-      }
-    ]
+    restriction_yes part r =
+        let more = is.value in
+        restriction_value chosen t.var t.value (omega arith) whole (record { each = λ p q agree. reads.each p q (record { each = λ u iu later. agree.each u iu (omega arith) }) }) part r
 
     -- at this variable, where the values below a number are the greatest already
     at_variable : (x given p : Point) (below n : ℕ) → chosen t.var ≡ false → t.value ≤ n → n < greatest counts t.var
@@ -226,7 +239,7 @@ module _ (counts : List ℕ) (are : AreCounts counts) where
               ∙ sym (restricted_given counts chosen (beside counts t r.given) r.var r.below p v (ap (is_given chosen r.var) same ∙ fixed))
           | inr apart ↦
               beside_other counts t (restricted counts chosen r.given r.var r.below p) v apart
-              ∙ elsewhere r.given (beside counts t r.given) p r.var r.below v (beside_other counts t r.given v apart)
+              ∙ elsewhere chosen r.given (beside counts t r.given) p r.var r.below v (beside_other counts t r.given v apart)
         ]);
       }
       | inr free ↦ let out = (or_parts (chosen t.var) (nat_lt t.var r.var) free).0 in let before = free_after chosen r.var t.var free in elim (cases_eq r.var t.var) [

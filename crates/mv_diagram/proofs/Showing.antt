@@ -13,8 +13,9 @@ use Rattle.mv_diagram.specs.Diagrams.{Contents, IsHeld, Keeps, AddsRestrictions,
 use Rattle.mv_diagram.specs.declared.node.Nodes.{Nodes}
 use Rattle.mv_diagram.specs.declared.memo.Key.{Key}
 use Rattle.mv_diagram.specs.declared.memo.Operation.{Operation}
+use Rattle.mv_diagram.specs.declared.memo.Operation.TheVariants.{And}
 use Rattle.mv_diagram.specs.Results.{IsResult, Remembers, result_of}
-use Rattle.mv_diagram.specs.Quantified.{AddsAnswers, AgreesOutside, IsQuantified, Forall, Spreads, is_one_of}
+use Rattle.mv_diagram.specs.Quantified.{AddsAnswers, AgreesOutside, IsQuantified, Forall, Spreads, is_one_of, meet_of}
 use Rattle.mv_diagram.specs.Whole.{IsWhole}
 use Rattle.mv_diagram.specs.Parts.{no_variable, AddsParts, IsCombined, AddsCombined}
 use Rattle.mv_diagram.proofs.Restricting.{restriction_same}
@@ -44,21 +45,38 @@ Keeps-adds old new n s adds = record {
 }
 
 -- what is always true of the fields stays so as nodes are added
-pub whole_adds : (old new : Table) (entries entries' : List (Key × Dd)) (reclaims marks ids chosen chosen' : ℕ) → AddsNodes old new → chosen ≤ chosen' → Remembers new.counts.items new.pool.places entries'
-    → IsWhole old.counts.items old.pool.places entries old.pool.cap reclaims marks ids chosen → IsWhole new.counts.items new.pool.places entries' new.pool.cap reclaims marks ids chosen'
-whole_adds old new entries entries' reclaims marks ids chosen chosen' adds more remembers whole = record {
+pub whole_adds : (old new : Table) (entries entries' : List (Key × Dd)) (reclaims marks ids chosen chosen' found : ℕ) → AddsNodes old new → chosen ≤ chosen' → Remembers new.counts.items new.pool.places entries'
+    → IsWhole old.counts.items old.pool.places entries old.pool.cap reclaims marks ids chosen found → IsWhole new.counts.items new.pool.places entries' new.pool.cap reclaims marks ids chosen' found
+whole_adds old new entries entries' reclaims marks ids chosen chosen' found adds more remembers whole = record {
   sound = adds.sound;
   remembers = remembers;
   ascends = λ none. adds.ascends (whole.ascends none);
   marked = rw adds.cap whole.marked;
   gathered = rw adds.cap whole.gathered;
   room = omega (arith, ap (λ v. length v.items) adds.counts, whole.room);
+  listed = rw adds.cap whole.listed;
 }
+
+-- the same nodes, with more room for their places
+pub whole_same : (old new : Table) (entries : List (Key × Dd)) (reclaims marks ids chosen found found' : ℕ) → new.counts ≡ old.counts → new.pool ≡ old.pool → found ≤ found'
+    → IsWhole old.counts.items old.pool.places entries old.pool.cap reclaims marks ids chosen found → IsWhole new.counts.items new.pool.places entries new.pool.cap reclaims marks ids chosen found'
+whole_same old new entries reclaims marks ids chosen found found' counts pool more whole = rw (counts, pool) (record {
+  sound = whole.sound;
+  remembers = whole.remembers;
+  ascends = whole.ascends;
+  marked = whole.marked;
+  gathered = whole.gathered;
+  room = whole.room;
+  listed = omega (arith, whole.listed);
+})
+
+pub shown_same : (old new : Table) (n : ℕ) → new.counts ≡ old.counts → new.pool ≡ old.pool → shown new n ≡ shown old n
+shown_same old new n counts pool = rw (counts, pool) refl
 
 module _ (operation : Operation) (old new : Table) (n : ℕ) (a b : Dd) (s : IsReduced old.counts.items old.pool.places) (adds : AddsNodes old new)
     (ha : IsHeld (shown old n) a) (hb : IsHeld (shown old n) b) where
   -- the operands have the sets that they had
-  same_operands : (p : Point) → result_of operation (holds new.counts.items new.pool.places a.0 p) (holds new.counts.items new.pool.places b.0 p)
+  pub same_operands : (p : Point) → result_of operation (holds new.counts.items new.pool.places a.0 p) (holds new.counts.items new.pool.places b.0 p)
       ≡ result_of operation (holds old.counts.items old.pool.places a.0 p) (holds old.counts.items old.pool.places b.0 p)
   same_operands p =
       ap (λ x. result_of operation x (holds new.counts.items new.pool.places b.0 p)) (table_holds old new s adds a.0 p ha.is)
@@ -124,17 +142,21 @@ Loses-fewer old new n k s f counts cap = record {
 pub all_held : (c : Contents) (roots : List Dd) → All (IsHeld c) roots → All (λ (root : Dd). has_diagram c.nodes root.0 ≡ true) roots
 all_held c roots held = All-weaker (IsHeld c) (λ (root : Dd). has_diagram c.nodes root.0 ≡ true) (λ root h. h.is) roots held
 
-module _ (old new : Table) (n : ℕ) (a : Dd) (vars : List ℕ) (chosen : ℕ → Bool) (same : (v : ℕ) → chosen v ≡ is_one_of vars v) (s : IsReduced old.counts.items old.pool.places) (adds : AddsNodes old new) (ha : IsHeld (shown old n) a) where
+module _ (old new : Table) (n : ℕ) (a b : Dd) (vars : List ℕ) (chosen : ℕ → Bool) (same : (v : ℕ) → chosen v ≡ is_one_of vars v) (s : IsReduced old.counts.items old.pool.places) (adds : AddsNodes old new)
+    (ha : IsHeld (shown old n) a) (hb : IsHeld (shown old n) b) where
   agrees_chosen : (p q : Point) → AgreesOutside (is_one_of vars) p q → AgreesOutside chosen p q
   agrees_chosen p q agrees = record { each = λ v out. agrees.each v (sym (same v) ∙ out) }
 
   agrees_vars : (p q : Point) → AgreesOutside chosen p q → AgreesOutside (is_one_of vars) p q
   agrees_vars p q agrees = record { each = λ v out. agrees.each v (same v ∙ out) }
 
-  was : (q : Point) → holds new.counts.items new.pool.places a.0 q ≡ holds old.counts.items old.pool.places a.0 q
-  was q = table_holds old new s adds a.0 q ha.is
+  abbrev both : Point → Bool
+  both p = has (shown old n) a p && has (shown old n) b p
 
-  pub spread_shown : (answer : Bool) (r : Result Dd Nodes) → IfOk r (λ d. IsQuantified new.counts.items new.pool.places chosen answer a.0 d.0) → IfOk r (Spreads (shown old n) (shown new n) vars answer a)
+  was : (q : Point) → meet_of new.counts.items new.pool.places a.0 b.0 q ≡ both q
+  was q = same_operands And old new n a b s adds ha hb q
+
+  pub spread_shown : (answer : Bool) (r : Result Dd Nodes) → IfOk r (λ d. IsQuantified new.counts.items new.pool.places chosen answer a.0 b.0 d.0) → IfOk r (Spreads (shown new n) vars answer both)
   spread_shown answer (Err e) is = tt
   spread_shown answer (Ok d) is = record {
     some = λ p range there. let at = is.some p range there in record { other = at.other; range = at.range; agrees = agrees_vars p at.other at.agrees; is = sym (was at.other) ∙ at.is };
@@ -145,15 +167,35 @@ module _ (old new : Table) (n : ℕ) (a : Dd) (vars : List ℕ) (chosen : ℕ �
   combined_chosen : (answer : Bool) (whole whole' part : Point → Bool) → ((p : Point) → whole p ≡ whole' p) → IsCombined new.counts.items chosen answer whole part → IsCombined new.counts.items (is_one_of vars) answer whole' part
   combined_chosen answer whole whole' part w m = combined_same new.counts.items adds.sound.values (is_one_of vars) answer whole whole' part part (λ p range. w p) (λ p. refl) (subst (λ x. IsCombined new.counts.items x answer whole part) (fun_ext same) m)
 
-  pub answers_shown : (answer : Bool) → AddsCombined new.counts.items chosen answer old.pool.places new.pool.places (λ p. holds new.counts.items new.pool.places a.0 p) → AddsAnswers (shown old n) (shown new n) vars answer (λ p. has (shown old n) a p)
+  pub answers_shown : (answer : Bool) → AddsCombined new.counts.items chosen answer old.pool.places new.pool.places (λ p. meet_of new.counts.items new.pool.places a.0 b.0 p) → AddsAnswers (shown old n) (shown new n) vars answer both
   answers_shown answer added = record { each = λ d held. elim (added.each d.0 held.is) [ inl before ↦ inl (record { is = before }) | inr m ↦ inr (combined_chosen answer _ _ _ was m) ] }
+
+-- what is said of a set that meets itself is said of the set
+once : (x : Bool) → (x && x) ≡ x
+once true = refl
+once false = refl
+
+pub spread_once : (old new : Contents) (vars : List ℕ) (answer : Bool) (a : Dd) (r : Result Dd Nodes) → IfOk r (Spreads new vars answer (λ p. has old a p && has old a p)) → IfOk r (Spreads new vars answer (λ p. has old a p))
+spread_once old new vars answer a (Err e) is = tt
+spread_once old new vars answer a (Ok d) is = record {
+  some = λ p range there. let at = is.some p range there in record { other = at.other; range = at.range; agrees = at.agrees; is = sym (once (has old a at.other)) ∙ at.is };
+  all = λ p q range agrees there. is.all p q range agrees (once (has old a q) ∙ there);
+}
+
+pub answers_once : (old new : Contents) (vars : List ℕ) (answer : Bool) (a : Dd) → AreCounts new.counts → AddsAnswers old new vars answer (λ p. has old a p && has old a p) → AddsAnswers old new vars answer (λ p. has old a p)
+answers_once old new vars answer a are added = record {
+  each = λ d held. elim (added.each d held) [
+    | inl before ↦ inl before
+    | inr m ↦ inr (combined_same new.counts are (is_one_of vars) answer _ _ _ _ (λ p range. once (has old a p)) (λ p. refl) m)
+  ];
+}
 
 true_unless : (b : Bool) → (b ≡ false → ⊥) → b ≡ true
 true_unless true never = refl
 true_unless false never = absurd (never refl)
 
 -- where the answer no is spread, all points are left that have no other answer beside them
-pub forall_of : (old new : Contents) (vars : List ℕ) (a : Dd) (r : Result Dd Nodes) → IfOk r (Spreads old new vars false a) → IfOk r (Forall old new vars a)
+pub forall_of : (old new : Contents) (vars : List ℕ) (a : Dd) (r : Result Dd Nodes) → IfOk r (Spreads new vars false (λ p. has old a p)) → IfOk r (Forall old new vars a)
 forall_of old new vars a (Err e) is = tt
 forall_of old new vars a (Ok d) is = record {
   every = λ p q there range agrees. true_unless _ (λ out. true≢false (sym there ∙ is.all p q range agrees out));

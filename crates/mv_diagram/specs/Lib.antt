@@ -6,6 +6,9 @@ pub mod Diagrams
 pub mod Whole
 pub mod Quantified
 pub mod Parts
+pub mod Cubes
+pub mod Choices
+pub mod Found
 -- what private functions alone cite
 pub mod Works
 pub mod First

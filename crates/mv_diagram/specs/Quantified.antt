@@ -1,5 +1,5 @@
 -- Points that differ in some variables alone, and the sets that have one of them, or all.
-use Rattle.std.specs.Prelude.{◌≡◌, ◌≤◌, ◌==◌, ◌⊎◌, ℕ, Bool, true, false, List, Option, Contains, if◌then◌else◌}
+use Rattle.std.specs.Prelude.{◌≡◌, ◌≤◌, ◌==◌, ◌&&◌, ◌⊎◌, ℕ, Bool, true, false, List, Option, Contains, if◌then◌else◌}
 use Rattle.std.specs.List.{list_any}
 use Rattle.mv_diagram.specs.declared.node.Dd.{Dd}
 use Rattle.mv_diagram.specs.declared.node.Node.{Node}
@@ -30,15 +30,20 @@ pub record Agreeing (counts : List ℕ) (vars : ℕ → Bool) (set : Point → B
   pub is : set other ≡ answer
 
 -- it has the answer exactly where the set has it at some point that agrees outside these variables
-pub record Spreads (old new : Contents) (vars : List ℕ) (answer : Bool) (a d : Dd) : Type 0 where
+pub record Spreads (new : Contents) (vars : List ℕ) (answer : Bool) (set : Point → Bool) (d : Dd)
+    : Type 0 where
   pub some : (p : Point) → InRange new.counts p → has new d p ≡ answer
-      → Agreeing new.counts (is_one_of vars) (λ q. has old a q) answer p
+      → Agreeing new.counts (is_one_of vars) set answer p
   pub all : (p q : Point) → InRange new.counts q → AgreesOutside (is_one_of vars) p q
-      → has old a q ≡ answer → has new d p ≡ answer
+      → set q ≡ answer → has new d p ≡ answer
 
 -- it has each point that agrees with one of the set outside these variables, and no other
 abbrev pub Exists : Contents → Contents → List ℕ → Dd → Dd → Type 0
-Exists old new vars a d = Spreads old new vars true a d
+Exists old new vars a d = Spreads new vars true (λ q. has old a q) d
+
+-- it has each point that agrees with one of both sets outside these variables, and no other
+abbrev pub ExistsBoth : Contents → Contents → List ℕ → Dd → Dd → Dd → Type 0
+ExistsBoth old new vars a b d = Spreads new vars true (λ q. has old a q && has old b q) d
 
 -- it has each point with which all that agree outside these variables are in the set, and no other
 pub record Forall (old new : Contents) (vars : List ℕ) (a d : Dd) : Type 0 where
@@ -66,22 +71,28 @@ AddsMeets old new vars set = AddsAnswers old new vars false set
 
 -- ---- what private functions alone cite
 
--- a diagram has the answer exactly where its operand has it at some point that agrees
+-- whether a point is in both sets
+abbrev pub meet_of : List ℕ → List (Option Node) → ℕ → ℕ → Point → Bool
+meet_of counts ns a b p = holds counts ns a p && holds counts ns b p
+
+-- a diagram has the answer exactly where the meet of its operands has it at some point that agrees
 pub record IsQuantified (counts : List ℕ) (ns : List (Option Node)) (vars : ℕ → Bool)
-    (answer : Bool) (a d : ℕ) : Type 0 where
-  pub operand : has_diagram ns a ≡ true
+    (answer : Bool) (a b d : ℕ) : Type 0 where
+  pub left : has_diagram ns a ≡ true
+  pub right : has_diagram ns b ≡ true
   pub held : has_diagram ns d ≡ true
-  pub later : first counts ns a ≤ first counts ns d
+  pub later : (from : ℕ) → from ≤ first counts ns a → from ≤ first counts ns b
+      → from ≤ first counts ns d
   pub some : (p : Point) → InRange counts p → holds counts ns d p ≡ answer
-      → Agreeing counts vars (λ q. holds counts ns a q) answer p
+      → Agreeing counts vars (λ q. meet_of counts ns a b q) answer p
   pub all : (p q : Point) → InRange counts q → AgreesOutside vars p q
-      → holds counts ns a q ≡ answer → holds counts ns d p ≡ answer
+      → meet_of counts ns a b q ≡ answer → holds counts ns d p ≡ answer
 
 -- what is remembered of this is right
 pub record Quantifies (counts : List ℕ) (ns : List (Option Node)) (vars : ℕ → Bool) (answer : Bool)
     (entries : List (Key × Dd)) : Type 0 where
   pub each : (k : Key) (d : Dd) → Contains entries (k, d)
-      → IsQuantified counts ns vars answer k.left.0 d.0
+      → IsQuantified counts ns vars answer k.left.0 k.right.0 d.0
 
 -- the operation whose answer is this one where one of two answers is
 abbrev pub joining : Bool → Operation

@@ -13,7 +13,7 @@ use crate::table::{Table, make, node, split};
 use crate::{Dd, Nodes, Test};
 
 /// Whether a point is in the result, by whether it is in the two sets.
-fn answer(operation: Operation, left: bool, right: bool) -> bool
+pub fn answer_of(operation: Operation, left: bool, right: bool) -> bool
     ensures { result ≡ result_of operation left right }
 {
     match operation {
@@ -81,14 +81,14 @@ fn first_test(table: &Table, a: Dd, b: Dd) -> Option<Test>
 
 /// A test, with what two diagrams are where it says yes, and where it says no.
 #[derive(Clone, Copy)]
-struct Parted {
-    test: Test,
-    yes: (Dd, Dd),
-    no: (Dd, Dd),
+pub struct Parted {
+    pub test: Test,
+    pub yes: (Dd, Dd),
+    pub no: (Dd, Dd),
 }
 
 /// Parts two diagrams by their first test, or answers None where neither has one.
-fn part(table: &Table, a: Dd, b: Dd) -> Option<Parted>
+pub fn part(table: &Table, a: Dd, b: Dd) -> Option<Parted>
     requires sound { IsReduced table.now.counts.items table.now.pool.places }
     requires left { has_diagram table.now.pool.places a.0 ≡ true }
     requires right { has_diagram table.now.pool.places b.0 ≡ true }
@@ -186,7 +186,7 @@ pub fn apply(
         return Ok(d);
     }
     let Some(at) = part(table, a, b) else {
-        return Ok(end(answer(operation, a == ONE, b == ONE)));
+        return Ok(end(answer_of(operation, a == ONE, b == ONE)));
     };
     let yes = match apply(table, memo, operation, at.yes.0, at.yes.1) {
         Ok(d) => d,

@@ -2,14 +2,18 @@
 #![tactic(auto)]
 
 mod apply;
+mod cube;
 mod diagrams;
+mod found;
 mod literal;
 mod look;
+mod meet;
 mod memo;
 mod node;
 mod quantify;
 mod roots;
 mod table;
 
+pub use cube::Literal;
 pub use diagrams::Diagrams;
 pub use node::{Dd, Node, Nodes, Test};

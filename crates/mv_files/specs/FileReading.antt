@@ -47,3 +47,7 @@ BeganTwo old new = new.starts ≡ counted (counted old.starts)
 -- files that tell that they are sound do not hold this name
 abbrev pub Lacks : Stored → List ℕ → Type 0
 Lacks files name = IfSome files.held (λ held. IsTrue held.sound → file_named name held.files ≡ None)
+
+-- files that tell have this content by this name
+abbrev pub Holds : Stored → List ℕ → List ℕ → Type 0
+Holds files name content = IfSome files.held (λ held. file_named name held.files ≡ Some content)

@@ -1,5 +1,5 @@
 -- A file, of so many bytes at most, that was lexed while it was read.
-use Rattle.std.specs.Prelude.{◌≡◌, ◌⊎◌, ℕ, ◌≤◌, IfSome, Some, None, List, [], ◌++◌, length}
+use Rattle.std.specs.Prelude.{◌≡◌, ◌⊎◌, ℕ, ◌≤◌, Some, None, List, [], ◌++◌, length}
 use Rattle.mv_base.specs.Outside.{Held, Stored, StillTell, Rose, file_named}
 use Rattle.mv_lex.specs.declared.fault.LexFault.{LexFault}
 use Rattle.mv_lex.specs.declared.fault.LexFault.TheVariants.{Memory as out_of_memory}
@@ -8,7 +8,7 @@ use Rattle.mv_lex.specs.Lines.{lines_of, first_fault, lex_fault}
 use Rattle.mv_files.specs.declared.read.TheConstants.{PIECE}
 use Rattle.mv_files.specs.declared.lines.LinesStop.{LinesStop}
 use Rattle.mv_files.specs.declared.lines.LinesStop.TheVariants.{Failed, Lex}
-use Rattle.mv_files.specs.FileReading.{Lacks}
+use Rattle.mv_files.specs.FileReading.{Holds, Lacks}
 
 -- the named file has this content, is the current one, and was read to its end
 pub record HasReadAll (before after : Held) (name content : List ℕ) : Type 0 where
@@ -34,7 +34,7 @@ pub record WasLexed (old new : Stored) (name : List ℕ) (limit : ℕ) (lines : 
 -- it
 pub record HasFault (files : Stored) (name : List ℕ) (limit : ℕ) (fault : LexFault) : Type 0 where
   pub content : List ℕ
-  pub named : IfSome files.held (λ held. file_named name held.files ≡ Some content)
+  pub named : Holds files name content
   pub fault_is : lex_fault limit content ≡ Some fault
 
 -- of the named file, which is the current one, no more was read than bytes without a fault, within

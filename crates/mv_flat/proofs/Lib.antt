@@ -49,3 +49,5 @@ pub mod Designs
 pub mod OneNetwork
 pub mod Refusals
 pub mod Passing
+pub mod Origins
+pub mod Listing

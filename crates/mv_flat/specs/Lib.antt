@@ -10,3 +10,4 @@ pub mod Values
 pub mod Marks
 pub mod Placed
 pub mod Sized
+pub mod Shared

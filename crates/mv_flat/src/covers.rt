@@ -1,5 +1,5 @@
 //! The covers of a table: of its outputs, and of the nets that are made for it.
-ghost use Rattle.std.specs.Prelude.{◌≡◌, ◌+◌, ◌<◌, ◌≤◌, true, length, is_some, IfErr, IfOk};
+ghost use Rattle.std.specs.Prelude.{◌≡◌, ◌+◌, ◌<◌, ◌≤◌, true, length, is_some, IfErr, IfOk, OnOk};
 ghost use Rattle.mv_base.specs.Names.{among};
 ghost use Rattle.mv_base.specs.declared.limits.TheConstants.{MAX_FLAT_LINES, MAX_NETS};
 ghost use Rattle.mv_design.specs.Nets.{output_of};
@@ -16,16 +16,18 @@ ghost use Rattle.mv_flat.specs.Gathered.{IsMarkNumber, number_or_past};
 ghost use Rattle.mv_flat.specs.Numbers.{choice_at, choice_name, mark_at};
 ghost use Rattle.mv_flat.specs.Placed.{AreColumnsOf};
 ghost use Rattle.mv_flat.specs.Places.{is_joint};
+ghost use Rattle.mv_flat.specs.Shared.{IsFrom, KeepsOrigins};
 ghost use Rattle.mv_flat.specs.Sized.{IsWithinSize, TellsCovers, TellsJoint, TellsPast};
 
 use crate::mark::{choice_name, is_joint, is_plain, mark_name};
+use crate::shared::SharedTables;
 use crate::size::Size;
 use mv_acyclic::Numbers;
 use mv_base::{MAX_JOINT_ROWS, Memory, Name, NetId};
 use mv_design::FileTable;
 use mv_fault::FlatFault;
 use mv_joint::{CoversStop, JointTable, is_joint_marked, joint_table};
-use mv_rows::{Column, FlatTable, RowStop, flat_table_within, is_marked};
+use mv_rows::{Column, FlatTable, RowStop, is_marked};
 use std::alloc::Global;
 
 /// The covers of a table: those of its output and its mark, where it has one output; else those of its outputs, its choice net
@@ -45,12 +47,15 @@ pub fn covers(
     names: &Numbers,
     table: &FileTable,
     size: Size,
+    shared: &mut SharedTables,
 ) -> Result<TableCovers, FlatFault>
     requires columns { AreColumnsOf names.now table.now columns.now }
     requires few { length names.now ≤ MAX_NETS }
     requires chosen { is_joint table.now ≡ true
         → among (choice_name (output_of table.now)) names.now ≡ true }
     requires within { IsWithinSize size }
+    requires from { IsFrom shared.old table.now }
+    ensures kept { OnOk result (KeepsOrigins shared.old shared.new) }
     ensures made { IfOk result
         (λ covers. IsMadeTable columns.now table.now (mark_at names.now table.now)
         (choice_at names.now table.now) covers) }
@@ -62,7 +67,7 @@ pub fn covers(
             Err(fault) => Err(fault),
         };
     }
-    match sized_covers(alloc, columns, names, table, size) {
+    match sized_covers(alloc, columns, names, table, size, shared) {
         Ok(flat) => Ok(TableCovers::Single(flat)),
         Err(fault) => Err(fault),
     }
@@ -76,16 +81,19 @@ fn sized_covers(
     names: &Numbers,
     table: &FileTable,
     size: Size,
+    shared: &mut SharedTables,
 ) -> Result<FlatTable, FlatFault>
     requires columns { AreColumnsOf names.now table.now columns.now }
     requires single { length table.now.outputs ≡ 1 }
     requires few { length names.now ≤ MAX_NETS }
     requires within { IsWithinSize size }
+    requires from { IsFrom shared.old table.now }
+    ensures kept { OnOk result (KeepsOrigins shared.old shared.new) }
     ensures made { IfOk result
         (λ flat. IsMade columns.now table.now (mark_at names.now table.now) flat) }
     ensures stop { IfErr result (TellsCovers columns.now names.now table.now size) }
 {
-    match single_covers(alloc, columns, names, table, size.lines_left()) {
+    match single_covers(alloc, columns, names, table, size.lines_left(), shared) {
         Ok(flat) => Ok(flat),
         Err(RowStop::Many) => Err(past(alloc, columns, table, size)),
         Err(RowStop::Memory) => Err(FlatFault::Memory),
@@ -117,17 +125,20 @@ fn single_covers(
     names: &Numbers,
     table: &FileTable,
     most: usize,
+    shared: &mut SharedTables,
 ) -> Result<FlatTable, RowStop>
     requires columns { AreColumnsOf names.now table.now columns.now }
     requires single { length table.now.outputs ≡ 1 }
     requires few { length names.now ≤ MAX_NETS }
+    requires from { IsFrom shared.old table.now }
+    ensures kept { OnOk result (KeepsOrigins shared.old shared.new) }
     ensures made { IfOk result
         (λ flat. IsMade columns.now table.now (mark_at names.now table.now) flat) }
     ensures stop { IfErr result
         (λ stop. StopsAt columns.now table.now (mark_at names.now table.now) most stop) }
 {
     let mark = mark_of(alloc, names, table)?;
-    match flat_table_within(alloc, columns, table, mark, most) {
+    match shared.flat_table(alloc, columns, table, mark, most) {
         Ok(flat) => Ok(flat),
         Err(stop) => Err(stop),
     }

@@ -1,4 +1,4 @@
-ghost use Rattle.std.specs.Prelude.{◌≡◌, ◌≤◌, length, IfOk, IfErr, OnOk};
+ghost use Rattle.std.specs.Prelude.{◌≡◌, ◌≤◌, length, All, IfOk, IfErr, OnOk};
 ghost use Rattle.mv_base.specs.declared.limits.TheConstants.{MAX_FLAT_NETS, MAX_NETS};
 ghost use Rattle.mv_design.specs.Nets.{drivers};
 ghost use Rattle.mv_flat.specs.Places.{net_places};
@@ -7,14 +7,16 @@ ghost use Rattle.mv_flat.specs.Built.{IsBuilt};
 ghost use Rattle.mv_flat.specs.Gathered.{counts_of};
 ghost use Rattle.mv_flat.specs.Flat.{HasSmallNetwork, IsFlat, IsRefusedDesign};
 ghost use Rattle.mv_resets.specs.NetModels.{HasSoundNets, IsNetModel};
-ghost use Rattle.mv_resets.specs.Resets.{with_reset_nets};
+ghost use Rattle.mv_resets.specs.Resets.{all_tables, with_reset_nets};
 ghost use Rattle.mv_acyclic.specs.Sound.{IsSoundModel, IsWithinLimits};
 ghost use Rattle.mv_flat.specs.Placed.{ArePlaced};
+ghost use Rattle.mv_flat.specs.Shared.{IsFrom};
 ghost use Rattle.mv_flat.specs.Size.{FitsLimits};
 ghost use Rattle.mv_flat.specs.Sized.{TellsLimit};
 
 use crate::latches::flat_latches;
 use crate::numbers::{NumberedNets, numbered};
+use crate::shared::SharedTables;
 use crate::tables::nets;
 use mv_acyclic::{Numbers, check};
 use mv_base::Memory;
@@ -47,21 +49,29 @@ pub fn flatten_owned(alloc: Global, design: Design) -> Result<Network, FlatFault
     ensures fault { IfErr result (IsRefusedDesign design) }
 {
     let opened = walk(alloc, &design)?;
-    let Whole { model, nets } = whole(alloc, design, opened.as_slice())?;
+    let instances = opened.as_slice();
+    let shared = SharedTables::of(alloc, &design, instances)?;
+    let Whole { model, nets } = whole(alloc, design, instances)?;
     drop(opened);
     let driven = check(alloc, &model, nets.as_slice())?;
     drop(nets);
-    network(alloc, model, driven)
+    network(alloc, model, driven, shared)
 }
 
 /// The network of a sound model whose nets are within the limits, where `driven` are its driven nets. The fault is the first limit
 /// that the network passes, table by table.
 #[tactic(auto, using(crate::proofs::Refusals::told_by))]
-fn network(alloc: Global, model: FileModel, driven: Numbers) -> Result<Network, FlatFault>
+fn network(
+    alloc: Global,
+    model: FileModel,
+    driven: Numbers,
+    mut shared: SharedTables,
+) -> Result<Network, FlatFault>
     requires lawful { IsLawful model }
     requires sound { IsSoundModel model }
     requires limits { IsWithinLimits model }
     requires driven { driven ≡ drivers model }
+    requires shared { All (IsFrom shared) (all_tables model) }
     ensures built { IfOk result (λ net. IsBuilt (with_reset_nets model) net) }
     ensures fits { OnOk result (HasSmallNetwork model) }
     ensures fault { IfErr result (TellsLimit (length (drivers model)) (with_reset_nets model)) }
@@ -70,7 +80,14 @@ fn network(alloc: Global, model: FileModel, driven: Numbers) -> Result<Network, 
     let NumberedNets { names, counts } = numbered(alloc, &model, &driven)?;
     let file_nets = driven.len() as u64;
     drop(driven);
-    let parts = built(alloc, model, &names, counts.as_slice(), file_nets)?;
+    let parts = built(
+        alloc,
+        model,
+        &names,
+        counts.as_slice(),
+        file_nets,
+        &mut shared,
+    )?;
     drop(names);
     drop(counts);
     Ok(Network::make(alloc, parts)?)
@@ -84,6 +101,7 @@ fn built(
     names: &Numbers,
     counts: &[u16],
     file_nets: u64,
+    shared: &mut SharedTables,
 ) -> Result<NetParts, FlatFault>
     requires proper { IsNetModel model }
     requires sound { HasSoundNets model }
@@ -91,11 +109,12 @@ fn built(
     requires counts { counts.now ≡ counts_of model.decls names.now }
     requires few { length names.now ≤ MAX_NETS }
     requires few_nets { file_nets ≤ MAX_FLAT_NETS }
+    requires shared { All (IsFrom shared.old) model.tables }
     ensures built { IfOk result (λ net. IsBuilt model net) }
     ensures fits { OnOk result (FitsLimits file_nets model) }
     ensures fault { IfErr result (TellsLimit file_nets model) }
 {
-    parts(alloc, model, names, counts, file_nets)
+    parts(alloc, model, names, counts, file_nets, shared)
 }
 
 /// The parts of the network of a model whose nets have numbers.
@@ -105,11 +124,13 @@ fn parts(
     names: &Numbers,
     counts: &[u16],
     file_nets: u64,
+    shared: &mut SharedTables,
 ) -> Result<NetParts, FlatFault>
     requires proper { IsNetModel model }
     requires placed { ArePlaced model names.now }
     requires counts { counts.now ≡ counts_of model.decls names.now }
     requires few_nets { file_nets ≤ MAX_FLAT_NETS }
+    requires shared { All (IsFrom shared.old) model.tables }
     ensures built { IfOk result (λ net. IsBuilt model net) }
     ensures fits { OnOk result (FitsLimits file_nets model) }
     ensures fault { IfErr result (TellsLimit file_nets model) }
@@ -119,6 +140,6 @@ fn parts(
         inputs: names.list(alloc, model.inputs.as_slice())?,
         outputs: names.list(alloc, model.outputs.as_slice())?,
         latches: flat_latches(alloc, names, model.latches.as_slice())?,
-        nets: nets(alloc, model, names, counts, file_nets)?,
+        nets: nets(alloc, model, names, counts, file_nets, shared)?,
     })
 }

@@ -11,6 +11,7 @@ mod made;
 mod mark;
 mod nets;
 mod numbers;
+mod shared;
 mod size;
 mod tables;
 mod values;

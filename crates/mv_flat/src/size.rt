@@ -145,7 +145,7 @@ impl Size {
               literals = self.literals;
             } }
     {
-        let nets = if has_stop(&table.outputs.as_slice()[0]) {
+        let nets = if gives_reset(table) {
             self.nets + 1
         } else {
             self.nets
@@ -239,6 +239,14 @@ impl Size {
         }
         Ok(self)
     }
+}
+
+/// Whether the table is that of a reset net.
+pub fn gives_reset(table: &FileTable) -> bool
+    requires { 0 < length table.now.outputs }
+    ensures { result ≡ gives_reset table.now }
+{
+    has_stop(&table.outputs.as_slice()[0])
 }
 
 /// Whether the name begins with a full stop.

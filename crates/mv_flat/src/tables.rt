@@ -1,5 +1,5 @@
 //! The nets of tables.
-ghost use Rattle.std.specs.Prelude.{◌≡◌, ◌+◌, ◌*◌, ◌<◌, ◌≤◌, ◌^◌, length, IfErr, IfOk, OnOk};
+ghost use Rattle.std.specs.Prelude.{◌≡◌, ◌+◌, ◌*◌, ◌<◌, ◌≤◌, ◌^◌, length, All, IfErr, IfOk, OnOk};
 ghost use Rattle.mv_flat.specs.Built.{open_nets};
 ghost use Rattle.mv_base.specs.declared.limits.TheConstants.{MAX_FLAT_NETS};
 ghost use Rattle.mv_flat.specs.Gathered.{counts_of};
@@ -10,11 +10,13 @@ ghost use Rattle.mv_flat.specs.Size.{FitsLimits};
 ghost use Rattle.mv_flat.specs.Sized.{TellsLimit};
 ghost use Rattle.mv_resets.specs.NetModels.{IsNetModel};
 ghost use Rattle.mv_flat.specs.Placed.{ArePlaced, AddsTables};
+ghost use Rattle.mv_flat.specs.Shared.{IsFrom};
 
 use crate::columns::columns;
 use crate::covers::{TableCovers, covers};
 use crate::made::{put_made, put_mark};
 use crate::nets::{open_nets, put_output, put_outputs};
+use crate::shared::SharedTables;
 use crate::size::Size;
 use mv_acyclic::Numbers;
 use mv_base::{Items, Memory};
@@ -34,11 +36,13 @@ pub fn nets(
     names: &Numbers,
     counts: &[u16],
     file_nets: u64,
+    shared: &mut SharedTables,
 ) -> Result<Items<Option<FlatNet>>, FlatFault>
     requires proper { IsNetModel model }
     requires placed { ArePlaced model names.now }
     requires counts { counts.now ≡ counts_of model.decls names.now }
     requires few { file_nets ≤ MAX_FLAT_NETS }
+    requires shared { All (IsFrom shared.old) model.tables }
     ensures nets { IfOk result (λ nets. AddsTables model (open_nets model) nets) }
     ensures fits { OnOk result (FitsLimits file_nets model) }
     ensures fault { IfErr result (TellsLimit file_nets model) }
@@ -56,7 +60,7 @@ pub fn nets(
     let mut last = 0;
     for table in tables.into_vec() {
         let columns = columns(alloc, names, counts, &table)?;
-        let covers = match covers(alloc, columns.as_slice(), names, &table, size) {
+        let covers = match covers(alloc, columns.as_slice(), names, &table, size, shared) {
             Ok(covers) => covers,
             Err(fault) => return Err(fault),
         };

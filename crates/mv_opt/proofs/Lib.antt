@@ -1,4 +1,2 @@
-pub mod Seen
-pub mod Certified
 pub mod Works
 pub mod Takes

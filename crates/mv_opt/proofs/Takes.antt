@@ -9,7 +9,7 @@ use Rattle.mv_script.specs.Grammar.{IsScript}
 use Rattle.mv_script.specs.Scripts.{Items}
 use Rattle.mv_script.proofs.OneAnswer.{no_script}
 use Rattle.mv_task.specs.Stops.{Gives, RefusesFor, WasBegun}
-use Rattle.mv_task.proofs.Contents.{read_behind, read_whole}
+use Rattle.mv_files.proofs.Contents.{read_behind, read_whole}
 use Rattle.mv_opt.specs.Scripts.{SaysScript, refusal_line, script_stage}
 
 -- a text with a fault isn't accepted

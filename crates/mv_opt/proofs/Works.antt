@@ -1,16 +1,13 @@
 -- The work on a network: the script, then the done line, then the output.
 use Rattle.std.proofs.Common.{◌≡◌, ◌∙◌, ℕ, true, List, ◌++◌, refl, ap}
-use Rattle.mv_base.specs.Meaning.{Refines}
 use Rattle.mv_base.specs.Outside.{Written, Gained, GainedPart}
 use Rattle.mv_net.specs.declared.parts.NetParts.{NetParts}
-use Rattle.mv_net.specs.Allowed.{of_net}
 use Rattle.mv_net.specs.Formed.{WellFormed}
 use Rattle.mv_net.specs.Nets.{literals_in}
 use Rattle.mv_rules_back.specs.Names.{HasWordNames}
 use Rattle.mv_rules.specs.declared.terms.Terms.{Terms}
 use Rattle.mv_script_run.proofs.NoMore.{runs_no_more}
 use Rattle.mv_script_run.proofs.Rules.{runs_replays}
-use Rattle.mv_text_back.specs.Back.{ReadsBack}
 use Rattle.mv_entry.specs.declared.journal.Tally.{Tally}
 use Rattle.mv_entry.specs.Entries.{print, rules_of}
 use Rattle.mv_entry.specs.Tallies.{Journaled, with_entries}
@@ -19,12 +16,13 @@ use Rattle.mv_script_run.specs.Runs.{Runs, RunsTo}
 use Rattle.mv_script.specs.Commands.{are_lawful}
 use Rattle.mv_script.specs.Scripts.{Items}
 use Rattle.mv_task.specs.Ending.{done_line}
-use Rattle.mv_task.proofs.Replacing.{replaced}
+use Rattle.mv_format.specs.BlifMv.{blif_mv}
+use Rattle.mv_format.proofs.Replacing.{replaced}
 use Rattle.mv_opt.specs.declared.output.Output.{Output}
 use Rattle.mv_opt.specs.Optimised.{HasWorked, HasStopped}
 use Rattle.mv_opt.specs.Outputs.{no_tally, output_text}
 use Rattle.mv_opt.specs.Running.{HasRun, Puts}
-use Rattle.mv_opt.proofs.Certified.{certified}
+use Rattle.mv_noted.proofs.Certified.{certified}
 
 -- what a journal took of the script, as its sink gained it
 module _ (terms : Terms) (items : Items) (a b : NetParts) (j k : Journaled) where
@@ -51,15 +49,15 @@ has_stopped terms items first net p =
 
 -- the whole script ran
 pub has_worked : (terms : Terms) (output : Output) (items : Items) (first net : NetParts) (before : ℕ) (tally : Tally) (notes mid : Written) → before ≡ literals_in first.nets
-    → (ran : HasRun terms items first net notes mid tally) → Refines terms.free (of_net net) (of_net first) → ReadsBack net → are_lawful items ≡ true → WellFormed first → HasWordNames first.nets
-    → HasWorked terms output items first (print ran.entries ++ done_line before (literals_in net.nets)) (output_text output before tally net)
-has_worked terms output items first net before tally notes mid same ran refines back lawful formed names = record {
+    → (ran : HasRun terms items first net notes mid tally) → are_lawful items ≡ true → WellFormed first → HasWordNames first.nets
+    → HasWorked blif_mv terms output items first (print ran.entries ++ done_line before (literals_in net.nets)) (output_text blif_mv output before tally net)
+has_worked terms output items first net before tally notes mid same ran lawful formed names = record {
   entries = ran.entries;
   net = net;
   runs = ran.runs;
   noted_is = ap (λ n. print ran.entries ++ done_line n (literals_in net.nets)) same;
   certified = certified terms items first net ran.entries lawful formed names ran.runs;
   no_more = λ frugal. runs_no_more terms items first net ran.entries frugal formed ran.runs;
-  written_is = ap (λ n. output_text output n tally net) same ∙ ap (λ t. output_text output (literals_in first.nets) t net) ran.counted;
-  replaces = replaced terms.free (rules_of ran.entries) first net (runs_replays terms items first net ran.entries ran.runs) refines back;
+  written_is = ap (λ n. output_text blif_mv output n tally net) same ∙ ap (λ t. output_text blif_mv output (literals_in first.nets) t net) ran.counted;
+  replaces = replaced terms.free (rules_of ran.entries) first net (runs_replays terms items first net ran.entries ran.runs);
 }

@@ -3,13 +3,13 @@ use Rattle.std.specs.Prelude.{ℕ, Bool, false, true, Option, Some, None, List, 
 use Rattle.mv_entry.specs.declared.journal.Tally.{Tally}
 use Rattle.mv_entry.specs.Entries.{Entry}
 use Rattle.mv_entry.specs.Tallies.{with_entries}
+use Rattle.mv_format.specs.Formats.{Format}
 use Rattle.mv_net.specs.declared.parts.FlatNet.{FlatNet}
 use Rattle.mv_net.specs.declared.parts.Kind.{Kind}
 use Rattle.mv_net.specs.declared.parts.Kind.TheVariants.{Input, Latch, Table, Reset}
 use Rattle.mv_net.specs.declared.parts.NetParts.{NetParts}
 use Rattle.mv_net.specs.Nets.{literals_in}
 use Rattle.mv_task.specs.Sources.{Source, File, Text}
-use Rattle.mv_text.specs.Text.{text_of}
 use Rattle.mv_work.specs.declared.summary.Summary.{Summary as Summing}
 use Rattle.mv_work.specs.Summing.{summary_text}
 use Rattle.mv_opt.specs.declared.output.Output.{Output}
@@ -43,15 +43,15 @@ summary_of before tally net = record {
   dropped = tally.dropped;
 }
 
--- what is written, from the same
-abbrev pub output_text : Output → ℕ → Tally → NetParts → List ℕ
-output_text Network before tally net = text_of net
-output_text Summary before tally net = summary_text (summary_of before tally net)
+-- what is written, from the same; a text of this format
+abbrev pub output_text : Format → Output → ℕ → Tally → NetParts → List ℕ
+output_text format Network before tally net = format.text net
+output_text format Summary before tally net = summary_text (summary_of before tally net)
 
 -- what is written of a run from a first network by these entries to the network that is left
-abbrev pub output_of : Output → NetParts → List Entry → NetParts → List ℕ
-output_of output first entries net =
-    output_text output (literals_in first.nets) (with_entries no_tally entries) net
+abbrev pub output_of : Format → Output → NetParts → List Entry → NetParts → List ℕ
+output_of format output first entries net =
+    output_text format output (literals_in first.nets) (with_entries no_tally entries) net
 
 -- a network that is read from a file is written, and of one that the program made a summary is
 abbrev pub output_for : Source → Output

@@ -2,11 +2,13 @@
 //! the same on a network that is drawn, of which a summary is written.
 #![tactic(auto)]
 
+mod drawn;
 mod fault;
 mod optimising;
 mod output;
 mod take;
 mod working;
 
+pub use drawn::work;
 pub use fault::ScriptRefusal;
-pub use optimising::{optimise, work};
+pub use optimising::optimise;

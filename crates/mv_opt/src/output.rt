@@ -1,5 +1,6 @@
 ghost use Rattle.std.specs.Prelude.{◌≡◌, count_by};
 ghost use Rattle.mv_base.specs.Outside.{Appends};
+ghost use Rattle.mv_format.specs.BlifMv.{blif_mv};
 ghost use Rattle.mv_opt.specs.Outputs.{is_named_kind, is_told, output_text, summary_of};
 
 use mv_base::{Failed, Sink};
@@ -73,8 +74,8 @@ pub fn put_output<O: Sink>(
     tally: Tally,
     out: &mut O,
 ) -> Result<(), Failed>
-    ensures { Appends (O.state out.old) (O.state out.new) (output_text output before tally net.now)
-        result }
+    ensures { Appends (O.state out.old) (O.state out.new)
+        (output_text blif_mv output before tally net.now) result }
 {
     match output {
         Output::Network => write(net, out),

@@ -1,10 +1,11 @@
 ghost use Rattle.std.specs.Prelude.{◌≡◌, ◌≤◌, true, IfOk, IfErr};
 ghost use Rattle.mv_base.specs.Outside.{Stored};
+ghost use Rattle.mv_format.specs.BlifMv.{IsNetOfText, blif_mv};
+ghost use Rattle.mv_format.specs.Faults.{net_line};
+ghost use Rattle.mv_format.specs.Formats.{network_stage};
 ghost use Rattle.mv_rules_back.specs.Names.{HasWordNames};
 ghost use Rattle.mv_script.specs.Commands.{are_lawful};
 ghost use Rattle.mv_script.specs.Scripts.{items_of};
-ghost use Rattle.mv_task.specs.Faults.{net_line};
-ghost use Rattle.mv_task.specs.Formats.{IsNetOfText, blif_mv, network_stage};
 ghost use Rattle.mv_task.specs.Stops.{Gives, IsCause, WasBegun};
 ghost use Rattle.mv_work.specs.declared.work.TheConstants.{MAX_WORK_TABLES, MIN_WORK_TABLES};
 ghost use Rattle.mv_opt.specs.Optimised.{drawn};
@@ -14,9 +15,10 @@ ghost use Rattle.mv_opt.specs.Scripts.{refusal_line, script_stage};
 use crate::fault::ScriptRefusal;
 use mv_base::{Files, MAX_SCRIPT_BYTES};
 use mv_files::{ReadStop, read_file};
+use mv_format::{FileFault, network_of_text};
 use mv_net::Network;
 use mv_script::{Script, ScriptFault, read_script};
-use mv_task::{FileFault, Stop, network_of_text};
+use mv_task::Stop;
 use mv_work::work_text;
 use std::alloc::Global;
 

@@ -1,8 +1,7 @@
 ghost use Rattle.std.specs.Prelude.{◌≡◌, ◌≤◌, true, Err, IfOk};
 ghost use Rattle.mv_rules_back.specs.Names.{HasWordNames};
-ghost use Rattle.mv_base.specs.Meaning.{Refines};
 ghost use Rattle.mv_base.specs.Outside.{Gained, GainedPart, Rose};
-ghost use Rattle.mv_net.specs.Allowed.{of_net};
+ghost use Rattle.mv_format.specs.BlifMv.{blif_mv};
 ghost use Rattle.mv_script.specs.Commands.{are_lawful};
 ghost use Rattle.mv_script.specs.Scripts.{items_of};
 ghost use Rattle.mv_task.specs.Ends.{WorkEnds, sinks};
@@ -19,7 +18,6 @@ use mv_rules::Terms;
 use mv_script::Script;
 use mv_script_run::run_script;
 use mv_task::{put_done, tell};
-use mv_text_back::reads_back;
 use std::alloc::Global;
 
 /// Runs the script on the network on these terms, puts what it does to the notes, and counts it.
@@ -40,7 +38,6 @@ fn run_noted<E: Sink>(
         (GainedPart (E.state notes.old) (E.state notes.new)) }
     ensures cause { result ≡ Err Stop.Note
         → Rose (E.state notes.old).faults (E.state notes.new).faults }
-    ensures refines { Refines terms.free (of_net net.new) (of_net net.old) }
     ensures later { (E.state notes.old).faults ≤ (E.state notes.new).faults }
 {
     let mut journal = NoteJournal::new(notes);
@@ -63,7 +60,7 @@ pub fn carry_out<O: Sink, E: Sink>(
 ) -> u8
     requires names { HasWordNames net.nets }
     requires lawful { are_lawful (items_of script.now) ≡ true }
-    ensures { WorkEnds (opt_work terms output (items_of script.now) net)
+    ensures { WorkEnds (opt_work blif_mv terms output (items_of script.now) net)
         (sinks (O.state out.old) (E.state notes.old)) (sinks (O.state out.new) (E.state notes.new))
         result }
 {
@@ -77,7 +74,6 @@ pub fn carry_out<O: Sink, E: Sink>(
             return 6;
         }
     };
-    reads_back(&net);
     match put_done(&net, before, notes) {
         Ok(()) => {}
         Err(_failed) => return 5,

@@ -7,7 +7,7 @@ use Rattle.std.proofs.lemmas.List.Sums.{sum_by-set, count_by-le-length}
 use Rattle.std.proofs.lemmas.Option.{same_Some}
 use Rattle.mv_pool.specs.declared.pool.Id.{Id}
 use Rattle.mv_pool.specs.Places.{item_at}
-use Rattle.mv_pool.specs.Reached.{IsClosed, LinksAreHeld, IsReached, IsReclaimed}
+use Rattle.mv_pool.specs.Reached.{IsClosed, LinksAreHeld, IsReached, IsReclaimed, AreListed}
 use Rattle.mv_pool.proofs.Positions.{passes_within}
 use Rattle.mv_pool.proofs.Finding.{Loses}
 use Rattle.mv_pool.specs.Walks.{mark, IsQueued, HasReached, IsWalking, AreRooted, AreFreed}
@@ -217,6 +217,17 @@ module _ {T : Type 0} (link : T → ℕ → Option Id) (ps : List (Option T)) (r
       by : (n : ℕ) (b : Bool) → mark m n ≡ b → is_some (item_at qs n) ≡ true → IsReached link ps roots n
       by n true e some = λ set all closed. w.sound set all closed n e
       by n false e some = absurd (absent (item_at qs n) (gone n e) some)
+
+  -- what is in the queue where a walk ended
+  pub listed : (m : List Bool) (q : List ℕ) → IsWalking link ps roots m q (length q) → AreRooted m roots (length roots) → AreListed link ps roots q
+  listed m q w rooted = record {
+    reached = λ k less set all closed. w.sound set all closed (get_or q k 0) (w.walk.marked k less);
+    all = λ n reached. w.walk.queued n (reached (mark m) (λ k d h. rooted.each k d h) (closed_marks m q w));
+    marks = m;
+    marked = λ n. (λ h set all closed. w.sound set all closed n h, λ reached. reached (mark m) (λ k d h. rooted.each k d h) (closed_marks m q w));
+    count = w.walk.count;
+    within = omega (arith, w.walk.count, w.size, count_by-le-length (λ (b : Bool). b) m);
+  }
 
 -- places that are freed
 pub Loses-freed : {T : Type 0} (m : List Bool) (ps qs : List (Option T)) → AreFreed m ps qs (length m) → Loses ps qs

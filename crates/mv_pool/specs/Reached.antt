@@ -1,5 +1,5 @@
 -- Which places are reached from others by links.
-use Rattle.std.specs.Prelude.{◌≡◌, ℕ, ◌<◌, Bool, true, List, length, Option, Some, All, is_some}
+use Rattle.std.specs.Prelude.{◌≡◌, ◌↔◌, ℕ, ◌<◌, ◌≤◌, Bool, true, false, List, length, Option, Some, All, count_by, is_some, slice_index, slice_index_or}
 use Rattle.mv_pool.specs.declared.pool.Id.{Id}
 use Rattle.mv_pool.specs.Places.{item_at}
 
@@ -25,3 +25,15 @@ module _ {T : Type 0} (link : T → ℕ → Option Id) where
     pub long : length new ≡ length old
     pub kept : (n : ℕ) → IsReached old roots n → item_at new n ≡ item_at old n
     pub freed : (n : ℕ) → is_some (item_at new n) ≡ true → IsReached old roots n
+
+  -- the list has exactly the places that are reached, each once: they alone are marked, and it is
+  -- as long as there are marks
+  pub record AreListed (places : List (Option T)) (roots : List Id) (listed : List ℕ)
+      : Type 0 where
+    pub reached : (k : ℕ) → k < length listed → IsReached places roots (slice_index listed k)
+    pub all : (n : ℕ) → IsReached places roots n
+        → (k : ℕ) × (k < length listed) × (slice_index listed k ≡ n)
+    pub marks : List Bool
+    pub marked : (n : ℕ) → (slice_index_or marks n false ≡ true) ↔ IsReached places roots n
+    pub count : length listed ≡ count_by (λ b. b) marks
+    pub within : length listed ≤ length places

@@ -1,7 +1,7 @@
 ghost use Rattle.std.specs.Prelude.{◌≡◌, ℕ, ◌<◌, ◌≤◌, ◌+◌, ◌^◌, [], None, Some, Ok, Err, length, take, IfOk, IfSome, IsSome, All, is_some, true, vec_capacity};
 ghost use Rattle.indexmap.specs.IndexMap.{get, index_map_len, spare, Updates};
 ghost use Rattle.mv_pool.specs.Places.{place_of, item_at, least_free, held_in, with_item, AreDistinct};
-ghost use Rattle.mv_pool.specs.Reached.{LinksAreHeld, IsReclaimed};
+ghost use Rattle.mv_pool.specs.Reached.{AreListed, LinksAreHeld, IsReclaimed};
 ghost use Rattle.mv_pool.specs.declared.pool.Id.{Id};
 
 use crate::Linked;
@@ -157,6 +157,13 @@ impl<T: Copy + Eq + Hash> Pool<T> {
         number_all(&mut self.numbers, self.places.as_slice());
     }
 
+    /// Cuts all places. The time grows with them and with the room.
+    pub fn clear(&mut self)
+        ensures { self.new ≡ record { places = []; cap = self.old.cap } }
+    {
+        self.release(Mark(0));
+    }
+
     /// Frees each place that isn't reached from the roots by links. The time grows with the places.
     pub fn reclaim(&mut self, roots: &[Id])
     where
@@ -183,6 +190,24 @@ impl<T: Copy + Eq + Hash> Pool<T> {
         free_unmarked(&mut self.places, self.marks.as_slice());
         self.taken = 0;
         number_all(&mut self.numbers, self.places.as_slice());
+    }
+
+    /// Lists the places that are reached from the roots by links, each once, within the room that is there. The time
+    /// grows with all places.
+    pub fn reached(&mut self, roots: &[Id], listed: &mut Vec<u32>)
+    where
+        T: Linked,
+        requires roots { All
+            (λ (id : Id). is_some (item_at self.old.places id.0) ≡ true) roots.now }
+        requires links { LinksAreHeld T.link_of self.old.places }
+        requires room { self.old.cap ≤ vec_capacity listed.old }
+        ensures same { self.new ≡ self.old }
+        ensures listed { AreListed T.link_of self.old.places roots.now listed.new.items }
+        ensures room { vec_capacity listed.old ≤ vec_capacity listed.new }
+    {
+        begin(&mut self.marks, listed, self.places.len());
+        reach_roots(self.places.as_slice(), roots, &mut self.marks, listed);
+        follow_all(self.places.as_slice(), roots, &mut self.marks, listed);
     }
 
     /// No item stands at two places.

@@ -1,3 +1,2 @@
 pub mod Again
 mod Asked
-mod Sizes

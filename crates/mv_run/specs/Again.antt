@@ -3,12 +3,12 @@ use Rattle.std.specs.Prelude.{◌≡◌, ◌⊎◌, ℕ, ◌≤◌, Bool, List, 
 use Rattle.mv_base.specs.Outside.{Held, Stored, Written, Gained, file_named}
 use Rattle.mv_base.specs.declared.limits.TheConstants.{MAX_CERTIFICATE_BYTES}
 use Rattle.mv_entry.specs.declared.fault.RuleFault.{RuleFault}
+use Rattle.mv_format.specs.Formats.{Format, network_stage}
 use Rattle.mv_net.specs.declared.parts.NetParts.{NetParts}
 use Rattle.mv_cert.specs.Certificates.{Certifies, steps_in}
 use Rattle.mv_cert.specs.Replay.{FailsAt}
 use Rattle.mv_check.specs.Certificates.{certificate_stage}
 use Rattle.mv_command_line.specs.CommandLine.{Files}
-use Rattle.mv_task.specs.Formats.{IsNetOfText, blif_mv, network_stage}
 use Rattle.mv_task.specs.Sources.{File}
 use Rattle.mv_task.specs.Stages.{IsRefused, Takes}
 
@@ -39,30 +39,33 @@ pub record WriteSame (out out' again again' : Written) : Type 0 where
   pub first : Gained out out' text
   pub second : Gained again again' text
 
--- the files hold a network file that is accepted and a certificate that is one
-pub record HoldsBoth (net certificate : List ℕ) (files : Stored) : Type 0 where
+-- the files hold a network file of this format that is accepted and a certificate that is one
+pub record HoldsBoth (format : Format) (net certificate : List ℕ) (files : Stored) : Type 0 where
   pub text : List ℕ
-  pub network : Takes (network_stage blif_mv (File net)) files text
+  pub network : Takes (network_stage format (File net)) files text
   pub bytes : List ℕ
   pub rules : Takes (certificate_stage certificate) files bytes
 
 -- and behind some first rules of it, which apply in turn, beginning with the network, one doesn't
-pub record HoldsFailing (free : Bool) (net certificate : List ℕ) (files : Stored) : Type 0 where
-  pub both : HoldsBoth net certificate files
+pub record HoldsFailing (format : Format) (free : Bool) (net certificate : List ℕ)
+    (files : Stored) : Type 0 where
+  pub both : HoldsBoth format net certificate files
   pub first : NetParts
-  pub says : IsNetOfText both.text first
+  pub says : format.IsNet both.text first
   pub last : NetParts
   pub line : ℕ
   pub fault : RuleFault
   pub fails : FailsAt free (steps_in both.bytes) first last line fault
 
 -- or its rules apply in turn, beginning with any network of the file
-pub record HoldsReplay (free : Bool) (net certificate : List ℕ) (files : Stored) : Type 0 where
-  pub both : HoldsBoth net certificate files
-  pub leads : (first : NetParts) → IsNetOfText both.text first
+pub record HoldsReplay (format : Format) (free : Bool) (net certificate : List ℕ)
+    (files : Stored) : Type 0 where
+  pub both : HoldsBoth format net certificate files
+  pub leads : (first : NetParts) → format.IsNet both.text first
       → (last : NetParts) × Certifies free both.bytes first last
 
 -- the certificate is refused: its text, or a rule of it
-abbrev pub HoldsRefused : Bool → List ℕ → List ℕ → Stored → Type 0
-HoldsRefused free net certificate files = IsRefused (certificate_stage certificate) files
-    ⊎ HoldsFailing free net certificate files
+abbrev pub HoldsRefused : Format → Bool → List ℕ → List ℕ → Stored → Type 0
+HoldsRefused format free net certificate files =
+    IsRefused (certificate_stage certificate) files
+    ⊎ HoldsFailing format free net certificate files

@@ -1,7 +1,8 @@
 -- What a run does, by what the words ask for.
-use Rattle.std.specs.Prelude.{◌≡◌, ℕ, Bool, Option, Some, None, List, []}
+use Rattle.std.specs.Prelude.{◌≡◌, ℕ, Bool, Option, Some, None, []}
 use Rattle.mv_check.specs.Checked.{check_task}
 use Rattle.mv_command_line.specs.CommandLine.{Asked, opt, check, work}
+use Rattle.mv_format.specs.BlifMv.{blif_mv}
 use Rattle.mv_opt.specs.Optimised.{opt_task, drawn}
 use Rattle.mv_rules.specs.declared.terms.Terms.{Terms}
 use Rattle.mv_task.specs.Ends.{Task}
@@ -26,8 +27,8 @@ terms_of free budget = record { free = free; budget = budget }
 -- the task that is asked for: that a script optimises the network of a file or one that is drawn,
 -- or that a certificate is checked, on the terms that the words say; or none
 abbrev pub task_asked : Option Asked → Task
-task_asked (Some (opt f)) = opt_task (terms_of f.free f.budget) (File f.net) f.other
-task_asked (Some (check f)) = check_task f.free f.net f.other
+task_asked (Some (opt f)) = opt_task blif_mv (terms_of f.free f.budget) (File f.net) f.other
+task_asked (Some (check f)) = check_task blif_mv f.free f.net f.other
 task_asked (Some (work d)) =
-    opt_task (terms_of d.free d.budget) (drawn d.size d.seed) d.script
+    opt_task blif_mv (terms_of d.free d.budget) (drawn d.size d.seed) d.script
 task_asked None = words_task

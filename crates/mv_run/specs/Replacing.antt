@@ -6,9 +6,10 @@ use Rattle.mv_cert.specs.Replay.{rules_in}
 use Rattle.mv_command_line.specs.CommandLine.{Asked, opt, check, work}
 use Rattle.mv_entry.specs.declared.rule.Rule.{Rule}
 use Rattle.mv_entry.specs.Entries.{Entry, print, rules_of}
+use Rattle.mv_format.specs.BlifMv.{blif_mv}
+use Rattle.mv_format.specs.Formats.{Format, Replaces}
 use Rattle.mv_net.specs.declared.parts.NetParts.{NetParts}
 use Rattle.mv_task.specs.Ends.{Outside}
-use Rattle.mv_task.specs.Formats.{Replaces, blif_mv}
 use Rattle.mv_task.specs.Sources.{File, IsContent, IsReadWhole}
 
 -- the rules are those among the entries that the notes gained
@@ -24,10 +25,10 @@ pub record AreCertified (name : List ℕ) (files : Stored) (rules : List Rule) :
   pub is : IsContent (File name) files certificate
   pub are : rules ≡ rules_in (steps_in certificate)
 
--- the named network file was read to its end; and what was written reads back as a design that
--- takes the place of the one that was read, as such rules leave it
-pub record IsReplaced (free : Bool) (name : List ℕ) (AreRules : List Rule → Type 0)
-    (old new : Outside) : Type 0 where
+-- the named network file, of this format, was read to its end; and what was written reads back as
+-- a design that takes the place of the one that was read, as such rules leave it
+pub record IsReplaced (format : Format) (free : Bool) (name : List ℕ)
+    (AreRules : List Rule → Type 0) (old new : Outside) : Type 0 where
   pub content : List ℕ
   pub read : IsReadWhole (File name) old.files new.files content
   pub written : List ℕ
@@ -35,13 +36,13 @@ pub record IsReplaced (free : Bool) (name : List ℕ) (AreRules : List Rule → 
   pub rules : List Rule
   pub are : AreRules rules
   pub first : NetParts
-  pub replaces : Replaces blif_mv free rules first content written
+  pub replaces : Replaces format free rules first content written
 
 -- so it is with a task that reads a network file
 abbrev pub ReplacesFile : Option Asked → Outside → Outside → Type 0
 ReplacesFile (Some (opt f)) old new =
-    IsReplaced f.free f.net (AreNoted old.sinks.notes new.sinks.notes) old new
+    IsReplaced blif_mv f.free f.net (AreNoted old.sinks.notes new.sinks.notes) old new
 ReplacesFile (Some (check f)) old new =
-    IsReplaced f.free f.net (AreCertified f.other old.files) old new
+    IsReplaced blif_mv f.free f.net (AreCertified f.other old.files) old new
 ReplacesFile (Some (work d)) old new = Unit {0}
 ReplacesFile None old new = Unit {0}

@@ -1,6 +1,7 @@
 ghost use Rattle.std.specs.Prelude.{◌≡◌, ◌⊎◌, ℕ, IsTrue, is_some, IsSomeAnd, List, Some};
 ghost use Rattle.mv_base.specs.Outside.{Rose};
 ghost use Rattle.mv_command_line.specs.CommandLine.{Files, opt, check};
+ghost use Rattle.mv_format.specs.BlifMv.{blif_mv};
 ghost use Rattle.mv_task.specs.Ends.{Ends, Outside};
 ghost use Rattle.mv_task.specs.Exact.{IsUnhindered};
 ghost use Rattle.mv_run.specs.Again.{HoldsNoted, WriteSame, HoldsRefused, HoldsReplay, checking};
@@ -26,10 +27,11 @@ pub fn notes_check()
 /// doesn't apply on the terms of the check where those before it have led; a read that fails and want of memory alone come before.
 pub fn refused_exactly()
     ensures only { (f : Files) (old new : Outside) → Ends (task_asked (Some (check f))) old new 7
-        → HoldsRefused f.free f.net f.other old.files }
+        → HoldsRefused blif_mv f.free f.net f.other old.files }
     ensures always { (f : Files) (old new : Outside) (status : ℕ)
         → Ends (task_asked (Some (check f))) old new status
-        → IsTrue (is_some old.files.held) → HoldsRefused f.free f.net f.other old.files
+        → IsTrue (is_some old.files.held)
+        → HoldsRefused blif_mv f.free f.net f.other old.files
         → IsUnhindered status → status ≡ 7 }
 {}
 
@@ -39,7 +41,7 @@ pub fn replays_succeed()
     ensures { (f : Files) (old new : Outside) (status : ℕ)
         → Ends (task_asked (Some (check f))) old new status
         → IsSomeAnd old.files.held (λ held. IsTrue held.sound)
-        → HoldsReplay f.free f.net f.other old.files
+        → HoldsReplay blif_mv f.free f.net f.other old.files
         → (Rose old.sinks.out.faults new.sinks.out.faults → ⊥)
         → (Rose old.sinks.notes.faults new.sinks.notes.faults → ⊥)
         → (status ≡ 0) ⊎ (status ≡ 6) }

@@ -14,6 +14,16 @@ const WRITTEN: &str = "\
 -- The output of an instance is its own input, and no net is above itself.
 .model m;.inputs a;.outputs z;.subckt A u p=a q=n r=n s=z;.end;.model A;.inputs p r;.outputs q s;.table p -> q;- =p;.table r -> s;- =r;.end; | \
 .model m;.inputs a;.outputs z;.table a -> n;0 0;1 1;.table n -> z;0 0;1 1;.end; | # done 4 4;
+-- Equal rows stand once, however often their table is held, and whichever nets its columns are: in either order, or one net.
+.model r;.inputs a b c;.outputs p q s t;.subckt A u x=a y=b z=p;.subckt A v x=b y=c z=q;.subckt A w x=c y=a z=s;.subckt A k x=b y=b z=t;.end;\
+.model A;.inputs x y;.outputs z;.table x y -> z;.default 0;\
+1 0 1;1 0 1;1 0 1;1 0 1;1 0 1;1 0 1;1 0 1;1 0 1;1 0 1;1 0 1;1 0 1;1 0 1;1 0 1;1 0 1;1 0 1;1 0 1;\
+1 0 1;1 0 1;1 0 1;1 0 1;1 0 1;1 0 1;1 0 1;1 0 1;1 0 1;1 0 1;1 0 1;1 0 1;1 0 1;1 0 1;1 0 1;1 0 1;\
+1 0 1;1 0 1;1 0 1;1 0 1;1 0 1;1 0 1;1 0 1;1 0 1;1 0 1;1 0 1;1 0 1;1 0 1;1 0 1;1 0 1;1 0 1;1 0 1;\
+1 0 1;1 0 1;1 0 1;1 0 1;1 0 1;1 0 1;1 0 1;1 0 1;1 0 1;1 0 1;1 0 1;1 0 1;1 0 1;1 0 1;1 0 1;1 0 1;\
+1 1 1;.end; | \
+.model r;.inputs a b c;.outputs p q s t;.table a b -> p;.default 0;1 0 1;1 1 1;.table b c -> q;.default 0;1 0 1;1 1 1;\
+.table a c -> s;.default 0;0 1 1;1 1 1;.table b -> t;.default 0;1 1;.end; | # done 13 13;
 -- A latch in an instance drives an output of the root.
 .model m;.inputs d;.outputs s;.subckt L u i=d o=s;.end;.model L;.inputs i;.outputs o;.latch i o;.reset -> o;1;.end; | \
 .model m;.inputs d;.outputs s;.latch d s;.reset -> s;1;.end; | # done 0 0;

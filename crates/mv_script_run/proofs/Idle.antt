@@ -1,5 +1,5 @@
 -- A script without a command does nothing, and nothing else.
-use Rattle.std.proofs.Common.{◌≡◌, ℕ, zero, suc, Bool, true, false, List, [], ◌++◌, refl, sym, ap, ◌∙◌, arith}
+use Rattle.std.proofs.Common.{◌≡◌, ℕ, zero, suc, true, false, List, [], ◌++◌, refl, sym, ap, ◌∙◌, arith}
 use Rattle.std.proofs.lemmas.Bool.{and_from, or_parts, false≢true}
 use Rattle.mv_entry.specs.Entries.{Entry}
 use Rattle.mv_net.specs.declared.parts.NetParts.{NetParts}

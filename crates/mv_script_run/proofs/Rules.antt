@@ -1,5 +1,5 @@
 -- The rules among the entries of scripts apply in turn.
-use Rattle.std.proofs.Common.{◌≡◌, ◌∙◌, ℕ, Bool, true, List, [], ◌∷◌, ◌++◌, refl, sym, ap, subst}
+use Rattle.std.proofs.Common.{◌∙◌, ℕ, Bool, true, List, refl, sym, ap, subst}
 use Rattle.std.proofs.lemmas.List.{append-nil}
 use Rattle.mv_choose.specs.Choices.{Determinizing}
 use Rattle.mv_choose.proofs.Determinized.{determinizes_replay}
@@ -13,7 +13,7 @@ use Rattle.mv_entry.specs.declared.note.Command.TheVariants.{Drop, Sweep, Elimin
 use Rattle.mv_entry.specs.Entries.{Entry, rules_of}
 use Rattle.mv_merge.proofs.Merged.{merges_replay}
 use Rattle.mv_net.specs.declared.parts.NetParts.{NetParts}
-use Rattle.mv_pass.specs.Courses.{Course, Perhaps, Still, Through, VisitsSome, Short, Past}
+use Rattle.mv_pass.specs.Courses.{Perhaps, Still, Through, VisitsSome, Short, Past}
 use Rattle.mv_pass.specs.Going.{Before, Within, Behind}
 use Rattle.mv_pass.proofs.Going.{goes_replays, rules_of-append, ReplaysRules, replays_then}
 use Rattle.mv_pass.proofs.Turns.{Implies, of_turn, of_visits}

@@ -1,9 +1,9 @@
 -- What each status says, once for all tasks.
 use Rattle.std.proofs.Common.{◌≡◌, ◌∙◌, ◌⊎◌, ℕ, true, false, is_some, List, [], ◌∷◌, inl, inr, refl, sym, ap, subst, arith, ⊎_elim}
-use Rattle.std.specs.Prelude.{IsTrue, IsSomeAnd}
+use Rattle.std.specs.Prelude.{IsTrue}
 use Rattle.mv_base.specs.Outside.{Stored, Gained, Rose}
-use Rattle.mv_task.specs.Ends.{Outside, Sinks, Task, Work, Ends, Refused, Unread, Short, Worked, WorkEnds, IsDone, Done, OutputCut, NotesCut, Stopped, Own, is_common, Says, work_on, work_on_both}
-use Rattle.mv_task.specs.Exact.{IsExact, IsComplete, IsUnhindered, RefusesWith}
+use Rattle.mv_task.specs.Ends.{Outside, Sinks, Task, Work, Ends, Refused, Unread, Short, Worked, WorkEnds, IsDone, Done, OutputCut, NotesCut, Stopped, Own, is_common, work_on_both}
+use Rattle.mv_task.specs.Exact.{IsExact, IsComplete, RefusesWith}
 use Rattle.mv_task.specs.Sources.{IsReadWhole, starts_with}
 use Rattle.mv_task.specs.Stages.{Stage, Takes, AreTaken, AreRead, FirstOf, EndsRefused, EndsUnread}
 use Rattle.mv_task.proofs.Contents.{never_misses, told_sound}
@@ -13,14 +13,40 @@ use Rattle.mv_task.proofs.Walks.{first_never, first_both, one_contents, never_re
 pub common : (k n : ℕ) → is_common k ≡ false → k ≡ n → is_common n ≡ true → ⊥
 common k n apart e c = let f : is_common k ≡ is_common n = ap is_common e in cc
 
--- ---- the work is done
+-- ---- by how the work ended
 
-done_of : (work : Work) (old new : Sinks) (status : ℕ) → WorkEnds work old new status → status ≡ 0 → IsDone work old new
-done_of work old new status (Done is done) e = done
-done_of work old new status (OutputCut is rose noted written does notes part) e = absurd (omega arith)
-done_of work old new status (NotesCut is rose untouched noted does part) e = absurd (omega arith)
-done_of work old new status (Stopped is untouched noted stops tells) e = absurd (omega arith)
-done_of work old new status (Own apart untouched line refuses tells) e = absurd (common status 0 apart e refl)
+module _ (work : Work) (old new : Sinks) (status : ℕ) where
+  -- something holds of the status where it does of 0 if the work is done, of 5 if the output or the notes failed, of 6 if memory ran
+  -- out, and of the status of each refusal
+  pub work_by : (P : ℕ → Type 0) → (IsDone work old new → P 0)
+      → ((Rose old.out.faults new.out.faults ⊎ Rose old.notes.faults new.notes.faults) → (noted : List ℕ) → (work.Notes noted ⊎ ((written : List ℕ) × work.Does noted written)) → P 5) → (new.out ≡ old.out → P 6)
+      → (is_common status ≡ false → new.out ≡ old.out → (line : List ℕ) → work.Refuses status line → P status) → WorkEnds work old new status → P status
+  work_by P done cut short own (Done is all) = subst P (sym is) (done all)
+  work_by P done cut short own (OutputCut is rose noted written does notes part) = subst P (sym is) (cut (inl rose) noted (inr (written, does)))
+  work_by P done cut short own (NotesCut is rose untouched noted does part) = subst P (sym is) (cut (inr rose) noted does)
+  work_by P done cut short own (Stopped is untouched noted stops tells) = subst P (sym is) (short untouched)
+  work_by P done cut short own (Own apart untouched line refuses tells) = own apart untouched line refuses
+
+  done_of : WorkEnds work old new status → status ≡ 0 → IsDone work old new
+  done_of =
+      work_by (λ k. k ≡ 0 → IsDone work old new) (λ all e. all) (λ rose noted does e. absurd (omega arith)) (λ same e. absurd (omega arith))
+      (λ apart same line refuses e. absurd (common status 0 apart e refl))
+
+  work_untouched : WorkEnds work old new status → (status ≡ 0 → ⊥) → (status ≡ 5 → ⊥) → new.out ≡ old.out
+  work_untouched =
+      work_by (λ k. (k ≡ 0 → ⊥) → (k ≡ 5 → ⊥) → new.out ≡ old.out) (λ all a b. absurd (a refl)) (λ rose noted does a b. absurd (b refl)) (λ same a b. same) (λ apart same line refuses a b. same)
+
+  never_four : WorkEnds work old new status → status ≡ 4 → ⊥
+  never_four =
+      work_by (λ k. k ≡ 4 → ⊥) (λ all e. omega arith) (λ rose noted does e. omega arith) (λ same e. omega arith) (λ apart same line refuses e. common status 4 apart e refl)
+
+  work_complete : WorkEnds work old new status → (Rose old.out.faults new.out.faults → ⊥) → (Rose old.notes.faults new.notes.faults → ⊥) → (status ≡ 0) ⊎ (status ≡ 6) ⊎ ((line : List ℕ) × work.Refuses status line)
+  work_complete ends out notes =
+      let P : ℕ → Type 0 = λ k. (k ≡ 0) ⊎ (k ≡ 6) ⊎ ((line : List ℕ) × work.Refuses status line) in
+      work_by P (λ all. inl refl) (λ rose noted does. absurd (⊎_elim (λ (r : Rose old.out.faults new.out.faults). out r) (λ (r : Rose old.notes.faults new.notes.faults). notes r) rose)) (λ same. inr (inl refl))
+      (λ apart same line refuses. inr (inr (line, refuses))) ends
+
+-- ---- the work is done
 
 -- a task whose work is done
 pub record HasDone (task : Task) (old new : Outside) : Type 0 where
@@ -40,20 +66,6 @@ module _ {task : Task} {old new : Outside} {status : ℕ} where
   }
 
 -- ---- causes
-
-work_untouched : (work : Work) (old new : Sinks) (status : ℕ) → WorkEnds work old new status → (status ≡ 0 → ⊥) → (status ≡ 5 → ⊥) → new.out ≡ old.out
-work_untouched work old new status (Done is done) a b = absurd (a is)
-work_untouched work old new status (OutputCut is rose noted written does notes part) a b = absurd (b is)
-work_untouched work old new status (NotesCut is rose untouched noted does part) a b = untouched
-work_untouched work old new status (Stopped is untouched noted stops tells) a b = untouched
-work_untouched work old new status (Own apart untouched line refuses tells) a b = untouched
-
-never_four : (work : Work) (old new : Sinks) (status : ℕ) → WorkEnds work old new status → status ≡ 4 → ⊥
-never_four work old new status (Done is done) e = omega arith
-never_four work old new status (OutputCut is rose noted written does notes part) e = omega arith
-never_four work old new status (NotesCut is rose untouched noted does part) e = omega arith
-never_four work old new status (Stopped is untouched noted stops tells) e = omega arith
-never_four work old new status (Own apart untouched line refuses tells) e = common status 4 apart e refl
 
 module _ (task : Task) (old new : Outside) (status : ℕ) where
   pub ends_untouched : Ends task old new status → (status ≡ 0 → ⊥) → (status ≡ 5 → ⊥) → new.sinks.out ≡ old.sinks.out
@@ -88,14 +100,6 @@ module _ (task : Task) (old new : Outside) (status : ℕ) where
       absurd (first_never (RefusesWith k old.files) task.stages old.files old.files.starts contents (apart_of k told) read.taken refused)
 
 -- ---- completeness
-
-work_complete : (work : Work) (old new : Sinks) (status : ℕ) → WorkEnds work old new status → (Rose old.out.faults new.out.faults → ⊥) → (Rose old.notes.faults new.notes.faults → ⊥)
-    → (status ≡ 0) ⊎ (status ≡ 6) ⊎ ((line : List ℕ) × work.Refuses status line)
-work_complete work old new status (Done is done) o n = inl is
-work_complete work old new status (OutputCut is rose noted written does notes part) o n = absurd (o rose)
-work_complete work old new status (NotesCut is rose untouched noted does part) o n = absurd (n rose)
-work_complete work old new status (Stopped is untouched noted stops tells) o n = inr (inl is)
-work_complete work old new status (Own apart untouched line refuses tells) o n = inr (inr (line, refuses))
 
 module _ (task : Task) (old new : Outside) (status : ℕ) where
   pub ends_complete : Ends task old new status → IsComplete task old new status
@@ -137,13 +141,6 @@ refusal_is P (s ∷ ss) files new starts status line each first =
     refusal_is P ss files new (starts_with s.from starts) status line each.1 r.1.1)
     first
 
-work_known : (P : ℕ → Type 0) (work : Work) (old new : Sinks) (status : ℕ) → P 0 → P 5 → P 6 → ((k : ℕ) (line : List ℕ) → work.Refuses k line → P k) → WorkEnds work old new status → P status
-work_known P work old new status p0 p5 p6 own (Done is done) = subst P (sym is) p0
-work_known P work old new status p0 p5 p6 own (OutputCut is rose noted written does notes part) = subst P (sym is) p5
-work_known P work old new status p0 p5 p6 own (NotesCut is rose untouched noted does part) = subst P (sym is) p5
-work_known P work old new status p0 p5 p6 own (Stopped is untouched noted stops tells) = subst P (sym is) p6
-work_known P work old new status p0 p5 p6 own (Own apart untouched line refuses tells) = own status line refuses
-
 pub ends_known : (P : ℕ → Type 0) (task : Task) (old new : Outside) (status : ℕ) → P 0 → P 4 → P 5 → P 6 → EachRefusal P task.stages
     → ((contents : List (List ℕ)) (k : ℕ) (line : List ℕ) → (task.work contents).Refuses k line → P k) → Ends task old new status → P status
 ends_known P task old new status p0 p4 p5 p6 each own (Refused apart line first untouched tells) =
@@ -151,7 +148,7 @@ ends_known P task old new status p0 p4 p5 p6 each own (Refused apart line first 
 ends_known P task old new status p0 p4 p5 p6 each own (Unread is rose first untouched tells) = subst P (sym is) p4
 ends_known P task old new status p0 p4 p5 p6 each own (Short is begun untouched tells) = subst P (sym is) p6
 ends_known P task old new status p0 p4 p5 p6 each own (Worked contents read ends) =
-    work_known P (task.work contents) old.sinks new.sinks status p0 p5 p6 (own contents) ends
+    work_by (task.work contents) old.sinks new.sinks status P (λ all. p0) (λ rose noted does. p5) (λ same. p6) (λ apart same line refuses. own contents status line refuses) ends
 
 -- ---- tasks of two stages
 

@@ -1,9 +1,9 @@
 -- Stages, one after the other.
-use Rattle.std.proofs.Common.{◌≡◌, ◌∙◌, ℕ, is_some, List, [], ◌∷◌, ◌++◌, inl, inr, refl, sym, ap, subst, ⊎_elim}
+use Rattle.std.proofs.Common.{◌≡◌, ℕ, is_some, List, [], ◌∷◌, ◌++◌, inl, inr, refl, subst, ⊎_elim}
 use Rattle.std.specs.Prelude.{IsTrue}
 use Rattle.mv_base.specs.Outside.{Stored}
-use Rattle.mv_task.specs.Sources.{starts_with}
-use Rattle.mv_task.specs.Stages.{Stage, Takes, IsRefused, IsFaulty, AreTaken, FirstOf, starts_behind}
+use Rattle.mv_task.specs.Sources.{IsReadWhole, starts_with}
+use Rattle.mv_task.specs.Stages.{Stage, Takes, IsRefused, IsFaulty, AreTaken, FirstOf, IsLastRead, starts_behind}
 use Rattle.mv_task.proofs.Contents.{one_content}
 
 -- a stage behind those that are accepted
@@ -26,6 +26,18 @@ taken_more (f ∷ fs) s files (c ∷ cs) content taken t = (taken.0, taken_more 
 pub starts_more : (front : List Stage) (s : Stage) (starts : ℕ) → starts_behind (front ++ s ∷ []) starts ≡ starts_with s.from (starts_behind front starts)
 starts_more [] s starts = refl
 starts_more (f ∷ fs) s starts = starts_more fs s (starts_with f.from starts)
+
+-- what was read last behind a stage was read last
+last_behind : (f s : Stage) (fs : List Stage) (old new : Stored) (content : List ℕ) (contents : List (List ℕ)) → IsLastRead (fs ++ s ∷ []) old new contents → IsLastRead (f ∷ (fs ++ s ∷ [])) old new (content ∷ contents)
+last_behind f s [] old new content contents h = h
+last_behind f s (g ∷ gs) old new content contents h = h
+
+pub last_more : (front : List Stage) (s : Stage) (old new : Stored) (contents : List (List ℕ)) (content : List ℕ) → AreTaken front old contents → IsReadWhole s.from old new content
+    → IsLastRead (front ++ s ∷ []) old new (contents ++ content ∷ [])
+last_more [] s old new [] content taken read = read
+last_more [] s old new (c ∷ cs) content taken read = absurd taken
+last_more (f ∷ fs) s old new [] content taken read = absurd taken
+last_more (f ∷ fs) s old new (c ∷ cs) content taken read = last_behind f s fs old new c (cs ++ content ∷ []) (last_more fs s old new cs content taken.1 read)
 
 -- where all are accepted, none is first of those that no accepted one can be
 pub first_never : (P : Stage → ℕ → Type 0) (stages : List Stage) (files : Stored) (starts : ℕ) (contents : List (List ℕ))

@@ -3,7 +3,5 @@ pub mod Lines
 pub mod Stages
 pub mod Ends
 pub mod Exact
-pub mod Faults
-pub mod Formats
 pub mod Ending
 pub mod Stops

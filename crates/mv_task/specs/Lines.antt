@@ -1,14 +1,6 @@
 -- The lines that tell how a run ended.
-use Rattle.std.specs.Prelude.{◌⊎◌, ℕ, List, [], ◌∷◌, ◌++◌, IfSome, codes, decimal}
+use Rattle.std.specs.Prelude.{◌⊎◌, ℕ, List, ◌++◌, IfSome, codes}
 use Rattle.mv_base.specs.Outside.{Written, Gained, GainedFront, GainedPart, Rose}
-
--- a line of these words and a number
-abbrev pub number_line : List ℕ → ℕ → List ℕ
-number_line words number = words ++ decimal number ++ 10 ∷ []
-
--- a line of these words and two numbers
-abbrev pub numbers_line : List ℕ → ℕ → ℕ → List ℕ
-numbers_line words first second = words ++ decimal first ++ 32 ∷ decimal second ++ 10 ∷ []
 
 -- the line of refused words
 abbrev pub words_line : List ℕ

@@ -1,7 +1,7 @@
 -- What a task reads.
-use Rattle.std.specs.Prelude.{◌≡◌, ℕ, IfSome, Some, List}
-use Rattle.mv_base.specs.Outside.{Stored, counted, file_named}
-use Rattle.mv_files.specs.FileReading.{Lacks}
+use Rattle.std.specs.Prelude.{◌≡◌, ℕ, List}
+use Rattle.mv_base.specs.Outside.{Stored, counted}
+use Rattle.mv_files.specs.FileReading.{Holds, Lacks}
 use Rattle.mv_files.specs.LexedFiles.{ReadAll}
 
 -- where something is read from: the file of a name, or a text that the program made itself
@@ -11,8 +11,7 @@ pub data Source : Type 0 where
 
 -- what is there, where the files tell it
 abbrev pub IsContent : Source → Stored → List ℕ → Type 0
-IsContent (File name) files content =
-    IfSome files.held (λ held. file_named name held.files ≡ Some content)
+IsContent (File name) files content = Holds files name content
 IsContent (Text text) files content = content ≡ text
 
 -- this content was read to its end

@@ -2,11 +2,6 @@
 use Rattle.std.specs.Prelude.{◌≡◌, ℕ, List}
 use Rattle.mv_base.specs.Outside.{Stored, Rose}
 use Rattle.mv_files.specs.FileReading.{Stay}
-use Rattle.mv_lex.specs.declared.lines.LexLine.{LexLine}
-use Rattle.mv_parse.specs.Grammar.{FirstFault}
-use Rattle.mv_read.specs.Reads.{IsUnsound}
-use Rattle.mv_task.specs.declared.fault.FileFault.{FileFault}
-use Rattle.mv_task.specs.declared.fault.FileFault.TheVariants.{Lex, Parse, Flat}
 use Rattle.mv_task.specs.declared.stop.Stop.{Stop}
 use Rattle.mv_task.specs.declared.stop.Stop.TheVariants.{Refused, Read, Memory}
 use Rattle.mv_task.specs.Lines.{read_line, memory_line}
@@ -48,11 +43,3 @@ pub record Gives {V : Type 0} (IsSaid : List ℕ → V → Type 0) (s : Stage) (
 pub record WasBegun (s : Stage) (old new : Stored) : Type 0 where
   pub stay : Stay old new
   pub begun : new.starts ≡ starts_with s.from old.starts
-
--- why no network comes of some lines
-abbrev pub IsLinesCause : List LexLine → Stop FileFault → Type 0
-IsLinesCause lines (Refused (Lex f)) = ⊥
-IsLinesCause lines (Refused (Parse f)) = FirstFault lines f
-IsLinesCause lines (Refused (Flat f)) = IsUnsound lines f
-IsLinesCause lines Read = ⊥
-IsLinesCause lines Memory = Unit {0}

@@ -16,17 +16,17 @@ returns-in-Err-Memory g c = Stopped refl refl _ (inl refl) (TellsBehind-nothing 
 pub returns-in-Err : goal.returns-in-Err
 returns-in-Err g c =
     let replays = rw c.as_slice.ensures at c.in-Ok.ensures.replays in
-    let does = has_replayed _ _ _ c.replay.new.net _ c.literals-before.ensures replays c.in-Ok.ensures.refines c.reads_back.ensures in
+    let does = has_replayed _ _ _ c.replay.new.net _ c.literals-before.ensures replays in
     NotesCut refl c.in-Err.ensures.cause.failed refl _ (inr (_, does)) c.in-Err.ensures.part
 
 pub returns : goal.returns
 returns g c =
     let replays = rw c.as_slice.ensures at c.in-Ok.ensures.replays in
-    let does = has_replayed _ _ _ c.replay.new.net _ c.literals-before.ensures replays c.in-Ok.ensures.refines c.reads_back.ensures in
+    let does = has_replayed _ _ _ c.replay.new.net _ c.literals-before.ensures replays in
     OutputCut refl c.in-Err-write.ensures.cause.failed _ _ does c.in-Ok-put_done.ensures.ok c.in-Err-write.ensures.part
 
 pub returns-in-Ok-write : goal.returns-in-Ok-write
 returns-in-Ok-write g c =
     let replays = rw c.as_slice.ensures at c.in-Ok.ensures.replays in
-    let does = has_replayed _ _ _ c.replay.new.net _ c.literals-before.ensures replays c.in-Ok.ensures.refines c.reads_back.ensures in
+    let does = has_replayed _ _ _ c.replay.new.net _ c.literals-before.ensures replays in
     Done refl (record { noted = _; written = _; does = does; notes = c.in-Ok-put_done.ensures.ok; out = c.in-Ok-write.ensures.ok })

@@ -19,7 +19,7 @@ pub returns-in_default-part-clause-ok : goal.returns-in_default-part-clause-ok
 returns-in_default-part-clause-ok t c =
     result_end c.args.table.now.counts.items c.args.table.now.pool.places c.requires.sound c.args.operation c.args.a.0 c.args.b.0 c.requires.left c.requires.right c.end.result.0
     c.in_default-part.ensures.left c.in_default-part.ensures.right
-    (c.end.ensures ∙ ap (λ x. if x then 1 else 0) (c.answer.ensures ∙ ap (λ x. result_of c.args.operation x c.eq-in_default-part.result) c.eq.ensures ∙ ap (result_of c.args.operation _) c.eq-in_default-part.ensures))
+    (c.end.ensures ∙ ap (λ x. if x then 1 else 0) (c.answer_of.ensures ∙ ap (λ x. result_of c.args.operation x c.eq-in_default-part.result) c.eq.ensures ∙ ap (result_of c.args.operation _) c.eq-in_default-part.ensures))
 
 -- where the test says yes
 

@@ -1,90 +1,17 @@
-use Rattle.std.proofs.Common.{◌≡◌, ◌∙◌, ◌-◌, ◌<◌, length, slice_index, sym, ap, subst, arith}
-use Rattle.mv_base.specs.Set.{has}
-use Rattle.mv_pool.proofs.Walking.{read_any}
-use Rattle.mv_diagram.proofs.Literals.{end_of, literal_last, literal_from, lacking_literal, seen_all}
-use Rattle.mv_diagram.proofs.Lacking.{lacking_same}
-use Rattle.mv_diagram.specs.Parts.{AddsParts}
-use Rattle.mv_diagram.proofs.Adding.{parts_none, literal_whole, literal_down, made_parts, made_set}
-use Rattle.mv_diagram.proofs.Tables.{AddsNodes-same, AddsNodes-more}
+use Rattle.mv_diagram.proofs.Cubing.{full_held, full_behind, alone_set, alone_added, alone_lacking}
 use Rattle.mv_diagram.proofs.literal.literal_of.Goals as goal
 
-pub loop-value-init : goal.loop-value-init
-loop-value-init c =
-    let counts = c.args.table.now.counts.items in
-    let ns = c.args.table.now.pool.places in
-    let s = c.requires.sound in
-    let count : slice_index counts c.args.var ≡ c.index.result.now = read_any counts c.args.var c.index.result.now 0 c.requires.variable c.index.ensures in
-    let some = s.values.some c.args.var c.requires.variable in
-    let few = s.values.few c.args.var c.requires.variable in
-    let within = c.requires.variable in
-    let end = end_of counts ns c.has.result c.end-rest.result.0 c.end-rest.ensures in
-    let last = end.last in
-    record {
-      adds = AddsNodes-same c.args.table.now s;
-      below = omega arith;
-      held = end.held;
-      later = omega arith;
-      set = λ p. end.all p ∙ c.has.ensures ∙ literal_last counts c.args.var c.args.set (c.index.result.now - 1) p (ap (λ x. x - 1) (sym count));
-      parts = parts_none counts ns _;
-    }
+pub literal_in-requires-clause-held : goal.literal_in-requires-clause-held
+literal_in-requires-clause-held c = full_held c.args.table.now.pool.places
 
-pub loop-value-preserved : goal.loop-value-preserved
-loop-value-preserved c =
-    let old = c.loop-value.table in
-    let new = c.make.new.table in
-    let is = c.loop-value.invariant in
-    let adds = c.make.ensures.adds in
-    let within : c.args.var < length old.counts.items = rw (ap (λ v. v.items) is.adds.counts) c.requires.variable in
-    let end = end_of old.counts.items old.pool.places c.has-in-loop-value.result c.end-yes.result.0 c.end-yes.ensures in
-    record {
-      adds = AddsNodes-more c.args.table.now old new is.adds adds;
-      below = rw (ap (λ v. v.items) adds.counts) (omega (arith, is.below, c.loop-value-test.true));
-      held = c.in-Ok.ensures.held;
-      later = c.in-Ok.ensures.later;
-      set = λ p. c.in-Ok.ensures.set p ∙ made_set old new is.adds.sound adds c.args.var c.args.set c.loop-value.value within is.below (omega (arith, c.loop-value-test.true)) c.end-yes.result.0 c.loop-value.rest.0 (λ p. end.all p ∙ c.has-in-loop-value.ensures) is.set p;
-      parts = made_parts old new is.adds.sound adds c.args.var c.args.set c.loop-value.value within is.below (omega (arith, c.loop-value-test.true)) c.end-yes.result.0 c.loop-value.rest.0 (λ p. end.all p ∙ c.has-in-loop-value.ensures) is.set c.args.table.now.pool.places is.parts c.make.ensures.added;
-    }
-
-pub returns-in-Err-clause-adds : goal.returns-in-Err-clause-adds
-returns-in-Err-clause-adds c = AddsNodes-more c.args.table.now c.loop-value.table c.make.new.table c.loop-value.invariant.adds c.make.ensures.adds
-
-pub returns-in-Err-clause-lacking : goal.returns-in-Err-clause-lacking
-returns-in-Err-clause-lacking c =
-    let old = c.loop-value.table in
-    let new = c.make.new.table in
-    let is = c.loop-value.invariant in
-    let adds = c.make.ensures.adds in
-    let within : c.args.var < length old.counts.items = rw (ap (λ v. v.items) is.adds.counts) c.requires.variable in
-    let end = end_of old.counts.items old.pool.places c.has-in-loop-value.result c.end-yes.result.0 c.end-yes.ensures in
-    let counts = ap (λ v. v.items) adds.counts in
-    lacking_literal new.counts.items new.pool.places adds.sound c.args.var c.args.set (rw counts within) (c.loop-value.value - 1) (rw counts (omega (arith, is.below)))
-    (lacking_same new.counts.items new.pool.places adds.sound _ _ (made_set old new is.adds.sound adds c.args.var c.args.set c.loop-value.value within is.below (omega (arith, c.loop-value-test.true)) c.end-yes.result.0 c.loop-value.rest.0 (λ p. end.all p ∙ c.has-in-loop-value.ensures) is.set) c.in-Err.ensures.lacking)
+pub literal_in-requires-clause-behind : goal.literal_in-requires-clause-behind
+literal_in-requires-clause-behind c = full_behind c.args.table.now.counts.items c.args.table.now.pool.places c.args.var c.requires.variable
 
 pub returns-clause-set : goal.returns-clause-set
-returns-clause-set c p range =
-    let counts = c.loop-value.table.counts.items in
-    let within : c.args.var < length counts = rw (ap (λ v. v.items) c.loop-value.invariant.adds.counts) c.requires.variable in
-    let done : c.loop-value.value ≡ 0 = omega (arith, c.loop-value-test.false) in
-    c.loop-value.invariant.set p
-    ∙ ap (λ x. literal_from counts c.args.var c.args.set x p) done
-    ∙ ap (has c.args.set) (seen_all (slice_index counts c.args.var) (p c.args.var) (range.below c.args.var within))
-
-pub returns-in-Err-clause-added : goal.returns-in-Err-clause-added
-returns-in-Err-clause-added c =
-    let old = c.loop-value.table in
-    let new = c.make.new.table in
-    let is = c.loop-value.invariant in
-    let adds = c.make.ensures.adds in
-    let within : c.args.var < length old.counts.items = rw (ap (λ v. v.items) is.adds.counts) c.requires.variable in
-    let end = end_of old.counts.items old.pool.places c.has-in-loop-value.result c.end-yes.result.0 c.end-yes.ensures in
-    let counts = ap (λ v. v.items) adds.counts in
-    literal_down new.counts.items c.args.table.now.pool.places new.pool.places adds.sound c.args.var c.args.set (c.loop-value.value - 1) (rw counts within) (rw counts (omega (arith, is.below)))
-    (made_parts old new is.adds.sound adds c.args.var c.args.set c.loop-value.value within is.below (omega (arith, c.loop-value-test.true)) c.end-yes.result.0 c.loop-value.rest.0 (λ p. end.all p ∙ c.has-in-loop-value.ensures) is.set c.args.table.now.pool.places is.parts c.make.ensures.added)
+returns-clause-set c = alone_set c.args.table.now c.literal_in.new.table c.args.var c.args.set c.literal_in.result c.literal_in.ensures.set
 
 pub returns-clause-added : goal.returns-clause-added
-returns-clause-added c =
-    let counts = c.loop-value.table.counts.items in
-    let within : c.args.var < length counts = rw (ap (λ v. v.items) c.loop-value.invariant.adds.counts) c.requires.variable in
-    let done : c.loop-value.value ≡ 0 = omega (arith, c.loop-value-test.false) in
-    let parts = subst (λ x. AddsParts counts c.args.table.now.pool.places c.loop-value.table.pool.places (literal_from counts c.args.var c.args.set x)) done c.loop-value.invariant.parts in
-    literal_whole counts c.args.table.now.pool.places c.loop-value.table.pool.places c.loop-value.invariant.adds.sound.values c.args.var c.args.set within parts
+returns-clause-added c = alone_added c.args.table.now c.literal_in.new.table c.args.var c.args.set c.literal_in.ensures.adds c.literal_in.ensures.added
+
+pub returns-clause-lacking : goal.returns-clause-lacking
+returns-clause-lacking c = alone_lacking c.args.table.now c.literal_in.new.table c.args.var c.args.set c.literal_in.ensures.adds c.literal_in.result c.literal_in.ensures.lacking

@@ -7,6 +7,7 @@ use Rattle.mv_resets.proofs.Nets.{resets_single}
 use Rattle.mv_acyclic.proofs.Distinct.{few_drivers}
 use Rattle.mv_flat.specs.Built.{IsBuilt}
 use Rattle.mv_flat.specs.Placed.{IsPlacedTable}
+use Rattle.mv_flat.specs.Shared.{IsFrom}
 use Rattle.mv_flat.proofs.Distinct.{places_differ}
 use Rattle.mv_flat.proofs.Models.{IsWithNets, with_nets, well_formed, places_few, nets_few}
 use Rattle.mv_flat.proofs.Refusals.{small_by}
@@ -56,6 +57,12 @@ built-requires-clause-few c =
     let e = ap length c.in_ok-names.ensures.names in
     let l = places_few c.in_ok-model.model are.proper are.few in
     omega (arith, e, l)
+
+pub built-requires-clause-shared : goal.built-requires-clause-shared
+unfolding with_reset_nets
+built-requires-clause-shared c =
+    let P : FileModel → Type 0 = λ m. All (IsFrom c.args.shared) m.tables in
+    subst P (sym c.in_ok-model.ensures) c.requires.shared
 
 pub built-requires-clause-few_nets : goal.built-requires-clause-few_nets
 built-requires-clause-few_nets c =

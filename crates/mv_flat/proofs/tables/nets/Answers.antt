@@ -12,6 +12,7 @@ use Rattle.mv_flat.specs.Built.{open_nets}
 use Rattle.mv_flat.specs.Covers.{IsMadeTable}
 use Rattle.mv_flat.specs.Numbers.{choice_at, mark_at}
 use Rattle.mv_flat.specs.Marks.{AddsNets, TableNets}
+use Rattle.mv_flat.specs.Shared.{IsFrom}
 use Rattle.mv_flat.specs.Sized.{AreSized, TellsCovers}
 use Rattle.mv_flat.proofs.Behinds.{TablesMade, choice_at_table, outputs_few, table_at, tables_more, tables_last, tables_room}
 use Rattle.mv_flat.proofs.Sizes.{HasCovers, outputs_covered, sized_more, sized_last, past_limit, limit_told}
@@ -62,6 +63,12 @@ pub covers-requires-clause-chosen : goal.covers-requires-clause-chosen
 covers-requires-clause-chosen c =
     let at = next (goal.at.covers-requires-clause-chosen c).In-Some in
     choice_at_table c.args.model c.args.names.now (length c.loop-table.yielded) c.in-Some.table c.requires.placed.are at.low at.is
+
+pub covers-requires-clause-from : goal.covers-requires-clause-from
+covers-requires-clause-from c =
+    let at = next (goal.at.covers-requires-clause-from c).In-Some in
+    let P : FileTable → Type 0 = λ t. IsFrom c.loop-table.shared t in
+    subst P (sym at.is) (c.loop-table.invariant.shared (length c.loop-table.yielded) c.in-Some.table at.low)
 
 -- its covers, over the model's nets
 covered : (c : In-Ok) → HasCovers c.args.model.decls c.args.names.now c.in-Some.table c.in-Ok.covers
@@ -124,7 +131,11 @@ sized_with c at covers =
 pub loop-table-preserved : goal.loop-table-preserved
 loop-table-preserved c =
     let to = goal.at.loop-table-preserved c in
-    record { made = made_more to.In_ok-put_table (next to.In-Some); sized = sized_with to.In_ok-put_table (next to.In-Some) (covered to.In-Ok) }
+    record {
+      made = made_more to.In_ok-put_table (next to.In-Some);
+      sized = sized_with to.In_ok-put_table (next to.In-Some) (covered to.In-Ok);
+      shared = λ k d low. c.in-Ok.ensures.kept (get_or c.args.model.tables k d) (c.loop-table.invariant.shared k d low);
+    }
 
 end : (c : In-None) → length c.args.model.tables ≤ length c.loop-table.yielded
 end c =

@@ -1,7 +1,7 @@
 -- The words ask for a task, and it is done; a network that is asked for has a lawful size. Where the words give nothing, no task is begun.
 use Rattle.std.proofs.Common.{[], inl, refl}
 use Rattle.mv_task.specs.Ends.{Short, Worked, Own}
-use Rattle.mv_run.proofs.Sizes.{sizes}
+use Rattle.mv_command_line.proofs.Sizes.{sizes}
 use Rattle.mv_run.proofs.running.perform.Goals as goal
 
 pub work-requires-clause-least : goal.work-requires-clause-least

@@ -18,7 +18,7 @@ returns-clause-lacks c =
     (rw (← c.self.view_is) at c.requires.left) (rw (← c.self.view_is) at c.requires.right) c.apply.result c.apply.ensures.lacking)
 
 pub invariant_of-self : goal.invariant_of-self
-invariant_of-self c = whole_adds c.self.inside.table c.apply.new.table _ _ _ _ _ _ _ c.apply.ensures.adds (omega arith) c.apply.ensures.remembers c.self.invariant
+invariant_of-self c = whole_adds c.self.inside.table c.apply.new.table _ _ _ _ _ _ _ _ c.apply.ensures.adds (omega arith) c.apply.ensures.remembers c.self.invariant
 
 pub returns-clause-added : goal.returns-clause-added
 returns-clause-added c =

@@ -4,7 +4,7 @@ use Rattle.mv_diagram.proofs.Tables.{table_remembers}
 use Rattle.mv_diagram.proofs.diagrams.Diagrams.literal.Goals as goal
 
 pub invariant_of-self : goal.invariant_of-self
-invariant_of-self c = whole_adds c.self.inside.table c.literal_of.new.table _ _ _ _ _ _ _ c.literal_of.ensures.adds (omega arith) (table_remembers c.self.inside.table c.literal_of.new.table c.self.invariant.sound c.literal_of.ensures.adds c.self.inside.memo.entries c.self.invariant.remembers) c.self.invariant
+invariant_of-self c = whole_adds c.self.inside.table c.literal_of.new.table _ _ _ _ _ _ _ _ c.literal_of.ensures.adds (omega arith) (table_remembers c.self.inside.table c.literal_of.new.table c.self.invariant.sound c.literal_of.ensures.adds c.self.inside.memo.entries c.self.invariant.remembers) c.self.invariant
 
 pub returns-clause-keeps : goal.returns-clause-keeps
 returns-clause-keeps c = rw (← c.self.view_is) (Keeps-adds c.self.inside.table c.literal_of.new.table c.self.inside.reclaims c.self.invariant.sound c.literal_of.ensures.adds)

@@ -31,6 +31,7 @@ invariant_of-self c =
       marked = omega (arith, c.reclaim.ensures.cap, c.self.invariant.marked, c.gather.ensures.marks);
       gathered = omega (arith, c.reclaim.ensures.cap, c.self.invariant.gathered, c.gather.ensures.ids);
       room = c.self.invariant.room;
+      listed = omega (arith, c.reclaim.ensures.cap, c.self.invariant.listed);
     })
 
 pub returns-clause-loses : goal.returns-clause-loses

@@ -20,6 +20,7 @@ invariant_of-self c =
       marked = c.self.invariant.marked;
       gathered = c.self.invariant.gathered;
       room = c.self.invariant.room;
+      listed = c.self.invariant.listed;
     })
 
 pub returns-clause-loses : goal.returns-clause-loses

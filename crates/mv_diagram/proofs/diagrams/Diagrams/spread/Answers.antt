@@ -4,7 +4,7 @@ use Rattle.mv_diagram.proofs.Showing.{whole_adds, Keeps-adds, spread_shown, answ
 use Rattle.mv_diagram.proofs.diagrams.Diagrams.spread.Goals as goal
 
 pub invariant_of-self : goal.invariant_of-self
-invariant_of-self c = whole_adds c.self.inside.table c.quantify.new.table _ _ _ _ _ _ _ c.quantify.ensures.adds c.choose.ensures.room c.quantify.ensures.remembers c.self.invariant
+invariant_of-self c = whole_adds c.self.inside.table c.quantify.new.table _ _ _ _ _ _ _ _ c.quantify.ensures.adds c.choose.ensures.room c.quantify.ensures.remembers c.self.invariant
 
 pub returns-clause-keeps : goal.returns-clause-keeps
 returns-clause-keeps c = rw (← c.self.view_is) (Keeps-adds c.self.inside.table c.quantify.new.table c.self.inside.reclaims c.self.invariant.sound c.quantify.ensures.adds)
@@ -12,13 +12,16 @@ returns-clause-keeps c = rw (← c.self.view_is) (Keeps-adds c.self.inside.table
 pub returns-clause-set : goal.returns-clause-set
 returns-clause-set c =
     rw (← c.self.view_is)
-    (spread_shown c.self.inside.table c.quantify.new.table c.self.inside.reclaims c.args.a c.args.vars.now (mark c.as_slice.result.now)
+    (spread_shown c.self.inside.table c.quantify.new.table c.self.inside.reclaims c.args.a c.args.b c.args.vars.now (mark c.as_slice.result.now)
     (λ v. ap (λ m. mark m v) c.as_slice.ensures.value ∙ c.choose.ensures.marked v)
-    c.self.invariant.sound c.quantify.ensures.adds (rw (← c.self.view_is) at c.requires.held) c.args.answer c.quantify.result c.quantify.ensures.ok)
+    c.self.invariant.sound c.quantify.ensures.adds (rw (← c.self.view_is) at c.requires.left) (rw (← c.self.view_is) at c.requires.right) c.args.answer c.quantify.result c.quantify.ensures.ok)
 
 pub returns-clause-added : goal.returns-clause-added
 returns-clause-added c =
     rw (← c.self.view_is)
-    (answers_shown c.self.inside.table c.quantify.new.table c.self.inside.reclaims c.args.a c.args.vars.now (mark c.as_slice.result.now)
+    (answers_shown c.self.inside.table c.quantify.new.table c.self.inside.reclaims c.args.a c.args.b c.args.vars.now (mark c.as_slice.result.now)
     (λ v. ap (λ m. mark m v) c.as_slice.ensures.value ∙ c.choose.ensures.marked v)
-    c.self.invariant.sound c.quantify.ensures.adds (rw (← c.self.view_is) at c.requires.held) c.args.answer c.quantify.ensures.added)
+    c.self.invariant.sound c.quantify.ensures.adds (rw (← c.self.view_is) at c.requires.left) (rw (← c.self.view_is) at c.requires.right) c.args.answer c.quantify.ensures.added)
+
+pub returns-clause-values : goal.returns-clause-values
+returns-clause-values c = c.quantify.ensures.adds.sound.values

@@ -1,0 +1,4 @@
+pub mod NumberLines
+pub mod Networks
+pub mod Replacing
+pub mod Lawful

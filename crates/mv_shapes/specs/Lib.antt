@@ -1,0 +1,3 @@
+-- what private functions alone cite
+pub mod Shape
+pub mod Kept
