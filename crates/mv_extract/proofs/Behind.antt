@@ -1,5 +1,5 @@
 -- What a step changes: the table of the net that comes, and tables that read it from then on.
-use Rattle.std.proofs.Common.{◌≡◌, ◌∙◌, ℕ, zero, suc, ◌+◌, ◌<◌, ◌≤◌, Bool, true, false, nat_eq, Some, None, List, [], ◌∷◌, ◌++◌, length, map, filter, is_some, All, Contains, inl, inr, refl, sym, ap, subst, ⊎_elim, arith}
+use Rattle.std.proofs.Common.{◌≡◌, ◌∙◌, ℕ, zero, suc, ◌+◌, ◌<◌, ◌≤◌, Bool, true, false, nat_eq, Option, Some, None, List, [], ◌∷◌, ◌++◌, length, map, filter, is_some, All, Contains, inl, inr, refl, sym, ap, subst, ⊎_elim, arith}
 use Rattle.std.proofs.lemmas.Bool.{cases_eq, cases_lt, false≢true, or_left, or_right, eq-eqb}
 use Rattle.std.proofs.lemmas.List.{length-map, get_or_past}
 use Rattle.std.proofs.lemmas.List.Elements.{All-nil, All-cons, Contains-append_left, Contains-append_right, Contains-push}
@@ -16,11 +16,11 @@ use Rattle.mv_division.proofs.Adding.{added_leaves, slot_before}
 use Rattle.mv_division.proofs.Applying.{divided_leaves, others_kept}
 use Rattle.mv_cover.proofs.Absorbing.{any_at}
 use Rattle.mv_entry.specs.Entries.{Entry}
-use Rattle.mv_gains.specs.Gains.{covers_at}
 use Rattle.mv_gains.proofs.Readers.{table_at}
 use Rattle.mv_kernels.proofs.Lists.{Contains-first, Contains-none, Contains-cons_cases}
 use Rattle.mv_meaning.proofs.OneTable.{table-here}
 use Rattle.mv_meaning.specs.Rewriting.{with_net_table}
+use Rattle.mv_net.specs.declared.parts.FlatNet.{FlatNet}
 use Rattle.mv_net.specs.declared.parts.NetParts.{NetParts}
 use Rattle.mv_net.specs.Changes.{with_nets}
 use Rattle.mv_net.specs.Formed.{WellFormed}
@@ -120,19 +120,21 @@ module _ (free : Bool) (divisor : List (List Lit)) (d : NetId) (mid : NetParts) 
 pub record Stepped (a b : NetParts) : Type 0 where
   pub long : length b.nets ≡ length a.nets + 1
   pub held : is_held b.nets (length a.nets) ≡ true
-  pub behind : AreBehind b.nets (next_net a) (map covers_at a.nets)
+  pub same : (n : ℕ) → (n ≡ length a.nets → ⊥) → net_reads (slot b.nets n) (length a.nets) ≡ false → slot b.nets n ≡ slot a.nets n
+
+-- what is kept of each table is behind by what a step changes
+pub tables_behind : {X : Type 0} (kept_of : Option FlatNet → List X) (a b : NetParts) → kept_of None ≡ [] → Stepped a b → AreBehind kept_of b.nets (next_net a) (map kept_of a.nets)
+tables_behind kept_of a b none step = record {
+  more = let long = step.long in omega (arith, long, length-map a.nets kept_of);
+  others = λ n other still. ap kept_of (step.same n other still) ∙ sym (table_at kept_of none a.nets (map kept_of a.nets) refl n);
+}
 
 pub step_behind : (free : Bool) (divisor : List (List Lit)) (a b : NetParts) (es : List Entry) → WellFormed a → IsDivisorOver a.nets divisor → TakesDivisor free divisor a es b → Stepped a b
 unfolding with_nets
 step_behind free divisor a b es formed over t = record {
   long = left.long ∙ long;
   held = ap is_some (stays.own ∙ (ready_added a name divisor formed over).stands.held);
-  behind = record {
-    more = omega (arith, left.long, long, length-map a.nets covers_at);
-    others = λ n other none.
-        let same = stays.same n none in
-        sym (table_at a.nets (map covers_at a.nets) refl n ∙ ap covers_at (sym (same ∙ before n other)));
-  };
+  same = λ n other none. stays.same n none ∙ before n other;
 }
   where
     name : List ℕ

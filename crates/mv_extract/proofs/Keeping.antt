@@ -10,7 +10,7 @@ use Rattle.mv_cover.proofs.Absorbing.{any_at}
 use Rattle.mv_graph.specs.Nets.{has_id, IsAscending}
 use Rattle.mv_divide.specs.declared.part.Part.{Part}
 use Rattle.mv_gains.specs.Candidates.{IsBest, IsCubeCandidate, IsKernelCandidate, NoneSaves}
-use Rattle.mv_gains.specs.Gains.{covers_at}
+use Rattle.mv_gains.specs.Gains.{covers_at, cubes_at}
 use Rattle.mv_net.specs.declared.parts.FlatNet.{FlatNet}
 use Rattle.mv_net.specs.declared.parts.NetParts.{NetParts}
 use Rattle.mv_net.specs.Index.{is_held}
@@ -22,7 +22,7 @@ use Rattle.mv_extract.specs.declared.kind.Search.TheVariants as kept
 use Rattle.mv_extract.specs.Dividing.{candidates_of}
 use Rattle.mv_extract.specs.Keeping.{AreBehind, IsBehind, IsSearch}
 use Rattle.mv_extract.specs.Steps.{next_net}
-use Rattle.mv_extract.proofs.Behind.{Stepped}
+use Rattle.mv_extract.proofs.Behind.{Stepped, tables_behind}
 
 module _ (kind : Divisors) (nets : List (Option FlatNet)) where
   pub kernels_kept : (gains : List (List Part)) → IsSearch kind nets (kept.Kernels gains) → gains ≡ map covers_at nets
@@ -32,8 +32,18 @@ module _ (kind : Divisors) (nets : List (Option FlatNet)) where
       by kinds.Kernels s = s
       by kinds.Cubes s = absurd s
 
+  pub cubes_kept : (gains : List (List (List Lit))) → IsSearch kind nets (kept.Cubes gains) → gains ≡ map cubes_at nets
+  cubes_kept gains s = by kind s
+    where
+      by : (k : Divisors) → IsSearch k nets (kept.Cubes gains) → gains ≡ map cubes_at nets
+      by kinds.Kernels s = absurd s
+      by kinds.Cubes s = s
+
   pub kernels_again : (old new : List (List Part)) → IsSearch kind nets (kept.Kernels old) → new ≡ old → IsSearch kind nets (kept.Kernels new)
   kernels_again old new s same = subst (λ gains. IsSearch kind nets (kept.Kernels gains)) (sym same) s
+
+  pub cubes_again : (old new : List (List (List Lit))) → IsSearch kind nets (kept.Cubes old) → new ≡ old → IsSearch kind nets (kept.Cubes new)
+  cubes_again old new s same = subst (λ gains. IsSearch kind nets (kept.Cubes gains)) (sym same) s
 
   pub best_kernel : (gains : List (List Part)) (best : Option (List (List Lit))) → IsSearch kind nets (kept.Kernels gains) → MatchOption best (NoneSaves IsKernelCandidate nets) (IsBest IsKernelCandidate nets) → MatchOption best (NoneSaves (candidates_of kind) nets) (IsBest (candidates_of kind) nets)
   best_kernel gains best s b = by kind s
@@ -42,19 +52,26 @@ module _ (kind : Divisors) (nets : List (Option FlatNet)) where
       by kinds.Kernels s = b
       by kinds.Cubes s = absurd s
 
-  pub best_cube : (best : Option (List (List Lit))) → IsSearch kind nets kept.Cubes → MatchOption best (NoneSaves IsCubeCandidate nets) (IsBest IsCubeCandidate nets) → MatchOption best (NoneSaves (candidates_of kind) nets) (IsBest (candidates_of kind) nets)
-  best_cube best s b = by kind s
+  pub best_cube : (gains : List (List (List Lit))) (best : Option (List (List Lit))) → IsSearch kind nets (kept.Cubes gains) → MatchOption best (NoneSaves IsCubeCandidate nets) (IsBest IsCubeCandidate nets) → MatchOption best (NoneSaves (candidates_of kind) nets) (IsBest (candidates_of kind) nets)
+  best_cube gains best s b = by kind s
     where
-      by : (k : Divisors) → IsSearch k nets kept.Cubes → MatchOption best (NoneSaves (candidates_of k) nets) (IsBest (candidates_of k) nets)
+      by : (k : Divisors) → IsSearch k nets (kept.Cubes gains) → MatchOption best (NoneSaves (candidates_of k) nets) (IsBest (candidates_of k) nets)
       by kinds.Kernels s = absurd s
       by kinds.Cubes s = b
 
-  pub kernels_behind : (d : NetId) (gains : List (List Part)) → IsBehind kind nets d (kept.Kernels gains) → AreBehind nets d gains
+  pub kernels_behind : (d : NetId) (gains : List (List Part)) → IsBehind kind nets d (kept.Kernels gains) → AreBehind covers_at nets d gains
   kernels_behind d gains b = by kind b
     where
-      by : (k : Divisors) → IsBehind k nets d (kept.Kernels gains) → AreBehind nets d gains
+      by : (k : Divisors) → IsBehind k nets d (kept.Kernels gains) → AreBehind covers_at nets d gains
       by kinds.Kernels b = b
       by kinds.Cubes b = absurd b
+
+  pub cubes_behind : (d : NetId) (gains : List (List (List Lit))) → IsBehind kind nets d (kept.Cubes gains) → AreBehind cubes_at nets d gains
+  cubes_behind d gains b = by kind b
+    where
+      by : (k : Divisors) → IsBehind k nets d (kept.Cubes gains) → AreBehind cubes_at nets d gains
+      by kinds.Kernels b = absurd b
+      by kinds.Cubes b = b
 
   pub kernels_follow : (d : NetId) (old new : List (List Part)) → IsBehind kind nets d (kept.Kernels old) → new ≡ map covers_at nets → IsSearch kind nets (kept.Kernels new)
   kernels_follow d old new b are = by kind b
@@ -63,19 +80,19 @@ module _ (kind : Divisors) (nets : List (Option FlatNet)) where
       by kinds.Kernels b = are
       by kinds.Cubes b = absurd b
 
-  pub cubes_follow : (d : NetId) → IsBehind kind nets d kept.Cubes → IsSearch kind nets kept.Cubes
-  cubes_follow d b = by kind b
+  pub cubes_follow : (d : NetId) (old new : List (List (List Lit))) → IsBehind kind nets d (kept.Cubes old) → new ≡ map cubes_at nets → IsSearch kind nets (kept.Cubes new)
+  cubes_follow d old new b are = by kind b
     where
-      by : (k : Divisors) → IsBehind k nets d kept.Cubes → IsSearch k nets kept.Cubes
+      by : (k : Divisors) → IsBehind k nets d (kept.Cubes old) → IsSearch k nets (kept.Cubes new)
       by kinds.Kernels b = absurd b
-      by kinds.Cubes b = tt
+      by kinds.Cubes b = are
 
 -- behind a step it is of the nets before it
 pub search_behind : (kind : Divisors) (a b : NetParts) (search : Search) → IsSearch kind a.nets search → Stepped a b → IsBehind kind b.nets (next_net a) search
-search_behind kinds.Kernels a b (kept.Kernels gains) s step = subst (AreBehind b.nets (next_net a)) (sym s) step.behind
-search_behind kinds.Kernels a b kept.Cubes s step = absurd s
+search_behind kinds.Kernels a b (kept.Kernels gains) s step = subst (AreBehind covers_at b.nets (next_net a)) (sym s) (tables_behind covers_at a b refl step)
+search_behind kinds.Kernels a b (kept.Cubes gains) s step = absurd s
 search_behind kinds.Cubes a b (kept.Kernels gains) s step = absurd s
-search_behind kinds.Cubes a b kept.Cubes s step = tt
+search_behind kinds.Cubes a b (kept.Cubes gains) s step = subst (AreBehind cubes_at b.nets (next_net a)) (sym s) (tables_behind cubes_at a b refl step)
 
 -- ---- the nets whose tables a step changes
 

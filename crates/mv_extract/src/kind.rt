@@ -9,7 +9,7 @@ ghost use Rattle.mv_gains.specs.Candidates.{IsBest, NoneSaves};
 
 use mv_base::{Items, Memory, NetId};
 use mv_cover::Cube;
-use mv_gains::{Gains, best_cube};
+use mv_gains::{CubeGains, Gains};
 use mv_net::Network;
 use std::alloc::Global;
 
@@ -27,8 +27,8 @@ pub enum Divisors {
 pub enum Search {
     /// What the kernels of the tables save.
     Kernels(Gains),
-    /// Nothing: the cubes are found anew.
-    Cubes,
+    /// What the common cubes of the tables' lines save.
+    Cubes(CubeGains),
 }
 
 /// The search before the first step.
@@ -37,7 +37,7 @@ pub fn begin(alloc: Global, net: &Network, divisors: Divisors) -> Result<Search,
 {
     match divisors {
         Divisors::Kernels => Ok(Search::Kernels(Gains::of(alloc, net)?)),
-        Divisors::Cubes => Ok(Search::Cubes),
+        Divisors::Cubes => Ok(Search::Cubes(CubeGains::of(alloc, net)?)),
     }
 }
 
@@ -56,7 +56,7 @@ pub fn best(
 {
     match search {
         Search::Kernels(gains) => gains.best(net),
-        Search::Cubes => best_cube(alloc, net),
+        Search::Cubes(gains) => gains.best(alloc, net),
     }
 }
 
@@ -77,7 +77,10 @@ pub fn follow(
             let changed = changed_nets(alloc, net, d)?;
             Ok(Search::Kernels(gains.update(alloc, net, changed.as_slice())?))
         }
-        Search::Cubes => Ok(Search::Cubes),
+        Search::Cubes(gains) => {
+            let changed = changed_nets(alloc, net, d)?;
+            Ok(Search::Cubes(gains.update(alloc, net, changed.as_slice())?))
+        }
     }
 }
 

@@ -100,7 +100,7 @@ kernel_from nets n k c = record {
 -- a candidate that is kept is one of the network
 pub candidate_is : (nets : List (Option FlatNet)) (tables : List (List Part)) (list : List Candidate) (c : Candidate) → tables ≡ map covers_at nets → AreCandidates tables [] list → Contains list c → IsKernelCandidate nets c.kernel.cubes
 candidate_is nets tables list c are a i =
-    kernel_from nets c.table.0 c.kernel (subst (λ (ps : List Part). IsKernelOfTable ps c.kernel) (table_at nets tables are c.table.0) (a.each c i))
+    kernel_from nets c.table.0 c.kernel (subst (λ (ps : List Part). IsKernelOfTable ps c.kernel) (table_at covers_at refl nets tables are c.table.0) (a.each c i))
 
 pub kernels_divide : (nets : List (Option FlatNet)) (tables : List (List Part)) (list : List Candidate) → tables ≡ map covers_at nets → All HasLines nets → AreCandidates tables [] list → All (λ (c : Candidate). IsDivisorFor nets c.kernel.cubes) list
 kernels_divide nets tables list are good a =
@@ -113,7 +113,7 @@ kernels_all nets tables list are a = record {
       let n = Contains-from_map offer list m.0 m.1 in
       subst (IsKernelCandidate nets) (sym (m.2 ∙ ap (λ (o : Offer). o.divisor) n.2)) (candidate_is nets tables list n.0 are a n.1);
   all = λ d c.
-      let h = a.all c.net (record { cubes = d }) refl (subst (λ (ps : List Part). IsKernelOfTable ps (record { cubes = d })) (sym (table_at nets tables are c.net)) (kernel_to nets d c)) in
+      let h = a.all c.net (record { cubes = d }) refl (subst (λ (ps : List Part). IsKernelOfTable ps (record { cubes = d })) (sym (table_at covers_at refl nets tables are c.net)) (kernel_to nets d c)) in
       subst (Contains (map (λ (o : Offer). o.divisor) (map offer list))) (ap (λ (k : Kernel). k.cubes) h.is)
       (Contains-map (λ (o : Offer). o.divisor) (map offer list) (offer h.candidate) (Contains-map offer list h.candidate h.there));
 }

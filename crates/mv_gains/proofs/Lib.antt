@@ -18,3 +18,6 @@ pub mod Offers
 pub mod Renewal
 pub mod Refreshing
 pub mod Shares
+pub mod Filtered
+pub mod Answered
+pub mod Gathering

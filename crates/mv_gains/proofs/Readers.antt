@@ -41,7 +41,7 @@ lines_read_at (x ∷ xs) line m i h =
       | inr t ↦ or_right (cube_reads x.cube m) (lines_read xs m) (lines_read_at xs line m t h)
     ]
 
-net_reads_at : (f : Option FlatNet) (line : Line) (l : Lit) → Contains (lines_at f) line → Contains line.cube l → net_reads f l.net.0 ≡ true
+pub net_reads_at : (f : Option FlatNet) (line : Line) (l : Lit) → Contains (lines_at f) line → Contains line.cube l → net_reads f l.net.0 ≡ true
 net_reads_at f line l there has = by (table_in f) there
   where
     by : (t : Option Cover) → Contains (lines_in t) line → table_reads t l.net.0 ≡ true
@@ -63,17 +63,18 @@ stands_held net cube formed stands =
 
 -- ---- the tables in turn
 
-pub table_at : (nets : List (Option FlatNet)) (tables : List (List Part)) → tables ≡ map covers_at nets → (n : ℕ) → get_or tables n [] ≡ covers_at (slot nets n)
-table_at nets tables are n =
-    ap (λ (ts : List (List Part)). get_or ts n []) are ∙
+-- what is kept of the table of a net
+pub table_at : {X : Type 0} (kept_of : Option FlatNet → List X) → kept_of None ≡ [] → (nets : List (Option FlatNet)) (tables : List (List X)) → tables ≡ map kept_of nets → (n : ℕ) → get_or tables n [] ≡ kept_of (slot nets n)
+table_at {X} kept_of none nets tables are n =
+    ap (λ (ts : List (List X)). get_or ts n []) are ∙
     elim (cases_lt n (length nets)) [
-      | inl low ↦ get_or-map covers_at nets n None [] low
+      | inl low ↦ get_or-map kept_of nets n None [] low
       | inr past ↦
-          get_or_past (map covers_at nets) n [] (omega (arith, past, length-map nets covers_at)) ∙
-          ap covers_at (sym (get_or_past nets n None past))
+          get_or_past (map kept_of nets) n [] (omega (arith, past, length-map nets kept_of)) ∙
+          (sym none ∙ ap kept_of (sym (get_or_past nets n None past)))
     ]
 
-has_number : (ns : List NetId) (p : ℕ) → has_id ns p ≡ true → Contains (numbers ns) p
+pub has_number : (ns : List NetId) (p : ℕ) → has_id ns p ≡ true → Contains (numbers ns) p
 has_number ns p h =
     let found = find_any (λ (n : NetId). nat_eq n.0 p) ns h in
     subst (Contains (numbers ns)) (eqb-true found.x.0 p found.pass) (Contains-map (λ (n : NetId). n.0) ns found.x found.there)
@@ -89,11 +90,11 @@ numbers_ascend low high (n ∷ ns) room up from below =
           (λ m h. below m (or_right (nat_eq n.0 m) (has_id ns m) h)),
     )
 
-module _ (nets : List (Option FlatNet)) (tables : List (List Part)) (key : ℕ) (readers : List NetId) (are : tables ≡ map covers_at nets) (a : IsAscending (λ m. net_reads (slot nets m) key) readers) where
+module _ {X : Type 0} (kept_of : Option FlatNet → List X) (nets : List (Option FlatNet)) (tables : List (List X)) (key : ℕ) (readers : List NetId) (are : tables ≡ map kept_of nets) (a : IsAscending (λ m. net_reads (slot nets m) key) readers) where
   long : length tables ≡ length nets
-  long = ap length are ∙ length-map nets covers_at
+  long = ap length are ∙ length-map nets kept_of
 
-  reads_below : (m : ℕ) → has_id readers m ≡ true → m < length tables
+  pub reads_below : (m : ℕ) → has_id readers m ≡ true → m < length tables
   reads_below m h =
       elim (cases_lt m (length nets)) [
         | inl low ↦ omega (arith, low, long)
@@ -105,17 +106,18 @@ module _ (nets : List (Option FlatNet)) (tables : List (List Part)) (key : ℕ) 
   pub readers_ascend : Ascends 0 (length tables) (numbers readers)
   readers_ascend = numbers_ascend 0 (length tables) readers (omega arith) a.ascending (λ m h. omega arith) reads_below
 
+module _ (nets : List (Option FlatNet)) (tables : List (List Part)) (key : ℕ) (readers : List NetId) (are : tables ≡ map covers_at nets) (a : IsAscending (λ m. net_reads (slot nets m) key) readers) where
   pub gain_readers : (divisor : List (List Lit)) (gain : ℕ) → IsOn divisor key → IsGainAt tables (numbers readers) divisor gain → IsTablesGain tables divisor gain
   gain_readers divisor gain on sum =
       let l = on.is.from in
       gathered (IsSavingAt tables divisor) (IsPartsSaving divisor) [] tables 0 (numbers readers) gain
-      (subst (λ n. Ascends 0 n (numbers readers)) (omega arith) readers_ascend)
+      (subst (λ n. Ascends 0 n (numbers readers)) (omega arith) (readers_ascend covers_at nets tables key readers are a))
       (λ p n low h. subst (λ q. IsSavingAt tables divisor q n) (omega arith) h)
       (λ p low.
       elim (table_cases divisor on.from l (get_or tables p []) on.there on.is.there) [
         | inl has ↦
             let reads : net_reads (slot nets p) key ≡ true =
-            subst (λ m. net_reads (slot nets p) m ≡ true) on.is.is (parts_read (slot nets p) l (subst (HasLiteral l) (table_at nets tables are p) has)) in
+            subst (λ m. net_reads (slot nets p) m ≡ true) on.is.is (parts_read (slot nets p) l (subst (HasLiteral l) (table_at covers_at refl nets tables are p) has)) in
             inl (subst (Contains (numbers readers)) (omega arith) (has_number readers p (a.members p ∙ reads)))
         | inr none ↦ inr none
       ]) sum

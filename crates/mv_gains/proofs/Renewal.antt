@@ -23,7 +23,7 @@ use Rattle.mv_divide.specs.declared.part.Part.{Part}
 use Rattle.mv_divide.specs.Tables.{parts_of}
 use Rattle.mv_gains.specs.declared.gains.Kept.{Kept}
 use Rattle.mv_gains.specs.declared.kernels.Candidate.{Candidate}
-use Rattle.mv_gains.specs.Gains.{AreCoversBut, covers_at, lines_at}
+use Rattle.mv_gains.specs.Gains.{AreTablesBut, covers_at, lines_at}
 use Rattle.mv_gains.specs.Kernels.{AreCandidates, IsKernelOfTable, IsWithKernels, new_candidate}
 use Rattle.mv_gains.specs.Known.{IsRight, StaysRight, Standing, standing}
 use Rattle.mv_gains.specs.Renewing.{AreGains, AreNumbers, AreSameTables, AreUnseenElse, IsPut, is_other}
@@ -48,7 +48,7 @@ waits_on waiting i n low at = drop-cons waiting i n low ∙ (λ j. sym at j ∷ 
 
 -- ---- covers
 
-same_more : (tables : List (List Part)) (n : ℕ) → get_or (tables ++ [] ∷ []) n [] ≡ get_or tables n []
+pub same_more : {X : Type 0} (tables : List (List X)) (n : ℕ) → get_or (tables ++ [] ∷ []) n [] ≡ get_or tables n []
 same_more tables n =
     let long : length (tables ++ [] ∷ []) ≡ length tables + 1 = length-append tables ([] ∷ []) in
     elim (cases_lt n (length tables)) [
@@ -62,11 +62,11 @@ same_more tables n =
           ]
     ]
 
-pub same_none : (tables : List (List Part)) → AreSameTables tables tables
+pub same_none : {X : Type 0} (tables : List (List X)) → AreSameTables tables tables
 same_none tables = record { each = λ n. refl }
 
-pub same_push : (old tables new : List (List Part)) → new ≡ tables ++ [] ∷ [] → AreSameTables old tables → AreSameTables old new
-same_push old tables new are same = record { each = λ n. ap (λ (ts : List (List Part)). get_or ts n []) are ∙ (same_more tables n ∙ same.each n) }
+pub same_push : {X : Type 0} (old tables new : List (List X)) → new ≡ tables ++ [] ∷ [] → AreSameTables old tables → AreSameTables old new
+same_push {X} old tables new are same = record { each = λ n. ap (λ (ts : List (List X)). get_or ts n []) are ∙ (same_more tables n ∙ same.each n) }
 
 -- candidates of the same tables
 candidates_as : (old new : List (List Part)) (waiting : List NetId) (list : List Candidate) → ((n : ℕ) → get_or new n [] ≡ get_or old n []) → AreCandidates old waiting list → AreCandidates new waiting list
@@ -97,28 +97,28 @@ gains_grown old new gains covers changed candidates now = record {
 }
 
 -- the covers of one net more were put
-pub but_less : (nets : List (Option FlatNet)) (tables new : List (List Part)) (n : NetId) (rest : List NetId) → n.0 < length tables → new ≡ set tables n.0 (covers_at (slot nets n.0)) → AreCoversBut (n ∷ rest) nets tables → AreCoversBut rest nets new
-but_less nets tables new n rest low are a = record {
+pub but_less : {X : Type 0} (kept_of : Option FlatNet → List X) (nets : List (Option FlatNet)) (tables new : List (List X)) (n : NetId) (rest : List NetId) → n.0 < length tables → new ≡ set tables n.0 (kept_of (slot nets n.0)) → AreTablesBut kept_of (n ∷ rest) nets tables → AreTablesBut kept_of rest nets new
+but_less {X} kept_of nets tables new n rest low are a = record {
   same = λ m f.
       elim (cases_eq m n.0) [
         | inl at ↦
-            subst (λ k. covers_at (slot nets k) ≡ get_or new k []) (sym at)
-            (sym (ap (λ (ts : List (List Part)). get_or ts n.0 []) are ∙ get_or-set_same tables n.0 (covers_at (slot nets n.0)) [] low))
+            subst (λ k. kept_of (slot nets k) ≡ get_or new k []) (sym at)
+            (sym (ap (λ (ts : List (List X)). get_or ts n.0 []) are ∙ get_or-set_same tables n.0 (kept_of (slot nets n.0)) [] low))
         | inr other ↦
             a.same m (none_waits n rest m other f) ∙
-            sym (ap (λ (ts : List (List Part)). get_or ts m []) are ∙ get_or-set_other tables n.0 m (covers_at (slot nets n.0)) [] other)
+            sym (ap (λ (ts : List (List X)). get_or ts m []) are ∙ get_or-set_other tables n.0 m (kept_of (slot nets n.0)) [] other)
       ];
 }
 
 -- none waits any more
-pub but_none : (nets : List (Option FlatNet)) (tables : List (List Part)) → length tables ≡ length nets → AreCoversBut [] nets tables → tables ≡ map covers_at nets
-but_none nets tables long a =
-    same_lists tables (map covers_at nets) (long ∙ sym (length-map nets covers_at))
+pub but_none : {X : Type 0} (kept_of : Option FlatNet → List X) → kept_of None ≡ [] → (nets : List (Option FlatNet)) (tables : List (List X)) → length tables ≡ length nets → AreTablesBut kept_of [] nets tables → tables ≡ map kept_of nets
+but_none kept_of none nets tables long a =
+    same_lists tables (map kept_of nets) (long ∙ sym (length-map nets kept_of))
     (λ k d low.
-    get_or_default tables k d [] low ∙ (sym (a.same k refl) ∙ (sym (table_at nets (map covers_at nets) refl k) ∙ get_or_default (map covers_at nets) k [] d (omega (arith, low, long, length-map nets covers_at)))))
+    get_or_default tables k d [] low ∙ (sym (a.same k refl) ∙ (sym (table_at kept_of none nets (map kept_of nets) refl k) ∙ get_or_default (map kept_of nets) k [] d (omega (arith, low, long, length-map nets kept_of)))))
 
-pub but_same : (waiting : List NetId) (nets : List (Option FlatNet)) (old new : List (List Part)) → AreSameTables old new → AreCoversBut waiting nets old → AreCoversBut waiting nets new
-but_same waiting nets old new same a = record { same = λ n f. a.same n f ∙ sym (same.each n) }
+pub but_same : {X : Type 0} (kept_of : Option FlatNet → List X) (waiting : List NetId) (nets : List (Option FlatNet)) (old new : List (List X)) → AreSameTables old new → AreTablesBut kept_of waiting nets old → AreTablesBut kept_of waiting nets new
+but_same kept_of waiting nets old new same a = record { same = λ n f. a.same n f ∙ sym (same.each n) }
 
 pub put_none : (k : Kept) → All IsReady k.covers.items → IsPut k k
 put_none k ready = record { candidates = refl; now = refl; ready = ready; right = record { each = λ c r. r } }
@@ -185,9 +185,9 @@ unseen_more n parts first old new u w = record {
 }
 
 -- the candidates of the other tables are those of all, but of the ones that wait
-pub others_are : (nets : List (Option FlatNet)) (waiting : List NetId) (old new : List (List Part)) (list left : List Candidate) → new ≡ map covers_at nets → AreCoversBut waiting nets old → AreCandidates old [] list → left ≡ filter (is_other waiting) list → AreCandidates new waiting left
+pub others_are : (nets : List (Option FlatNet)) (waiting : List NetId) (old new : List (List Part)) (list left : List Candidate) → new ≡ map covers_at nets → AreTablesBut covers_at waiting nets old → AreCandidates old [] list → left ≡ filter (is_other waiting) list → AreCandidates new waiting left
 others_are nets waiting old new list left are but a kept =
-    let same : (n : ℕ) → has_id waiting n ≡ false → get_or new n [] ≡ get_or old n [] = λ n f. table_at nets new are n ∙ but.same n f in
+    let same : (n : ℕ) → has_id waiting n ≡ false → get_or new n [] ≡ get_or old n [] = λ n f. table_at covers_at refl nets new are n ∙ but.same n f in
     record {
       each = λ c i.
           let f = Contains-from_filter (is_other waiting) list c (subst (λ (cs : List Candidate). Contains cs c) kept i) in
@@ -270,7 +270,7 @@ numbers_more k list a = record {
 }
 
 -- all wait where there are none yet
-pub all_wait : (nets : List (Option FlatNet)) (list : List NetId) → AreNumbers (length nets) list → AreCoversBut list nets []
+pub all_wait : (nets : List (Option FlatNet)) (list : List NetId) → AreNumbers (length nets) list → AreTablesBut covers_at list nets []
 all_wait nets list a = record {
   same = λ n f.
       elim (cases_lt n (length nets)) [

@@ -1,5 +1,5 @@
 -- What a network saves where all of its tables are divided by one common divisor.
-use Rattle.std.specs.Prelude.{◌≡◌, ◌<◌, ◌+◌, ℕ, false, Option, Some, None, List, [], ◌∷◌, slice_index_or}
+use Rattle.std.specs.Prelude.{◌≡◌, ◌<◌, ◌+◌, ℕ, false, Option, Some, None, List, [], ◌∷◌, map, slice_index_or}
 use Rattle.mv_base.specs.declared.number.NetId.{NetId}
 use Rattle.mv_cover.specs.Literal.{Lit}
 use Rattle.mv_cover.specs.Covers.{literal_count}
@@ -64,8 +64,12 @@ pub record Saves (nets : List (Option FlatNet)) (divisor : List (List Lit)) (sav
   pub some : 0 < saved
   pub less : gain ≡ literals divisor + saved
 
--- the covers of the nets' tables are these, but for the ones that wait
-pub record AreCoversBut (waiting : List NetId) (nets : List (Option FlatNet))
-    (tables : List (List Part)) : Type 0 where
+-- the cubes of the lines of a net's table
+abbrev pub cubes_at : Option FlatNet → List (List Lit)
+cubes_at f = map (λ (l : Line). l.cube) (lines_at f)
+
+-- what is kept of the nets' tables is this, but for the ones that wait
+pub record AreTablesBut {X : Type 0} (kept_of : Option FlatNet → List X) (waiting : List NetId)
+    (nets : List (Option FlatNet)) (tables : List (List X)) : Type 0 where
   pub same : (n : ℕ) → has_id waiting n ≡ false
-      → covers_at (slot nets n) ≡ slice_index_or tables n []
+      → kept_of (slot nets n) ≡ slice_index_or tables n []

@@ -10,3 +10,4 @@ pub mod Best
 pub mod Known
 pub mod Leading
 pub mod Renewing
+pub mod Answers

@@ -3,7 +3,6 @@
 use Rattle.std.specs.Prelude.{◌≡◌, ◌<◌, ◌⊎◌, ℕ, Bool, true, not, List, [], slice_index_or, All, Contains}
 use Rattle.mv_base.specs.declared.number.NetId.{NetId}
 use Rattle.mv_graph.specs.Nets.{has_id}
-use Rattle.mv_divide.specs.declared.part.Part.{Part}
 use Rattle.mv_gains.specs.declared.gains.Kept.{Kept}
 use Rattle.mv_gains.specs.declared.kernels.Candidate.{Candidate}
 use Rattle.mv_gains.specs.Kernels.{AreCandidates}
@@ -17,7 +16,7 @@ pub record AreGains (k : Kept) : Type 0 where
   pub right : All (IsRight k.covers.items k.changed.items k.now) k.candidates.items
 
 -- each table is as it was; those that came are empty
-pub record AreSameTables (old new : List (List Part)) : Type 0 where
+pub record AreSameTables {X : Type 0} (old new : List (List X)) : Type 0 where
   pub each : (n : ℕ) → slice_index_or new n [] ≡ slice_index_or old n []
 
 -- covers of some tables were put anew, and what was known and isn't touched stays known

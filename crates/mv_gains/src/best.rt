@@ -58,7 +58,7 @@ fn searched_cube(alloc: Global, net: &Network) -> Result<Answer, Memory>
 }
 
 /// The cube as a divisor of its own.
-fn alone(alloc: Global, cube: Cube) -> Result<Items<Cube>, Memory>
+pub fn alone(alloc: Global, cube: Cube) -> Result<Items<Cube>, Memory>
     ensures { IfOk result (λ divisor. divisor ≡ cube ∷ []) }
 {
     let mut divisor = Items::new(alloc);
@@ -67,7 +67,7 @@ fn alone(alloc: Global, cube: Cube) -> Result<Items<Cube>, Memory>
 }
 
 /// The best of all cubes that two lines have in common, if one saves.
-fn best_candidate(alloc: Global, net: &Network) -> Result<Option<Items<Cube>>, Memory>
+pub fn best_candidate(alloc: Global, net: &Network) -> Result<Option<Items<Cube>>, Memory>
     ensures { IfOk result (λ best. MatchOption best
         (NoneSaves IsCubeCandidate net.now.nets)
         (IsBest IsCubeCandidate net.now.nets)) }

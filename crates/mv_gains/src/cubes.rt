@@ -116,7 +116,7 @@ pub fn all_cubes(alloc: Global, nets: &[Option<FlatNet>]) -> Result<Vec<Cube>, M
 }
 
 /// Adds the cubes of the lines.
-fn add_lines(cubes: &mut Vec<Cube>, lines: &[Line]) -> Result<(), Memory>
+pub fn add_lines(cubes: &mut Vec<Cube>, lines: &[Line]) -> Result<(), Memory>
     ensures { OnOk result
         (cubes.new.items ≡ cubes.old.items ++ map (λ (l : a_line). l.cube) lines.now) }
 {
@@ -147,7 +147,7 @@ fn listed(alloc: Global, found: IndexSet<Cube>) -> Result<Vec<Cube>, AllocError>
 }
 
 /// Whether the literals have the symbol.
-fn has_symbol(literals: &[Lit], symbol: &Lit) -> bool
+pub fn has_symbol(literals: &[Lit], symbol: &Lit) -> bool
     ensures { result ≡ symbols.has_symbol literals.now symbol.now }
 {
     literals.contains(symbol)

@@ -3,7 +3,7 @@ ghost use Rattle.std.specs.Option.{option_map};
 ghost use Rattle.mv_graph.specs.Nets.{has_id};
 ghost use Rattle.mv_net.specs.Nets.{slot};
 ghost use Rattle.mv_gains.specs.Candidates.{IsBest, IsKernelCandidate, NoneSaves};
-ghost use Rattle.mv_gains.specs.Gains.{AreCoversBut, covers_at};
+ghost use Rattle.mv_gains.specs.Gains.{AreTablesBut, covers_at};
 ghost use Rattle.mv_gains.specs.Kernels.{AreCandidates};
 ghost use Rattle.mv_base.specs.declared.number.NetId.{NetId};
 ghost use Rattle.mv_gains.specs.Renewing.{AreGains, AreNumbers, AreSameTables, AreUnseenElse, IsPut, is_other};
@@ -70,7 +70,7 @@ impl Gains {
     pub fn update(self, alloc: Global, net: &Network, waiting: &[NetId]) -> Result<Gains, Memory>
         requires more { length self ≤ length net.now.nets }
         requires below { All (λ (n : NetId). n.0 < length net.now.nets) waiting.now }
-        requires others { AreCoversBut waiting.now net.now.nets self }
+        requires others { AreTablesBut covers_at waiting.now net.now.nets self }
         ensures { IfOk result (λ gains. gains ≡ map covers_at net.now.nets) }
     {
         let kept = renewed(alloc, net, self.kept, waiting)?;
@@ -137,7 +137,7 @@ fn nothing(alloc: Global) -> Kept
 }
 
 /// The numbers of all nets.
-fn all_numbers(alloc: Global, net: &Network) -> Result<Vec<NetId>, Memory>
+pub fn all_numbers(alloc: Global, net: &Network) -> Result<Vec<NetId>, Memory>
     ensures { IfOk result (λ list. AreNumbers (length net.now.nets) list.items) }
 {
     let mut list = Vec::new(alloc);
@@ -152,7 +152,7 @@ fn renewed(alloc: Global, net: &Network, kept: Kept, waiting: &[NetId]) -> Resul
     requires gains { AreGains kept }
     requires more { length kept.covers.items ≤ length net.now.nets }
     requires below { All (λ (n : NetId). n.0 < length net.now.nets) waiting.now }
-    requires others { AreCoversBut waiting.now net.now.nets kept.covers.items }
+    requires others { AreTablesBut covers_at waiting.now net.now.nets kept.covers.items }
     ensures gains { IfOk result (λ new. AreGains new) }
     ensures covers { IfOk result (λ new. new.covers.items ≡ map covers_at net.now.nets) }
 {
@@ -210,7 +210,7 @@ fn put_covers(
     requires ready { All IsReady kept.old.covers.items }
     requires long { length kept.old.covers.items ≡ length net.now.nets }
     requires below { All (λ (n : NetId). n.0 < length net.now.nets) waiting.now }
-    requires others { AreCoversBut waiting.now net.now.nets kept.old.covers.items }
+    requires others { AreTablesBut covers_at waiting.now net.now.nets kept.old.covers.items }
     ensures covers { OnOk result (kept.new.covers.items ≡ map covers_at net.now.nets) }
     ensures put { OnOk result (IsPut kept.old kept.new) }
 {

@@ -29,7 +29,7 @@ all_below n (l ∷ ls) a =
     and_from (nat_lt l.net.0 n) (list_all (λ (m : Lit). nat_lt m.net.0 n) ls) (lt-ltb l.net.0 n (All-head P l ls a)) (all_below n ls (All-tail P l ls a))
 
 -- a literal of a cube isn't empty
-some_set : (cube : List Lit) (l : Lit) → IsCube cube → Contains cube l → nat_eq l.set empty ≡ false
+pub some_set : (cube : List Lit) (l : Lit) → IsCube cube → Contains cube l → nat_eq l.set empty ≡ false
 some_set cube l f i = not-true (nat_eq l.set empty) (each_passes cube l f.possible i)
   where
     each_passes : (ls : List Lit) (l : Lit) → list_all (λ (m : Lit). not (nat_eq m.set empty)) ls ≡ true → Contains ls l → not (nat_eq l.set empty) ≡ true
@@ -70,7 +70,7 @@ pub record Missing (d e : List Lit) : Type 0 where
   pub apart : has_symbol d symbol ≡ false
   pub rest : (m : Lit) → has_symbol e m ≡ true → (has_symbol (d ++ symbol ∷ []) m ≡ true) ⊎ (symbol.net.0 + 1 ≤ m.net.0)
 
-later : (l : Lit) (ls : List Lit) → nets_ascend (l ∷ ls) ≡ true → All (λ (m : Lit). l.net.0 < m.net.0) ls
+pub later : (l : Lit) (ls : List Lit) → nets_ascend (l ∷ ls) ≡ true → All (λ (m : Lit). l.net.0 < m.net.0) ls
 later l [] h = All-nil (λ (m : Lit). l.net.0 < m.net.0)
 later l (m ∷ ms) h =
     let parts = and_parts (nat_lt l.net.0 m.net.0) (nets_ascend (m ∷ ms)) h in

@@ -14,7 +14,7 @@ use Rattle.mv_kernels.specs.Symbols.{has_symbol}
 use Rattle.mv_kernels.proofs.Lists.{Contains-from_filter}
 use Rattle.mv_meets.specs.Groups.{AreGroups, places_in}
 use Rattle.mv_meets.specs.Meets.{at, count}
-use Rattle.mv_meets.specs.Search.{can_win, IsFound, IsNode, Spreads}
+use Rattle.mv_meets.specs.Search.{can_win, IsNode, Saves, Spreads}
 use Rattle.mv_meets.specs.declared.found.Found.{Found}
 use Rattle.mv_meets.specs.declared.groups.Groups.{Groups}
 use Rattle.mv_meets.specs.declared.nodes.Node.{Node}
@@ -65,7 +65,7 @@ module _ (cubes : List (List Lit)) (formed : All IsCube cubes) (node : Node) (is
       → Spreads cubes node best longest (Contains ls) old new → Spreads cubes node best longest (Contains (ls ++ l ∷ [])) old new
   spread_past ls l old new lost a = spreads_past cubes node best longest ls l old new (λ high. subst (λ n. can_win best n longest ≡ false) (places_count l high) lost) a
 
-  pub spread_all : (ls : List Lit) (old new : List Node) → IsFound cubes best → ls ≡ keys groups.places → Spreads cubes node best longest (Contains ls) old new → Spreads cubes node best longest (λ l. Unit {0}) old new
+  pub spread_all : (ls : List Lit) (old new : List Node) → Saves best → ls ≡ keys groups.places → Spreads cubes node best longest (Contains ls) old new → Spreads cubes node best longest (λ l. Unit {0}) old new
   spread_all ls old new found all a =
       spreads_all cubes node best longest ls old new (λ l high wins.
       let as_many : can_win best (length (places_in groups l)) longest ≡ true = subst (λ n. can_win best n longest ≡ true) (sym (places_count l high)) wins in

@@ -10,6 +10,8 @@ use Rattle.mv_meets.specs.Meets.{at, common, count, saving, IsMeet}
 use Rattle.mv_meets.specs.declared.found.Found.{Found}
 use Rattle.mv_meets.specs.declared.nodes.Node.{Node}
 use Rattle.mv_meets.specs.declared.search.Search.{Search}
+use Rattle.mv_meets.specs.declared.search.Sought.{Sought}
+use Rattle.mv_meets.specs.declared.search.Sought.TheVariants.{Ended, Broken}
 
 -- for one of the list it is so
 pub record IsOneOf {X K : Type 0} (Is : X → K → Type 0) (xs : List X) (k : K) : Type 0 where
@@ -95,6 +97,16 @@ abbrev pub IsFound : List (List Lit) → Option Found → Type 0
 IsFound cubes None = Unit {0}
 IsFound cubes (Some f) = IsSaver cubes f
 
+-- it saves something
+abbrev pub Saves : Option Found → Type 0
+Saves None = Unit {0}
+Saves (Some f) = 0 < f.saved
+
+-- what was found, where something was, and else what was given
+abbrev pub leading : Option Found → Option Found → Option Found
+leading given None = given
+leading given (Some f) = Some f
+
 -- it saves no more than the part, and doesn't come before it where it saves as much
 pub record IsBehind (cubes : List (List Lit)) (f : Found) (e : List Lit) : Type 0 where
   pub most : saving e cubes ≤ f.saved
@@ -105,11 +117,17 @@ abbrev pub IsNoBetter : List (List Lit) → Option Found → List Lit → Type 0
 IsNoBetter cubes None e = saving e cubes ≡ 0
 IsNoBetter cubes (Some f) e = IsBehind cubes f e
 
--- the best is d, where that is better than the old best, which else stays
-pub record Looked (cubes : List (List Lit)) (d : List Lit) (old new : Option Found) : Type 0 where
+-- what is no better than the old best is no better than the new one, whatever it is taken out of
+pub record Improves (old new : Option Found) : Type 0 where
+  pub keeps : (cubes : List (List Lit)) (e : List Lit)
+      → IsNoBetter cubes old e → IsNoBetter cubes new e
+
+-- d is found, where it is better than what was given and than what was found, which else stays
+pub record Looked (cubes : List (List Lit)) (d : List Lit) (given old new : Option Found)
+    : Type 0 where
   pub found : IsFound cubes new
-  pub keeps : (e : List Lit) → IsNoBetter cubes old e → IsNoBetter cubes new e
-  pub here : IsMeet cubes d → IsNoBetter cubes new d
+  pub improves : Improves (leading given old) (leading given new)
+  pub here : IsMeet cubes d → IsNoBetter cubes (leading given new) d
 
 -- nodes came behind the old ones, one for each of these literals on a net from the node's low one
 -- on with which the node's symbols may be part of a common part of at most so many literals that
@@ -122,12 +140,43 @@ pub record Spreads (cubes : List (List Lit)) (node : Node) (best : Option Found)
       → can_win best (count (node.cube ++ l ∷ []) cubes) longest ≡ true
       → HasNode new (node.cube ++ l ∷ []) (l.net.0 + 1)
 
--- each common part that is better than the best is covered by one of the nodes
-pub record IsOpen (cubes : List (List Lit)) (nodes : List Node) (best : Option Found) : Type 0 where
-  pub found : IsFound cubes best
-  pub all : (e : List Lit) → IsMeet cubes e → IsNoBetter cubes best e ⊎ IsOneOf Covers nodes e
+-- each common part that the first node covers, and that is better than what was given and found, is
+-- covered by one of the nodes
+pub record IsOpen (cubes : List (List Lit)) (start : Node) (given : Option Found)
+    (nodes : List Node) (found : Option Found) : Type 0 where
+  pub is : IsFound cubes found
+  pub improves : Improves given (leading given found)
+  pub all : (e : List Lit) → IsMeet cubes e → Covers start e
+      → IsNoBetter cubes (leading given found) e ⊎ IsOneOf Covers nodes e
 
 -- that is so of the nodes that wait
-pub record IsSearch (cubes : List (List Lit)) (s : Search) : Type 0 where
+pub record IsSearch (cubes : List (List Lit)) (start : Node) (given : Option Found) (s : Search)
+    : Type 0 where
   pub nodes : All (IsNode cubes) s.waiting.items
-  pub seen : IsOpen cubes s.waiting.items s.best
+  pub seen : IsOpen cubes start given s.waiting.items s.found
+
+-- the node was visited: what was open with it stays open
+pub record IsVisited (cubes : List (List Lit)) (node : Node) (given : Option Found)
+    (old new : Search) : Type 0 where
+  pub nodes : All (IsNode cubes) new.waiting.items
+  pub stays : (start : Node) → IsOpen cubes start given (node ∷ old.waiting.items) old.found
+      → IsOpen cubes start given new.waiting.items new.found
+
+-- ---- parts that begin with a symbol
+
+-- it has the symbol, and else only some on later nets
+pub record Begins (l : Lit) (e : List Lit) : Type 0 where
+  pub has : has_symbol e l ≡ true
+  pub rest : (m : Lit) → has_symbol e m ≡ true → (m ≡ l) ⊎ (l.net.0 < m.net.0)
+
+-- no part that begins with the symbol is better than what was given or found
+pub record IsSought (cubes : List (List Lit)) (l : Lit) (given found : Option Found) : Type 0 where
+  pub is : IsFound cubes found
+  pub improves : Improves given (leading given found)
+  pub each : (e : List Lit) → IsMeet cubes e → Begins l e
+      → IsNoBetter cubes (leading given found) e
+
+-- that is so, unless the search was broken off
+abbrev pub IsSoughtIn : List (List Lit) → Lit → Option Found → Sought → Type 0
+IsSoughtIn cubes l given (Ended found) = IsSought cubes l given found
+IsSoughtIn cubes l given Broken = Unit {0}

@@ -1,6 +1,6 @@
 ghost use Rattle.std.specs.Prelude.{◌≡◌, ◌+◌, ◌≤◌, ◌^◌, ◌++◌, ◌∷◌, [], All, IfOk};
 ghost use Rattle.mv_cover.specs.Cubes.{IsCube};
-ghost use Rattle.mv_meets.specs.Search.{IsFound, IsNode, Spreads};
+ghost use Rattle.mv_meets.specs.Search.{IsNode, Saves, Spreads};
 
 use crate::found::{Found, can_win};
 use crate::groups::{grouped, places_of};
@@ -22,7 +22,7 @@ pub fn spread(
 ) -> Result<Vec<Node>, Memory>
     requires formed { All IsCube cubes.now }
     requires node { IsNode cubes.now node.now }
-    requires found { IsFound cubes.now best.now }
+    requires best { Saves best.now }
     requires short { longest ≤ 2 ^ 32 }
     requires waiting { All (IsNode cubes.now) waiting.items }
     ensures { IfOk result

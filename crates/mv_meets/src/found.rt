@@ -1,6 +1,6 @@
 ghost use Rattle.std.specs.Prelude.{◌≡◌, ◌-◌, ◌*◌, ◌^◌, ◌≤◌, IfOk};
 ghost use Rattle.mv_meets.specs.Search as spec;
-ghost use Rattle.mv_meets.specs.Search.{IsFound, IsNode, Looked};
+ghost use Rattle.mv_meets.specs.Search.{IsFound, IsNode, Looked, Saves};
 
 use crate::meeting::is_meet;
 use crate::nodes::Node;
@@ -38,8 +38,18 @@ pub fn can_win(best: &Option<Found>, cubes: usize, literals: usize) -> bool
     }
 }
 
-/// Whether the part is better than the best so far: it saves something, and more, or as much and comes before it.
-fn is_ahead(best: &Option<Found>, saved: u128, cube: &Cube) -> bool
+/// What was found, where something was, and else what was given.
+pub fn leading<'a>(given: &'a Option<Found>, found: &'a Option<Found>) -> &'a Option<Found>
+    ensures { result.now ≡ spec.leading given.now found.now }
+{
+    match found {
+        Some(_) => found,
+        None => given,
+    }
+}
+
+/// Whether a part that saves so much is better than the best so far: it saves something, and more, or as much and comes before it.
+pub fn is_ahead(best: &Option<Found>, saved: u128, cube: &Cube) -> bool
     ensures { result ≡ spec.is_ahead best.now saved cube.now }
 {
     match best {
@@ -51,28 +61,31 @@ fn is_ahead(best: &Option<Found>, saved: u128, cube: &Cube) -> bool
     }
 }
 
-/// The symbols of the node, where two cubes have just them in common and they are better than the best so far, which else stays.
+/// The symbols of the node, where two cubes have just them in common and they are better than what was given and found, which
+/// else stays.
 pub fn look(
     alloc: Global,
     cubes: &[Cube],
     node: &Node,
-    best: Option<Found>,
+    given: &Option<Found>,
+    found: Option<Found>,
 ) -> Result<Option<Found>, Memory>
     requires node { IsNode cubes.now node.now }
-    requires found { IsFound cubes.now best }
-    ensures { IfOk result (Looked cubes.now node.now.cube best) }
+    requires given { Saves given.now }
+    requires found { IsFound cubes.now found }
+    ensures { IfOk result (Looked cubes.now node.now.cube given.now found) }
 {
     if node.cube.len() < 2 {
-        return Ok(best);
+        return Ok(found);
     }
     let places = node.places.as_slice();
     let saved = saved_by(places.len(), node.cube.len());
-    if !is_ahead(&best, saved, &node.cube) {
-        return Ok(best);
+    if !is_ahead(leading(given, &found), saved, &node.cube) {
+        return Ok(found);
     }
     let meets = is_meet(alloc, cubes, places, &node.cube)?;
     if !meets {
-        return Ok(best);
+        return Ok(found);
     }
     let cube = node.cube.copy()?;
     Ok(Some(Found { cube, saved }))

@@ -9,4 +9,5 @@ mod meeting;
 mod nodes;
 mod search;
 
-pub use search::{Answer, best_meet};
+pub use found::{Found, is_ahead, leading};
+pub use search::{Answer, Sought, best_meet, better_meet};

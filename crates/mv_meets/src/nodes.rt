@@ -1,9 +1,12 @@
-ghost use Rattle.std.specs.Prelude.{◌≡◌, ◌<◌, ◌≤◌, ◌^◌, [], All, IfOk, length};
+ghost use Rattle.std.specs.Prelude.{◌≡◌, ◌<◌, ◌≤◌, ◌+◌, ◌^◌, ◌∷◌, true, List, [], All, IfOk, length};
+ghost use Rattle.mv_cover.specs.Cubes.{IsCube};
+ghost use Rattle.mv_cover.specs.Literal.{Lit as a_lit};
+ghost use Rattle.mv_kernels.specs.Symbols.{has_symbol};
 ghost use Rattle.mv_meets.specs.Meets as spec;
 ghost use Rattle.mv_meets.specs.Search.{AreNumbers, IsNode};
 
 use mv_base::Memory;
-use mv_cover::Cube;
+use mv_cover::{Cube, Lit};
 use smallvec::SmallVec;
 use std::alloc::Global;
 
@@ -28,6 +31,23 @@ pub fn root(alloc: Global, cubes: &[Cube]) -> Result<Node, Memory>
         places,
         low: 0,
     })
+}
+
+/// The symbol, which all cubes have, and with which only some on later nets may be.
+pub fn first(alloc: Global, cubes: &[Cube], symbol: &Lit) -> Result<Node, Memory>
+    requires formed { All IsCube cubes.now }
+    requires some { 0 < length cubes.now }
+    requires have { All (λ (c : List a_lit). has_symbol c symbol.now ≡ true) cubes.now }
+    ensures node { IfOk result (λ node. IsNode cubes.now node) }
+    ensures cube { IfOk result (λ node. node.cube ≡ symbol.now ∷ []) }
+    ensures low { IfOk result (λ node. node.low ≡ symbol.now.net.0 + 1) }
+{
+    let mut lits = SmallVec::new(alloc);
+    lits.push(symbol.copy()?)?;
+    let cube = Cube::of(lits);
+    let places = numbers(alloc, cubes.len())?;
+    let low = symbol.net().0 as u64 + 1;
+    Ok(Node { cube, places, low })
 }
 
 /// The numbers below the count.

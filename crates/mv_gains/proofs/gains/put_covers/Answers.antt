@@ -1,9 +1,9 @@
-use Rattle.std.proofs.Common.{◌∙◌, ◌+◌, ◌<◌, List, length, drop, get_or, ap, subst, arith}
+use Rattle.std.proofs.Common.{◌∙◌, ◌+◌, ◌<◌, List, length, drop, get_or, refl, ap, subst, arith}
 use Rattle.std.proofs.lemmas.List.{drop_all, get_or_default, length-set}
 use Rattle.std.proofs.lemmas.List.Elements.{All-get_or}
 use Rattle.mv_net.specs.Nets.{slot}
 use Rattle.mv_base.specs.declared.number.NetId.{NetId}
-use Rattle.mv_gains.specs.Gains.{AreCoversBut, covers_at}
+use Rattle.mv_gains.specs.Gains.{AreTablesBut, covers_at}
 use Rattle.mv_gains.proofs.Renewal.{but_none, but_less, put_none, put_then, waits_on}
 use Rattle.mv_gains.proofs.gains.put_covers.Goals as goal
 
@@ -26,11 +26,11 @@ loop-n-preserved c =
       put = put_then c.args.kept.now c.loop-n.kept c.put_cover.new.kept c.loop-n.invariant.put c.in_ok-put_cover.ensures.put;
       long = ap length are ∙ (length-set tables n.0 (covers_at (slot nets n.0)) ∙ long);
       others =
-          but_less nets tables c.put_cover.new.kept.covers.items n (drop (i + 1) waiting) (omega (arith, below, long)) are
-          (subst (λ (ws : List NetId). AreCoversBut ws nets tables) (waits_on waiting i n c.loop-n-test.true at) c.loop-n.invariant.others);
+          but_less covers_at nets tables c.put_cover.new.kept.covers.items n (drop (i + 1) waiting) (omega (arith, below, long)) are
+          (subst (λ (ws : List NetId). AreTablesBut covers_at ws nets tables) (waits_on waiting i n c.loop-n-test.true at) c.loop-n.invariant.others);
     }
 
 pub returns-clause-covers : goal.returns-clause-covers
 returns-clause-covers c =
-    but_none c.args.net.now.nets c.loop-n.kept.covers.items c.loop-n.invariant.long
-    (subst (λ (ws : List NetId). AreCoversBut ws c.args.net.now.nets c.loop-n.kept.covers.items) (drop_all c.loop-n.n-index c.args.waiting.now c.loop-n-test.false) c.loop-n.invariant.others)
+    but_none covers_at refl c.args.net.now.nets c.loop-n.kept.covers.items c.loop-n.invariant.long
+    (subst (λ (ws : List NetId). AreTablesBut covers_at ws c.args.net.now.nets c.loop-n.kept.covers.items) (drop_all c.loop-n.n-index c.args.waiting.now c.loop-n-test.false) c.loop-n.invariant.others)

@@ -20,7 +20,7 @@ with_symbol-requires c =
     let groups = c.in_ok-groups.groups in
     let are : AreGroups c.args.cubes.now node.low node.places.items (places_in groups) = subst (λ ps. AreGroups c.args.cubes.now node.low ps (places_in groups)) c.as_slice.ensures.value c.in_ok-groups.ensures in
     let some : 0 < length (places_in groups c.in-Some.literal.now) =
-    wins_some c.args.cubes.now c.args.best.now (length (places_in groups c.in-Some.literal.now)) c.args.longest c.requires.found
+    wins_some c.args.cubes.now c.args.best.now (length (places_in groups c.in-Some.literal.now)) c.args.longest c.requires.best
     (subst (λ (ps : List ℕ). can_win c.args.best.now (length ps) c.args.longest ≡ true) c.places_of-places.ensures (sym c.if-can_win.ensures)) in
     spread_formed c.args.cubes.now c.requires.formed node c.requires.node groups are c.args.best.now c.args.longest c.in-Some.literal.now some
 
@@ -30,7 +30,7 @@ loop-literal-preserved-in_ok-push c =
     let groups = c.in_ok-groups.groups in
     let are : AreGroups c.args.cubes.now node.low node.places.items (places_in groups) = subst (λ ps. AreGroups c.args.cubes.now node.low ps (places_in groups)) c.as_slice.ensures.value c.in_ok-groups.ensures in
     let some : 0 < length (places_in groups c.in-Some.literal.now) =
-    wins_some c.args.cubes.now c.args.best.now (length (places_in groups c.in-Some.literal.now)) c.args.longest c.requires.found
+    wins_some c.args.cubes.now c.args.best.now (length (places_in groups c.in-Some.literal.now)) c.args.longest c.requires.best
     (subst (λ (ps : List ℕ). can_win c.args.best.now (length ps) c.args.longest ≡ true) c.places_of-places.ensures (sym c.if-can_win.ensures)) in
     let shown : List Lit = map (λ (x : Bor Lit). x.now) c.loop-literal.yielded in
     subst (λ (ls : List Lit). Spreads c.args.cubes.now node c.args.best.now c.args.longest (Contains ls) c.args.waiting.items c.push.new.self.items)
@@ -56,4 +56,4 @@ returns c =
     let groups = c.in_ok-groups.groups in
     let are : AreGroups c.args.cubes.now node.low node.places.items (places_in groups) = subst (λ ps. AreGroups c.args.cubes.now node.low ps (places_in groups)) c.as_slice.ensures.value c.in_ok-groups.ensures in
     let all : map (λ (x : Bor Lit). x.now) c.loop-literal.yielded ≡ keys groups.places = search (rules, iter_end) in
-    spread_all c.args.cubes.now c.requires.formed node c.requires.node groups are c.args.best.now c.args.longest (map (λ (x : Bor Lit). x.now) c.loop-literal.yielded) c.args.waiting.items c.loop-literal.waiting.items c.requires.found all c.loop-literal.invariant
+    spread_all c.args.cubes.now c.requires.formed node c.requires.node groups are c.args.best.now c.args.longest (map (λ (x : Bor Lit). x.now) c.loop-literal.yielded) c.args.waiting.items c.loop-literal.waiting.items c.requires.best all c.loop-literal.invariant

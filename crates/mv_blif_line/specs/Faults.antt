@@ -1,0 +1,14 @@
+-- Lists of the faults of BLIF lines, in the order in which they can be told.
+use Rattle.std.specs.Prelude.{List, map, Result}
+use Rattle.mv_fault.specs.declared.fault.ParseFault.{ParseFault}
+use Rattle.mv_fault.specs.Tells.{TellsFirst}
+use Rattle.mv_blif_line.specs.declared.fault.BlifFault.{BlifFault}
+use Rattle.mv_blif_line.specs.declared.fault.BlifFault.TheVariants.{Line, Memory}
+
+-- faults that a line of BLIF-MV can have too
+abbrev pub shared : List ParseFault → List BlifFault
+shared faults = map Line faults
+
+-- a reader of lines with these faults
+abbrev pub Tells : {T : Type 0} → Result T BlifFault → List BlifFault → Type 0
+Tells result faults = TellsFirst Memory result faults

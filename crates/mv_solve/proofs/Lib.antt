@@ -1,0 +1,7 @@
+pub mod Firsts
+pub mod Orders
+pub mod Marking
+pub mod Settling
+pub mod Turning
+pub mod Mixed
+pub mod Advancing

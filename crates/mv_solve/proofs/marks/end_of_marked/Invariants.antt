@@ -1,0 +1,12 @@
+use Rattle.std.proofs.Common.{◌≤◌}
+use Rattle.mv_solve.specs.Marks.{MarkedWithin}
+use Rattle.mv_solve.proofs.marks.end_of_marked.Given as goal
+
+abbrev pub invariant-loop-end : goal.invariant-loop-end
+invariant-loop-end l = record {
+  within : MarkedWithin l.marks l.order l.end;
+  low : l.end ≤ l.place;
+}
+
+abbrev pub decreases-loop-end : goal.decreases-loop-end
+decreases-loop-end l = l.end

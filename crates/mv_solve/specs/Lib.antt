@@ -1,0 +1,6 @@
+pub mod Asked
+pub mod Search
+-- what private functions alone cite
+pub mod First
+pub mod Marks
+pub mod Way

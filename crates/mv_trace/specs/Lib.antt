@@ -1,0 +1,5 @@
+pub mod Runs
+pub mod Allowed
+pub mod Given
+pub mod Told
+pub mod Answer
