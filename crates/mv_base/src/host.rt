@@ -17,6 +17,17 @@ fn counted(faults: &mut u64) -> Failed
     Failed
 }
 
+/// How often a read or a write that a signal interrupted is made again, each time in a row.
+const TRIES: usize = 1_000;
+
+/// Whether a signal interrupted the call before anything was moved.
+fn was_interrupted(answer: &io::Result<usize>) -> bool {
+    match answer {
+        Ok(_count) => false,
+        Err(error) => error.kind() == io::ErrorKind::Interrupted,
+    }
+}
+
 /// What is being read.
 #[derive(Drop)]
 enum Source<F, I> {
@@ -28,6 +39,19 @@ enum Source<F, I> {
 impl<F: Read + Drop, I: Read + Drop> Source<F, I> {
     /// The next bytes, none at the end.
     fn read(&mut self, room: &mut [u8]) -> io::Result<usize>
+        ensures { IfOk result (λ n. n ≤ length room.new) }
+    {
+        for _try in 0..TRIES {
+            let answer = self.read_once(room);
+            if !was_interrupted(&answer) {
+                return answer;
+            }
+        }
+        self.read_once(room)
+    }
+
+    /// The same, unless a signal interrupts it.
+    fn read_once(&mut self, room: &mut [u8]) -> io::Result<usize>
         ensures { IfOk result (λ n. n ≤ length room.new) }
     {
         match self {
@@ -109,11 +133,24 @@ impl<R: Disk + Input> Files for HostFiles<R> {
     }
 }
 
+/// Writes some of the piece, and answers how many bytes.
+fn write_some(out: &impl Print, piece: &[u8]) -> io::Result<usize>
+    ensures { IfOk result (λ n. n ≤ length piece.now) }
+{
+    for _try in 0..TRIES {
+        let answer = out.write_some(piece);
+        if !was_interrupted(&answer) {
+            return answer;
+        }
+    }
+    out.write_some(piece)
+}
+
 /// Writes the whole piece, piece by piece. False where a write fails or takes nothing.
 fn write_whole(out: &impl Print, piece: &[u8]) -> bool {
     let mut done = 0;
     while done < piece.len() {
-        let Ok(count) = out.write_some(&piece[done..]) else {
+        let Ok(count) = write_some(out, &piece[done..]) else {
             return false;
         };
         if count == 0 {

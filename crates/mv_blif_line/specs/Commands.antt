@@ -2,13 +2,9 @@
 use Rattle.std.specs.Prelude.{ℕ, Bool, true, false, not, List, codes, if◌then◌else◌}
 use Rattle.mv_base.specs.Names.{same_word, begins_with}
 use Rattle.mv_lex.specs.declared.lines.LexLine.{LexLine}
-use Rattle.mv_parse.specs.Commands.{first_of}
+use Rattle.mv_line.specs.Words.{first_word}
 use Rattle.mv_blif_line.specs.declared.command.Command.{Command}
 use Rattle.mv_blif_line.specs.declared.command.Command.TheVariants.{Model, Inputs, Outputs, Names, Latch, Row, End, Unknown}
-
--- the first word of a line
-abbrev pub first_word : LexLine → List ℕ
-first_word l = first_of l.words
 
 -- what a line is, by its first word: one that doesn't begin with a full stop is a row
 unfoldable pub command_of : List ℕ → Command

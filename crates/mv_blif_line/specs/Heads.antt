@@ -4,7 +4,7 @@ use Rattle.mv_base.specs.Names.{is_model_name}
 use Rattle.mv_fault.specs.declared.fault.ParseFault.TheVariants.{Missing, Extra, BadName}
 use Rattle.mv_fault.specs.Tells.{when}
 use Rattle.mv_table.specs.Columns.{names_faults}
-use Rattle.mv_parse.specs.Grammar.{port_faults}
+use Rattle.mv_line.specs.Ports.{port_faults}
 use Rattle.mv_blif_line.specs.declared.fault.BlifFault.{BlifFault}
 use Rattle.mv_blif_line.specs.declared.fault.BlifFault.TheVariants.{Line, SecondModel}
 use Rattle.mv_blif_line.specs.Faults.{shared}

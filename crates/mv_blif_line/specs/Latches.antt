@@ -9,8 +9,7 @@ use Rattle.mv_design.specs.declared.table.Entry.TheVariants.{Set}
 use Rattle.mv_fault.specs.declared.fault.ParseFault.TheVariants.{Missing, Extra}
 use Rattle.mv_fault.specs.Tells.{when}
 use Rattle.mv_decl.specs.Line.{net_name_faults}
-use Rattle.mv_table.specs.Tables.{behind_first}
-use Rattle.mv_parse.specs.Commands.{first_of}
+use Rattle.mv_line.specs.Words.{behind_first, first_of}
 use Rattle.mv_blif_line.specs.declared.fault.BlifFault.{BlifFault}
 use Rattle.mv_blif_line.specs.declared.fault.BlifFault.TheVariants.{Line, BadLatch}
 use Rattle.mv_latch.specs.declared.latch.LatchKind.{LatchKind}

@@ -6,7 +6,7 @@ use Rattle.mv_lex.specs.declared.lines.LexLine.{LexLine}
 use Rattle.mv_design.specs.declared.table.Entry.TheVariants.{Set}
 use Rattle.mv_design.specs.declared.table.Row.{Row}
 use Rattle.mv_design.specs.declared.table.FileTable.{FileTable}
-use Rattle.mv_table.specs.Tables.{behind_first}
+use Rattle.mv_line.specs.Words.{behind_first}
 use Rattle.mv_blif_line.specs.Rows.{plane_of, output_of, value_of}
 
 -- the values that a byte of a plane says of its input: `-` says both

@@ -1,7 +1,8 @@
 ghost use Rattle.std.specs.Prelude.{◌≡◌};
-ghost use Rattle.mv_blif_line.specs.Commands.{command_of, command_at, first_word, is_model, is_end, is_row};
+ghost use Rattle.mv_blif_line.specs.Commands.{command_of, command_at, is_model, is_end, is_row};
 
 use mv_lex::LexLine;
+use mv_line::first_word;
 use mv_word::{begins_with, is_text};
 
 /// What a line is.
@@ -38,16 +39,6 @@ fn command_of(word: &[u8]) -> Command
         Command::End
     } else {
         Command::Unknown
-    }
-}
-
-/// The first word of a line.
-pub fn first_word(line: &LexLine) -> &[u8]
-    ensures { result.now ≡ first_word line.now }
-{
-    match line.words.as_slice() {
-        [first, ..] => first.bytes(),
-        [] => b"",
     }
 }
 

@@ -1,5 +1,6 @@
 ghost use Rattle.std.specs.Prelude.{◌≡◌};
 ghost use Rattle.mv_blif_line.specs.declared.fault.BlifFault.TheVariants.{Memory as out_of_memory};
+ghost use Rattle.mv_blif_line.specs.Faults.{shared_fault};
 
 use mv_base::{Memory, Name};
 use mv_fault::ParseFault;
@@ -19,6 +20,17 @@ pub enum BlifFault {
     BadLatch { line: u32, word: Name },
     /// Want of memory, which says nothing of the lines.
     Memory,
+}
+
+impl From<ParseFault> for BlifFault {
+    ghost from_gives = { λ fault e. e ≡ shared_fault fault };
+
+    fn from(fault: ParseFault) -> BlifFault {
+        match fault {
+            ParseFault::Memory => BlifFault::Memory,
+            fault => BlifFault::Line(fault),
+        }
+    }
 }
 
 impl From<Memory> for BlifFault {

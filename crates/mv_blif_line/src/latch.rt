@@ -1,8 +1,7 @@
 ghost use Rattle.std.specs.Prelude.{◌≡◌, ◌<◌, ◌++◌, drop, IfOk, OnOk};
 ghost use Rattle.mv_base.specs.declared.limits.TheConstants.{MAX_VALUES as most_values};
-ghost use Rattle.mv_table.specs.Tables.{behind_first};
-ghost use Rattle.mv_parse.specs.Commands.{first_of};
-ghost use Rattle.mv_parse.specs.Known.{latch_of};
+ghost use Rattle.mv_line.specs.Latches.{latch_of};
+ghost use Rattle.mv_line.specs.Words.{behind_first, first_of};
 ghost use Rattle.mv_blif_line.specs.Faults.{Tells};
 ghost use Rattle.mv_blif_line.specs.Latches.{kind_of, init_of, kind_faults, init_faults, settings_faults, net_faults, latch_faults};
 ghost use Rattle.mv_blif_line.specs.Latches.{control_of, init_said, settings_of, settings_at, control_faults, constant_reset, resets_at};
@@ -14,7 +13,7 @@ use mv_design::{FileLatch, FileTable, Rows};
 use mv_fault::ParseFault;
 use mv_latch::{BlifLatch, LatchKind};
 use mv_lex::LexLine;
-use mv_table::behind_first;
+use mv_line::behind_first;
 use mv_word::{is_net_name, is_text};
 use std::alloc::Global;
 

@@ -8,7 +8,7 @@ mod latch;
 mod row;
 mod table;
 
-pub use command::{Command, command_at, first_word, is_end, is_model, is_row};
+pub use command::{Command, command_at, is_end, is_model, is_row};
 pub use fault::BlifFault;
 pub use head::{add_ports, check_end, check_model, check_names};
 pub use latch::{add_reset, check_control, check_latch, copy_first, read_latch, settings};

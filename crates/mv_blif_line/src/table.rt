@@ -9,7 +9,7 @@ use crate::row::{output_value, plane_of};
 use mv_base::{Items, Memory, Name, PackedSet, Value};
 use mv_design::{Entries, Entry, FileTable, Row, Rows, Sets};
 use mv_lex::LexLine;
-use mv_table::behind_first;
+use mv_line::behind_first;
 use std::alloc::Global;
 
 /// The values that a byte of a plane says of its input.

@@ -40,6 +40,7 @@ abbrev pub check_work : Format → Bool → List Step → NetParts → Work
 check_work format free steps first = record {
   Does = HasReplayed format free steps first;
   Notes = λ noted. ⊥;
+  Denies = λ written. ⊥;
   Refuses = RefusesRule free steps first;
 }
 

@@ -7,7 +7,7 @@ use Rattle.std.proofs.lemmas.Bool.{true≢false}
 use Rattle.clap.specs.Walk.{Text}
 use Rattle.mv_base.specs.Names.{same_word}
 use Rattle.mv_command_line.specs.Answers.{IsRefusedBy}
-use Rattle.mv_command_line.specs.CommandLine.{Parts, asked_by, check, draw_asked, files_asked, opt, task_of, work}
+use Rattle.mv_command_line.specs.CommandLine.{Parts, asked_by, check, draw_asked, files_asked, names_asked, opt, task_of, trace, work}
 use Rattle.mv_command_line.specs.Given.{rest_parts}
 use Rattle.mv_command_line.specs.declared.task.WordsStop.{WordsStop}
 use Rattle.mv_command_line.specs.declared.task.WordsStop.TheVariants.{Refused, Memory}
@@ -40,5 +40,9 @@ module _ (name : Text) (parts : Option Parts) where
       → option_map work (option_and_then draw_asked parts) ≡ asked_by name parts
   work_asked n m y = rw (sym n, sym m, sym y) refl
 
-  pub none_asked : false ≡ same_word name (codes "opt") → false ≡ same_word name (codes "check") → false ≡ same_word name (codes "work") → asked_by name parts ≡ None
-  none_asked n m l = rw (sym n, sym m, sym l) refl
+  pub trace_asked : false ≡ same_word name (codes "opt") → false ≡ same_word name (codes "check") → false ≡ same_word name (codes "work") → true ≡ same_word name (codes "trace")
+      → option_map trace (option_and_then names_asked parts) ≡ asked_by name parts
+  trace_asked n m l y = rw (sym n, sym m, sym l, sym y) refl
+
+  pub none_asked : false ≡ same_word name (codes "opt") → false ≡ same_word name (codes "check") → false ≡ same_word name (codes "work") → false ≡ same_word name (codes "trace") → asked_by name parts ≡ None
+  none_asked n m l t = rw (sym n, sym m, sym l, sym t) refl

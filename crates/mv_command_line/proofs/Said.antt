@@ -6,8 +6,8 @@ use Rattle.std.specs.declared.alloc.Global.{Global}
 use Rattle.std.proofs.lemmas.Bool.{and_left, and_right, cases_Bool, false≢true, lt-leb, ne_eqb, true≢false}
 use Rattle.clap.specs.Walk.{Text}
 use Rattle.mv_command_line.specs.Answers.{IsRefusedBy}
-use Rattle.mv_command_line.specs.CommandLine.{Parts, budget_given, draw_asked, draw_in, files_asked, files_in, free_given, is_stdin, seed_of, size_of}
-use Rattle.mv_command_line.specs.Given.{counted, draw_by, files_by, flag_text, has_count, parts_behind, rest_parts}
+use Rattle.mv_command_line.specs.CommandLine.{Parts, budget_given, draw_asked, draw_in, files_asked, files_in, names_asked, names_in, free_given, is_stdin, seed_of, size_of}
+use Rattle.mv_command_line.specs.Given.{counted, draw_by, files_by, names_by, flag_text, has_count, parts_behind, rest_parts}
 use Rattle.mv_command_line.specs.declared.task.WordsStop.{WordsStop}
 use Rattle.mv_command_line.specs.declared.task.WordsStop.TheVariants.{Refused, Memory}
 use Rattle.mv_command_line.proofs.Counts.{parts_with}
@@ -68,6 +68,27 @@ no_files (a ∷ b ∷ []) (v ∷ []) zero e = absurd (true≢false e)
 no_files (a ∷ b ∷ []) (v ∷ []) (suc zero) e = absurd (true≢false e)
 no_files (a ∷ b ∷ []) (v ∷ []) (suc (suc n)) e = both_none (is_stdin a && is_stdin b)
 no_files (a ∷ b ∷ c ∷ words) values frees e = refl
+
+-- ---- the same without an option
+
+names_are : (words values : List Text) (frees : ℕ) → has_count false (parts_with words values frees) ≡ true
+    → names_in words frees values ≡ names_by (slice_get words 0) (slice_get words 1) (is_given frees) (slice_get values 0)
+names_are [] values frees e = absurd (false≢true e)
+names_are (a ∷ []) values frees e = absurd (false≢true e)
+names_are (a ∷ b ∷ []) [] zero e = refl
+names_are (a ∷ b ∷ []) (v ∷ values) zero e = refl
+names_are (a ∷ b ∷ []) [] (suc n) e = refl
+names_are (a ∷ b ∷ []) (v ∷ values) (suc n) e = refl
+names_are (a ∷ b ∷ c ∷ words) values frees e = absurd (more_words 2 _ (a ∷ b ∷ c ∷ words) (λ h. omega (arith, h)) e)
+
+no_names : (words values : List Text) (frees : ℕ) → has_count false (parts_with words values frees) ≡ false → names_in words frees values ≡ None
+no_names [] values frees e = refl
+no_names (a ∷ []) values frees e = refl
+no_names (a ∷ b ∷ []) [] zero e = absurd (true≢false e)
+no_names (a ∷ b ∷ []) [] (suc n) e = refl
+no_names (a ∷ b ∷ []) (v ∷ values) zero e = refl
+no_names (a ∷ b ∷ []) (v ∷ values) (suc n) e = refl
+no_names (a ∷ b ∷ c ∷ words) values frees e = refl
 
 -- ---- a size, a seed and the name of a script
 
@@ -132,6 +153,17 @@ told_files (Some q) p net other free value e a b f v =
     ∙ (ap (λ x. files_by net x (is_given p.frees) (slice_get p.values 0)) (sym b)
     ∙ (ap (λ x. files_by net other x (slice_get p.values 0)) (sym f) ∙ ap (files_by net other free) (sym v)))))
 
+told_names : (o : Option Parts) (p : Parts) (net other : Option Text) (free : Bool) (value : Option Text) → counted false o ≡ Some p → net ≡ slice_get p.words 0 → other ≡ slice_get p.words 1
+    → free ≡ is_given p.frees → value ≡ slice_get p.values 0 → option_and_then names_asked o ≡ names_by net other free value
+told_names None p net other free value e a b f v = absurd (false≢true (ap is_some e))
+told_names (Some q) p net other free value e a b f v =
+    let h = counted_is false q p e in
+    names_are q.words q.values q.frees h.0
+    ∙ (ap (λ (r : Parts). names_by (slice_get r.words 0) (slice_get r.words 1) (is_given r.frees) (slice_get r.values 0)) h.1
+    ∙ (ap (λ x. names_by x (slice_get p.words 1) (is_given p.frees) (slice_get p.values 0)) (sym a)
+    ∙ (ap (λ x. names_by net x (is_given p.frees) (slice_get p.values 0)) (sym b)
+    ∙ (ap (λ x. names_by net other x (slice_get p.values 0)) (sym f) ∙ ap (names_by net other free) (sym v)))))
+
 told_draw : (o : Option Parts) (p : Parts) (size seed script : Option Text) (free : Bool) (value : Option Text) → counted true o ≡ Some p → size ≡ slice_get p.words 0 → seed ≡ slice_get p.words 1
     → script ≡ slice_get p.words 2 → free ≡ is_given p.frees → value ≡ slice_get p.values 0 → option_and_then draw_asked o ≡ draw_by size seed script free value
 told_draw None p size seed script free value e a b c f v = absurd (false≢true (ap is_some e))
@@ -148,6 +180,10 @@ files_lack : (o : Option Parts) → counted false o ≡ None → option_and_then
 files_lack None e = refl
 files_lack (Some q) e = no_files q.words q.values q.frees (not_counted false q e)
 
+names_lack : (o : Option Parts) → counted false o ≡ None → option_and_then names_asked o ≡ None
+names_lack None e = refl
+names_lack (Some q) e = no_names q.words q.values q.frees (not_counted false q e)
+
 draw_lacks : (o : Option Parts) → counted true o ≡ None → option_and_then draw_asked o ≡ None
 draw_lacks None e = refl
 draw_lacks (Some q) e = no_draw q.words q.values q.frees (not_counted true q e)
@@ -155,6 +191,10 @@ draw_lacks (Some q) e = no_draw q.words q.values q.frees (not_counted true q e)
 refused_files : (o : Option Parts) (stop : WordsStop) → IsRefusedBy (counted false o) stop → IsRefusedBy (option_and_then files_asked o) stop
 refused_files o Refused h = files_lack o h
 refused_files o Memory h = tt
+
+refused_names : (o : Option Parts) (stop : WordsStop) → IsRefusedBy (counted false o) stop → IsRefusedBy (option_and_then names_asked o) stop
+refused_names o Refused h = names_lack o h
+refused_names o Memory h = tt
 
 refused_draw : (o : Option Parts) (stop : WordsStop) → IsRefusedBy (counted true o) stop → IsRefusedBy (option_and_then draw_asked o) stop
 refused_draw o Refused h = draw_lacks o h
@@ -166,6 +206,10 @@ pub files_told : (words : List (String Global)) (p : Parts) (net other : Option 
     → free ≡ is_given p.frees → value ≡ slice_get p.values 0 → option_and_then files_asked (rest_parts words) ≡ files_by net other free value
 files_told words = told_files (rest_parts words)
 
+pub names_told : (words : List (String Global)) (p : Parts) (net other : Option Text) (free : Bool) (value : Option Text) → parts_behind false words ≡ Some p → net ≡ slice_get p.words 0 → other ≡ slice_get p.words 1
+    → free ≡ is_given p.frees → value ≡ slice_get p.values 0 → option_and_then names_asked (rest_parts words) ≡ names_by net other free value
+names_told words = told_names (rest_parts words)
+
 pub draw_told : (words : List (String Global)) (p : Parts) (size seed script : Option Text) (free : Bool) (value : Option Text) → parts_behind true words ≡ Some p → size ≡ slice_get p.words 0
     → seed ≡ slice_get p.words 1 → script ≡ slice_get p.words 2 → free ≡ is_given p.frees → value ≡ slice_get p.values 0
     → option_and_then draw_asked (rest_parts words) ≡ draw_by size seed script free value
@@ -174,6 +218,10 @@ draw_told words = told_draw (rest_parts words)
 pub files_refused : (words : List (String Global)) (stop : WordsStop) → IsRefusedBy (parts_behind false words) stop
     → IsRefusedBy (option_and_then files_asked (rest_parts words)) stop
 files_refused words = refused_files (rest_parts words)
+
+pub names_refused : (words : List (String Global)) (stop : WordsStop) → IsRefusedBy (parts_behind false words) stop
+    → IsRefusedBy (option_and_then names_asked (rest_parts words)) stop
+names_refused words = refused_names (rest_parts words)
 
 pub draw_refused : (words : List (String Global)) (stop : WordsStop) → IsRefusedBy (parts_behind true words) stop
     → IsRefusedBy (option_and_then draw_asked (rest_parts words)) stop

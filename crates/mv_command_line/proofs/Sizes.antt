@@ -5,7 +5,7 @@ use Rattle.std.specs.Char.{is_ascii_digit}
 use Rattle.std.specs.List.{list_all}
 use Rattle.std.specs.Str.Parse.{digits_value}
 use Rattle.std.proofs.lemmas.Bool.{false≢true, leb-true}
-use Rattle.mv_command_line.specs.CommandLine.{Files, Draw, Parts, opt, check, work, number_of, size_of, seed_of, budget_given, free_given, of_both, draw_with, draw_in, draw_asked, files_asked, parts_of, task_of}
+use Rattle.mv_command_line.specs.CommandLine.{Files, Draw, Names, Parts, opt, check, work, trace, number_of, size_of, seed_of, budget_given, free_given, of_both, draw_with, draw_in, draw_asked, files_asked, names_asked, parts_of, task_of}
 
 -- of five tests that hold the last two hold
 last_two : (a b c d e : Bool) → (a && b && c && d && e) ≡ true → (d ≡ true) × (e ≡ true)
@@ -52,16 +52,18 @@ parts_bounds : (parts : Option Parts) (d : Draw) → option_and_then draw_asked 
 parts_bounds None d e = absurd cc
 parts_bounds (Some p) d e = draw_bounds p.words (free_given p.frees) (budget_given p.values) d e
 
--- where a network is to be drawn, the third of three tasks is asked for
-asked_third : (x y z : Bool) (o c : Option Files) (w : Option Draw) (d : Draw)
-    → (if x then option_map opt o else if y then option_map check c else if z then option_map work w else None) ≡ Some (work d) → w ≡ Some d
-asked_third true y z None c w d e = absurd cc
-asked_third true y z (Some f) c w d e = absurd cc
-asked_third false true z o None w d e = absurd cc
-asked_third false true z o (Some f) w d e = absurd cc
-asked_third false false true o c None d e = absurd cc
-asked_third false false true o c (Some v) d e = cc
-asked_third false false false o c w d e = absurd cc
+-- where a network is to be drawn, the third of four tasks is asked for
+asked_third : (x y z t : Bool) (o c : Option Files) (w : Option Draw) (n : Option Names) (d : Draw)
+    → (if x then option_map opt o else if y then option_map check c else if z then option_map work w else if t then option_map trace n else None) ≡ Some (work d) → w ≡ Some d
+asked_third true y z t None c w n d e = absurd cc
+asked_third true y z t (Some f) c w n d e = absurd cc
+asked_third false true z t o None w n d e = absurd cc
+asked_third false true z t o (Some f) w n d e = absurd cc
+asked_third false false true t o c None n d e = absurd cc
+asked_third false false true t o c (Some v) n d e = cc
+asked_third false false false true o c w None d e = absurd cc
+asked_third false false false true o c w (Some m) d e = absurd cc
+asked_third false false false false o c w n d e = absurd cc
 
 -- a network that is asked for has from 1 to 20,000 tables
 pub sizes : (words : List (List ℕ)) (d : Draw) → task_of words ≡ Some (work d) → (1 ≤ d.size) × (d.size ≤ 20000)
@@ -69,4 +71,4 @@ unfolding task_of
 sizes [] d e = absurd cc
 sizes (first ∷ rest) d e =
     parts_bounds (parts_of false rest) d
-    (asked_third _ _ _ (option_and_then files_asked (parts_of false rest)) (option_and_then files_asked (parts_of false rest)) (option_and_then draw_asked (parts_of false rest)) d e)
+    (asked_third _ _ _ _ (option_and_then files_asked (parts_of false rest)) (option_and_then files_asked (parts_of false rest)) (option_and_then draw_asked (parts_of false rest)) (option_and_then names_asked (parts_of false rest)) d e)

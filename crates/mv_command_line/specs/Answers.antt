@@ -1,6 +1,6 @@
 -- How words are answered.
 use Rattle.std.specs.Prelude.{◌≡◌, Option, Some, None, Result, MatchResult}
-use Rattle.mv_command_line.specs.CommandLine.{Asked, opt, check, work, files_with, draw_with}
+use Rattle.mv_command_line.specs.CommandLine.{Asked, opt, check, work, trace, files_with, draw_with, names_with}
 use Rattle.mv_command_line.specs.declared.task.Task.{Task}
 use Rattle.mv_command_line.specs.declared.task.Task.TheVariants as task
 use Rattle.mv_command_line.specs.declared.task.WordsStop.{WordsStop}
@@ -19,6 +19,7 @@ asked_of (task.Check net certificate options) =
     check (files_with net.now certificate.now options.free options.budget)
 asked_of (task.Work size seed script options) =
     work (draw_with size seed script.now options.free options.budget)
+asked_of (task.Trace net run) = trace (names_with net.now run.now)
 
 -- exactly the task that is asked for
 abbrev pub Answers : Option Asked → Result Task WordsStop → Type 0

@@ -128,12 +128,19 @@ pub record Draw : Type 0 where
   pub free : Bool
   pub budget : ℕ
 
+-- two names of files alone
+pub record Names : Type 0 where
+  pub net : List ℕ
+  pub other : List ℕ
+
 -- what a command line asks for: that a network is optimised by a script, that a certificate is
--- checked on it, or that a network is drawn and optimised by a script
+-- checked on it, that a network is drawn and optimised by a script, or whether a network allows a
+-- run
 pub data Asked : Type 0 where
   opt : Files → Asked
   check : Files → Asked
   work : Draw → Asked
+  trace : Names → Asked
 
 -- the word is `-`, which names standard input
 abbrev pub is_stdin : List ℕ → Bool
@@ -141,6 +148,9 @@ is_stdin w = same_word w (codes "-")
 
 abbrev pub files_with : List ℕ → List ℕ → Bool → ℕ → Files
 files_with net other free budget = record { net = net; other = other; free = free; budget = budget }
+
+abbrev pub names_with : List ℕ → List ℕ → Names
+names_with net other = record { net = net; other = other }
 
 abbrev pub draw_with : ℕ → ℕ → List ℕ → Bool → ℕ → Draw
 draw_with size seed script free budget =
@@ -164,11 +174,20 @@ draw_in (size ∷ seed ∷ script ∷ []) free budget =
     (size_of size)
 draw_in _ free budget = None
 
+-- exactly two names of files, of which one at most is standard input, and no option
+abbrev pub names_in : List (List ℕ) → ℕ → List (List ℕ) → Option Names
+names_in (net ∷ other ∷ []) zero [] =
+    if is_stdin net && is_stdin other then None else Some (names_with net other)
+names_in _ count values = None
+
 abbrev pub files_asked : Parts → Option Files
 files_asked p = files_in p.words (free_given p.frees) (budget_given p.values)
 
 abbrev pub draw_asked : Parts → Option Draw
 draw_asked p = draw_in p.words (free_given p.frees) (budget_given p.values)
+
+abbrev pub names_asked : Parts → Option Names
+names_asked p = names_in p.words p.frees p.values
 
 -- what the words behind the first one ask for
 abbrev pub asked_by : List ℕ → Option Parts → Option Asked
@@ -177,6 +196,8 @@ asked_by first parts =
     else if same_word first (codes "check") then option_map check
     (option_and_then files_asked parts)
     else if same_word first (codes "work") then option_map work (option_and_then draw_asked parts)
+    else if same_word first (codes "trace") then option_map trace
+    (option_and_then names_asked parts)
     else None
 
 -- what the words of a command line ask for, without the program's name; None where they are refused

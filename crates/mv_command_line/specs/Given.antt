@@ -9,10 +9,11 @@ use Rattle.clap.specs.Words.{first_value, found_of, one_text}
 use Rattle.clap.specs.declared.parser.matches.ArgMatches.{ArgMatches}
 use Rattle.clap.specs.declared.parser.matches.Found.{Found}
 use Rattle.mv_base.specs.declared.limits.TheConstants.{DEFAULT_BUDGET}
-use Rattle.mv_command_line.specs.CommandLine.{Files, Draw, Parts, files_with, draw_with, parts_of, is_stdin, budget_of}
+use Rattle.mv_command_line.specs.CommandLine.{Files, Draw, Names, Parts, files_with, draw_with, names_with, parts_of, is_stdin, budget_of}
 use Rattle.mv_command_line.specs.CommandLine.{size_of, seed_of}
 use Rattle.mv_command_line.specs.declared.given.Files.{Files as FilesGiven}
 use Rattle.mv_command_line.specs.declared.given.Draw.{Draw as DrawGiven}
+use Rattle.mv_command_line.specs.declared.given.Names.{Names as NamesGiven}
 use Rattle.mv_command_line.specs.declared.task.WordsStop.{WordsStop}
 use Rattle.mv_command_line.specs.Answers.{IsRefusedBy}
 
@@ -27,6 +28,9 @@ files_of f = files_with f.net.now f.other.now f.options.free f.options.budget
 abbrev pub draw_of : DrawGiven → Draw
 draw_of d = draw_with d.size d.seed d.script.now d.options.free d.options.budget
 
+abbrev pub names_of : NamesGiven → Names
+names_of n = names_with n.net.now n.other.now
+
 -- the budget that the value of `--budget` says, or the usual one
 abbrev pub budget_by : Option (List ℕ) → Option ℕ
 budget_by None = Some DEFAULT_BUDGET
@@ -39,6 +43,12 @@ files_by (Some net) None free value = None
 files_by (Some net) (Some other) free value =
     if is_stdin net && is_stdin other then None
     else option_map (files_with net other free) (budget_by value)
+
+-- two names of files, of which one at most is standard input, where no option is given
+abbrev pub names_by : Option (List ℕ) → Option (List ℕ) → Bool → Option (List ℕ) → Option Names
+names_by (Some net) (Some other) false None =
+    if is_stdin net && is_stdin other then None else Some (names_with net other)
+names_by net other free value = None
 
 -- a size, a seed and the name of a script, with what the options say
 abbrev pub draw_by : Option (List ℕ) → Option (List ℕ) → Option (List ℕ) → Bool → Option (List ℕ)

@@ -1,7 +1,7 @@
 ghost use Rattle.std.specs.Prelude.{◌≡◌, option_map};
 ghost use Rattle.mv_base.specs.Names.{same_word};
 ghost use Rattle.mv_command_line.specs.CommandLine.{is_stdin};
-ghost use Rattle.mv_command_line.specs.Given.{text_of, files_of, draw_of, budget_by, files_by, draw_by};
+ghost use Rattle.mv_command_line.specs.Given.{text_of, files_of, draw_of, names_of, budget_by, files_by, draw_by, names_by};
 
 use crate::Options;
 use crate::number::{budget_of, seed_of, size_of};
@@ -22,6 +22,13 @@ pub struct Draw<'a> {
     pub seed: u64,
     pub script: &'a str,
     pub options: Options,
+}
+
+/// Two names of files.
+#[derive(Clone, Copy)]
+pub struct Names<'a> {
+    pub net: &'a str,
+    pub other: &'a str,
 }
 
 /// Whether the word is this text.
@@ -70,6 +77,24 @@ pub fn files_by<'a>(
         other,
         options,
     })
+}
+
+/// Two names of files, of which one at most is standard input, where no option is given.
+pub fn names_by<'a>(
+    net: Option<&'a str>,
+    other: Option<&'a str>,
+    free: bool,
+    budget: Option<&'a str>,
+) -> Option<Names<'a>>
+    ensures { option_map names_of result
+        ≡ names_by (text_of net.entry) (text_of other.entry) free (text_of budget.entry) }
+{
+    let net = net?;
+    let other = other?;
+    if free || budget.is_some() || is_stdin(net.as_bytes()) && is_stdin(other.as_bytes()) {
+        return None;
+    }
+    Some(Names { net, other })
 }
 
 /// A size, a seed and the name of a script, with what the options say.

@@ -2,11 +2,11 @@ ghost use Rattle.std.specs.Prelude.{◌≡◌, ◌<◌, false, Some, [], IfOk, M
 ghost use Rattle.std.specs.Prelude.{option_map, option_and_then};
 ghost use Rattle.clap.specs.Words.{app_of, rule_of};
 ghost use Rattle.mv_command_line.specs.Commands.{budget_given, free_given, command_given, two_given, word_given};
-ghost use Rattle.mv_command_line.specs.CommandLine.{opt, check, work, asked_by, files_asked, draw_asked, task_of};
+ghost use Rattle.mv_command_line.specs.CommandLine.{opt, check, work, trace, asked_by, files_asked, draw_asked, names_asked, task_of};
 ghost use Rattle.mv_command_line.specs.Answers.{Answers, IsRefusedBy};
-ghost use Rattle.mv_command_line.specs.Given.{AreMatched, files_of, draw_of, rest_parts};
+ghost use Rattle.mv_command_line.specs.Given.{AreMatched, files_of, draw_of, names_of, rest_parts};
 
-use crate::given::{Draw, Files, draw_by, files_by, is_text};
+use crate::given::{Draw, Files, Names, draw_by, files_by, is_text, names_by};
 use crate::{Task, WordsStop};
 use clap::error::ErrorKind;
 use clap::{Arg, ArgAction, ArgMatches, Command};
@@ -118,6 +118,25 @@ fn draw<'a>(alloc: Global, words: &'a [String]) -> Result<Draw<'a>, WordsStop>
     }
 }
 
+/// The names of files that the words behind the first one ask for, without an option.
+fn names<'a>(alloc: Global, words: &'a [String]) -> Result<Names<'a>, WordsStop>
+    ensures { let asked = option_and_then names_asked (rest_parts words.now) in
+        MatchResult result (λ n. asked ≡ Some (names_of n)) (IsRefusedBy asked) }
+{
+    let matches = match matches(alloc, false, words) {
+        Ok(matches) => matches,
+        Err(stop) => return Err(stop),
+    };
+    let net = matches.get_str("first");
+    let other = matches.get_str("second");
+    let free = matches.get_flag("free");
+    let budget = matches.get_str("budget");
+    match names_by(net, other, free, budget) {
+        Some(names) => Ok(names),
+        None => Err(WordsStop::Refused),
+    }
+}
+
 /// The task `opt`.
 fn opt<'a>(alloc: Global, words: &'a [String]) -> Result<Task<'a>, WordsStop>
     ensures { Answers (option_map opt (option_and_then files_asked (rest_parts words.now))) result }
@@ -162,6 +181,20 @@ fn work<'a>(alloc: Global, words: &'a [String]) -> Result<Task<'a>, WordsStop>
     }
 }
 
+/// The task `trace`.
+fn trace<'a>(alloc: Global, words: &'a [String]) -> Result<Task<'a>, WordsStop>
+    ensures { Answers
+        (option_map trace (option_and_then names_asked (rest_parts words.now))) result }
+{
+    match names(alloc, words) {
+        Ok(names) => Ok(Task::Trace {
+            net: names.net,
+            run: names.other,
+        }),
+        Err(stop) => Err(stop),
+    }
+}
+
 /// The task of this name, by the words behind the first one.
 fn task_named<'a>(alloc: Global, name: &[u8], words: &'a [String]) -> Result<Task<'a>, WordsStop>
     ensures { Answers (asked_by name.now (rest_parts words.now)) result }
@@ -175,6 +208,9 @@ fn task_named<'a>(alloc: Global, name: &[u8], words: &'a [String]) -> Result<Tas
     if is_text(name, b"work") {
         return work(alloc, words);
     }
+    if is_text(name, b"trace") {
+        return trace(alloc, words);
+    }
     Err(WordsStop::Refused)
 }
 
@@ -186,8 +222,8 @@ fn first_word(words: &[String]) -> &str
     words[0].as_str()
 }
 
-/// The task that the words ask for, without the program's name: `opt NET SCRIPT`, `check NET CERTIFICATE` or
-/// `work SIZE SEED SCRIPT`, with `--free` at most once and `--budget N` or `--budget=N` at most once among the words behind the first
+/// The task that the words ask for, without the program's name: `trace NET RUN` without an option, or `opt NET SCRIPT`,
+/// `check NET CERTIFICATE` or `work SIZE SEED SCRIPT`, with `--free` at most once and `--budget N` or `--budget=N` at most once among the words behind the first
 /// one, before any `--`, which ends options. Behind it every word is positional. N has up to seven digits and is from 1,000 to 4,000,000, SIZE up to
 /// five and is from 1 to 20,000, SEED up to twenty and is below 2^64. One name of a file at most is `-`. All else is refused.
 pub fn read_words<'a>(alloc: Global, words: &'a [String]) -> Result<Task<'a>, WordsStop>

@@ -32,6 +32,11 @@ pub enum Task<'a> {
         script: &'a str,
         options: Options,
     },
+    /// A network is to be asked whether it allows a run.
+    Trace {
+        net: &'a str,
+        run: &'a str,
+    },
 }
 
 /// Why no task comes of the words.

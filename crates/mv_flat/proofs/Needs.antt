@@ -1,9 +1,8 @@
 -- What a look at a table's rows tells of its mark.
-use Rattle.std.proofs.Common.{◌≡◌, ℕ, zero, suc, ◌<◌, ◌≤◌, Bool, true, false, ◌&&◌, ◌||◌, not, ◌⊎◌, inl, inr, List, [], ◌∷◌, map, Option, Some, None, refl, sym, ◌∙◌, ap, subst, arith, length, drop, ⊎_elim, All}
-use Rattle.std.specs.Prelude.{nat_eq, nat_lt, min, slice_index, slice_set}
+use Rattle.std.proofs.Common.{◌≡◌, ℕ, zero, suc, ◌<◌, ◌≤◌, Bool, true, false, ◌&&◌, ◌||◌, not, List, [], ◌∷◌, map, Option, Some, None, refl, sym, ◌∙◌, ap, subst, arith, length, ⊎_elim, All}
+use Rattle.std.specs.Prelude.{nat_eq, nat_lt, slice_index, slice_set}
 use Rattle.std.specs.List.{list_any}
 use Rattle.std.proofs.lemmas.Bool.{and_from, and_left, and_parts, and_right, cases_lt, cond-false, eq-eqb, eqb-true, false≢true, false_from_ne_true, lt-ltb, ltb-true, not-true, or_cases, or_from, or_left, or_parts, or_right}
-use Rattle.std.proofs.lemmas.List.{drop_all}
 use Rattle.std.proofs.lemmas.List.Elements.{All-head, All-tail}
 use Rattle.mv_base.specs.Set.{has, full, meet, one, Within}
 use Rattle.mv_base.proofs.Sets.{has-full, has-meet, same_set}
@@ -25,7 +24,8 @@ use Rattle.mv_joint.specs.Plain.{is_same}
 use Rattle.mv_rows.proofs.Values.{fit_narrowed}
 use Rattle.mv_flat.specs.Numbers.{column_of, columns_at}
 use Rattle.mv_flat.specs.Places.{has_mark, is_joint}
-use Rattle.mv_flat.specs.Gathered.{some_silent, has_all, some_has_all, can_stand, none_or_stands, is_plain}
+use Rattle.mv_shapes.specs.Rows.{some_silent, are_full, some_full}
+use Rattle.mv_flat.specs.Gathered.{can_stand, counts_of, none_or_stands, is_plain}
 use Rattle.mv_flat.specs.Placed.{IsPlacedTable}
 use Rattle.mv_flat.proofs.Known.{known}
 use Rattle.mv_flat.proofs.Singles.{single_output}
@@ -103,35 +103,22 @@ some_bare_has cs (r ∷ rows) are fit h =
     (or_cases _ _ h)
 
 -- by name and by number
-all_each : (ds : List Decl) (names ws : List (List ℕ)) (sets : List ℕ) → has_each (map (column_of ds names) ws) sets ≡ has_all ds ws sets
+all_each : (ds : List Decl) (names ws : List (List ℕ)) (sets : List ℕ) → has_each (map (column_of ds names) ws) sets ≡ are_full (counts_of ds ws) sets
 all_each ds names [] sets = refl
 all_each ds names (w ∷ ws) [] = refl
 all_each ds names (w ∷ ws) (s ∷ sets) = ap (λ b. nat_eq s (full (column_of ds names w).count) && b) (all_each ds names ws sets)
 
-some_each : (ds : List Decl) (names ws : List (List ℕ)) (rows : List Row) → list_any (λ (r : Row). has_each (map (column_of ds names) ws) r.ins) rows ≡ some_has_all ds ws rows
+some_each : (ds : List Decl) (names ws : List (List ℕ)) (rows : List Row)
+    → list_any (λ (r : Row). has_each (map (column_of ds names) ws) r.ins) rows ≡ some_full (counts_of ds ws) rows
 some_each ds names ws [] = refl
 some_each ds names ws (r ∷ rows) = λ i. all_each ds names ws r.ins i || some_each ds names ws rows i
 
 none_bare : (ds : List Decl) (t : FileTable) → All HasLawfulValues ds → IsPlacedTable ds t.inputs t → length t.outputs ≡ 1
-    → some_has_all ds t.inputs t.rows ≡ false → some_row_bare (columns_at ds t.inputs t) t.rows ≡ false
+    → some_full (counts_of ds t.inputs) t.rows ≡ false → some_row_bare (columns_at ds t.inputs t) t.rows ≡ false
 none_bare ds t all p single h =
     let cs = columns_at ds t.inputs t in
     false_from_ne_true (some_row_bare cs t.rows) (λ y.
     false≢true (sym h ∙ (sym (some_each ds t.inputs t.inputs t.rows) ∙ some_bare_has cs t.rows (table_columns ds t.inputs t all p) (table_is ds t.inputs t p single).rows y)))
-
--- behind the nets or the sets there is nothing to look at
-none_left : (ds : List Decl) (ws : List (List ℕ)) → has_all ds ws [] ≡ true
-none_left ds [] = refl
-none_left ds (w ∷ ws) = refl
-
-pub all_at_end : (ds : List Decl) (ws : List (List ℕ)) (sets : List ℕ) (n : ℕ) → min (length ws) (length sets) ≤ n → true ≡ has_all ds (drop n ws) (drop n sets)
-all_at_end ds ws sets n high =
-    ⊎_elim (λ (l : length ws ≤ n). sym (ap (λ us. has_all ds us (drop n sets)) (drop_all n ws l)))
-    (λ (l : length sets ≤ n). sym (ap (has_all ds (drop n ws)) (drop_all n sets l) ∙ none_left ds (drop n ws)))
-    (either (length ws) (length sets) high)
-  where
-    either : (a b : ℕ) → min a b ≤ n → (a ≤ n) ⊎ (b ≤ n)
-    either a b h = ⊎_elim (λ (g : n < a). inr (omega (arith, h, g))) (λ (l : a ≤ n). inl l) (cases_lt n a)
 
 -- ---- what is told
 
@@ -167,7 +154,7 @@ same_marked cs rows entries e h =
     and_from _ _ (and_from _ _ (same_speaks (only_entry entries) e) (ap not h)) (same_needs cs rows (only_entry entries) e)
 
 pub same_told : (ds : List Decl) (t : FileTable) (entries : List Entry) → All HasLawfulValues ds → IsNetTable ds t → is_joint t ≡ false
-    → t.default ≡ Some entries → is_same (only_entry entries) ≡ true → some_has_all ds t.inputs t.rows ≡ false → true ≡ has_mark ds t
+    → t.default ≡ Some entries → is_same (only_entry entries) ≡ true → some_full (counts_of ds t.inputs) t.rows ≡ false → true ≡ has_mark ds t
 unfolding is_marked
 same_told ds t entries all f single e o h =
     let cs = columns_at ds t.inputs t in

@@ -1,17 +1,16 @@
 -- How the nets of a model are gathered by number, table by table, and what a look at the rows tells
 -- of a table's mark. For private functions.
-use Rattle.std.specs.Prelude.{◌≡◌, ℕ, Bool, true, not, ◌&&◌, nat_eq, Option, Some, None, List, [], ◌∷◌, length, map, unwrap_or, if◌then◌else◌}
-use Rattle.std.specs.List.{list_any}
+use Rattle.std.specs.Prelude.{◌≡◌, ℕ, Bool, true, not, ◌&&◌, Option, Some, None, List, [], ◌∷◌, length, map, unwrap_or, if◌then◌else◌}
 use Rattle.mv_design.specs.declared.design.Decl.{Decl}
 use Rattle.mv_design.specs.declared.table.Entry.{Entry}
 use Rattle.mv_design.specs.declared.table.Row.{Row}
 use Rattle.mv_design.specs.declared.table.FileTable.{FileTable}
 use Rattle.mv_base.specs.Names.{place_of}
-use Rattle.mv_base.specs.Set.{full}
 use Rattle.mv_base.specs.declared.number.NetId.{NetId}
 use Rattle.mv_design.specs.Values.{count_of}
-use Rattle.mv_rows.specs.Flat.{only_entry, says_nothing}
+use Rattle.mv_rows.specs.Flat.{only_entry}
 use Rattle.mv_joint.specs.Plain.{is_same}
+use Rattle.mv_shapes.specs.Rows.{some_silent}
 use Rattle.mv_acyclic.specs.Driving.{with_names}
 use Rattle.mv_flat.specs.Numbers.{mark_at}
 use Rattle.mv_flat.specs.Places.{made_places}
@@ -21,20 +20,6 @@ abbrev pub with_places : List Decl → List (List ℕ) → List FileTable → Li
 with_places ds names [] = names
 with_places ds names (t ∷ ts) =
     with_places ds (with_names (with_names names (made_places ds t)) t.outputs) ts
-
--- some row says no value of its output
-abbrev pub some_silent : List Row → Bool
-some_silent rows = list_any (λ (r : Row). says_nothing (only_entry r.outs)) rows
-
--- a row has all values of each of these nets
-abbrev pub has_all : List Decl → List (List ℕ) → List ℕ → Bool
-has_all ds [] sets = true
-has_all ds (w ∷ ws) [] = true
-has_all ds (w ∷ ws) (s ∷ sets) = nat_eq s (full (count_of ds w)) && has_all ds ws sets
-
--- some row has all values of each of these nets
-abbrev pub some_has_all : List Decl → List (List ℕ) → List Row → Bool
-some_has_all ds ins rows = list_any (λ (r : Row). has_all ds ins r.ins) rows
 
 -- a default can stand beside rows: it is a set, and each row says a value
 abbrev pub can_stand : List Row → Entry → Bool

@@ -137,7 +137,7 @@ fn single_covers(
     ensures stop { IfErr result
         (λ stop. StopsAt columns.now table.now (mark_at names.now table.now) most stop) }
 {
-    let mark = mark_of(alloc, names, table)?;
+    let mark = mark_of(alloc, names, table, shared)?;
     match shared.flat_table(alloc, columns, table, mark, most) {
         Ok(flat) => Ok(flat),
         Err(stop) => Err(stop),
@@ -146,12 +146,18 @@ fn single_covers(
 
 /// The number of the table's mark. A table without one has a number past all others, and so may one have that is known to get none
 /// from a look at it: no name is made for it.
-fn mark_of(alloc: Global, names: &Numbers, table: &FileTable) -> Result<NetId, Memory>
+fn mark_of(
+    alloc: Global,
+    names: &Numbers,
+    table: &FileTable,
+    shared: &SharedTables,
+) -> Result<NetId, Memory>
     requires single { length table.now.outputs ≡ 1 }
     requires few { length names.now ≤ MAX_NETS }
+    requires from { IsFrom shared.now table.now }
     ensures { IfOk result (IsMarkNumber names.now table.now) }
 {
-    if is_plain(table) {
+    if is_plain(table, shared) {
         return Ok(NetId(names.len() as u32));
     }
     let name = mark_name(alloc, &table.outputs.as_slice()[0])?;

@@ -77,7 +77,7 @@ fn network(
     ensures fault { IfErr result (TellsLimit (length (drivers model)) (with_reset_nets model)) }
 {
     let model = with_reset_nets(alloc, model)?;
-    let NumberedNets { names, counts } = numbered(alloc, &model, &driven)?;
+    let NumberedNets { names, counts } = numbered(alloc, &model, &driven, &mut shared)?;
     let file_nets = driven.len() as u64;
     drop(driven);
     let parts = built(

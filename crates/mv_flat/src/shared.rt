@@ -1,6 +1,7 @@
 //! Tables of the whole that come from one table of the design, as those of a model that is instanced more than once.
-ghost use Rattle.std.specs.Prelude.{◌≡◌, ◌<◌, ◌+◌, ◌++◌, [], true, false, nat_eq, length, slice_index_or, All, IfErr, IfOk, IfSome, OnOk};
+ghost use Rattle.std.specs.Prelude.{◌≡◌, ◌<◌, ◌≤◌, ◌+◌, ◌++◌, [], true, false, nat_eq, length, slice_index_or, All, IfErr, IfOk, IfSome, OnOk};
 ghost use Rattle.std.specs.List.{flat_map, list_any};
+ghost use Rattle.mv_base.specs.declared.limits.TheConstants.{MAX_VALUES as most_values};
 ghost use Rattle.mv_design.specs.declared.design.FileModel.{FileModel};
 ghost use Rattle.mv_design.specs.declared.table.FileTable.{FileTable};
 ghost use Rattle.mv_tree.specs.Unfolded.{tables_in};
@@ -11,13 +12,14 @@ ghost use Rattle.mv_rows.specs.Cubes.{AreColumns};
 ghost use Rattle.mv_rows.specs.Flat.{with_mark, IsMade, IsTable};
 ghost use Rattle.mv_rows.specs.Many.{StopsAt};
 ghost use Rattle.mv_rows.specs.Marked.{is_marked};
+ghost use Rattle.mv_shapes.specs.Rows.{some_full, some_silent};
 ghost use Rattle.mv_flat.specs.Shared.{firsts_from, origins_of, HasRowsOf, IsFrom, KeepsOrigins};
 
 use crate::size::gives_reset;
 use mv_base::{Memory, NetId};
 use mv_design::{Design, FileModel, FileTable};
 use mv_rows::{Column, FlatTable, RowStop, flat_table_within};
-use mv_shapes::SharedTable;
+use mv_shapes::{SharedTable, some_row_is_full, some_row_is_silent};
 use mv_walk::Opened;
 use std::alloc::Global;
 
@@ -77,6 +79,33 @@ impl SharedTables {
         }
     }
 
+    /// Whether some row of the table says no value. It is kept of the table that it comes from, if that is known.
+    pub fn some_row_is_silent(&self, table: &FileTable) -> bool
+        requires single { length table.now.outputs ≡ 1 }
+        requires from { IsFrom self.now table.now }
+        ensures { result ≡ some_silent table.now.rows }
+    {
+        match self.origin(table) {
+            Some(at) => self.tables[at].some_row_is_silent(),
+            None => some_row_is_silent(table.rows.as_slice()),
+        }
+    }
+
+    /// Whether some row of the table has all values of columns with so many. It is kept of the table that it comes from, if that is
+    /// known.
+    pub fn some_row_is_full(&mut self, table: &FileTable, counts: Vec<u16>) -> bool
+        requires single { length table.now.outputs ≡ 1 }
+        requires from { IsFrom self.old table.now }
+        requires few { All (λ n. n ≤ most_values) counts.items }
+        ensures kept { KeepsOrigins self.old self.new }
+        ensures full { result ≡ some_full counts.items table.now.rows }
+    {
+        match self.origin(table) {
+            Some(at) => full_at(&mut self.tables, at, table, counts),
+            None => some_row_is_full(table.rows.as_slice(), counts.as_slice()),
+        }
+    }
+
     /// The number of the table that a table of many rows comes from, if it is known.
     fn origin(&self, table: &FileTable) -> Option<usize>
         requires single { length table.now.outputs ≡ 1 }
@@ -121,6 +150,18 @@ fn flat_at(
 {
     let shared = &mut tables[at];
     shared.flat_table(alloc, columns, mark, most)
+}
+
+/// Whether some row of the table has all values of columns with so many, as it is kept of the table at the place, which has its rows.
+fn full_at(tables: &mut Vec<SharedTable>, at: usize, table: &FileTable, counts: Vec<u16>) -> bool
+    requires low { at < length tables.old.items }
+    requires rows { (d : FileTable) → HasRowsOf table.now (slice_index_or tables.old.items at d) }
+    requires few { All (λ n. n ≤ most_values) counts.items }
+    ensures same { tables.new.items ≡ tables.old.items }
+    ensures full { result ≡ some_full counts.items table.now.rows }
+{
+    let shared = &mut tables[at];
+    shared.some_row_is_full(counts)
 }
 
 /// No tables of which anything is known.

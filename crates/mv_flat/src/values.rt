@@ -1,7 +1,8 @@
 //! The values of nets.
-ghost use Rattle.std.specs.Prelude.{◌≡◌, ◌≤◌, IfOk};
+ghost use Rattle.std.specs.Prelude.{◌≡◌, ◌≤◌, All, IfOk};
 ghost use Rattle.mv_base.specs.declared.limits.TheConstants.{MAX_VALUES as most_values};
 ghost use Rattle.mv_design.specs.Values.{count_of};
+ghost use Rattle.mv_flat.specs.Gathered.{counts_of};
 ghost use Rattle.mv_flat.specs.Numbers.{are_numbers, kept_names};
 
 use itoa::Buffer;
@@ -15,6 +16,18 @@ pub fn count_of(decls: &Declared, net: &Name) -> u16
     ensures few { result ≤ most_values }
 {
     decls.values_of(net).len() as u16
+}
+
+/// How many values each of the nets has.
+pub fn counts_of(alloc: Global, decls: &Declared, nets: &[Name]) -> Result<Vec<u16>, Memory>
+    ensures counts { IfOk result (λ counts. counts.items ≡ counts_of decls.now nets.now) }
+    ensures few { IfOk result (λ counts. All (λ n. n ≤ most_values) counts.items) }
+{
+    let mut counts = Vec::with_capacity(alloc, nets.len())?;
+    for net in nets {
+        counts.push(count_of(decls, net))?;
+    }
+    Ok(counts)
 }
 
 /// The names of values as a network keeps them: none, if they are the numbers from 0.

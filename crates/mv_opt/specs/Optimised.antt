@@ -48,6 +48,7 @@ abbrev pub opt_work : Format → Terms → Output → Items → NetParts → Wor
 opt_work format terms output items first = record {
   Does = HasWorked format terms output items first;
   Notes = HasStopped terms items first;
+  Denies = λ written. ⊥;
   Refuses = λ status line. ⊥;
 }
 

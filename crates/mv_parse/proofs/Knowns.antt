@@ -9,12 +9,12 @@ use Rattle.mv_lex.specs.declared.lines.LexLine.{LexLine}
 use Rattle.mv_design.specs.declared.design.FileModel.{FileModel}
 use Rattle.mv_fault.specs.declared.fault.ParseFault.{ParseFault}
 use Rattle.mv_fault.proofs.Nothing.{left-nothing}
-use Rattle.mv_table.specs.Tables.{behind_first}
+use Rattle.mv_line.specs.Words.{behind_first, first_word}
 use Rattle.mv_parse.specs.declared.command.Command.{Command}
 use Rattle.mv_parse.specs.declared.command.Command.TheVariants.{Model, Inputs, Outputs, Mv, Table, Latch, Reset, Default, Row, End, Root as NamesRoot, Part, Unknown}
 use Rattle.mv_parse.specs.declared.known.Root.{Root}
 use Rattle.mv_parse.specs.declared.known.Known.{Known}
-use Rattle.mv_parse.specs.Commands.{first_word, command_at, is_model, is_end, is_root}
+use Rattle.mv_parse.specs.Commands.{command_at, is_model, is_end, is_root}
 use Rattle.mv_parse.specs.Known.{root_said, first_root, ended_parts, open_part, open_model, open_of, file_model, model_said, models_of, model_names, known, inputs_of, outputs_of, instances_of}
 use Rattle.mv_parse.specs.Grammar.{model_faults, root_faults, outside_faults, inside_faults, body_faults, unended_faults, line_faults, behind_model}
 use Rattle.mv_parse.specs.Steps.{with_no_table, inside_step, body_step, line_step}

@@ -11,13 +11,13 @@ use Rattle.mv_fault.specs.declared.fault.ParseFault.TheVariants.{Extra, Repeated
 use Rattle.mv_fault.specs.Tells.{when}
 use Rattle.mv_fault.proofs.Nothing.{left-nothing, right-nothing, when-nothing}
 use Rattle.mv_table.specs.Columns.{ins_of, outs_of, column_faults, names_faults, outputs_faults, columns_faults, output_faults, reset_faults}
-use Rattle.mv_table.specs.Tables.{behind_first}
+use Rattle.mv_line.specs.Words.{behind_first, first_word}
 use Rattle.mv_parse.specs.declared.command.Command.{Command}
 use Rattle.mv_parse.specs.declared.command.Command.TheVariants.{Table, Reset}
 use Rattle.mv_parse.specs.declared.known.OpenTable.{OpenTable}
 use Rattle.mv_parse.specs.declared.known.OpenModel.{OpenModel}
 use Rattle.mv_parse.specs.declared.known.Known.{Known}
-use Rattle.mv_parse.specs.Commands.{first_word, command_at, keeps_table, is_table}
+use Rattle.mv_parse.specs.Commands.{command_at, keeps_table, is_table}
 use Rattle.mv_parse.specs.Grammar.{body_faults, line_faults}
 use Rattle.mv_parse.specs.Known.{open_table, table_state}
 use Rattle.mv_parse.specs.Steps.{HasFewColumns}

@@ -9,12 +9,12 @@ use Rattle.mv_fault.specs.declared.fault.Which.TheVariants.{Models}
 use Rattle.mv_fault.specs.declared.fault.ParseFault.TheVariants.{Limit, BadName, ModelTwice, Extra}
 use Rattle.mv_fault.specs.Tells.{when}
 use Rattle.mv_fault.proofs.Nothing.{left-nothing, right-nothing, when-nothing}
-use Rattle.mv_table.specs.Tables.{behind_first}
+use Rattle.mv_line.specs.Words.{behind_first, first_of, first_word}
 use Rattle.mv_parse.specs.declared.command.Command.{Command}
 use Rattle.mv_parse.specs.declared.command.Command.TheVariants.{Inputs, Outputs, Mv, Table, Latch, Reset, Default, Row}
 use Rattle.mv_parse.specs.declared.known.OpenModel.{OpenModel}
 use Rattle.mv_parse.specs.declared.known.Known.{Known}
-use Rattle.mv_parse.specs.Commands.{first_of, first_word, is_model, is_end, is_root}
+use Rattle.mv_parse.specs.Commands.{is_model, is_end, is_root}
 use Rattle.mv_parse.specs.Grammar.{model_name_faults, model_faults, unended_faults, line_faults}
 use Rattle.mv_parse.specs.Steps.{new_model, with_no_table, inside_step, body_step, line_step, CanEnd, HasRoom}
 use Rattle.mv_parse.proofs.Narrows.{few}

@@ -9,13 +9,15 @@ use Rattle.mv_fault.specs.declared.fault.ParseFault.{ParseFault}
 use Rattle.mv_fault.specs.declared.fault.ParseFault.TheVariants.{Extra}
 use Rattle.mv_fault.specs.Tells.{when, first}
 use Rattle.mv_fault.proofs.Firsts.{first-append}
-use Rattle.mv_table.specs.Tables.{behind_first, table_of}
+use Rattle.mv_line.specs.Latches.{latch_of}
+use Rattle.mv_line.specs.Words.{behind_first}
+use Rattle.mv_table.specs.Tables.{table_of}
 use Rattle.mv_instances.specs.Line.{part_said}
 use Rattle.mv_parse.specs.declared.command.Command.{Command}
 use Rattle.mv_parse.specs.declared.command.Command.TheVariants.{Table, Latch, Reset, Part}
 use Rattle.mv_parse.specs.declared.known.Contents.{Contents}
 use Rattle.mv_parse.specs.Commands.{command_at}
-use Rattle.mv_parse.specs.Known.{front_rows, table_at, tables_of, latch_of, latch_at, latches_of, reset_at, resets_of, part_at, parts_of}
+use Rattle.mv_parse.specs.Known.{front_rows, table_at, tables_of, latch_at, latches_of, reset_at, resets_of, part_at, parts_of}
 use Rattle.mv_parse.specs.Grammar.{table_value_faults, tables_faults, end_faults}
 use Rattle.mv_parse.specs.Steps.{contents_of, with_line}
 

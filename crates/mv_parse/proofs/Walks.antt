@@ -11,13 +11,13 @@ use Rattle.mv_fault.specs.declared.fault.ParseFault.{ParseFault}
 use Rattle.mv_fault.specs.declared.fault.ParseFault.TheVariants.{Memory, NoEnd}
 use Rattle.mv_fault.specs.Tells.{first}
 use Rattle.mv_fault.proofs.Firsts.{first-append}
-use Rattle.mv_table.specs.Tables.{behind_first}
+use Rattle.mv_line.specs.Words.{behind_first, first_word}
 use Rattle.mv_parse.specs.declared.command.Command.{Command}
 use Rattle.mv_parse.specs.declared.command.Command.TheVariants.{Model, End, Root}
 use Rattle.mv_parse.specs.declared.known.OpenTable.{OpenTable}
 use Rattle.mv_parse.specs.declared.known.OpenModel.{OpenModel}
 use Rattle.mv_parse.specs.declared.known.Known.{Known}
-use Rattle.mv_parse.specs.Commands.{first_word, command_at, is_model, is_end}
+use Rattle.mv_parse.specs.Commands.{command_at, is_model, is_end}
 use Rattle.mv_parse.specs.Known.{says_root, open_part, open_of, open_model, known}
 use Rattle.mv_parse.specs.Grammar.{model_faults, line_faults, behind_model, faults_at, faults_behind, faults_of, design_known, design_of}
 use Rattle.mv_parse.specs.Steps.{line_step, is_inner, HasFewColumns, IsSmall, HasRoom}

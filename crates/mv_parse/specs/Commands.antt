@@ -1,19 +1,11 @@
 -- What a line of a network file is, by its first word.
-use Rattle.std.specs.Prelude.{ℕ, Bool, true, false, not, ◌||◌, List, [], ◌∷◌, codes, if◌then◌else◌}
+use Rattle.std.specs.Prelude.{ℕ, Bool, true, false, not, ◌||◌, List, codes, if◌then◌else◌}
 use Rattle.mv_base.specs.Names.{same_word, begins_with}
 use Rattle.mv_lex.specs.declared.lines.LexLine.{LexLine}
+use Rattle.mv_line.specs.Words.{first_word}
 use Rattle.mv_table.specs.Tables.{is_default_word}
 use Rattle.mv_parse.specs.declared.command.Command.{Command}
 use Rattle.mv_parse.specs.declared.command.Command.TheVariants.{Model, Inputs, Outputs, Mv, Table, Latch, Reset, Default, Row, End, Root, Part, Unknown}
-
--- the first of these words, or no bytes where there is none
-abbrev pub first_of : List (List ℕ) → List ℕ
-first_of [] = []
-first_of (w ∷ words) = w
-
--- the first word of a line
-abbrev pub first_word : LexLine → List ℕ
-first_word l = first_of l.words
 
 -- the words that say that a line begins a table
 abbrev pub is_table_word : List ℕ → Bool

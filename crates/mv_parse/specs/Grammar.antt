@@ -3,7 +3,7 @@
 -- that has none is a design.
 use Rattle.std.specs.Prelude.{◌≡◌, ℕ, ◌+◌, Bool, true, false, not, ◌==◌, nat_lt, nat_le, List, []}
 use Rattle.std.specs.Prelude.{◌∷◌, ◌++◌, length, drop, filter, Option, Some, None, is_some, if◌then◌else◌}
-use Rattle.mv_base.specs.Names.{among, place_of, is_net_name, is_model_name}
+use Rattle.mv_base.specs.Names.{among, place_of, is_model_name}
 use Rattle.mv_base.specs.declared.limits.TheConstants.{MAX_TABLE_LINES, MAX_MODELS}
 use Rattle.mv_lex.specs.declared.lines.LexLine.{LexLine}
 use Rattle.mv_design.specs.declared.design.Decl.{Decl}
@@ -13,12 +13,15 @@ use Rattle.mv_design.specs.Values.{count_of}
 use Rattle.mv_fault.specs.declared.fault.Which.TheVariants.{TableLines, Models}
 use Rattle.mv_fault.specs.declared.fault.ParseFault.{ParseFault}
 use Rattle.mv_fault.specs.declared.fault.ParseFault.TheVariants.{UnknownCommand, OutsideModel, NoEnd, Missing, Extra, Columns, DefaultTwice}
-use Rattle.mv_fault.specs.declared.fault.ParseFault.TheVariants.{ModelTwice, RootFault, Repeated, NoModel, Limit}
+use Rattle.mv_fault.specs.declared.fault.ParseFault.TheVariants.{ModelTwice, RootFault, NoModel, Limit}
 use Rattle.mv_fault.specs.declared.fault.ParseFault.TheVariants.{BadName, NoTable, LatchValues}
 use Rattle.mv_fault.specs.Tells.{when, first}
 use Rattle.mv_decl.specs.Line.{net_name_faults, decl_faults}
 use Rattle.mv_table.specs.Columns.{columns_faults, reset_faults}
-use Rattle.mv_table.specs.Tables.{behind_first, table_faults}
+use Rattle.mv_line.specs.Latches.{latch_of}
+use Rattle.mv_line.specs.Ports.{port_faults}
+use Rattle.mv_line.specs.Words.{behind_first, first_word}
+use Rattle.mv_table.specs.Tables.{table_faults}
 use Rattle.mv_instances.specs.Line.{part_faults}
 use Rattle.mv_parse.specs.declared.command.Command.{Command}
 use Rattle.mv_parse.specs.declared.command.Command.TheVariants.{Inputs, Outputs, Mv, Table, Latch, Reset, Default, Row, Part, Unknown}
@@ -26,8 +29,8 @@ use Rattle.mv_parse.specs.declared.known.OpenTable.{OpenTable}
 use Rattle.mv_parse.specs.declared.known.OpenModel.{OpenModel}
 use Rattle.mv_parse.specs.declared.known.Root.{Root}
 use Rattle.mv_parse.specs.declared.known.Known.{Known}
-use Rattle.mv_parse.specs.Commands.{first_word, command_at, is_model, is_end, is_root}
-use Rattle.mv_parse.specs.Known.{front_rows, latch_of, open_part, known}
+use Rattle.mv_parse.specs.Commands.{command_at, is_model, is_end, is_root}
+use Rattle.mv_parse.specs.Known.{front_rows, open_part, known}
 
 -- the name behind `.model`, exactly one word: no model of this name has ended
 abbrev pub model_name_faults : ℕ → List ℕ → List (List ℕ) → List (List ℕ) → List ParseFault
@@ -48,13 +51,6 @@ root_faults n word root [] = Missing n word ∷ []
 root_faults n word root (w ∷ words) =
     when (not (is_model_name w)) (BadName n w) ++ when (is_some root) (RootFault n w)
     ++ when (nat_lt 0 (length words)) (Extra n word)
-
--- `.inputs NAMES` and `.outputs NAMES`, behind those that stand there already
-abbrev pub port_faults : ℕ → List (List ℕ) → List (List ℕ) → List ParseFault
-port_faults n earlier [] = []
-port_faults n earlier (w ∷ words) =
-    when (not (is_net_name w)) (BadName n w) ++ when (among w earlier) (Repeated n w)
-    ++ port_faults n (earlier ++ w ∷ []) words
 
 -- `.latch IN OUT`: exactly two words
 unfoldable pub latch_faults : ℕ → List ℕ → List (List ℕ) → List ParseFault

@@ -12,7 +12,9 @@ use Rattle.mv_fault.specs.Tells.{first}
 use Rattle.mv_decl.specs.Nets.{with_decls}
 use Rattle.mv_decl.specs.Line.{decls_said}
 use Rattle.mv_table.specs.Columns.{ins_of, outs_of}
-use Rattle.mv_table.specs.Tables.{behind_first, table_of}
+use Rattle.mv_line.specs.Latches.{latch_of}
+use Rattle.mv_line.specs.Words.{behind_first, first_of}
+use Rattle.mv_table.specs.Tables.{table_of}
 use Rattle.mv_instances.specs.Line.{instance_of, part_said}
 use Rattle.mv_parse.specs.declared.command.Command.{Command}
 use Rattle.mv_parse.specs.declared.command.Command.TheVariants.{Inputs, Outputs, Mv, Table, Latch, Reset, Part as SaysPart}
@@ -20,7 +22,7 @@ use Rattle.mv_parse.specs.declared.known.OpenTable.{OpenTable}
 use Rattle.mv_parse.specs.declared.known.OpenModel.{OpenModel}
 use Rattle.mv_parse.specs.declared.known.Root.{Root}
 use Rattle.mv_parse.specs.declared.known.Known.{Known}
-use Rattle.mv_parse.specs.Commands.{first_of, command_at, keeps_table, is_row, is_default, is_table, is_end, is_root}
+use Rattle.mv_parse.specs.Commands.{command_at, keeps_table, is_row, is_default, is_table, is_end, is_root}
 
 -- ---- the lines of one model, behind its first
 
@@ -74,15 +76,6 @@ table_at _ ds l ls = []
 abbrev pub tables_of : List Decl → List LexLine → List FileTable
 tables_of ds [] = []
 tables_of ds (l ∷ ls) = table_at (command_at l) ds l ls ++ tables_of ds ls
-
--- the latch that a line says: its input and its output
-abbrev pub latch_of : LexLine → FileLatch
-latch_of l =
-    record {
-      line = l.number;
-      input = first_of (behind_first l);
-      output = first_of (drop 1 (behind_first l));
-    }
 
 -- the latch of a line, if it says one
 abbrev pub latch_at : Command → LexLine → List FileLatch

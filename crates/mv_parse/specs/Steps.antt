@@ -7,7 +7,9 @@ use Rattle.mv_design.specs.declared.design.Decl.{Decl}
 use Rattle.mv_decl.specs.Nets.{with_decls}
 use Rattle.mv_decl.specs.Line.{decls_said}
 use Rattle.mv_table.specs.Columns.{ins_of, outs_of}
-use Rattle.mv_table.specs.Tables.{behind_first, table_of}
+use Rattle.mv_line.specs.Latches.{latch_of}
+use Rattle.mv_line.specs.Words.{behind_first, first_of}
+use Rattle.mv_table.specs.Tables.{table_of}
 use Rattle.mv_instances.specs.Line.{instance_of, part_said}
 use Rattle.mv_parse.specs.declared.command.Command.{Command}
 use Rattle.mv_parse.specs.declared.command.Command.TheVariants.{Inputs, Outputs, Mv, Table, Latch, Reset, Default, Row, Part}
@@ -16,8 +18,8 @@ use Rattle.mv_parse.specs.declared.known.OpenModel.{OpenModel}
 use Rattle.mv_parse.specs.declared.known.Contents.{Contents}
 use Rattle.mv_parse.specs.declared.known.Known.{Known}
 use Rattle.mv_base.specs.declared.limits.TheConstants.{MAX_COLUMNS, MAX_MODELS}
-use Rattle.mv_parse.specs.Commands.{first_of, command_at, is_table, is_model, is_end, is_root}
-use Rattle.mv_parse.specs.Known.{front_rows, tables_of, latch_of, latches_of, resets_of, parts_of, root_said, file_model}
+use Rattle.mv_parse.specs.Commands.{command_at, is_table, is_model, is_end, is_root}
+use Rattle.mv_parse.specs.Known.{front_rows, tables_of, latches_of, resets_of, parts_of, root_said, file_model}
 
 -- a model and a table that begin
 abbrev pub new_model : LexLine → OpenModel

@@ -1,8 +1,8 @@
 ghost use Rattle.std.specs.Prelude.{◌≡◌};
-ghost use Rattle.mv_parse.specs.Commands.{command_of, command_at, first_of, first_word, is_table_word, is_reset_word, keeps_table, is_model, is_end, is_root, is_table};
+ghost use Rattle.mv_parse.specs.Commands.{command_of, command_at, is_table_word, is_reset_word, keeps_table, is_model, is_end, is_root, is_table};
 
-use mv_base::Name;
 use mv_lex::LexLine;
+use mv_line::first_word;
 use mv_table::is_default_word;
 use mv_word::{begins_with, is_text};
 
@@ -69,16 +69,6 @@ fn command_of(word: &[u8]) -> Command
         Command::Part
     } else {
         Command::Unknown
-    }
-}
-
-/// The first word of a line.
-pub fn first_word(line: &LexLine) -> &[u8]
-    ensures { result.now ≡ first_word line.now }
-{
-    match line.words.as_slice() {
-        [first, ..] => first.bytes(),
-        [] => b"",
     }
 }
 

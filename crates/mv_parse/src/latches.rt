@@ -1,16 +1,16 @@
 ghost use Rattle.std.specs.Prelude.{◌≡◌, IfOk};
 ghost use Rattle.mv_fault.specs.Tells.{Tells};
 ghost use Rattle.mv_decl.specs.Line.{net_name_faults};
-ghost use Rattle.mv_parse.specs.Commands.{first_of};
+ghost use Rattle.mv_line.specs.Latches.{latch_of};
+ghost use Rattle.mv_line.specs.Words.{first_of};
 ghost use Rattle.mv_parse.specs.Grammar.{latch_faults, latch_value_faults};
-ghost use Rattle.mv_parse.specs.Known.{latch_of};
 
 use mv_base::{Memory, Name};
 use mv_decl::Decls;
 use mv_design::FileLatch;
 use mv_fault::ParseFault;
 use mv_lex::LexLine;
-use mv_table::behind_first;
+use mv_line::behind_first;
 use mv_word::is_net_name;
 use std::alloc::Global;
 

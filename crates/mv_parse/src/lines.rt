@@ -1,11 +1,12 @@
-ghost use Rattle.std.specs.Prelude.{◌≡◌, ◌≤◌, ◌+◌, ◌++◌, IfOk, OnOk};
+ghost use Rattle.std.specs.Prelude.{◌≡◌, ◌≤◌, ◌+◌, IfOk, OnOk};
 ghost use Rattle.mv_base.specs.declared.limits.TheConstants.{MAX_COLUMNS as most_columns};
 ghost use Rattle.mv_fault.specs.Tells.{Tells};
 ghost use Rattle.mv_decl.specs.Line.{decl_faults};
 ghost use Rattle.mv_table.specs.Columns.{columns_faults, reset_faults};
 ghost use Rattle.mv_instances.specs.Line.{part_faults};
-ghost use Rattle.mv_parse.specs.Commands.{first_of};
-ghost use Rattle.mv_parse.specs.Grammar.{model_name_faults, model_faults, port_faults, latch_faults, row_faults, default_faults};
+ghost use Rattle.mv_line.specs.Ports.{port_faults};
+ghost use Rattle.mv_line.specs.Words.{first_of};
+ghost use Rattle.mv_parse.specs.Grammar.{model_name_faults, model_faults, latch_faults, row_faults, default_faults};
 ghost use Rattle.mv_parse.specs.Steps.{with_inputs, with_outputs, with_declared, with_instance, with_no_table, with_open_table, default_seen, row_seen};
 
 use crate::known::{OpenModel, OpenTable};
@@ -14,8 +15,9 @@ use mv_base::{MAX_MODELS, MAX_TABLE_LINES, Name, NameSet};
 use mv_decl::declare;
 use mv_fault::{ParseFault, Which};
 use mv_instances::add_part;
+use mv_line::add_ports;
 use mv_table::{check_columns, check_reset, ins, outs};
-use mv_word::{is_model_name, is_net_name};
+use mv_word::is_model_name;
 use std::alloc::Global;
 
 /// The name behind `.model`, if it names none of these models.
@@ -64,29 +66,6 @@ pub fn model_name(
         });
     }
     new_name(number, word, names, words)
-}
-
-/// Adds the names of inputs, or of outputs, to those that stand there already.
-#[tactic(auto, using(mv_fault::proofs::Firsts::firsts))]
-fn add_ports(ports: &mut NameSet, number: u32, words: &[Name]) -> Result<(), ParseFault>
-    ensures fault { Tells result (port_faults number ports.old words.now) }
-    ensures ok { OnOk result (ports.new ≡ ports.old ++ words.now) }
-{
-    for word in words {
-        if !is_net_name(word.bytes()) {
-            return Err(ParseFault::BadName {
-                line: number,
-                name: word.copy()?,
-            });
-        }
-        if !ports.add(word.copy()?)? {
-            return Err(ParseFault::Repeated {
-                line: number,
-                name: word.copy()?,
-            });
-        }
-    }
-    Ok(())
 }
 
 /// Reads the names behind `.inputs`.

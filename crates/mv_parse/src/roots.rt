@@ -1,7 +1,7 @@
 ghost use Rattle.std.specs.Prelude.{◌≡◌, ◌≤◌, length, IfOk};
 ghost use Rattle.mv_base.specs.declared.limits.TheConstants.{MAX_MODELS as most_models};
 ghost use Rattle.mv_fault.specs.Tells.{Tells};
-ghost use Rattle.mv_parse.specs.Commands.{first_of};
+ghost use Rattle.mv_line.specs.Words.{first_of};
 ghost use Rattle.mv_parse.specs.Grammar.{root_faults, lost_faults, root_place};
 
 use crate::known::Root;

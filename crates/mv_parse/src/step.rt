@@ -4,13 +4,13 @@ ghost use Rattle.mv_lex.specs.declared.lines.LexLine.{LexLine};
 ghost use Rattle.mv_fault.specs.Tells.{Tells};
 ghost use Rattle.mv_parse.specs.declared.known.OpenTable.{OpenTable};
 ghost use Rattle.mv_parse.specs.declared.known.OpenModel.{OpenModel};
-ghost use Rattle.mv_table.specs.Tables.{behind_first};
-ghost use Rattle.mv_parse.specs.Commands.{first_word, is_model, is_end, is_root};
+ghost use Rattle.mv_line.specs.Words.{behind_first, first_word};
+ghost use Rattle.mv_parse.specs.Commands.{is_model, is_end, is_root};
 ghost use Rattle.mv_parse.specs.Grammar.{root_faults, outside_faults, inside_faults, end_faults, body_faults, begin_faults, line_faults};
 ghost use Rattle.mv_parse.specs.Known.{file_model};
 ghost use Rattle.mv_parse.specs.Steps.{inside_step, body_step, with_model, with_root, line_step, HasFewColumns, IsSmall, CanEnd, HasRoom};
 
-use crate::command::{Command, first_word, is_end, is_model, is_root};
+use crate::command::{Command, is_end, is_model, is_root};
 use crate::known::{Known, OpenModel};
 use crate::lines::{
     begin_reset, begin_table, count_default, count_row, model_name, pass_latch, pass_part,
@@ -23,7 +23,7 @@ use mv_decl::Decls;
 use mv_design::FileModel;
 use mv_fault::ParseFault;
 use mv_lex::LexLine;
-use mv_table::behind_first;
+use mv_line::{behind_first, first_word};
 use std::alloc::Global;
 use std::mem;
 

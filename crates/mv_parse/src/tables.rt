@@ -15,7 +15,8 @@ use mv_design::FileModel;
 use mv_fault::ParseFault;
 use mv_instances::read_part;
 use mv_lex::LexLine;
-use mv_table::{behind_first, read_table};
+use mv_line::behind_first;
+use mv_table::read_table;
 use std::alloc::Global;
 
 /// The rows and the defaults in front of any other line.

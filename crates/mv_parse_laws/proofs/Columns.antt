@@ -21,7 +21,7 @@ column-lawful n at w none =
     let bad = when (not (is_net_name w)) (BadName n w) in
     not-false _ (when-nothing _ _ (right-nothing many bad none))
 
-names-lawful : (n at : ℕ) (ws : List (List ℕ)) → names_faults n at ws ≡ [] → list_all is_net_name ws ≡ true
+pub names-lawful : (n at : ℕ) (ws : List (List ℕ)) → names_faults n at ws ≡ [] → list_all is_net_name ws ≡ true
 names-lawful n at [] none = refl
 names-lawful n at (w ∷ ws) none =
     let behind = names_faults n (at + 1) ws in

@@ -14,12 +14,13 @@ use Rattle.mv_fault.specs.declared.fault.ParseFault.TheVariants.{Missing, Extra}
 use Rattle.mv_fault.specs.Tells.{when}
 use Rattle.mv_fault.proofs.Nothing.{left-nothing, right-nothing, when-nothing}
 use Rattle.mv_decl.specs.Line.{net_name_faults}
-use Rattle.mv_table.specs.Tables.{behind_first}
+use Rattle.mv_line.specs.Latches.{latch_of}
+use Rattle.mv_line.specs.Words.{behind_first, first_of, first_word}
 use Rattle.mv_parse.specs.declared.command.Command.{Command}
 use Rattle.mv_parse.specs.declared.command.Command.TheVariants.{Latch}
 use Rattle.mv_parse.specs.declared.known.OpenModel.{OpenModel}
-use Rattle.mv_parse.specs.Commands.{first_of, first_word, command_at}
-use Rattle.mv_parse.specs.Known.{latch_of, latch_at, latches_of}
+use Rattle.mv_parse.specs.Commands.{command_at}
+use Rattle.mv_parse.specs.Known.{latch_at, latches_of}
 use Rattle.mv_parse.specs.Grammar.{latch_faults, latch_value_faults, table_value_faults, tables_faults, inside_faults}
 use Rattle.mv_parse_laws.proofs.Decls.{net-lawful}
 use Rattle.mv_parse_laws.proofs.Said.{said-push}

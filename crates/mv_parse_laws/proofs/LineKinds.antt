@@ -8,7 +8,8 @@ use Rattle.mv_lex.specs.declared.lines.LexLine.{LexLine}
 use Rattle.mv_table.specs.Tables.{is_default_word, begins_default, says_default}
 use Rattle.mv_parse.specs.declared.command.Command.{Command}
 use Rattle.mv_parse.specs.declared.command.Command.TheVariants.{Model, Inputs, Outputs, Mv, Table, Latch, Reset, Default, Row, End, Root, Part, Unknown}
-use Rattle.mv_parse.specs.Commands.{first_of, is_table_word, is_reset_word, command_of, command_at}
+use Rattle.mv_line.specs.Words.{first_of}
+use Rattle.mv_parse.specs.Commands.{is_table_word, is_reset_word, command_of, command_at}
 
 -- a word for a default
 word-default : (w : List ℕ) → is_default_word w ≡ true → command_of w ≡ Default

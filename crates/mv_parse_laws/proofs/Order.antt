@@ -168,7 +168,7 @@ reset-no-part _ y = cc
 
 -- ---- reset tables share no line with a latch
 
-one-shares : (reset : FileTable) (latches : List FileLatch) → list_any (nat_eq reset.line) (latch_lines latches) ≡ false
+pub one-shares : (reset : FileTable) (latches : List FileLatch) → list_any (nat_eq reset.line) (latch_lines latches) ≡ false
     → All (SharesOwnOnly reset) latches
 one-shares reset [] none = All-nil (SharesOwnOnly reset)
 one-shares reset (h ∷ latches) none =

@@ -4,13 +4,13 @@ use Rattle.std.specs.Prelude.{All}
 use Rattle.std.proofs.lemmas.List.Elements.{All-nil, All-cons}
 use Rattle.mv_lex.specs.declared.lines.LexLine.{LexLine}
 use Rattle.mv_design.specs.Proper.{IsFilePart}
-use Rattle.mv_table.specs.Tables.{behind_first}
+use Rattle.mv_line.specs.Words.{behind_first, first_word}
 use Rattle.mv_instances.specs.Line.{part_said}
 use Rattle.mv_instances.proofs.Lawful.{part-lawful}
 use Rattle.mv_parse.specs.declared.command.Command.{Command}
 use Rattle.mv_parse.specs.declared.command.Command.TheVariants.{Part}
 use Rattle.mv_parse.specs.declared.known.OpenModel.{OpenModel}
-use Rattle.mv_parse.specs.Commands.{first_word, command_at}
+use Rattle.mv_parse.specs.Commands.{command_at}
 use Rattle.mv_parse.specs.Known.{part_at, parts_of}
 use Rattle.mv_parse.specs.Grammar.{inside_faults}
 use Rattle.mv_parse_laws.proofs.Said.{said-push}

@@ -6,8 +6,9 @@ use Rattle.mv_base.specs.Names.{among, is_net_name, is_model_name}
 use Rattle.mv_fault.specs.declared.fault.ParseFault.TheVariants.{BadName, ModelTwice, Extra, Repeated}
 use Rattle.mv_fault.specs.Tells.{when}
 use Rattle.mv_fault.proofs.Nothing.{left-nothing, right-nothing, when-nothing}
-use Rattle.mv_parse.specs.Commands.{first_of}
-use Rattle.mv_parse.specs.Grammar.{model_name_faults, model_faults, port_faults}
+use Rattle.mv_line.specs.Ports.{port_faults}
+use Rattle.mv_line.specs.Words.{first_of}
+use Rattle.mv_parse.specs.Grammar.{model_name_faults, model_faults}
 use Rattle.mv_parse_laws.proofs.Names.{IsNames, IsNames-push, IsNames-nil, IsNames-cons}
 
 pub ports-named : (n : ℕ) (earlier words : List (List ℕ)) → port_faults n earlier words ≡ [] → IsNames is_net_name earlier → IsNames is_net_name (earlier ++ words)

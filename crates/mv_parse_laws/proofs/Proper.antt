@@ -9,7 +9,7 @@ use Rattle.mv_base.proofs.NameLemmas.{IsPlace-from_among, differ-push}
 use Rattle.mv_lex.specs.declared.lines.LexLine.{LexLine}
 use Rattle.mv_design.specs.declared.design.FileModel.{FileModel}
 use Rattle.mv_design.specs.declared.design.Design.{Design}
-use Rattle.mv_table.specs.Tables.{behind_first}
+use Rattle.mv_line.specs.Words.{behind_first, first_word}
 use Rattle.mv_fault.specs.declared.fault.ParseFault.TheVariants.{Extra, RootFault, NoModel}
 use Rattle.mv_fault.specs.Tells.{when}
 use Rattle.mv_fault.proofs.Nothing.{left-nothing, right-nothing, when-nothing}
@@ -18,7 +18,7 @@ use Rattle.mv_parse.specs.declared.command.Command.TheVariants.{End, Root as Nam
 use Rattle.mv_parse.specs.declared.known.OpenModel.{OpenModel}
 use Rattle.mv_parse.specs.declared.known.Root.{Root}
 use Rattle.mv_parse.specs.declared.known.Known.{Known}
-use Rattle.mv_parse.specs.Commands.{first_word, command_at, is_model, is_end, is_root}
+use Rattle.mv_parse.specs.Commands.{command_at, is_model, is_end, is_root}
 use Rattle.mv_parse.specs.Known.{says_root, decls_of, open_part, open_model, open_of, file_model, model_said, models_of, model_names, known}
 use Rattle.mv_parse.specs.Grammar.{model_faults, tables_faults, end_faults, inside_faults, body_faults, unended_faults, line_faults, behind_model, faults_at, lost_faults, last_faults, file_faults, faults_behind, faults_of, is_limit, root_place, design_of, IsDesign, AreWithinLimits}
 use Rattle.mv_parse.specs.Steps.{CanEnd, HasRoom}

@@ -13,7 +13,8 @@ use Rattle.mv_design.specs.declared.table.FileTable.{FileTable}
 use Rattle.mv_design.specs.declared.design.Decl.{Decl}
 use Rattle.mv_table.specs.Columns.{ins_of, outs_of}
 use Rattle.mv_table.specs.Entries.{outs_said}
-use Rattle.mv_table.specs.Tables.{behind_first, says_default, row_of_words, rows_at, rows_of, default_at, default_of, table_of}
+use Rattle.mv_line.specs.Words.{behind_first}
+use Rattle.mv_table.specs.Tables.{says_default, row_of_words, rows_at, rows_of, default_at, default_of, table_of}
 use Rattle.mv_parse.specs.declared.command.Command.{Command}
 use Rattle.mv_parse.specs.declared.command.Command.TheVariants.{Reset}
 use Rattle.mv_parse.specs.Commands.{command_at}

@@ -8,7 +8,8 @@ use Rattle.std.proofs.lemmas.List.Elements.{All-nil, All-cons, All-append}
 use Rattle.mv_lex.specs.declared.lines.LexLine.{LexLine}
 use Rattle.mv_design.specs.declared.design.Decl.{Decl}
 use Rattle.mv_design.specs.declared.table.FileTable.{FileTable}
-use Rattle.mv_table.specs.Tables.{behind_first, table_of}
+use Rattle.mv_line.specs.Words.{behind_first}
+use Rattle.mv_table.specs.Tables.{table_of}
 use Rattle.mv_parse.specs.declared.command.Command.{Command}
 use Rattle.mv_parse.specs.declared.command.Command.TheVariants.{Table, Reset, Default, Row}
 use Rattle.mv_parse.specs.declared.known.OpenTable.{OpenTable}

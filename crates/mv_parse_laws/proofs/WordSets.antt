@@ -18,7 +18,7 @@ pub empty-within : (k : ℕ) → Within empty (full k)
 empty-within k v h = absurd (false≢true (sym (has-empty v) ∙ h))
 
 -- one that is among them
-one-within : (v k : ℕ) → v < k → Within (one v) (full k)
+pub one-within : (v k : ℕ) → v < k → Within (one v) (full k)
 one-within v k low u h =
     let same : u ≡ v = eqb-true u v (sym (has-one v u) ∙ h) in
     has-full k u ∙ lt-ltb u k (omega arith)

@@ -20,7 +20,7 @@ use Rattle.mv_task.specs.Ends.{Outside, Ends, Refused, Unread, Short, Worked, Wo
 use Rattle.mv_task.specs.Exact.{IsUnhindered}
 use Rattle.mv_task.specs.Sources.{File, starts_with}
 use Rattle.mv_task.specs.Stages.{Takes, AreTaken, FirstOf, EndsRefused, IsRefused}
-use Rattle.mv_task.proofs.Endings.{BothDone, both_done, ends_exact, ends_complete, ends_worked, work_by}
+use Rattle.mv_task.proofs.Endings.{BothDone, both_done, ends_exact, ends_complete, ends_worked, work_by, Comes, Noting, Doing, Denying}
 use Rattle.mv_run.specs.Again.{HoldsNoted, WriteSame, HoldsBoth, HoldsFailing, HoldsReplay, HoldsRefused}
 
 same_content : (a b : List ℕ) → Some a ≡ Some b → a ≡ b
@@ -34,6 +34,9 @@ module _ (format : Format) (lawful : IsLawful format) (free : Bool) (net certifi
 
   abbrev Fails : List ℕ → List ℕ → ℕ → List ℕ → Type 0
   Fails bytes text status line = Says SaysSteps bytes (λ steps. Says format.IsNet text (λ first. RefusesRule free steps first status line))
+
+  abbrev Denies : List ℕ → List ℕ → Type 0
+  Denies bytes text = Says SaysSteps bytes (λ steps. Says format.IsNet text (λ first. ⊥))
 
   -- where a rule fails they lead nowhere
   never_leads : (h : HoldsFailing format free net certificate old.files) (noted written : List ℕ) → Leads h.both.bytes h.both.text noted written → ⊥
@@ -91,23 +94,22 @@ module _ (format : Format) (lawful : IsLawful format) (free : Bool) (net certifi
   refused_only status e (Short is begun untouched tells) = absurd (omega arith)
   refused_only status e (Worked contents read ends) =
       work_by ((check_task format free net certificate).work contents) old.sinks new.sinks status (λ k. k ≡ 7 → HoldsRefused format free net certificate old.files) (λ all e. absurd (omega arith))
-      (λ rose noted does e. absurd (omega arith)) (λ same e. absurd (omega arith)) (λ apart same line refuses e. failing_of status line contents read.taken refuses) ends e
+      (λ rose comes e. absurd (omega arith)) (λ same e. absurd (omega arith)) (λ apart same line refuses e. failing_of status line contents read.taken refuses) (λ d e. absurd (omega arith)) ends e
 
   pub only_refused : Ends (check_task format free net certificate) old new 7 → HoldsRefused format free net certificate old.files
   only_refused ends = refused_only 7 refl ends
 
-  -- a check of a certificate of which a rule fails
+  -- a check of a certificate of which a rule fails comes to nothing
+  never_comes : (h : HoldsFailing format free net certificate old.files) → Comes ((check_task format free net certificate).work (h.both.bytes ∷ h.both.text ∷ [])) → ⊥
+  never_comes h (Noting noted n) = n.holds.holds
+  never_comes h (Doing noted written l) = never_leads h noted written l
+  never_comes h (Denying written d) = d.holds.holds
+
   failed_work : (status : ℕ) (h : HoldsFailing format free net certificate old.files) → WorkEnds ((check_task format free net certificate).work (h.both.bytes ∷ h.both.text ∷ [])) old.sinks new.sinks status → IsUnhindered status → status ≡ 7
   failed_work status h =
       work_by ((check_task format free net certificate).work (h.both.bytes ∷ h.both.text ∷ [])) old.sinks new.sinks status (λ k. IsUnhindered k → k ≡ 7)
-      (λ all u. absurd (never_leads h all.noted all.written all.does))
-      (λ rose noted does u.
-      absurd
-      (⊎_elim
-      (λ (n : Says SaysSteps h.both.bytes (λ steps. Says format.IsNet h.both.text (λ first. ⊥))). n.holds.holds)
-      (λ (l : (written : List ℕ) × Leads h.both.bytes h.both.text noted written). never_leads h noted l.0 l.1)
-      does))
-      (λ same u. absurd (u.memory refl)) (λ apart same line refuses u. refuses.holds.holds.is)
+      (λ all u. absurd (never_leads h all.noted all.written all.does)) (λ rose comes u. absurd (never_comes h comes)) (λ same u. absurd (u.memory refl))
+      (λ apart same line refuses u. refuses.holds.holds.is) (λ d u. absurd d.denies.holds.holds)
 
   pub always_refused : (status : ℕ) → Ends (check_task format free net certificate) old new status → IsTrue (is_some old.files.held) → HoldsRefused format free net certificate old.files → IsUnhindered status → status ≡ 7
   always_refused status ends told refused u =
@@ -127,8 +129,15 @@ module _ (format : Format) (lawful : IsLawful format) (free : Bool) (net certifi
   replays_end status ends sound h o n =
       ⊎_elim
       (λ (e : status ≡ 0). inl e)
-      (λ (e : (status ≡ 6) ⊎ ((line : List ℕ) × Fails h.both.bytes h.both.text status line)).
-      ⊎_elim (λ (e : status ≡ 6). inr e) (λ (r : (line : List ℕ) × Fails h.both.bytes h.both.text status line). absurd (never_fails h status r.0 r.1)) e)
+      (λ (e : (status ≡ 6) ⊎ ((line : List ℕ) × Fails h.both.bytes h.both.text status line) ⊎ ((status ≡ 9) × ((written : List ℕ) × Denies h.both.bytes h.both.text))).
+      ⊎_elim
+      (λ (e : status ≡ 6). inr e)
+      (λ (r : ((line : List ℕ) × Fails h.both.bytes h.both.text status line) ⊎ ((status ≡ 9) × ((written : List ℕ) × Denies h.both.bytes h.both.text))).
+      ⊎_elim
+      (λ (r : (line : List ℕ) × Fails h.both.bytes h.both.text status line). absurd (never_fails h status r.0 r.1))
+      (λ (d : (status ≡ 9) × ((written : List ℕ) × Denies h.both.bytes h.both.text)). absurd d.1.1.holds.holds)
+      r)
+      e)
       (ends_complete (check_task format free net certificate) old new status ends (h.both.bytes ∷ h.both.text ∷ []) sound (both_taken h.both) o n)
 
   pub replays_accepted : (status : ℕ) → Ends (check_task format free net certificate) old new status → IsTrue (is_some old.files.held) → HoldsReplay format free net certificate old.files → (status ≡ 0) ⊎ (status ≡ 4) ⊎ (status ≡ 5) ⊎ (status ≡ 6)
@@ -137,7 +146,7 @@ module _ (format : Format) (lawful : IsLawful format) (free : Bool) (net certifi
       (λ (e : (status ≡ 4) ⊎ (status ≡ 6)). ⊎_elim (λ (e : status ≡ 4). inr (inl e)) (λ (e : status ≡ 6). inr (inr (inr e))) e)
       (λ (w : WorkEnds ((check_task format free net certificate).work (h.both.bytes ∷ h.both.text ∷ [])) old.sinks new.sinks status).
       work_by ((check_task format free net certificate).work (h.both.bytes ∷ h.both.text ∷ [])) old.sinks new.sinks status (λ k. (k ≡ 0) ⊎ (k ≡ 4) ⊎ (k ≡ 5) ⊎ (k ≡ 6)) (λ all. inl refl)
-      (λ rose noted does. inr (inr (inl refl))) (λ same. inr (inr (inr refl))) (λ apart same line refuses. absurd (never_fails h status line refuses)) w)
+      (λ rose comes. inr (inr (inl refl))) (λ same. inr (inr (inr refl))) (λ apart same line refuses. absurd (never_fails h status line refuses)) (λ d. absurd d.denies.holds.holds) w)
       (ends_worked (check_task format free net certificate) old new status (h.both.bytes ∷ h.both.text ∷ []) ends told (both_taken h.both))
 
 -- ---- what an earlier run noted

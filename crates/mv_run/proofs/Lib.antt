@@ -1,2 +1,3 @@
 pub mod Again
 mod Asked
+mod Traces

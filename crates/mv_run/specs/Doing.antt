@@ -1,13 +1,14 @@
 -- What a run does, by what the words ask for.
 use Rattle.std.specs.Prelude.{◌≡◌, ℕ, Bool, Option, Some, None, []}
 use Rattle.mv_check.specs.Checked.{check_task}
-use Rattle.mv_command_line.specs.CommandLine.{Asked, opt, check, work}
+use Rattle.mv_command_line.specs.CommandLine.{Asked, opt, check, work, trace}
 use Rattle.mv_format.specs.BlifMv.{blif_mv}
 use Rattle.mv_opt.specs.Optimised.{opt_task, drawn}
 use Rattle.mv_rules.specs.declared.terms.Terms.{Terms}
 use Rattle.mv_task.specs.Ends.{Task}
 use Rattle.mv_task.specs.Lines.{words_line}
 use Rattle.mv_task.specs.Sources.{File}
+use Rattle.mv_tracing.specs.Traced.{trace_task}
 
 -- the words are refused, with status 1 and its line, and nothing is read
 abbrev pub words_task : Task
@@ -16,6 +17,7 @@ words_task = record {
   work = λ contents. record {
     Does = λ noted written. ⊥;
     Notes = λ noted. ⊥;
+    Denies = λ written. ⊥;
     Refuses = λ status line. (status ≡ 1) × (line ≡ words_line);
   };
 }
@@ -31,4 +33,5 @@ task_asked (Some (opt f)) = opt_task blif_mv (terms_of f.free f.budget) (File f.
 task_asked (Some (check f)) = check_task blif_mv f.free f.net f.other
 task_asked (Some (work d)) =
     opt_task blif_mv (terms_of d.free d.budget) (drawn d.size d.seed) d.script
+task_asked (Some (trace n)) = trace_task blif_mv n.net n.other
 task_asked None = words_task

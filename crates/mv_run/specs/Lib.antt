@@ -1,3 +1,4 @@
 pub mod Doing
 pub mod Replacing
+pub mod Tracing
 pub mod Again

@@ -3,7 +3,7 @@ use Rattle.std.specs.Prelude.{◌≡◌, ℕ, Bool, Option, Some, None, List, �
 use Rattle.mv_base.specs.Outside.{Stored, Written, Gained}
 use Rattle.mv_cert.specs.Certificates.{steps_in}
 use Rattle.mv_cert.specs.Replay.{rules_in}
-use Rattle.mv_command_line.specs.CommandLine.{Asked, opt, check, work}
+use Rattle.mv_command_line.specs.CommandLine.{Asked, opt, check, work, trace}
 use Rattle.mv_entry.specs.declared.rule.Rule.{Rule}
 use Rattle.mv_entry.specs.Entries.{Entry, print, rules_of}
 use Rattle.mv_format.specs.BlifMv.{blif_mv}
@@ -38,11 +38,12 @@ pub record IsReplaced (format : Format) (free : Bool) (name : List ℕ)
   pub first : NetParts
   pub replaces : Replaces format free rules first content written
 
--- so it is with a task that reads a network file
+-- so it is with a task that reads a network file and writes one
 abbrev pub ReplacesFile : Option Asked → Outside → Outside → Type 0
 ReplacesFile (Some (opt f)) old new =
     IsReplaced blif_mv f.free f.net (AreNoted old.sinks.notes new.sinks.notes) old new
 ReplacesFile (Some (check f)) old new =
     IsReplaced blif_mv f.free f.net (AreCertified f.other old.files) old new
 ReplacesFile (Some (work d)) old new = Unit {0}
+ReplacesFile (Some (trace n)) old new = Unit {0}
 ReplacesFile None old new = Unit {0}

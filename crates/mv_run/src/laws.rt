@@ -1,11 +1,12 @@
 ghost use Rattle.std.specs.Prelude.{◌≡◌, ◌⊎◌, ℕ, IsTrue, is_some, IsSomeAnd, List, Some};
 ghost use Rattle.mv_base.specs.Outside.{Rose};
-ghost use Rattle.mv_command_line.specs.CommandLine.{Files, opt, check};
+ghost use Rattle.mv_command_line.specs.CommandLine.{Files, Names, opt, check, trace};
 ghost use Rattle.mv_format.specs.BlifMv.{blif_mv};
 ghost use Rattle.mv_task.specs.Ends.{Ends, Outside};
 ghost use Rattle.mv_task.specs.Exact.{IsUnhindered};
 ghost use Rattle.mv_run.specs.Again.{HoldsNoted, WriteSame, HoldsRefused, HoldsReplay, checking};
 ghost use Rattle.mv_run.specs.Doing.{task_asked};
+ghost use Rattle.mv_run.specs.Tracing.{HoldsRefusedRun};
 
 /// A check, on the same network file and with `--free` as it was, of what `opt` noted at status 0, which has as many bytes as a
 /// certificate may have. It writes the bytes that `opt` wrote, or ends with 4, 5 or 6. (Where the notes have more bytes it ends with 7.)
@@ -45,4 +46,15 @@ pub fn replays_succeed()
         → (Rose old.sinks.out.faults new.sinks.out.faults → ⊥)
         → (Rose old.sinks.notes.faults new.sinks.notes.faults → ⊥)
         → (status ≡ 0) ⊎ (status ≡ 6) }
+{}
+
+/// A trace ends with 11 exactly where the network is accepted and the run file is refused, its bytes or its lines; a read that fails and
+/// want of memory alone come before.
+pub fn run_refused_exactly()
+    ensures only { (n : Names) (old new : Outside) → Ends (task_asked (Some (trace n))) old new 11
+        → HoldsRefusedRun n old.files }
+    ensures always { (n : Names) (old new : Outside) (status : ℕ)
+        → Ends (task_asked (Some (trace n))) old new status
+        → IsTrue (is_some old.files.held) → HoldsRefusedRun n old.files
+        → IsUnhindered status → status ≡ 11 }
 {}

@@ -4,5 +4,5 @@
 mod laws;
 mod running;
 
-pub use laws::{notes_check, refused_exactly, replays_succeed};
+pub use laws::{notes_check, refused_exactly, replays_succeed, run_refused_exactly};
 pub use running::run;

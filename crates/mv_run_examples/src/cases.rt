@@ -1,5 +1,7 @@
 //! Tables of runs: each line of a text is a case, whose parts stand between bars.
-use crate::runs::{End, Given, checked, ends, noted, opt, refused, run_on, written};
+use crate::runs::{
+    End, Given, answered, checked, ends, noted, opt, refused, run_on, traced, written,
+};
 use std::alloc::Global;
 use std::process::Abort;
 use std::test::Fail;
@@ -9,7 +11,9 @@ use std::test::Fail;
 pub enum Form<'a> {
     /// A network, what this script leaves of it, and the notes, which are a certificate by which a check does the same.
     Written(&'a [u8]),
-    /// A script, and then the same.
+    /// The same, and behind it a run that the network allows, what is told of it, one that it doesn't allow, and what is told of that.
+    Example(&'a [u8]),
+    /// A script, and then the same as for `Written`.
     Run,
     /// A network and what this script notes, which is a certificate by which a check does the same.
     Noted(&'a [u8]),
@@ -29,6 +33,10 @@ pub enum Form<'a> {
     Certificate,
     /// A certificate that is refused on this network, and the same.
     CertificateOn(&'a [u8]),
+    /// A run file, and what is written of it on this network: `yes` and more, or `no` and the step.
+    Traced(&'a [u8]),
+    /// A run file that is refused on this network, and the end of the line that tells why.
+    RunOn(&'a [u8]),
 }
 
 /// The byte that stands for a line feed: scripts of which `;` is a part have one line.
@@ -83,6 +91,9 @@ fn case_ends(
     free: bool,
     parts: &[Vec<u8>],
 ) -> Result<(), Fail> {
+    if let Form::Example(script) = form {
+        return example_ends(rt, alloc, script, parts);
+    }
     if let Some((given, end)) = run_of(form, parts) {
         return is_done(rt, alloc, form, Given { free, ..given }, end);
     }
@@ -94,6 +105,22 @@ fn case_ends(
     }
 }
 
+/// The example is written as it says, and allows the first run, but not the second.
+fn example_ends(
+    rt: &impl Abort,
+    alloc: Global,
+    script: &[u8],
+    parts: &[Vec<u8>],
+) -> Result<(), Fail> {
+    let [net, out, notes, run, yes, other, no] = parts else {
+        return Err(Fail::from("an example of another form"));
+    };
+    let given = opt(net, script);
+    is_done(rt, alloc, Form::Written(script), given, written(out, notes))?;
+    ends(rt, alloc, traced(net, run), answered(yes))?;
+    ends(rt, alloc, traced(net, other), answered(no))
+}
+
 /// The run of a case whose work is done, and how it ends.
 fn run_of<'a>(form: Form<'a>, parts: &'a [Vec<u8>]) -> Option<(Given<'a>, End<'a>)> {
     match (form, parts) {
@@ -103,6 +130,7 @@ fn run_of<'a>(form: Form<'a>, parts: &'a [Vec<u8>]) -> Option<(Given<'a>, End<'a
         (Form::Kept(script), [net, notes]) => Some((opt(net, script), written(net, notes))),
         (Form::Again, [_net, out, notes]) => Some((opt(out, b""), written(out, notes))),
         (Form::Alike(out, notes), [net]) => Some((opt(net, b""), written(out, notes))),
+        (Form::Traced(net), [run, out]) => Some((traced(net, run), answered(out))),
         (Form::Replayed, [net, rules, out, notes]) => Some((
             checked(net, rules),
             written(out, notes),
@@ -118,6 +146,7 @@ fn refusal_of<'a>(form: Form<'a>, parts: &'a [Vec<u8>]) -> Option<(Given<'a>, u8
         (Form::Script, [script, fault]) => Some((opt(b"", script), 3, fault)),
         (Form::Certificate, [net, rules, fault]) => Some((checked(net, rules), 7, fault)),
         (Form::CertificateOn(net), [rules, fault]) => Some((checked(net, rules), 7, fault)),
+        (Form::RunOn(net), [run, fault]) => Some((traced(net, run), 11, fault)),
         _ => None,
     }
 }
@@ -168,6 +197,7 @@ fn front_of(status: u8) -> &'static [u8] {
     match status {
         2 => b"# fault network ",
         3 => b"# fault script ",
+        11 => b"# fault trace ",
         _ => b"# fault certificate ",
     }
 }

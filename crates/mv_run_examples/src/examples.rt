@@ -2,7 +2,8 @@
 use crate::cases::{Form, all_end};
 use std::test::Fail;
 
-/// The network of each example, what is written of it and what is noted.
+/// The network of each example, what is written of it and what is noted; then a run that it allows, what is told of that, a run that
+/// differs in one value, and what is told of that.
 const EXAMPLES: &str = "\
 -- A grant that may be held: a default that names a column, and a net that goes.
 # A priority arbiter: of three requests the first is granted. While the lock is held the last grant stays.;\
@@ -17,7 +18,10 @@ const EXAMPLES: &str = "\
 .default NONE;1 - - A;0 1 - B;0 0 1 C;.table last lock -> _m1;.default 1;A HELD 0;B HELD 0;\
 C HELD 0;.table last lock pick _m1 -> grant;A HELD - - A;B HELD - - B;C HELD - - C;\
 - - NONE 1 NONE;- - A 1 A;- - B 1 B;- - C 1 C;.table grant -> busy;.default 1;NONE 0;.end; | \
-# begin drop;remove asking;# end 27;# done 39 27;
+# begin drop;remove asking;# end 27;# done 39 27; | \
+1 0 1 NONE OPEN A 1;0 1 0 C HELD C 1; | \
+yes;nets a b c last lock pick _m1 grant busy asking;step 0 1 0 1 0 0 1 1 1 1 2;step 1 0 1 0 3 1 2 0 3 1 1; | \
+1 0 1 NONE OPEN A 1;0 1 0 C HELD B 1; | no 1;
 -- Sets and ranges of named values, and a net that goes.
 # A decoder of instructions: which unit does the work, and how wide its operands are.;\
 .model decoder;.inputs op size;.outputs unit width;.mv op 8 NOP LOAD STORE ADD SUB AND OR JUMP;\
@@ -31,14 +35,20 @@ C HELD 0;.table last lock pick _m1 -> grant;A HELD - - A;B HELD - - B;C HELD - -
 .table op -> unit;.default ALU;NOP IDLE;(LOAD,STORE) MEMORY;JUMP BRANCH;.table op size -> width;\
 .default WORD;(LOAD,STORE) BYTE BYTE;(LOAD,STORE) HALF HALF;(LOAD,STORE) WORD WORD;\
 (ADD,SUB,AND,OR) (BYTE,HALF) HALF;NOP - -;.end; | \
-# begin drop;remove jumps;# end 12;# done 13 12;
+# begin drop;remove jumps;# end 12;# done 13 12; | \
+LOAD HALF MEMORY HALF;ADD BYTE ALU HALF;NOP WORD IDLE BYTE; | \
+yes;nets op size unit width jumps;step 0 1 1 1 1 0;step 1 3 0 2 1 0;step 2 0 2 0 0 0; | \
+LOAD HALF MEMORY HALF;ADD BYTE ALU BYTE;NOP WORD IDLE BYTE; | no 1;
 -- Two nets go, one behind the other, and a partial table stays.
 .model spare;.inputs a b c;.outputs most;.table a b c -> most;1 1 - 1;1 - 1 1;- 1 1 1;0 0 - 0;\
 0 - 0 0;- 0 0 0;.table a b c -> all;1 1 1 1;0 - - 0;- 0 - 0;- - 0 0;.table all most -> odd;\
 1 0 1;0 - 0;- 1 0;.table a c -> legal;0 - 1;- 0 1;.end; | \
 .model spare;.inputs a b c;.outputs most;.table a b c -> most;1 1 - 1;1 - 1 1;- 1 1 1;0 0 - 0;\
 0 - 0 0;- 0 0 0;.table a c -> legal;0 - 1;- 0 1;.end; | \
-# begin drop;remove odd;remove all;# end 14;# done 24 14;
+# begin drop;remove odd;remove all;# end 14;# done 24 14; | \
+1 1 0 1;0 1 1 1; | \
+yes;nets a b c most all odd legal;step 0 1 1 0 1 0 0 1;step 1 0 1 1 1 0 0 1; | \
+1 1 1 1;0 1 1 1; | no 0;
 -- Two instances of one model, the second behind the first, and an output of each that nobody reads.
 # A counter of two digits of three values each, which goes on wherever it is told to count.;.model counter;\
 .inputs count;.outputs carry low high;.mv low, high 3;;# the second digit goes on where the first one is full;\
@@ -50,7 +60,11 @@ C HELD 0;.table last lock pick _m1 -> grant;A HELD - - A;B HELD - - B;C HELD - -
 .latch first.next low;.latch second.next high;.table count low -> first.next;0 0 0;0 1 1;0 2 2;1 0 1;1 1 2;1 2 0;\
 .reset -> low;0;.table count low -> full;.default 0;1 2 1;.table high full -> second.next;0 0 0;1 0 1;2 0 2;0 1 1;\
 1 1 2;2 1 0;.reset -> high;0;.table high full -> carry;.default 0;2 1 1;.end; | \
-# begin drop;remove first.zero;remove second.zero;# end 28;# done 30 28;
+# begin drop;remove first.zero;remove second.zero;# end 28;# done 30 28; | \
+1 0 0 0 0 0;1 1 0 0 1 0;1 2 0 0 2 0;0 0 1 0 0 1; | \
+yes;nets count low high first.next .low full first.zero second.next .high carry second.zero;step 0 1 0 0 1 0 0 1 0 0 0 1;\
+step 1 1 1 0 2 0 0 0 0 0 0 1;step 2 1 2 0 0 0 1 0 1 0 0 1;step 3 0 0 1 0 0 0 1 1 0 0 0; | \
+1 0 0 0 0 0;1 1 0 0 1 0;1 2 0 0 2 0;0 0 0 0 0 1; | no 2;
 -- A table of three outputs in two instances: one choice each, and an output that nobody reads.
 # Two servers are asked at once, and each may answer or put off. What it says and how much it sends belong together.;\
 .model exchange;.inputs request;.outputs done size;.mv request 3 IDLE READ WRITE;.mv left, right 3 NONE READY LATER;\
@@ -69,7 +83,11 @@ IDLE NONE ZERO 0;READ READY (ONE,MANY) 1;WRITE READY ONE 1;!IDLE LATER ZERO 0;.e
 .table _m1 -> left;0 NONE;1 READY;2 READY;3 LATER;.table _m1 -> left_size;0 ZERO;1 (ONE,MANY);2 ONE;3 ZERO;\
 .table request -> _m2;IDLE 0;READ 1;WRITE 2;(READ,WRITE) 3;.table _m2 -> right;0 NONE;1 READY;2 READY;3 LATER;\
 .table _m2 -> right_size;0 ZERO;1 (ONE,MANY);2 ONE;3 ZERO;.end; | \
-# begin drop;remove first.busy;remove second.busy;# end 38;# done 46 38;
+# begin drop;remove first.busy;remove second.busy;# end 38;# done 46 38; | \
+IDLE 0 ZERO;WRITE 1 ONE; | \
+yes;nets request done size _m1 left left_size first.busy _m2 right right_size second.busy;step 0 0 0 0 0 0 0 0 0 0 0 0;\
+step 1 2 1 1 2 1 1 1 2 1 1 1; | \
+IDLE 0 ZERO;WRITE 1 MANY; | no 1;
 ";
 
 /// The same of an example whose script is another one.
@@ -84,7 +102,10 @@ const SWEPT: &str = "\
 .model register;.inputs cmd addr lock ready;.outputs load send;.mv cmd 3 IDLE READ WRITE;\
 .mv addr 3 CTRL DATA NONE;.table addr lock ready -> hit;.default 0;DATA 0 1 1;.table cmd hit -> load;\
 .default 0;WRITE 1 1;.table cmd hit -> send;.default 0;READ 1 1;.end; | \
-# begin sweep;wire op;remove op;collapse test;# end 8;# begin eliminate;collapse writing;# end 7;# done 12 7;
+# begin sweep;wire op;remove op;collapse test;# end 8;# begin eliminate;collapse writing;# end 7;# done 12 7; | \
+WRITE DATA 0 1 1 0;READ CTRL 0 1 0 0; | \
+yes;nets cmd addr lock ready op test hit writing load send;step 0 2 1 0 1 2 0 1 1 1 0;step 1 1 0 0 1 1 0 0 0 0 0; | \
+WRITE DATA 0 1 1 0;READ CTRL 0 1 0 1; | no 1;
 -- A latch with a reset table, whose nets stay, and an inner net that goes.
 # A controller of four modes: told to go it loads and runs, is done, and waits again.;.model controller;.inputs go;\
 .outputs busy;.mv mode, next 4 IDLE LOAD RUN DONE;;# the mode is kept from step to step, and begins idle;\
@@ -94,7 +115,10 @@ RUN - DONE;DONE - IDLE;.end; | \
 .model controller;.inputs go;.outputs busy;.mv mode 4 IDLE LOAD RUN DONE;.mv next 4 IDLE LOAD RUN DONE;\
 .latch next mode;.reset -> mode;IDLE;.table mode -> busy;(IDLE,DONE) 0;(LOAD,RUN) 1;.table go mode -> next;\
 0 IDLE IDLE;1 IDLE LOAD;- LOAD RUN;- RUN DONE;- DONE IDLE;.end; | \
-# begin sweep;# end 10;# begin eliminate;collapse working;# end 9;# done 10 9;
+# begin sweep;# end 10;# begin eliminate;collapse working;# end 9;# done 10 9; | \
+1 IDLE 0;0 LOAD 1;1 RUN 1; | \
+yes;nets go mode .mode working busy next;step 0 1 0 0 0 0 1;step 1 0 1 0 1 1 2;step 2 1 2 0 1 1 3; | \
+0 IDLE 0;0 LOAD 1;1 RUN 1; | no 0;
 ";
 
 /// The same of one whose script looks at what readers can tell.
@@ -123,7 +147,11 @@ RUNS WALK - WALK;OVER WALK - GREEN;.table phase -> cars;.default RED;GREEN GREEN
 narrow next 1 0;line phase 0 request 0 -> 0;line timer 0 phase 0 -> 0;\
 line timer 1 phase 0 request 1 -> 1;line timer 0 phase 1 -> 1;line timer 1 phase 1 -> 2;\
 line timer 0 phase 2 -> 2;line timer 1 phase 2 -> 3;line timer 0 phase 3 -> 3;\
-line timer 1 phase 3 -> 0;end;# end 28;# done 31 28;
+line timer 1 phase 3 -> 0;end;# end 28;# done 31 28; | \
+1 OVER GREEN 0 GREEN STOP;0 RUNS YELLOW 1 YELLOW STOP;0 OVER YELLOW 1 YELLOW STOP; | \
+yes;nets button timer phase asked request keeps next cars walkers .phase .asked;step 0 1 1 0 0 1 1 1 0 0 0 0;\
+step 1 0 0 1 1 0 1 1 1 0 0 0;step 2 0 1 1 1 0 1 2 1 0 0 0; | \
+1 OVER GREEN 0 GREEN STOP;0 OVER YELLOW 1 YELLOW STOP;0 OVER YELLOW 1 YELLOW STOP; | no 1;
 ";
 
 /// The same of one whose script looks for what several tables can share.
@@ -149,7 +177,10 @@ line choice 1 crisps 1 _m1 1 -> 1;default 0;end;divide drop_soda _m1;\
 line choice 2 soda 1 _m1 1 -> 1;default 0;end;divide give_back _m1;\
 line choice 1 crisps 0 _m1 1 -> 1;line choice 2 soda 0 _m1 1 -> 1;line choice 3 _m1 1 -> 1;\
 default 0;end;add _m2;line choice 1 crisps 0 -> 1;line choice 2 soda 0 -> 1;line choice 3 -> 1;\
-default 0;end;divide give_back _m2;line _m1 1 _m2 1 -> 1;default 0;end;# end 15;# done 28 15;
+default 0;end;divide give_back _m2;line _m1 1 _m2 1 -> 1;default 0;end;# end 15;# done 28 15; | \
+FULL NONE CRISPS THERE GONE 1 0 0;NONE GOOD SODA THERE GONE 0 0 1; | \
+yes;nets coins card choice crisps soda drop_crisps drop_soda give_back;step 0 2 0 1 1 0 1 0 0;step 1 0 2 2 1 0 0 0 1; | \
+FULL NONE CRISPS THERE GONE 1 0 0;NONE GOOD SODA THERE THERE 0 0 1; | no 1;
 ";
 
 /// The same of one whose tables leave choices, and of whose nets one has values that nobody tells apart.
@@ -183,7 +214,10 @@ line ask 1 a (1,2) b (0,1) -> 1;line ask 1 a (1,2) b 2 -> 0;line ask 2 -> 0;line
 line ask 3 a 2 -> 2;line ask 4 -> 2;end;narrow next_b 0 0;line ask 0 b 0 -> 0;line ask 0 b 1 -> 1;line ask 0 b 2 -> 2;\
 line ask 3 b 0 -> 0;line ask 3 a (0,1) b (1,2) -> 1;line ask 3 a 2 b (1,2) -> 0;line ask 4 -> 0;line ask 1 b 0 -> 1;\
 line ask 1 b 1 -> 1;line ask 1 b 2 -> 2;line ask 2 -> 2;end;# end 57;# begin merge;merge bus 3 0;merge bus 2 1;\
-# end 57;# done 61 57;
+# end 57;# done 61 57; | \
+A_READS GONE GONE 1;B_WRITES OWNED GONE 1;NOBODY GONE OWNED 0; | \
+yes;nets ask a b next_a .a next_b .b bus fetch;step 0 1 2 2 0 2 2 2 1 1;step 1 4 0 2 2 2 0 2 2 1;step 2 0 2 0 2 2 0 2 0 0; | \
+A_READS GONE GONE 1;B_WRITES GONE GONE 1;NOBODY GONE OWNED 0; | no 0;
 ";
 
 /// The same of one with an inner net of six values, for which nets of two values come.
@@ -207,42 +241,46 @@ ACTIVE - 1;PRECHARGE - 0;!(ACTIVE,PRECHARGE) - =open;.latch next open;.reset ope
 1 0 1 0 1 0;1 1 1 0 1 0;.table request write hit due open -> _m2;.default 0;- - - 1 1 0;- - - 1 0 1;\
 1 - - 0 0 0;1 - 0 0 1 0;1 0 1 0 1 0;1 1 1 0 1 1;.table request write hit due open -> _m3;.default 0;\
 - - - 1 1 1;- - - 1 0 1;1 - - 0 0 0;1 - 0 0 1 1;1 0 1 0 1 1;1 1 1 0 1 0;.end; | \
-# begin encode;encode command 3 _m1 _m2 _m3 000 001 010 011 100 101;# end 98;# done 31 98;
+# begin encode;encode command 3 _m1 _m2 _m3 000 001 010 011 100 101;# end 98;# done 31 98; | \
+1 0 0 0 0 0 1 1 0;1 1 1 0 1 1 0 0 1;0 0 0 1 1 0 1 0 0; | \
+yes;nets request write hit due open command ras cas we done next .open;step 0 1 0 0 0 0 4 0 1 1 0 1 0;\
+step 1 1 1 1 0 1 2 1 0 0 1 1 0;step 2 0 0 0 1 1 5 0 1 0 0 0 0; | \
+1 0 0 0 0 0 1 1 0;1 1 1 0 1 1 0 0 1;0 0 0 1 0 0 1 0 0; | no 1;
 ";
 
 #[test]
 fn an_example_with_choices_is_written_as_worked_out(rt: HostRuntime) -> Result<(), Fail> {
     let script =
         b"determinize; merge # one move each time, and kinds of traffic that nobody tells apart\n";
-    all_end(&rt, rt.alloc(), Form::Written(script), CHOSEN)
+    all_end(&rt, rt.alloc(), Form::Example(script), CHOSEN)
 }
 
 #[test]
 fn an_example_with_divisors_is_written_as_worked_out(rt: HostRuntime) -> Result<(), Fail> {
     let script = b"kernel # what several tables can share\n";
-    all_end(&rt, rt.alloc(), Form::Written(script), EXTRACTED)
+    all_end(&rt, rt.alloc(), Form::Example(script), EXTRACTED)
 }
 
 #[test]
 fn a_simplified_example_is_written_as_worked_out(rt: HostRuntime) -> Result<(), Fail> {
     let script = b"simplify 1 0 # as far as the readers of each net\n";
-    all_end(&rt, rt.alloc(), Form::Written(script), SIMPLIFIED)
+    all_end(&rt, rt.alloc(), Form::Example(script), SIMPLIFIED)
 }
 
 #[test]
 fn an_encoded_example_is_written_as_worked_out(rt: HostRuntime) -> Result<(), Fail> {
     let script = b"encode # nets of two values, for tools that know no others\n";
-    all_end(&rt, rt.alloc(), Form::Written(script), ENCODED)
+    all_end(&rt, rt.alloc(), Form::Example(script), ENCODED)
 }
 
 #[test]
 fn a_swept_example_is_written_as_worked_out(rt: HostRuntime) -> Result<(), Fail> {
     let script = b"sweep; eliminate # what modules leave between them\n";
-    all_end(&rt, rt.alloc(), Form::Written(script), SWEPT)
+    all_end(&rt, rt.alloc(), Form::Example(script), SWEPT)
 }
 
 #[test]
 fn the_examples_are_written_as_worked_out(rt: HostRuntime) -> Result<(), Fail> {
     let script = b"drop # what nobody sees or reads\n";
-    all_end(&rt, rt.alloc(), Form::Written(script), EXAMPLES)
+    all_end(&rt, rt.alloc(), Form::Example(script), EXAMPLES)
 }

@@ -44,4 +44,6 @@ mod states;
 #[cfg(test)]
 mod texts;
 #[cfg(test)]
+mod traced;
+#[cfg(test)]
 mod works;

@@ -50,7 +50,7 @@ impl Fault {
 }
 
 /// What a run is given: its words, and `--free` behind them or not, the network in the file `n`, the script or the certificate in the
-/// file `s`, and the call that fails.
+/// file `s`, or the run file there, and the call that fails.
 #[derive(Clone, Copy)]
 pub struct Given<'a> {
     pub words: &'a str,
@@ -108,6 +108,23 @@ pub fn checked<'a>(net: &'a [u8], certificate: &'a [u8]) -> Given<'a> {
     Given {
         words: "check n s",
         ..opt(net, certificate)
+    }
+}
+
+/// The question whether the network allows the run, in which no call fails.
+pub fn traced<'a>(net: &'a [u8], run: &'a [u8]) -> Given<'a> {
+    Given {
+        words: "trace n s",
+        ..opt(net, run)
+    }
+}
+
+/// The answer is this one, yes or no, and the notes have nothing.
+pub fn answered(out: &[u8]) -> End<'_> {
+    let status = if out.starts_with(b"yes") { 0 } else { 9 };
+    End {
+        status,
+        ..written(out, b"")
     }
 }
 

@@ -4,3 +4,4 @@ pub mod Low
 pub mod Codes
 pub mod Placing
 pub mod Shapes
+pub mod Everywhere

@@ -2,8 +2,10 @@
 //! the instances have in common.
 #![tactic(auto)]
 
+mod full;
 mod over;
 mod shape;
 mod shared;
 
+pub use full::{some_row_is_full, some_row_is_silent};
 pub use shared::SharedTable;

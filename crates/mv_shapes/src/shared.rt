@@ -1,13 +1,16 @@
 //! A table that stands in many instances.
-ghost use Rattle.std.specs.Prelude.{◌≡◌, true, false, nat_eq, IfErr, IfOk};
+ghost use Rattle.std.specs.Prelude.{◌≡◌, ◌≤◌, true, false, nat_eq, All, IfErr, IfOk, IfSome};
 ghost use Rattle.std.specs.List.{list_any};
+ghost use Rattle.mv_base.specs.declared.limits.TheConstants.{MAX_VALUES as most_values};
 ghost use Rattle.mv_design.specs.declared.table.FileTable.{FileTable};
 ghost use Rattle.mv_rows.specs.Cubes.{AreColumns};
 ghost use Rattle.mv_rows.specs.Flat.{with_mark, IsMade, IsTable};
 ghost use Rattle.mv_rows.specs.Many.{StopsAt};
 ghost use Rattle.mv_rows.specs.Marked.{is_marked};
-ghost use Rattle.mv_shapes.specs.Kept.{AreKept, IsKept};
+ghost use Rattle.mv_shapes.specs.Kept.{AreKept, IsKept, IsKnown};
+ghost use Rattle.mv_shapes.specs.Rows.{some_full, some_silent, IsFullOf};
 
+use crate::full::{FullRows, some_row_is_full, some_row_is_silent};
 use crate::over::flat_over;
 use crate::shape::Shape;
 use indexmap::IndexMap;
@@ -18,22 +21,25 @@ use std::alloc::Global;
 use std::marker::Model;
 
 /// A table of one output that stands in many instances of its model, seen by contracts as the table. For each shape of columns its
-/// covers are kept, where they have fewer lines than the table has rows.
+/// covers are kept, where they have fewer lines than the table has rows. Besides is kept what a look at all rows tells: whether some
+/// row says no value, and whether some row has all values of columns with so many, for those that were asked last.
 #[derive(Drop)]
 pub struct SharedTable {
     table: FileTable,
     flats: IndexMap<Vec<u32>, FlatTable>,
+    silent: bool,
+    full: Option<FullRows>,
 }
 
 impl Model for SharedTable {
     ghost use Rattle.mv_design.specs.declared.table.FileTable.{FileTable};
-    ghost use Rattle.mv_shapes.specs.Kept.{AreKept};
+    ghost use Rattle.mv_shapes.specs.Kept.{IsKnown};
 
     ghost Value = { FileTable };
 
     ghost view = { λ s. s.table };
 
-    ghost invariant = { λ s. AreKept s.table s.flats.entries };
+    ghost invariant = { λ s. IsKnown s.table s.flats.entries s.silent s.full };
 }
 
 impl SharedTable {
@@ -44,7 +50,25 @@ impl SharedTable {
         Ok(SharedTable {
             table: table.copy()?,
             flats: IndexMap::new(alloc),
+            silent: some_row_is_silent(table.rows.as_slice()),
+            full: None,
         })
+    }
+
+    /// Whether some row says no value. No row is looked at.
+    pub fn some_row_is_silent(&self) -> bool
+        ensures { result ≡ some_silent self.now.rows }
+    {
+        self.silent
+    }
+
+    /// Whether some row has all values of columns with so many. Where it was asked for the same numbers before, no row is looked at.
+    pub fn some_row_is_full(&mut self, counts: Vec<u16>) -> bool
+        requires few { All (λ n. n ≤ most_values) counts.items }
+        ensures same { self.new ≡ self.old }
+        ensures full { result ≡ some_full counts.items self.old.rows }
+    {
+        full_kept(&self.table, &mut self.full, counts)
     }
 
     /// The covers of the table over these columns, unless its cover has more lines than `most`: where covers for columns of their
@@ -67,6 +91,23 @@ impl SharedTable {
     {
         flat_kept(alloc, &self.table, &mut self.flats, columns, mark, most)
     }
+}
+
+/// Whether some row of the table has all values of columns with so many, which is kept.
+fn full_kept(table: &FileTable, kept: &mut Option<FullRows>, counts: Vec<u16>) -> bool
+    requires few { All (λ n. n ≤ most_values) counts.items }
+    requires kept { IfSome kept.old (IsFullOf table.now.rows) }
+    ensures kept { IfSome kept.new (IsFullOf table.now.rows) }
+    ensures full { result ≡ some_full counts.items table.now.rows }
+{
+    if let Some(last) = kept {
+        if last.counts.as_slice() == counts.as_slice() {
+            return last.some;
+        }
+    }
+    let some = some_row_is_full(table.rows.as_slice(), counts.as_slice());
+    *kept = Some(FullRows { counts, some });
+    some
 }
 
 /// The covers of the table over these columns, unless its cover has more lines than `most`, and those that are kept of it, where

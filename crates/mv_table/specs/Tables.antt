@@ -9,12 +9,9 @@ use Rattle.mv_design.specs.declared.table.Row.{Row}
 use Rattle.mv_design.specs.declared.table.FileTable.{FileTable}
 use Rattle.mv_design.specs.declared.design.Decl.{Decl}
 use Rattle.mv_fault.specs.declared.fault.ParseFault.{ParseFault}
+use Rattle.mv_line.specs.Words.{behind_first}
 use Rattle.mv_table.specs.Columns.{ins_of, outs_of}
 use Rattle.mv_table.specs.Entries.{ins_faults, ins_said, outs_faults, outs_said}
-
--- the words of a line behind its first
-abbrev pub behind_first : LexLine → List (List ℕ)
-behind_first l = drop 1 l.words
 
 -- the words that say that a line is a default
 abbrev pub is_default_word : List ℕ → Bool

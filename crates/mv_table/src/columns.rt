@@ -69,7 +69,7 @@ fn check_column(number: u32, before: u128, name: &Name) -> Result<(), ParseFault
 
 /// Tells the first fault of column names behind so many columns, where a name may stand twice.
 #[tactic(auto, using(mv_fault::proofs::Firsts::firsts))]
-fn check_names(number: u32, before: usize, names: &[Name]) -> Result<(), ParseFault>
+pub fn check_names(number: u32, before: usize, names: &[Name]) -> Result<(), ParseFault>
     ensures { Tells result (names_faults number before names.now) }
 {
     for (at, name) in names.iter().enumerate() {

@@ -3,7 +3,8 @@ ghost use Rattle.std.specs.Option.{option_or};
 ghost use Rattle.mv_fault.specs.Tells.{Tells};
 ghost use Rattle.mv_table.specs.Columns.{ins_of};
 ghost use Rattle.mv_table.specs.Entries.{AreLookedUp};
-ghost use Rattle.mv_table.specs.Tables.{behind_first, is_default_word, begins_default, says_default, row_of_words, entries_faults};
+ghost use Rattle.mv_line.specs.Words.{behind_first};
+ghost use Rattle.mv_table.specs.Tables.{is_default_word, begins_default, says_default, row_of_words, entries_faults};
 ghost use Rattle.mv_table.specs.Tables.{rows_at, default_at, line_values_faults, table_of, table_faults};
 
 use crate::columns::{ins, outs};
@@ -13,18 +14,9 @@ use mv_decl::Decls;
 use mv_design::{Entries, FileTable, Row, Rows};
 use mv_fault::ParseFault;
 use mv_lex::LexLine;
+use mv_line::behind_first;
 use mv_word::is_text;
 use std::alloc::Global;
-
-/// The words of a line behind its first.
-pub fn behind_first(line: &LexLine) -> &[Name]
-    ensures { result.now ≡ behind_first line.now }
-{
-    match line.words.as_slice() {
-        [_first, rest @ ..] => rest,
-        [] => line.words.as_slice(),
-    }
-}
 
 /// Whether the word says that its line is a default.
 pub fn is_default_word(word: &[u8]) -> bool

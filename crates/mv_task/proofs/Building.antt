@@ -6,7 +6,7 @@ use Rattle.mv_files.specs.FileReading.{Stay}
 use Rattle.mv_files.proofs.Contents.{stay_none, stay_then}
 use Rattle.mv_task.specs.declared.stop.Stop.{Stop}
 use Rattle.mv_task.specs.declared.stop.Stop.TheVariants.{Refused as refused, Read as unread, Memory as short}
-use Rattle.mv_task.specs.Ends.{Sinks, Work, WorkEnds, Done, OutputCut, NotesCut, Stopped, Own, work_on, work_on_both, Ends, Refused, Unread, Short, seen, is_common}
+use Rattle.mv_task.specs.Ends.{Sinks, Work, WorkEnds, Done, Denied, DenialCut, OutputCut, NotesCut, Stopped, Own, work_on, work_on_both, Ends, Refused, Unread, Short, seen, is_common}
 use Rattle.mv_task.specs.Lines.{TellsLine}
 use Rattle.mv_task.specs.Sources.{starts_with}
 use Rattle.mv_task.specs.Stages.{Stage, AreRead, EndsRefused, EndsUnread, EndsShort}
@@ -62,6 +62,10 @@ pub said_ends : {V : Type 0} (IsSaid : List ℕ → V → Type 0) (content : Lis
     → WorkEnds (work_on IsSaid content work) old new status
 said_ends IsSaid content work value old new status said (Done is done) =
     Done is (record { noted = done.noted; written = done.written; does = record { value = value; said = said; holds = done.does }; notes = done.notes; out = done.out })
+said_ends IsSaid content work value old new status said (Denied is denied) =
+    Denied is (record { written = denied.written; denies = record { value = value; said = said; holds = denied.denies }; notes = denied.notes; out = denied.out })
+said_ends IsSaid content work value old new status said (DenialCut is rose untouched written denies part) =
+    DenialCut is rose untouched written (record { value = value; said = said; holds = denies }) part
 said_ends IsSaid content work value old new status said (OutputCut is rose noted written does notes part) =
     OutputCut is rose noted written (record { value = value; said = said; holds = does }) notes part
 said_ends IsSaid content work value old new status said (NotesCut is rose untouched noted does part) =

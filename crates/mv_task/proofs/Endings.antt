@@ -2,7 +2,7 @@
 use Rattle.std.proofs.Common.{◌≡◌, ◌∙◌, ◌⊎◌, ℕ, true, false, is_some, List, [], ◌∷◌, inl, inr, refl, sym, ap, subst, arith, ⊎_elim}
 use Rattle.std.specs.Prelude.{IsTrue}
 use Rattle.mv_base.specs.Outside.{Stored, Gained, Rose}
-use Rattle.mv_task.specs.Ends.{Outside, Sinks, Task, Work, Ends, Refused, Unread, Short, Worked, WorkEnds, IsDone, Done, OutputCut, NotesCut, Stopped, Own, is_common, work_on_both}
+use Rattle.mv_task.specs.Ends.{Outside, Sinks, Task, Work, Ends, Refused, Unread, Short, Worked, WorkEnds, IsDone, IsDenied, Done, Denied, DenialCut, OutputCut, NotesCut, Stopped, Own, is_common, work_on_both}
 use Rattle.mv_task.specs.Exact.{IsExact, IsComplete, RefusesWith}
 use Rattle.mv_task.specs.Sources.{IsReadWhole, starts_with}
 use Rattle.mv_task.specs.Stages.{Stage, Takes, AreTaken, AreRead, FirstOf, EndsRefused, EndsUnread}
@@ -15,36 +15,57 @@ common k n apart e c = let f : is_common k ≡ is_common n = ap is_common e in c
 
 -- ---- by how the work ended
 
+-- what the work came to, or was about to
+pub data Comes (work : Work) : Type 0 where
+  Noting : (noted : List ℕ) → (notes : work.Notes noted) → Comes work
+  Doing : (noted written : List ℕ) → (does : work.Does noted written) → Comes work
+  Denying : (written : List ℕ) → (denies : work.Denies written) → Comes work
+
 module _ (work : Work) (old new : Sinks) (status : ℕ) where
   -- something holds of the status where it does of 0 if the work is done, of 5 if the output or the notes failed, of 6 if memory ran
-  -- out, and of the status of each refusal
+  -- out, of the status of each refusal, and of 9 if the answer is no
   pub work_by : (P : ℕ → Type 0) → (IsDone work old new → P 0)
-      → ((Rose old.out.faults new.out.faults ⊎ Rose old.notes.faults new.notes.faults) → (noted : List ℕ) → (work.Notes noted ⊎ ((written : List ℕ) × work.Does noted written)) → P 5) → (new.out ≡ old.out → P 6)
-      → (is_common status ≡ false → new.out ≡ old.out → (line : List ℕ) → work.Refuses status line → P status) → WorkEnds work old new status → P status
-  work_by P done cut short own (Done is all) = subst P (sym is) (done all)
-  work_by P done cut short own (OutputCut is rose noted written does notes part) = subst P (sym is) (cut (inl rose) noted (inr (written, does)))
-  work_by P done cut short own (NotesCut is rose untouched noted does part) = subst P (sym is) (cut (inr rose) noted does)
-  work_by P done cut short own (Stopped is untouched noted stops tells) = subst P (sym is) (short untouched)
-  work_by P done cut short own (Own apart untouched line refuses tells) = own apart untouched line refuses
+      → ((Rose old.out.faults new.out.faults ⊎ Rose old.notes.faults new.notes.faults) → Comes work → P 5) → (new.out ≡ old.out → P 6)
+      → (is_common status ≡ false → new.out ≡ old.out → (line : List ℕ) → work.Refuses status line → P status) → (IsDenied work old new → P 9) → WorkEnds work old new status → P status
+  work_by P done cut short own deny (Done is all) = subst P (sym is) (done all)
+  work_by P done cut short own deny (Denied is denied) = subst P (sym is) (deny denied)
+  work_by P done cut short own deny (DenialCut is rose untouched written denies part) = subst P (sym is) (cut (inl rose) (Denying written denies))
+  work_by P done cut short own deny (OutputCut is rose noted written does notes part) = subst P (sym is) (cut (inl rose) (Doing noted written does))
+  work_by P done cut short own deny (NotesCut is rose untouched noted does part) =
+      subst P (sym is)
+      (cut (inr rose)
+      (⊎_elim
+      (λ (stops : work.Notes noted). Noting noted stops)
+      (λ (all : (written : List ℕ) × work.Does noted written). Doing noted all.0 all.1)
+      does))
+  work_by P done cut short own deny (Stopped is untouched noted stops tells) = subst P (sym is) (short untouched)
+  work_by P done cut short own deny (Own apart untouched line refuses tells) = own apart untouched line refuses
 
   done_of : WorkEnds work old new status → status ≡ 0 → IsDone work old new
   done_of =
-      work_by (λ k. k ≡ 0 → IsDone work old new) (λ all e. all) (λ rose noted does e. absurd (omega arith)) (λ same e. absurd (omega arith))
-      (λ apart same line refuses e. absurd (common status 0 apart e refl))
+      work_by (λ k. k ≡ 0 → IsDone work old new) (λ all e. all) (λ rose comes e. absurd (omega arith)) (λ same e. absurd (omega arith))
+      (λ apart same line refuses e. absurd (common status 0 apart e refl)) (λ d e. absurd (omega arith))
 
-  work_untouched : WorkEnds work old new status → (status ≡ 0 → ⊥) → (status ≡ 5 → ⊥) → new.out ≡ old.out
+  denied_of : WorkEnds work old new status → status ≡ 9 → IsDenied work old new
+  denied_of =
+      work_by (λ k. k ≡ 9 → IsDenied work old new) (λ all e. absurd (omega arith)) (λ rose comes e. absurd (omega arith)) (λ same e. absurd (omega arith))
+      (λ apart same line refuses e. absurd (common status 9 apart e refl)) (λ d e. d)
+
+  work_untouched : WorkEnds work old new status → (status ≡ 0 → ⊥) → (status ≡ 5 → ⊥) → (status ≡ 9 → ⊥) → new.out ≡ old.out
   work_untouched =
-      work_by (λ k. (k ≡ 0 → ⊥) → (k ≡ 5 → ⊥) → new.out ≡ old.out) (λ all a b. absurd (a refl)) (λ rose noted does a b. absurd (b refl)) (λ same a b. same) (λ apart same line refuses a b. same)
+      work_by (λ k. (k ≡ 0 → ⊥) → (k ≡ 5 → ⊥) → (k ≡ 9 → ⊥) → new.out ≡ old.out) (λ all a b c. absurd (a refl)) (λ rose comes a b c. absurd (b refl)) (λ same a b c. same)
+      (λ apart same line refuses a b c. same) (λ d a b c. absurd (c refl))
 
   never_four : WorkEnds work old new status → status ≡ 4 → ⊥
   never_four =
-      work_by (λ k. k ≡ 4 → ⊥) (λ all e. omega arith) (λ rose noted does e. omega arith) (λ same e. omega arith) (λ apart same line refuses e. common status 4 apart e refl)
+      work_by (λ k. k ≡ 4 → ⊥) (λ all e. omega arith) (λ rose comes e. omega arith) (λ same e. omega arith) (λ apart same line refuses e. common status 4 apart e refl) (λ d e. omega arith)
 
-  work_complete : WorkEnds work old new status → (Rose old.out.faults new.out.faults → ⊥) → (Rose old.notes.faults new.notes.faults → ⊥) → (status ≡ 0) ⊎ (status ≡ 6) ⊎ ((line : List ℕ) × work.Refuses status line)
+  work_complete : WorkEnds work old new status → (Rose old.out.faults new.out.faults → ⊥) → (Rose old.notes.faults new.notes.faults → ⊥)
+      → (status ≡ 0) ⊎ (status ≡ 6) ⊎ ((line : List ℕ) × work.Refuses status line) ⊎ ((status ≡ 9) × ((written : List ℕ) × work.Denies written))
   work_complete ends out notes =
-      let P : ℕ → Type 0 = λ k. (k ≡ 0) ⊎ (k ≡ 6) ⊎ ((line : List ℕ) × work.Refuses status line) in
-      work_by P (λ all. inl refl) (λ rose noted does. absurd (⊎_elim (λ (r : Rose old.out.faults new.out.faults). out r) (λ (r : Rose old.notes.faults new.notes.faults). notes r) rose)) (λ same. inr (inl refl))
-      (λ apart same line refuses. inr (inr (line, refuses))) ends
+      let P : ℕ → Type 0 = λ k. (k ≡ 0) ⊎ (k ≡ 6) ⊎ ((line : List ℕ) × work.Refuses status line) ⊎ ((k ≡ 9) × ((written : List ℕ) × work.Denies written)) in
+      work_by P (λ all. inl refl) (λ rose comes. absurd (⊎_elim (λ (r : Rose old.out.faults new.out.faults). out r) (λ (r : Rose old.notes.faults new.notes.faults). notes r) rose)) (λ same. inr (inl refl))
+      (λ apart same line refuses. inr (inr (inl (line, refuses)))) (λ d. inr (inr (inr (refl, (d.written, d.denies))))) ends
 
 -- ---- the work is done
 
@@ -65,14 +86,33 @@ module _ {task : Task} {old new : Outside} {status : ℕ} where
     done = done_of (task.work contents) old.sinks new.sinks status ends e;
   }
 
+-- ---- the answer is no
+
+-- a task whose answer is no
+pub record HasDenied (task : Task) (old new : Outside) : Type 0 where
+  pub contents : List (List ℕ)
+  pub read : AreRead task.stages old.files new.files contents
+  pub denied : IsDenied (task.work contents) old.sinks new.sinks
+
+module _ {task : Task} {old new : Outside} {status : ℕ} where
+  pub ends_denied : Ends task old new status → status ≡ 9 → HasDenied task old new
+  ends_denied (Refused apart line first untouched tells) e = absurd (common status 9 apart e refl)
+  ends_denied (Unread is rose first untouched tells) e = absurd (omega arith)
+  ends_denied (Short is begun untouched tells) e = absurd (omega arith)
+  ends_denied (Worked contents read ends) e = record {
+    contents = contents;
+    read = read;
+    denied = denied_of (task.work contents) old.sinks new.sinks status ends e;
+  }
+
 -- ---- causes
 
 module _ (task : Task) (old new : Outside) (status : ℕ) where
-  pub ends_untouched : Ends task old new status → (status ≡ 0 → ⊥) → (status ≡ 5 → ⊥) → new.sinks.out ≡ old.sinks.out
-  ends_untouched (Refused apart line first untouched tells) a b = untouched
-  ends_untouched (Unread is rose first untouched tells) a b = untouched
-  ends_untouched (Short is begun untouched tells) a b = untouched
-  ends_untouched (Worked contents read ends) a b = work_untouched (task.work contents) old.sinks new.sinks status ends a b
+  pub ends_untouched : Ends task old new status → (status ≡ 0 → ⊥) → (status ≡ 5 → ⊥) → (status ≡ 9 → ⊥) → new.sinks.out ≡ old.sinks.out
+  ends_untouched (Refused apart line first untouched tells) a b c = untouched
+  ends_untouched (Unread is rose first untouched tells) a b c = untouched
+  ends_untouched (Short is begun untouched tells) a b c = untouched
+  ends_untouched (Worked contents read ends) a b c = work_untouched (task.work contents) old.sinks new.sinks status ends a b c
 
   pub ends_rose : Ends task old new status → status ≡ 4 → Rose old.files.faults new.files.faults
   ends_rose (Refused apart line first untouched tells) e = absurd (common status 4 apart e refl)
@@ -110,7 +150,7 @@ module _ (task : Task) (old new : Outside) (status : ℕ) where
   ends_complete (Short is begun untouched tells) contents sound taken o n = inr (inl is)
   ends_complete (Worked own read ends) contents sound taken o n =
       let same : own ≡ contents = one_contents task.stages old.files own contents (told_sound old.files.held sound) read.taken taken in
-      let P : List (List ℕ) → Type 0 = λ cs. (status ≡ 0) ⊎ (status ≡ 6) ⊎ ((line : List ℕ) × (task.work cs).Refuses status line) in
+      let P : List (List ℕ) → Type 0 = λ cs. (status ≡ 0) ⊎ (status ≡ 6) ⊎ ((line : List ℕ) × (task.work cs).Refuses status line) ⊎ ((status ≡ 9) × ((written : List ℕ) × (task.work cs).Denies written)) in
       subst P same (work_complete (task.work own) old.sinks new.sinks status ends o n)
 
 -- ---- files that tell, whose contents all stages accept
@@ -142,13 +182,15 @@ refusal_is P (s ∷ ss) files new starts status line each first =
     first
 
 pub ends_known : (P : ℕ → Type 0) (task : Task) (old new : Outside) (status : ℕ) → P 0 → P 4 → P 5 → P 6 → EachRefusal P task.stages
-    → ((contents : List (List ℕ)) (k : ℕ) (line : List ℕ) → (task.work contents).Refuses k line → P k) → Ends task old new status → P status
-ends_known P task old new status p0 p4 p5 p6 each own (Refused apart line first untouched tells) =
+    → ((contents : List (List ℕ)) (k : ℕ) (line : List ℕ) → (task.work contents).Refuses k line → P k)
+    → ((contents : List (List ℕ)) (written : List ℕ) → (task.work contents).Denies written → P 9) → Ends task old new status → P status
+ends_known P task old new status p0 p4 p5 p6 each own deny (Refused apart line first untouched tells) =
     refusal_is P task.stages old.files new.files old.files.starts status line each first
-ends_known P task old new status p0 p4 p5 p6 each own (Unread is rose first untouched tells) = subst P (sym is) p4
-ends_known P task old new status p0 p4 p5 p6 each own (Short is begun untouched tells) = subst P (sym is) p6
-ends_known P task old new status p0 p4 p5 p6 each own (Worked contents read ends) =
-    work_by (task.work contents) old.sinks new.sinks status P (λ all. p0) (λ rose noted does. p5) (λ same. p6) (λ apart same line refuses. own contents status line refuses) ends
+ends_known P task old new status p0 p4 p5 p6 each own deny (Unread is rose first untouched tells) = subst P (sym is) p4
+ends_known P task old new status p0 p4 p5 p6 each own deny (Short is begun untouched tells) = subst P (sym is) p6
+ends_known P task old new status p0 p4 p5 p6 each own deny (Worked contents read ends) =
+    work_by (task.work contents) old.sinks new.sinks status P (λ all. p0) (λ rose comes. p5) (λ same. p6) (λ apart same line refuses. own contents status line refuses)
+    (λ d. deny contents d.written d.denies) ends
 
 -- ---- tasks of two stages
 
@@ -159,6 +201,13 @@ module _ {V W : Type 0} (IsFirst : List ℕ → V → Type 0) (IsSecond : List �
   both_refuse P own (a ∷ []) k line r = absurd r
   both_refuse P own (a ∷ b ∷ []) k line r = own r.value r.holds.value k line r.holds.holds
   both_refuse P own (a ∷ b ∷ c ∷ cs) k line r = absurd r
+
+  -- and of 9, where they never answer no
+  pub both_deny : (P : Type 0) → ((v : V) (w : W) (written : List ℕ) → (work v w).Denies written → P) → (contents : List (List ℕ)) (written : List ℕ) → (work_on_both IsFirst IsSecond work contents).Denies written → P
+  both_deny P deny [] written d = absurd d
+  both_deny P deny (a ∷ []) written d = absurd d
+  both_deny P deny (a ∷ b ∷ []) written d = deny d.value d.holds.value written d.holds.holds
+  both_deny P deny (a ∷ b ∷ c ∷ cs) written d = absurd d
 
   -- what two stages read, and the work on it, which is done
   pub record BothDone (s t : Stage) (old new : Outside) : Type 0 where
@@ -200,3 +249,42 @@ module _ {V W : Type 0} (IsFirst : List ℕ → V → Type 0) (IsSecond : List �
 
   pub both_done : (s t : Stage) (old new : Outside) (status : ℕ) → Ends (record { stages = s ∷ t ∷ []; work = work_on_both IsFirst IsSecond work }) old new status → status ≡ 0 → BothDone s t old new
   both_done s t old new status ends e = let d = ends_done ends e in both_of s t old new d.contents d.read d.done
+
+  -- what two stages read, and the work on it, whose answer is no
+  pub record BothDenied (s t : Stage) (old new : Outside) : Type 0 where
+    pub a : List ℕ
+    pub b : List ℕ
+    pub first : Takes s old.files a
+    pub second : Takes t old.files b
+    pub last : IsReadWhole t.from old.files new.files b
+    pub v : V
+    pub w : W
+    pub says : IsFirst a v
+    pub speaks : IsSecond b w
+    pub written : List ℕ
+    pub denies : (work v w).Denies written
+    pub notes : new.sinks.notes ≡ old.sinks.notes
+    pub out : Gained old.sinks.out new.sinks.out written
+
+  denied_both_of : (s t : Stage) (old new : Outside) (contents : List (List ℕ)) → AreRead (s ∷ t ∷ []) old.files new.files contents → IsDenied (work_on_both IsFirst IsSecond work contents) old.sinks new.sinks → BothDenied s t old new
+  denied_both_of s t old new [] read denied = absurd read.taken
+  denied_both_of s t old new (a ∷ []) read denied = absurd read.taken.1
+  denied_both_of s t old new (a ∷ b ∷ []) read denied = record {
+    a = a;
+    b = b;
+    first = read.taken.0;
+    second = read.taken.1.0;
+    last = read.last;
+    v = denied.denies.value;
+    w = denied.denies.holds.value;
+    says = denied.denies.said;
+    speaks = denied.denies.holds.said;
+    written = denied.written;
+    denies = denied.denies.holds.holds;
+    notes = denied.notes;
+    out = denied.out;
+  }
+  denied_both_of s t old new (a ∷ b ∷ c ∷ cs) read denied = absurd read.taken.1.1
+
+  pub both_denied : (s t : Stage) (old new : Outside) (status : ℕ) → Ends (record { stages = s ∷ t ∷ []; work = work_on_both IsFirst IsSecond work }) old new status → status ≡ 9 → BothDenied s t old new
+  both_denied s t old new status ends e = let d = ends_denied ends e in denied_both_of s t old new d.contents d.read d.denied

@@ -25,16 +25,17 @@ seen files out notes = record { files = files; sinks = record { out = out; notes
 -- ---- the work
 
 -- what a task's work is, on what it read: what it puts to the notes and to the output where it is
--- done, what it may have put to the notes before that, and the statuses with which it refuses what
--- it read for causes of its own, with their lines
+-- done, what it may have put to the notes before that, what it puts to the output where its answer
+-- is no, and the statuses with which it refuses what it read for causes of its own, with their lines
 pub record Work : Type 1 where
   pub Does : List ℕ → List ℕ → Type 0
   pub Notes : List ℕ → Type 0
+  pub Denies : List ℕ → Type 0
   pub Refuses : ℕ → List ℕ → Type 0
 
 -- the statuses that every task may have
 abbrev pub is_common : ℕ → Bool
-is_common k = k == 0 || k == 4 || k == 5 || k == 6
+is_common k = k == 0 || k == 4 || k == 5 || k == 6 || k == 9
 
 -- the work is done
 pub record IsDone (work : Work) (old new : Sinks) : Type 0 where
@@ -44,11 +45,23 @@ pub record IsDone (work : Work) (old new : Sinks) : Type 0 where
   pub notes : Gained old.notes new.notes noted
   pub out : Gained old.out new.out written
 
--- how the work ends: it is done; the output failed, behind the notes; the notes failed, which
--- leaves the output as it was, and so does all that follows; memory ran out, and the notes tell so
--- behind what was put to them, which is there whole; or the task refuses what it read
+-- its answer is no
+pub record IsDenied (work : Work) (old new : Sinks) : Type 0 where
+  pub written : List ℕ
+  pub denies : work.Denies written
+  pub notes : new.notes ≡ old.notes
+  pub out : Gained old.out new.out written
+
+-- how the work ends: it is done; its answer is no, of which the notes tell nothing; the output
+-- failed, behind the notes, or while it took a no; the notes failed, which leaves the output as it
+-- was, and so does all that follows; memory ran out, and the notes tell so behind what was put to
+-- them, which is there whole; or the task refuses what it read
 pub data WorkEnds (work : Work) (old new : Sinks) (status : ℕ) : Type 0 where
   Done : (is : status ≡ 0) → (done : IsDone work old new) → WorkEnds work old new status
+  Denied : (is : status ≡ 9) → (denied : IsDenied work old new) → WorkEnds work old new status
+  DenialCut : (is : status ≡ 5) → (rose : Rose old.out.faults new.out.faults)
+      → (untouched : new.notes ≡ old.notes) → (written : List ℕ) → (denies : work.Denies written)
+      → (part : GainedPart old.out new.out written) → WorkEnds work old new status
   OutputCut : (is : status ≡ 5) → (rose : Rose old.out.faults new.out.faults)
       → (noted written : List ℕ) → (does : work.Does noted written)
       → (notes : Gained old.notes new.notes noted) → (part : GainedPart old.out new.out written)
@@ -107,6 +120,7 @@ abbrev pub work_on : {V : Type 0} → (List ℕ → V → Type 0) → List ℕ �
 work_on IsSaid content work = record {
   Does = λ noted written. Says IsSaid content (λ value. (work value).Does noted written);
   Notes = λ noted. Says IsSaid content (λ value. (work value).Notes noted);
+  Denies = λ written. Says IsSaid content (λ value. (work value).Denies written);
   Refuses = λ status line. Says IsSaid content (λ value. (work value).Refuses status line);
 }
 
@@ -115,6 +129,7 @@ abbrev pub no_work : Work
 no_work = record {
   Does = λ noted written. ⊥;
   Notes = λ noted. ⊥;
+  Denies = λ written. ⊥;
   Refuses = λ status line. ⊥;
 }
 

@@ -22,7 +22,8 @@ IsExact stages files status = (refusal : ℕ) → IsTrue (is_some files.held)
     → status ≡ refusal
 
 -- with sound files whose contents all stages accept, and no count of the output's and of the notes'
--- faults risen, the work is done, unless memory ran out or the task refuses what it read
+-- faults risen, the work is done, unless memory ran out, the task refuses what it read, or its
+-- answer is no
 abbrev pub IsComplete : Task → Outside → Outside → ℕ → Type 0
 IsComplete task old new status = (contents : List (List ℕ))
     → IsSomeAnd old.files.held (λ held. IsTrue held.sound)
@@ -30,3 +31,4 @@ IsComplete task old new status = (contents : List (List ℕ))
     → (Rose old.sinks.out.faults new.sinks.out.faults → ⊥)
     → (Rose old.sinks.notes.faults new.sinks.notes.faults → ⊥)
     → (status ≡ 0) ⊎ (status ≡ 6) ⊎ ((line : List ℕ) × (task.work contents).Refuses status line)
+    ⊎ ((status ≡ 9) × ((written : List ℕ) × (task.work contents).Denies written))

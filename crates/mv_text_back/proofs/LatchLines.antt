@@ -7,7 +7,8 @@ use Rattle.mv_lex.specs.declared.lines.LexLine.{LexLine}
 use Rattle.mv_design.specs.Values.{count_of}
 use Rattle.mv_decl.specs.Line.{net_name_faults}
 use Rattle.mv_parse.specs.declared.command.Command.TheVariants.{Latch}
-use Rattle.mv_parse.specs.Known.{latch_of, latches_of}
+use Rattle.mv_line.specs.Latches.{latch_of}
+use Rattle.mv_parse.specs.Known.{latches_of}
 use Rattle.mv_parse.specs.Grammar.{latch_faults, latch_value_faults, table_value_faults, faults_at}
 use Rattle.mv_net.specs.declared.parts.Kind.TheVariants.{Latch as LatchKind}
 use Rattle.mv_net.specs.declared.parts.FlatNet.{FlatNet}

@@ -9,7 +9,8 @@ use Rattle.mv_design.specs.declared.design.FileModel.{FileModel}
 use Rattle.mv_design.specs.Values.{declared_of}
 use Rattle.mv_parse.specs.declared.command.Command.TheVariants.{Inputs, Outputs, End}
 use Rattle.mv_parse.specs.Known.{outputs_of, decls_of, tables_of, resets_of, open_model, file_model, known}
-use Rattle.mv_parse.specs.Grammar.{model_faults, port_faults, end_faults, tables_faults, line_faults, faults_at, file_faults, faults_of, design_of, IsDesign}
+use Rattle.mv_line.specs.Ports.{port_faults}
+use Rattle.mv_parse.specs.Grammar.{model_faults, end_faults, tables_faults, line_faults, faults_at, file_faults, faults_of, design_of, IsDesign}
 use Rattle.mv_net.specs.declared.parts.NetParts.{NetParts}
 use Rattle.mv_net.specs.Formed.{WellFormed}
 use Rattle.mv_net.proofs.Known.{are_named}

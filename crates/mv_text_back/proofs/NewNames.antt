@@ -7,7 +7,7 @@ use Rattle.mv_base.proofs.NameLemmas.{differ-repeated}
 use Rattle.mv_fault.specs.declared.fault.ParseFault.TheVariants.{Repeated, BadName}
 use Rattle.mv_fault.specs.Tells.{when}
 use Rattle.mv_decl.specs.Line.{value_faults, value_name_faults}
-use Rattle.mv_parse.specs.Grammar.{port_faults}
+use Rattle.mv_line.specs.Ports.{port_faults}
 
 -- a word is none of those before it
 pub new-word : (earlier : List (List ℕ)) (w : List ℕ) (words : List (List ℕ)) → names_differ (earlier ++ w ∷ words) ≡ true → among w earlier ≡ false

@@ -9,10 +9,10 @@ use Rattle.mv_lex.specs.declared.lines.LexLine.{LexLine}
 use Rattle.mv_fault.specs.declared.fault.Which.TheVariants.{TableLines}
 use Rattle.mv_fault.specs.declared.fault.ParseFault.TheVariants.{Limit}
 use Rattle.mv_fault.specs.Tells.{when}
-use Rattle.mv_table.specs.Tables.{behind_first}
+use Rattle.mv_line.specs.Words.{behind_first, first_of}
 use Rattle.mv_parse.specs.declared.command.Command.TheVariants.{Table, Reset, Default, Row}
 use Rattle.mv_parse.specs.declared.known.OpenTable.{OpenTable}
-use Rattle.mv_parse.specs.Commands.{first_of, command_at}
+use Rattle.mv_parse.specs.Commands.{command_at}
 use Rattle.mv_parse.specs.Known.{open_table}
 use Rattle.mv_parse.specs.Grammar.{row_faults, default_faults, at_table, faults_at}
 use Rattle.mv_parse.specs.Steps.{new_table, default_seen, row_seen}

@@ -16,7 +16,7 @@ use Rattle.mv_cover.specs.declared.line.Line.{Line}
 use Rattle.mv_cover.specs.declared.cover.Cover.{Cover}
 use Rattle.mv_cover.specs.Lines.{IsOutput}
 use Rattle.mv_table.specs.Tables.{says_default, default_of, rows_of, lines_values_faults, table_of, table_faults}
-use Rattle.mv_parse.specs.Commands.{first_of}
+use Rattle.mv_line.specs.Words.{first_of}
 use Rattle.mv_net.specs.declared.parts.FlatNet.{FlatNet}
 use Rattle.mv_net.specs.Nets.{slot, spelled_in, spelled_values}
 use Rattle.mv_net.specs.Formed.{AllLines}

@@ -27,6 +27,7 @@ use Rattle.mv_unfold.specs.Placed.{model_at, no_part}
 use Rattle.mv_unfold.specs.Commands.{no_command, IsCommand}
 use Rattle.mv_unfold.specs.Laid.{IsLaid}
 use Rattle.mv_unfold.specs.Driven.{own_driven, net_in, passed, passed_up, driven_in, tally, counts_at, with_parts, counted, HasInside, IsTally, IsKnown, AreTallies}
+use Rattle.mv_unfold.proofs.Kept.{none_there}
 use Rattle.mv_unfold.proofs.Placed.{named_model}
 use Rattle.mv_unfold.proofs.Laid.{nets_read}
 use Rattle.mv_unfold.proofs.Counting.{tally_by, tally_alike, own_counted, AreCounts, are_counts, binds_passed}
@@ -244,11 +245,6 @@ command_inside l levels k j laid h lt low =
       inside = record { tree = p.inside; unfolds = subst (λ (x : FileModel). Unfolds d x.parts p.inside) (sym at) p.unfolds; shallow = p.shallow };
       below = cmd.below;
     }
-
-none_there : (n k : ℕ) → get_or {A = Option (List ℕ)} (replicate n None) k None ≡ None
-none_there zero k = refl
-none_there (suc n) zero = refl
-none_there (suc n) (suc k) = none_there n k
 
 -- nothing is known at first
 pub nothing_known : (l : Layout) (slots : List (Option (List ℕ))) (n : ℕ) → slots ≡ replicate n None → n ≡ length l.design.now.models → AreTallies l slots

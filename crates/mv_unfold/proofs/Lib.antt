@@ -23,3 +23,4 @@ pub mod Resetting
 pub mod OfWhole
 pub mod Faultless
 pub mod Sound
+pub mod Kept

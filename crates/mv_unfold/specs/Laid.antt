@@ -8,7 +8,7 @@ use Rattle.mv_walk.specs.declared.opened.Opened.{Opened}
 use Rattle.mv_unfold.specs.declared.layout.Layout.{Layout}
 use Rattle.mv_unfold.specs.Commands.{AreCommands}
 use Rattle.mv_unfold.specs.Locals.{AreOwn}
-use Rattle.mv_unfold.specs.Placed.{ArePlaced, places_by, part_in}
+use Rattle.mv_unfold.specs.Placed.{ArePlaced, places_by, part_in, place_at}
 
 -- the numbers of the models of the root and of all instances
 abbrev pub model_numbers : Design → List Opened → List ℕ
@@ -38,3 +38,7 @@ opened_at l n = slice_index_or l.opened.now (n - 1) no_opened
 -- the command that makes it
 abbrev pub laid_part : Layout → ℕ → Part
 laid_part l n = part_in (places_of l) (opened_at l n)
+
+-- the name in the whole of a net of the place with a number
+abbrev pub home_in : Layout → ℕ → List ℕ → List ℕ
+home_in l n net = (place_at (places_of l) n).home net

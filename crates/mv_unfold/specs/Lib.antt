@@ -10,3 +10,4 @@ pub mod Driven
 pub mod Driving
 pub mod Resets
 pub mod Sound
+pub mod Recent

@@ -2,10 +2,12 @@
 ghost use Rattle.std.specs.Prelude.{◌≡◌, ◌+◌, ◌≤◌, ◌++◌, map, length, IfOk, OnOk};
 ghost use Rattle.mv_design.specs.ByLine.{before_line};
 ghost use Rattle.mv_tree.specs.Unfolded.{placed_reset, resets_in};
-ghost use Rattle.mv_unfold.specs.Laid.{IsLaid, places_of};
+ghost use Rattle.mv_unfold.specs.Laid.{IsLaid, home_in, places_of};
 ghost use Rattle.mv_unfold.specs.Placed.{place_at};
+ghost use Rattle.mv_unfold.specs.Recent.{AreHomes};
 
 use crate::layout::Layout;
+use crate::recent::Recent;
 use crate::tables::placed_table;
 use mv_base::{Items, Memory};
 use mv_design::FileTable;
@@ -16,10 +18,11 @@ pub fn resets(alloc: Global, layout: &Layout<'_>) -> Result<Items<FileTable>, Me
     requires { IsLaid layout.now }
     ensures { IfOk result (λ resets. resets ≡ resets_in 0 (places_of layout.now)) }
 {
+    let mut recent = Recent::of_places(alloc, layout.models.len())?;
     let mut resets = Items::new(alloc);
     let mut at = 0;
     for number in 0..layout.models.len() {
-        add_resets(alloc, layout, number, at, &mut resets)?;
+        add_resets(alloc, layout, &mut recent, number, at, &mut resets)?;
         at = sum(at, layout.file(number).tables.len())?;
     }
     Ok(resets)
@@ -29,13 +32,16 @@ pub fn resets(alloc: Global, layout: &Layout<'_>) -> Result<Items<FileTable>, Me
 fn add_resets(
     alloc: Global,
     layout: &Layout<'_>,
+    recent: &mut Recent,
     number: usize,
     at: usize,
     resets: &mut Items<FileTable>,
 ) -> Result<(), Memory>
     requires laid { IsLaid layout.now }
     requires number { number ≤ length layout.now.opened.now }
-    ensures { let p =
+    requires right { AreHomes (home_in layout.now) recent.old.slots }
+    ensures right { OnOk result (AreHomes (home_in layout.now) recent.new.slots) }
+    ensures is { let p =
         place_at (places_of layout.now) number in OnOk result (resets.new
         ≡ resets.old ++ map (placed_reset at p) p.model.resets) }
 {
@@ -46,7 +52,7 @@ fn add_resets(
         before = count_before(model.tables.as_slice(), before, last, reset.line);
         last = reset.line;
         let line = u32::try_from(sum(at, before)?).ok().ok_or(Memory)?;
-        resets.push(placed_table(alloc, layout, number, line, reset)?)?;
+        resets.push(placed_table(alloc, layout, recent, number, line, reset)?)?;
     }
     Ok(())
 }

@@ -7,10 +7,11 @@ ghost use Rattle.mv_unfold.specs.Placed.{place_at};
 ghost use Rattle.mv_unfold.specs.Resets.{at_home};
 ghost use Rattle.mv_unfold.specs.Whole.{place_faults};
 
+use crate::homes::home;
 use crate::layout::Layout;
-use crate::naming::name_under;
+use crate::recent::Recent;
 use mv_acyclic::check_resets;
-use mv_base::{Memory, Name};
+use mv_base::Memory;
 use mv_fault::FlatFault;
 use std::alloc::Global;
 
@@ -64,37 +65,14 @@ fn placed_fault(
     requires number { number ≤ length layout.now.opened.now }
     ensures { IfOk result (λ f. f ≡ at_home (place_at (places_of layout.now) number) fault) }
 {
+    let mut recent = Recent::of_places(alloc, 0)?;
     match fault {
         FlatFault::NoLatch { net } => Ok(FlatFault::NoLatch {
-            net: home(alloc, layout, number, &net)?,
+            net: home(alloc, layout, &mut recent, number, &net)?,
         }),
         FlatFault::ResetTwice { latch } => Ok(FlatFault::ResetTwice {
-            latch: home(alloc, layout, number, &latch)?,
+            latch: home(alloc, layout, &mut recent, number, &latch)?,
         }),
         other => Ok(other),
-    }
-}
-
-/// The name of a place's net in the whole.
-pub fn home(alloc: Global, layout: &Layout<'_>, number: usize, net: &Name) -> Result<Name, Memory>
-    requires laid { IsLaid layout.now }
-    requires number { number ≤ length layout.now.opened.now }
-    ensures { IfOk result (λ name. name ≡ (place_at (places_of layout.now) number).home net.now) }
-{
-    if number == 0 {
-        return net.copy();
-    }
-    match layout.actual(number, net) {
-        Some(actual) => home(
-            alloc,
-            layout,
-            layout.opened[number - 1].round as usize,
-            actual,
-        ),
-        None => {
-            let mut path = Vec::new(alloc);
-            layout.add_path(&mut path, number)?;
-            name_under(alloc, path.as_slice(), net)
-        }
     }
 }

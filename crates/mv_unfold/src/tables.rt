@@ -1,12 +1,14 @@
 //! The latches and the tables of all places.
 ghost use Rattle.std.specs.Prelude.{◌≡◌, ◌+◌, ◌≤◌, ◌++◌, ℕ, List, map, length, IfOk, OnOk};
 ghost use Rattle.mv_tree.specs.Unfolded.{latches_in, numbered, placed_latch, renamed, tables_in};
-ghost use Rattle.mv_unfold.specs.Laid.{IsLaid, places_of};
+ghost use Rattle.mv_unfold.specs.Laid.{IsLaid, home_in, places_of};
 ghost use Rattle.mv_unfold.specs.Placed.{place_at};
+ghost use Rattle.mv_unfold.specs.Recent.{AreHomes};
 
+use crate::homes::{home, homes};
 use crate::layout::Layout;
-use crate::resets::home;
-use mv_base::{Items, Memory, Name};
+use crate::recent::Recent;
+use mv_base::{Items, Memory};
 use mv_design::{Entries, FileLatch, FileTable, copy_entries};
 use std::alloc::Global;
 
@@ -15,9 +17,10 @@ pub fn latches(alloc: Global, layout: &Layout<'_>) -> Result<Items<FileLatch>, M
     requires { IsLaid layout.now }
     ensures { IfOk result (λ latches. latches ≡ latches_in (places_of layout.now)) }
 {
+    let mut recent = Recent::of_places(alloc, layout.models.len())?;
     let mut latches = Items::new(alloc);
     for number in 0..layout.models.len() {
-        add_latches(alloc, layout, number, &mut latches)?;
+        add_latches(alloc, layout, &mut recent, number, &mut latches)?;
     }
     Ok(latches)
 }
@@ -26,20 +29,23 @@ pub fn latches(alloc: Global, layout: &Layout<'_>) -> Result<Items<FileLatch>, M
 fn add_latches(
     alloc: Global,
     layout: &Layout<'_>,
+    recent: &mut Recent,
     number: usize,
     latches: &mut Items<FileLatch>,
 ) -> Result<(), Memory>
     requires laid { IsLaid layout.now }
     requires number { number ≤ length layout.now.opened.now }
-    ensures { let p =
+    requires right { AreHomes (home_in layout.now) recent.old.slots }
+    ensures right { OnOk result (AreHomes (home_in layout.now) recent.new.slots) }
+    ensures is { let p =
         place_at (places_of layout.now) number in OnOk result (latches.new
         ≡ latches.old ++ map (placed_latch p) p.model.latches) }
 {
     for latch in layout.file(number).latches.as_slice() {
         latches.push(FileLatch {
             line: latch.line,
-            input: home(alloc, layout, number, &latch.input)?,
-            output: home(alloc, layout, number, &latch.output)?,
+            input: home(alloc, layout, recent, number, &latch.input)?,
+            output: home(alloc, layout, recent, number, &latch.output)?,
         })?;
     }
     Ok(())
@@ -50,9 +56,10 @@ pub fn tables(alloc: Global, layout: &Layout<'_>) -> Result<Items<FileTable>, Me
     requires { IsLaid layout.now }
     ensures { IfOk result (λ tables. tables ≡ tables_in 0 (places_of layout.now)) }
 {
+    let mut recent = Recent::of_places(alloc, layout.models.len())?;
     let mut tables = Items::new(alloc);
     for number in 0..layout.models.len() {
-        add_tables(alloc, layout, number, &mut tables)?;
+        add_tables(alloc, layout, &mut recent, number, &mut tables)?;
     }
     Ok(tables)
 }
@@ -61,18 +68,21 @@ pub fn tables(alloc: Global, layout: &Layout<'_>) -> Result<Items<FileTable>, Me
 fn add_tables(
     alloc: Global,
     layout: &Layout<'_>,
+    recent: &mut Recent,
     number: usize,
     tables: &mut Items<FileTable>,
 ) -> Result<(), Memory>
     requires laid { IsLaid layout.now }
     requires number { number ≤ length layout.now.opened.now }
-    ensures { let p = place_at (places_of layout.now) number in
+    requires right { AreHomes (home_in layout.now) recent.old.slots }
+    ensures right { OnOk result (AreHomes (home_in layout.now) recent.new.slots) }
+    ensures is { let p = place_at (places_of layout.now) number in
         OnOk result
         (tables.new ≡ tables.old ++ numbered p.home (length tables.old) p.model.tables) }
 {
     for table in layout.file(number).tables.as_slice() {
         let line = u32::try_from(tables.len()).ok().ok_or(Memory)?;
-        tables.push(placed_table(alloc, layout, number, line, table)?)?;
+        tables.push(placed_table(alloc, layout, recent, number, line, table)?)?;
     }
     Ok(())
 }
@@ -81,19 +91,22 @@ fn add_tables(
 pub fn placed_table(
     alloc: Global,
     layout: &Layout<'_>,
+    recent: &mut Recent,
     number: usize,
     line: u32,
     table: &FileTable,
 ) -> Result<FileTable, Memory>
     requires laid { IsLaid layout.now }
     requires number { number ≤ length layout.now.opened.now }
-    ensures { IfOk result
+    requires right { AreHomes (home_in layout.now) recent.old.slots }
+    ensures right { OnOk result (AreHomes (home_in layout.now) recent.new.slots) }
+    ensures is { IfOk result
         (λ t. t ≡ renamed (place_at (places_of layout.now) number).home line table.now) }
 {
     Ok(FileTable {
         line,
-        inputs: homes(alloc, layout, number, table.inputs.as_slice())?,
-        outputs: homes(alloc, layout, number, table.outputs.as_slice())?,
+        inputs: homes(alloc, layout, recent, number, table.inputs.as_slice())?,
+        outputs: homes(alloc, layout, recent, number, table.outputs.as_slice())?,
         rows: table.rows.copy()?,
         default: default_copy(alloc, &table.default)?,
     })
@@ -107,23 +120,4 @@ fn default_copy(alloc: Global, default: &Option<Entries>) -> Result<Option<Entri
         Some(entries) => Ok(Some(copy_entries(alloc, entries)?)),
         None => Ok(None),
     }
-}
-
-/// The names of a place's nets in the whole.
-fn homes(
-    alloc: Global,
-    layout: &Layout<'_>,
-    number: usize,
-    nets: &[Name],
-) -> Result<Items<Name>, Memory>
-    requires laid { IsLaid layout.now }
-    requires number { number ≤ length layout.now.opened.now }
-    ensures { IfOk result
-        (λ names. names ≡ map (place_at (places_of layout.now) number).home nets.now) }
-{
-    let mut names = Items::with_room(alloc, nets.len())?;
-    for net in nets {
-        names.push(home(alloc, layout, number, net)?)?;
-    }
-    Ok(names)
 }

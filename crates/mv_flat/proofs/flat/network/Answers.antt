@@ -58,11 +58,20 @@ built-requires-clause-few c =
     let l = places_few c.in_ok-model.model are.proper are.few in
     omega (arith, e, l)
 
-pub built-requires-clause-shared : goal.built-requires-clause-shared
+-- the tables come from those of the design, also those of the reset nets
+from_tables : (c : In_ok-model) → All (IsFrom c.args.shared) c.in_ok-model.model.tables
 unfolding with_reset_nets
-built-requires-clause-shared c =
+from_tables c =
     let P : FileModel → Type 0 = λ m. All (IsFrom c.args.shared) m.tables in
     subst P (sym c.in_ok-model.ensures) c.requires.shared
+
+pub numbered-requires-clause-shared : goal.numbered-requires-clause-shared
+numbered-requires-clause-shared c = from_tables (goal.at.numbered-requires-clause-shared c).In_ok-model
+
+pub built-requires-clause-shared : goal.built-requires-clause-shared
+built-requires-clause-shared c =
+    let tables = from_tables (goal.at.built-requires-clause-shared c).In_ok-model in
+    λ k d low. c.in_ok-names.ensures.kept _ (tables k d low)
 
 pub built-requires-clause-few_nets : goal.built-requires-clause-few_nets
 built-requires-clause-few_nets c =

@@ -29,15 +29,15 @@ is_joint_marked-requires-clause-table c =
     own_file c.args.names.now c.args.table.now _
     (record { decls = c.args.decls.now; proper = c.requires.proper; placed = c.requires.placed; are = c.as_slice.ensures.value ∙ c.in_ok-columns.ensures })
 
-pub returns-then-is_joint : goal.returns-then-is_joint
-returns-then-is_joint c =
+pub returns-then-is_joint-clause-mark : goal.returns-then-is_joint-clause-mark
+returns-then-is_joint-clause-mark c =
     let P : Bool → Type 0 = λ y. IfOk c.is_joint_marked.result (λ b. b ≡ y) in
     let own = ap (λ cs. is_joint_marked cs c.args.table.now) (c.as_slice.ensures.value ∙ c.in_ok-columns.ensures) in
     let joint = sym c.is_joint.ensures ∙ c.if-is_joint.true in
     subst P (own ∙ joint_marked_by c.args.decls.now c.args.names.now c.args.table.now c.requires.placed joint) c.is_joint_marked.ensures
 
-pub returns : goal.returns
-returns c =
+pub returns-clause-mark : goal.returns-clause-mark
+returns-clause-mark c =
     let P : Bool → Type 0 = λ y. IfOk c.is_marked.result (λ b. b ≡ y) in
     let own = ap (λ cs. is_marked cs c.args.table.now) (c.as_slice-2.ensures.value ∙ c.in_ok-columns-2.ensures) in
     let single = sym c.is_joint.ensures ∙ c.if-is_joint.false in

@@ -25,6 +25,11 @@ returns-in-Ok-Work-clause-does g c =
     let asked = rw c.in-Ok-Work.field-0-is at c.in-Ok-Work.ensures in
     rw asked (rw c.terms-in-Ok-Work.ensures at c.work.ensures)
 
+pub returns-in-Ok-Trace-clause-does : goal.returns-in-Ok-Trace-clause-does
+returns-in-Ok-Trace-clause-does g c =
+    let asked = rw c.in-Ok-Trace.field-0-is at c.in-Ok-Trace.ensures in
+    rw asked c.trace.ensures
+
 pub returns-in-Err-Refused-clause-does : goal.returns-in-Err-Refused-clause-does
 returns-in-Err-Refused-clause-does g c =
     let none = rw c.in-Err-Refused.field-0-is at c.in-Err-Refused.ensures in

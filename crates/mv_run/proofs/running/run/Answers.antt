@@ -1,10 +1,14 @@
 -- How the task ends says all.
 use Rattle.mv_task.proofs.Endings.{ends_exact, ends_complete, ends_rose, ends_untouched}
 use Rattle.mv_run.proofs.Asked.{run_replaced, run_words, run_begun, run_known}
+use Rattle.mv_run.proofs.Traces.{run_traced}
 use Rattle.mv_run.proofs.running.run.Goals as goal
 
 pub returns-clause-replaced : goal.returns-clause-replaced
 returns-clause-replaced g c = run_replaced _ _ _ _ c.perform.ensures.does
+
+pub returns-clause-traced : goal.returns-clause-traced
+returns-clause-traced g c = run_traced _ _ _ _ c.perform.ensures.does
 
 pub returns-clause-words : goal.returns-clause-words
 returns-clause-words g c = run_words _ _ _ _ c.perform.ensures.does

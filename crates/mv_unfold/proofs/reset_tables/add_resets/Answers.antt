@@ -10,4 +10,5 @@ pub loop-reset-init : goal.loop-reset-init
 loop-reset-init c = record {
   before = before_zero (λ (t : FileTable). t.line) (place_at (places_of c.args.layout.now) c.args.number).model.tables;
   resets = sym (append-nil c.args.resets.now);
+  right = c.requires.right;
 }

@@ -16,6 +16,10 @@ loop-number-preserved c =
     let p = place_at ps n in
     let long = places_long l c.requires in
     let lt : n < length ps = let e = c.len-number-end.ensures in let t = c.loop-number-test.true in omega arith in
-    c.in_ok-add_latches.ensures
-    ∙ (ap (λ ls. ls ++ map (placed_latch p) p.model.latches) c.loop-number.invariant
-    ∙ sym (flat_taken (λ (q : Place). map (placed_latch q) q.model.latches) ps n lt))
+    record {
+      latches =
+          c.in_ok-add_latches.ensures.is
+          ∙ (ap (λ ls. ls ++ map (placed_latch p) p.model.latches) c.loop-number.invariant.latches
+          ∙ sym (flat_taken (λ (q : Place). map (placed_latch q) q.model.latches) ps n lt));
+      right = c.in_ok-add_latches.ensures.right;
+    }

@@ -13,7 +13,10 @@ loop-number-preserved c =
     let n = c.loop-number.number in
     let long = places_long l c.requires in
     let lt : n < length ps = let e = c.len-number-end.ensures in let t = c.loop-number-test.true in omega arith in
-    tables_more ps n c.loop-number.tables c.add_tables.new.tables (tables_in 0 ps) lt c.in_ok-add_tables.ensures c.loop-number.invariant
+    record {
+      tables = tables_more ps n c.loop-number.tables c.add_tables.new.tables (tables_in 0 ps) lt c.in_ok-add_tables.ensures.is c.loop-number.invariant.tables;
+      right = c.in_ok-add_tables.ensures.right;
+    }
 
 pub returns : goal.returns
 returns c =
@@ -22,4 +25,4 @@ returns c =
     let n = c.loop-number.number in
     let long = places_long l c.requires in
     let low : length ps ≤ n = let e = c.len-number-end.ensures in let t = c.loop-number-test.false in omega arith in
-    tables_end ps n c.loop-number.tables (tables_in 0 ps) low c.loop-number.invariant
+    tables_end ps n c.loop-number.tables (tables_in 0 ps) low c.loop-number.invariant.tables

@@ -1,0 +1,4 @@
+pub mod Opens
+pub mod Knowns
+pub mod Walks
+pub mod Gathered

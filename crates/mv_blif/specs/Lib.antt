@@ -1,0 +1,5 @@
+pub mod Known
+pub mod Grammar
+pub mod Meaning
+-- what private functions alone cite
+pub mod Steps

@@ -1,9 +1,0 @@
-use Rattle.std.proofs.Common.{◌≡◌, ◌++◌, take, drop}
-use Rattle.mv_parse.specs.Grammar.{port_faults}
-use Rattle.mv_blif_line.proofs.head.add_ports.Given as goal
-
-abbrev pub invariant-loop-word : goal.invariant-loop-word
-invariant-loop-word l = record {
-  ports : l.ports ≡ l.fn.ports ++ take l.word-index l.words;
-  fault : port_faults l.number l.ports (drop l.word-index l.words) ≡ port_faults l.number l.fn.ports l.words;
-}

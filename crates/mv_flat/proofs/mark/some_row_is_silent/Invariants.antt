@@ -1,6 +1,0 @@
-use Rattle.std.proofs.Common.{◌≡◌, drop}
-use Rattle.mv_flat.specs.Gathered.{some_silent}
-use Rattle.mv_flat.proofs.mark.some_row_is_silent.Given as goal
-
-abbrev pub invariant-loop-row : goal.invariant-loop-row
-invariant-loop-row l = some_silent (drop l.row-index l.rows) ≡ some_silent l.rows

@@ -1,0 +1,26 @@
+-- One value more is asked.
+use Rattle.std.proofs.Common.{◌≤◌, [], ◌∷◌, length, arith}
+use Rattle.mv_base.specs.declared.number.NetId.{NetId}
+use Rattle.mv_base.specs.declared.number.Value.{Value}
+use Rattle.mv_tracing.proofs.Giving.{gives_one, left_all, left_held, left_more, left_none, pairs_more, pairs_none}
+use Rattle.mv_tracing.proofs.asking.ask_nets.Goals as goal
+
+pub give-requires : goal.give-requires
+give-requires c =
+    let none : NetId = record { 0 = 0 } in
+    let zero : Value = record { 0 = 0 } in
+    (left_held _ _ (_ ∷ []) _ _ _ c.loop-at.invariant (pairs_more (λ (n : NetId). n.0) c.args.nets.now c.args.values.now c.loop-at.at none zero c.requires.long (omega arith))).0
+
+pub loop-at-init : goal.loop-at-init
+loop-at-init c = left_none _ _ c.requires.held
+
+pub loop-at-preserved : goal.loop-at-preserved
+loop-at-preserved c =
+    let none : NetId = record { 0 = 0 } in
+    let zero : Value = record { 0 = 0 } in
+    left_more _ _ _ (_ ∷ []) _ _ _ c.loop-at.invariant (pairs_more (λ (n : NetId). n.0) c.args.nets.now c.args.values.now c.loop-at.at none zero c.requires.long (omega arith)) (gives_one _ _ _ _ c.give.ensures.order c.give.ensures.asked)
+
+pub returns : goal.returns
+returns c =
+    let high : length c.args.nets.now ≤ c.loop-at.at = omega arith in
+    left_all _ _ _ _ c.loop-at.invariant (pairs_none (λ (n : NetId). n.0) c.args.nets.now c.args.values.now c.loop-at.at high)

@@ -1,7 +1,0 @@
-use Rattle.std.proofs.Common.{◌≡◌, map, take}
-use Rattle.mv_unfold.specs.Laid.{places_of}
-use Rattle.mv_unfold.specs.Placed.{place_at}
-use Rattle.mv_unfold.proofs.tables.homes.Given as goal
-
-abbrev pub invariant-loop-net : goal.invariant-loop-net
-invariant-loop-net l = l.names ≡ map (place_at (places_of l.layout) l.number).home (take l.net-index l.nets)

@@ -1,0 +1,11 @@
+pub mod Looks
+pub mod Ports
+pub mod Asking
+pub mod Orders
+pub mod Passing
+pub mod Advancing
+pub mod Counting
+pub mod Resets
+pub mod Choosing
+pub mod Lines
+pub mod Values
