@@ -1,17 +1,19 @@
 -- Each name is that of one net: the nets of a model that are driven once.
-use Rattle.std.proofs.Common.{◌≡◌, ℕ, ◌+◌, ◌≤◌, Bool, true, false, ◌||◌, cond, List, [], ◌∷◌, length, refl, sym, ◌∙◌, ap, arith, ⊎_elim}
+use Rattle.std.proofs.Common.{◌≡◌, ℕ, ◌+◌, ◌≤◌, Bool, true, false, not, ◌||◌, cond, List, [], ◌∷◌, filter, length, refl, sym, ◌∙◌, ap, arith, ⊎_elim}
 use Rattle.std.specs.Prelude.{nat_lt, count_by, if◌then◌else◌}
-use Rattle.std.proofs.lemmas.Bool.{false≢true, and_from, or_left, or_right, or_cases, cases_Bool, not_from_false}
+use Rattle.std.proofs.lemmas.Bool.{false≢true, and_from, and_parts, and_right, not-true, or_left, or_right, or_cases, cases_Bool, not_from_false}
 use Rattle.std.proofs.lemmas.Bool.Decides.{nat_tests}
+use Rattle.std.proofs.lemmas.Map.Views.{any-filter_same}
+use Rattle.mv_base.specs.Firsts.{firsts_by}
 use Rattle.mv_base.specs.Names.{same_word, among, names_differ, AreApart}
 use Rattle.mv_base.proofs.NameLemmas.{same_word_is, same_word_refl, IsDistinct-from_differ}
 use Rattle.mv_design.specs.declared.design.FileModel.{FileModel}
-use Rattle.mv_design.specs.Nets.{nets_of, drivers}
+use Rattle.mv_design.specs.Nets.{nets_of, nets_named, drivers}
 use Rattle.mv_acyclic.specs.Sound.{AreNetsOf, IsDrivenOnce}
 use Rattle.mv_acyclic.proofs.Names.{count_of_cons, among_counted}
 use Rattle.mv_acyclic.proofs.Commands.{driver_is_net}
 
-abbrev times : List ℕ → List (List ℕ) → ℕ
+abbrev pub times : List ℕ → List (List ℕ) → ℕ
 times w ws = count_by (same_word w) ws
 
 -- ---- names that stand once
@@ -93,3 +95,35 @@ drivers_within m nets d all =
 
 pub few_drivers : (m : FileModel) → IsDrivenOnce m → length (drivers m) ≤ length (nets_of m)
 few_drivers m d = drivers_within m (nets_of m) d (record { named = λ w. refl })
+
+-- ---- the nets of a model
+
+-- names that pass a test differ where all do
+kept_differ : (p : List ℕ → Bool) (ws : List (List ℕ)) → names_differ ws ≡ true → names_differ (filter p ws) ≡ true
+kept_differ p [] d = refl
+kept_differ p (w ∷ ws) d =
+    let q = and_parts (not (among w ws)) (names_differ ws) d in
+    split (p w)
+    (any-filter_same (same_word w) p (p w) (λ k e. ap p (sym (same_word_is w k e))) ws ∙ and_right (p w) (among w ws) (not-true _ q.0))
+    (kept_differ p ws q.1)
+  where
+    split : (b : Bool) → among w (filter p ws) ≡ false → names_differ (filter p ws) ≡ true → names_differ (if b then w ∷ filter p ws else filter p ws) ≡ true
+    split true n r = and_from _ _ (not_from_false _ n) r
+    split false n r = r
+
+-- the first of each differ
+firsts_differ : (ws : List (List ℕ)) → names_differ (firsts_by same_word ws) ≡ true
+firsts_differ [] = refl
+firsts_differ (w ∷ ws) =
+    let p : List ℕ → Bool = λ y. not (same_word y w) in
+    let none = any-filter_same (same_word w) p false (λ k e. ap (λ x. not (same_word x w)) (sym (same_word_is w k e)) ∙ ap not (same_word_refl w)) (firsts_by same_word ws) in
+    and_from _ _ (not_from_false _ none) (kept_differ p (firsts_by same_word ws) (firsts_differ ws))
+
+-- the nets of a model differ
+pub nets_differ : (m : FileModel) → names_differ (nets_of m) ≡ true
+unfolding nets_of
+nets_differ m = firsts_differ (nets_named m)
+
+-- names that differ are no more than those that they are among
+pub no_more : (us ws : List (List ℕ)) → names_differ us ≡ true → ((w : List ℕ) → among w us ≡ true → among w ws ≡ true) → length us ≤ length ws
+no_more us ws d h = apart_length us ws (IsDistinct-from_differ us d).apart h

@@ -10,13 +10,17 @@ use Rattle.mv_acyclic.specs.Sound.{IsDrivenOnce}
 use Rattle.mv_acyclic.proofs.Distinct.{drivers_differ}
 use Rattle.mv_acyclic.proofs.Names.{with_names_append, with_names_new}
 
--- inputs, then the outputs of latches, and then those of tables: where each net is driven once, none of them is left out
-pub driven_gathered : (m : FileModel) → IsDrivenOnce m → with_names (with_names (with_names [] m.inputs) (latch_outputs m)) (flat_map nets_driven m.tables) ≡ drivers m
+-- inputs, then the outputs of latches, and then those of tables
+pub drivers_gathered : (names : List (List ℕ)) (m : FileModel)
+    → with_names (with_names (with_names names m.inputs) (latch_outputs m)) (flat_map nets_driven m.tables) ≡ with_names names (drivers m)
 unfolding drivers
-driven_gathered m d =
+drivers_gathered names m =
     let outputs = flat_map nets_driven m.tables in
-    sym (with_names_append [] m.inputs (latch_outputs m ++ outputs) ∙ with_names_append (with_names [] m.inputs) (latch_outputs m) outputs)
-    ∙ with_names_new [] (m.inputs ++ (latch_outputs m ++ outputs)) (drivers_differ m d)
+    sym (with_names_append names m.inputs (latch_outputs m ++ outputs) ∙ with_names_append (with_names names m.inputs) (latch_outputs m) outputs)
+
+-- where each net is driven once, none of them is left out
+pub driven_gathered : (m : FileModel) → IsDrivenOnce m → with_names [] (drivers m) ≡ drivers m
+driven_gathered m d = with_names_new [] (drivers m) (drivers_differ m d)
 
 -- the outputs of one table more
 pub outputs_more : (names : List (List ℕ)) (ts : List FileTable) (i : ℕ) (t : FileTable) → i < length ts → t ≡ get_or ts i t

@@ -12,3 +12,4 @@ pub mod Latches
 pub mod Turns
 pub mod Least
 pub mod ResetValues
+pub mod Apart

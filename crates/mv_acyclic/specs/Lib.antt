@@ -1,5 +1,6 @@
 pub mod Sound
 pub mod Numbers
+pub mod Glance
 -- what private functions alone cite
 pub mod Driving
 pub mod Columns

@@ -16,10 +16,18 @@ pub fn driven(alloc: Global, model: &FileModel, room: usize) -> Result<NameSet, 
     ensures { IfOk result (λ driven. driven ≡ drivers model.now) }
 {
     let mut driven = NameSet::with_room(alloc, room)?;
-    add_names(&mut driven, model.inputs.as_slice())?;
-    add_latches(&mut driven, model.latches.as_slice())?;
-    add_tables(&mut driven, model.tables.as_slice())?;
+    add_drivers(&mut driven, model)?;
     Ok(driven)
+}
+
+/// Adds the driven nets of the model that aren't there yet: its inputs, the outputs of its latches, and those of its tables.
+pub fn add_drivers(names: &mut NameSet, model: &FileModel) -> Result<(), Memory>
+    ensures { OnOk result (names.new ≡ with_names names.old (drivers model.now)) }
+{
+    add_names(names, model.inputs.as_slice())?;
+    add_latches(names, model.latches.as_slice())?;
+    add_tables(names, model.tables.as_slice())?;
+    Ok(())
 }
 
 /// Adds these names, of which few are there yet: each is looked up once.

@@ -11,6 +11,7 @@ mod naming;
 mod nets;
 mod numbers;
 mod resets;
+mod seen;
 
 pub use checking::check;
 pub use drivers::{add_latches, add_names};
@@ -18,3 +19,4 @@ pub use naming::{Naming, front_before, namings};
 pub use nets::{add_named, add_net, add_nets};
 pub use numbers::Numbers;
 pub use resets::check_resets;
+pub use seen::sound;

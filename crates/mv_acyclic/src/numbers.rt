@@ -1,7 +1,8 @@
-ghost use Rattle.std.specs.Prelude.{◌≡◌, ◌≤◌, length, IfOk};
-ghost use Rattle.mv_base.specs.Names.{place_of};
+ghost use Rattle.std.specs.Prelude.{◌≡◌, ◌≤◌, length, true, IfOk, IfSome};
+ghost use Rattle.mv_base.specs.Names.{among, place_of};
 ghost use Rattle.mv_base.specs.declared.limits.TheConstants.{MAX_NETS};
 ghost use Rattle.mv_acyclic.specs.Numbers.{net_in, numbers_in};
+ghost use Rattle.mv_acyclic.specs.Glance.{are_known};
 
 use mv_base::{Items, MAX_NETS, Memory, Name, NameSet, NetId};
 use std::alloc::Global;
@@ -48,6 +49,13 @@ impl Numbers {
         self.names.place(name)
     }
 
+    /// Whether the name is that of one of the nets.
+    pub fn has(&self, name: &Name) -> bool
+        ensures { result ≡ among name.now self.now }
+    {
+        self.names.contains(name)
+    }
+
     /// How many nets there are.
     pub fn len(&self) -> usize
         ensures { result ≡ length self.now }
@@ -66,4 +74,30 @@ impl Numbers {
         }
         Ok(numbers)
     }
+
+    /// The numbers of nets, in order, if each of them has one.
+    pub fn known(&self, alloc: Global, nets: &[Name]) -> Result<Option<Items<NetId>>, Memory>
+        requires { length self.now ≤ MAX_NETS }
+        ensures numbers { IfOk result
+            (λ found. IfSome found (λ numbers. numbers ≡ numbers_in self.now nets.now)) }
+        ensures known { IfOk result
+            (λ found. IfSome found (λ numbers. are_known self.now nets.now ≡ true)) }
+    {
+        let mut numbers = Items::with_room(alloc, nets.len())?;
+        for net in nets {
+            let Some(place) = self.place(net) else {
+                return Ok(None);
+            };
+            numbers.push(numbered(place))?;
+        }
+        Ok(Some(numbers))
+    }
+}
+
+/// The net with this number.
+fn numbered(number: usize) -> NetId
+    requires { number ≤ MAX_NETS }
+    ensures { result ≡ record { 0 = number } }
+{
+    NetId(number as u32)
 }

@@ -1,19 +1,15 @@
 ghost use Rattle.std.specs.Prelude.{◌≡◌, ◌≤◌, length};
-ghost use Rattle.mv_base.specs.declared.inline_bytes.TheConstants.{INLINE as most_bytes};
 
 use std::marker::Model;
 
-/// How many bytes stand in a name itself: with its length and a tag it takes sixteen.
-pub const INLINE: usize = 14;
-
-/// A few bytes that take no memory of their own, seen as their list.
+/// At most N bytes that take no memory of their own, seen as their list. N is below 256.
 #[derive(Debug, Drop)]
-pub struct InlineBytes {
+pub struct InlineBytes<const N: usize> {
     len: u8,
-    room: [u8; INLINE],
+    room: [u8; N],
 }
 
-impl Model for InlineBytes {
+impl<const N: usize> Model for InlineBytes<N> {
     ghost use Rattle.std.specs.Prelude.{List, ℕ, ◌≤◌, take, length};
 
     ghost Value = { List ℕ };
@@ -23,14 +19,15 @@ impl Model for InlineBytes {
     ghost invariant = { λ b. b.len ≤ length b.room };
 }
 
-impl InlineBytes {
+impl<const N: usize> InlineBytes<N> {
     /// These bytes.
-    pub fn of(bytes: &[u8]) -> InlineBytes
-        requires { length bytes.now ≤ most_bytes }
+    pub fn of(bytes: &[u8]) -> InlineBytes<N>
+        requires fits { length bytes.now ≤ N }
+        requires short { length bytes.now ≤ 255 }
         ensures { result ≡ bytes.now }
     {
         let len = bytes.len();
-        let mut room = [0u8; INLINE];
+        let mut room = [0u8; N];
         room[..len].copy_from_slice(bytes);
         InlineBytes {
             len: len as u8,
@@ -39,7 +36,7 @@ impl InlineBytes {
     }
 
     /// Equal bytes.
-    pub fn copy(&self) -> InlineBytes
+    pub fn copy(&self) -> InlineBytes<N>
         ensures { result ≡ self.now }
     {
         InlineBytes {

@@ -3,14 +3,20 @@ ghost use Rattle.mv_base.specs.NameBytes.{bytes_of};
 ghost use Rattle.mv_base.specs.Names.{same_word};
 
 use crate::Memory;
-use crate::inline_bytes::{INLINE, InlineBytes};
+use crate::inline_bytes::InlineBytes;
 use std::alloc::Global;
 use std::cmp::Ordering;
 use std::hash::{Hash, Hasher};
 use std::marker::Model;
 use std::rc::Rc;
 
-/// A text, seen as its list of bytes. A short one stands in the name itself, of which there are very many; a long one stands
+/// How many bytes stand in a name itself: with their number and a tag it takes sixteen.
+const INLINE: usize = 14;
+
+/// How many bytes stand beside the count of a shared name's copies: one piece of memory of 64 bytes holds all of it.
+const BESIDE: usize = 47;
+
+/// A text, seen as its list of bytes. A short one stands in the name itself, of which there are very many; a longer one stands
 /// in memory once, for all its copies.
 #[derive(Debug, Drop)]
 pub struct Name {
@@ -21,7 +27,8 @@ pub struct Name {
 /// Where the bytes of a name stand.
 #[derive(Debug, Drop)]
 enum Storage {
-    Inline(InlineBytes),
+    Inline(InlineBytes<INLINE>),
+    Beside(Rc<InlineBytes<BESIDE>>),
     Shared(Rc<Vec<u8>>),
 }
 
@@ -52,6 +59,7 @@ impl Name {
     {
         match &self.storage {
             Storage::Inline(inline) => inline.as_slice(),
+            Storage::Beside(beside) => beside.as_ref().as_slice(),
             Storage::Shared(shared) => shared.as_ref().as_slice(),
         }
     }
@@ -62,6 +70,7 @@ impl Name {
     {
         let storage = match &self.storage {
             Storage::Inline(inline) => Storage::Inline(inline.copy()),
+            Storage::Beside(beside) => Storage::Beside(beside.clone()?),
             Storage::Shared(shared) => Storage::Shared(shared.clone()?),
         };
         Ok(Name {
@@ -77,6 +86,9 @@ fn stored(alloc: Global, bytes: &[u8]) -> Result<Storage, Memory>
 {
     if bytes.len() <= INLINE {
         return Ok(Storage::Inline(InlineBytes::of(bytes)));
+    }
+    if bytes.len() <= BESIDE {
+        return Ok(Storage::Beside(Rc::new(alloc, InlineBytes::of(bytes))?));
     }
     let long = Vec::from_slice(alloc, bytes)?;
     Ok(Storage::Shared(Rc::new(alloc, long)?))
@@ -140,16 +152,16 @@ impl PartialOrd for Name {
 }
 
 impl Hash for Name {
-    ghost use Rattle.std.specs.Hash as fed;
-    ghost use Rattle.std.proofs.Common.{rules};
-    ghost use Rattle.std.specs.Cmp.Rules.{hashing};
+    ghost use Rattle.std.specs.Prelude.{[], ◌∷◌};
+    ghost use Rattle.std.proofs.Common.{ap};
+    ghost use Rattle.std.proofs.lemmas.Slice.Eq.{bytes_eq-Decides};
 
-    ghost hash_input = { fed.slice fed.u8 };
+    ghost hash_input = { λ n. n ∷ [] };
 
-    ghost respects_eq = { Prim.search (hashing, rules) };
+    ghost respects_eq = { λ x y h. ap (λ n. n ∷ []) ((bytes_eq-Decides x y).0 h) };
 
     fn hash<H: Hasher>(&self, state: &mut H) {
-        self.bytes().hash(state);
+        state.write(self.bytes());
     }
 }
 

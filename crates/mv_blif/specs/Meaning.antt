@@ -68,7 +68,7 @@ model_of ls = record {
   tables = tables_of ls;
   latches = latches_of ls;
   resets = resets_of ls;
-  parts = [];
+  instances = [];
 }
 
 -- what lines say

@@ -82,7 +82,7 @@ fn design(alloc: Global, known: &Known, lines: &[LexLine]) -> Result<BlifDesign,
         tables: contents.tables,
         latches: contents.latches,
         resets: contents.resets,
-        parts: Items::new(alloc),
+        instances: Items::new(alloc),
     })?;
     Ok(BlifDesign {
         design: Design { root: 0, models },

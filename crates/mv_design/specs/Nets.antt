@@ -19,7 +19,7 @@ no_model = record {
   tables = [];
   latches = [];
   resets = [];
-  parts = [];
+  instances = [];
 }
 
 -- the root of a design

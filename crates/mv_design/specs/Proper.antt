@@ -13,7 +13,7 @@ use Rattle.mv_design.specs.declared.table.FileTable.{FileTable}
 use Rattle.mv_design.specs.declared.design.Decl.{Decl}
 use Rattle.mv_design.specs.declared.design.FileLatch.{FileLatch}
 use Rattle.mv_design.specs.declared.design.Bind.{Bind}
-use Rattle.mv_design.specs.declared.design.Part.{Part}
+use Rattle.mv_design.specs.declared.design.Instance.{Instance}
 use Rattle.mv_design.specs.declared.design.FileModel.{FileModel}
 use Rattle.mv_design.specs.declared.design.Design.{Design}
 use Rattle.mv_design.specs.Values.{count_of}
@@ -84,9 +84,9 @@ pub record IsFileBind (b : Bind) : Type 0 where
   pub actual : is_net_name b.actual ≡ true
 
 -- an instance has lawful names, and binds no formal twice
-pub record IsFilePart (p : Part) : Type 0 where
+pub record IsFileInstance (p : Instance) : Type 0 where
   pub model : is_model_name p.model ≡ true
-  pub instance : is_model_name p.instance ≡ true
+  pub name : is_model_name p.name ≡ true
   pub binds : All IsFileBind p.binds
   pub differ : names_differ (map (λ b. b.formal) p.binds) ≡ true
 
@@ -111,8 +111,8 @@ abbrev pub latch_lines : List FileLatch → List ℕ
 latch_lines latches = map (λ l. l.line) latches
 
 -- the lines of these instances, in order
-abbrev pub part_lines : List Part → List ℕ
-part_lines parts = map (λ p. p.line) parts
+abbrev pub instance_lines : List Instance → List ℕ
+instance_lines instances = map (λ p. p.line) instances
 
 -- a reset table has the line of a latch only where this is its own, the latch whose output it
 -- drives. It comes right behind that latch in file order then
@@ -126,12 +126,12 @@ pub record StandsByLine (m : FileModel) : Type 0 where
   pub tables : numbers_ascend (table_lines m.tables) ≡ true
   pub latches : numbers_ascend (latch_lines m.latches) ≡ true
   pub resets : numbers_ascend (table_lines m.resets) ≡ true
-  pub parts : numbers_ascend (part_lines m.parts) ≡ true
+  pub instances : numbers_ascend (instance_lines m.instances) ≡ true
   pub latches_tables : none_in_both (latch_lines m.latches) (table_lines m.tables) ≡ true
   pub resets_tables : none_in_both (table_lines m.resets) (table_lines m.tables) ≡ true
-  pub parts_tables : none_in_both (part_lines m.parts) (table_lines m.tables) ≡ true
-  pub latches_parts : none_in_both (latch_lines m.latches) (part_lines m.parts) ≡ true
-  pub resets_parts : none_in_both (table_lines m.resets) (part_lines m.parts) ≡ true
+  pub instances_tables : none_in_both (instance_lines m.instances) (table_lines m.tables) ≡ true
+  pub latches_instances : none_in_both (latch_lines m.latches) (instance_lines m.instances) ≡ true
+  pub resets_instances : none_in_both (table_lines m.resets) (instance_lines m.instances) ≡ true
   pub resets_latches : All (λ reset. All (SharesOwnOnly reset) m.latches) m.resets
 
 -- ---- models and designs
@@ -148,7 +148,7 @@ pub record IsLawful (m : FileModel) : Type 0 where
   pub tables : All (IsFileTable m.decls) m.tables
   pub latches : All (IsFileLatch m.decls) m.latches
   pub resets : All (IsFileReset m.decls) m.resets
-  pub parts : All IsFilePart m.parts
+  pub instances : All IsFileInstance m.instances
 
 -- a model of a file: it stands by line besides
 pub record IsProperModel (m : FileModel) : Type 0 where

@@ -1,7 +1,7 @@
 //! Equal lists of the parts of a design.
 ghost use Rattle.std.specs.Prelude.{◌≡◌, IfOk};
 
-use crate::design::{Bind, Decl, FileLatch, FileModel, Part};
+use crate::design::{Bind, Decl, FileLatch, FileModel, Instance};
 use crate::short::{Entries, Sets};
 use crate::table::FileTable;
 use mv_base::{Items, Memory, PackedSet};
@@ -85,12 +85,12 @@ pub fn copy_binds(binds: &Items<Bind>) -> Result<Items<Bind>, Memory>
 }
 
 /// An equal list of instances.
-pub fn copy_parts(parts: &Items<Part>) -> Result<Items<Part>, Memory>
-    ensures { IfOk result (λ c. c ≡ parts.now) }
+pub fn copy_instances(instances: &Items<Instance>) -> Result<Items<Instance>, Memory>
+    ensures { IfOk result (λ c. c ≡ instances.now) }
 {
-    let mut copied = Items::with_room(parts.allocator(), parts.len())?;
-    for part in parts.as_slice() {
-        copied.push(part.copy()?)?;
+    let mut copied = Items::with_room(instances.allocator(), instances.len())?;
+    for instance in instances.as_slice() {
+        copied.push(instance.copy()?)?;
     }
     Ok(copied)
 }

@@ -1,6 +1,8 @@
 ghost use Rattle.std.specs.Prelude.{◌≡◌, IfOk};
 
-use crate::copies::{copy_binds, copy_decls, copy_latches, copy_models, copy_parts, copy_tables};
+use crate::copies::{
+    copy_binds, copy_decls, copy_instances, copy_latches, copy_models, copy_tables,
+};
 use crate::table::FileTable;
 use mv_base::{Items, Memory, Name};
 
@@ -28,10 +30,10 @@ pub struct Bind {
 
 /// An instance of a model: the number of its line, the model, the instance's own name, and its bindings in order.
 #[derive(Drop)]
-pub struct Part {
+pub struct Instance {
     pub line: u32,
     pub model: Name,
-    pub instance: Name,
+    pub name: Name,
     pub binds: Items<Bind>,
 }
 
@@ -46,7 +48,7 @@ pub struct FileModel {
     pub tables: Items<FileTable>,
     pub latches: Items<FileLatch>,
     pub resets: Items<FileTable>,
-    pub parts: Items<Part>,
+    pub instances: Items<Instance>,
 }
 
 /// What a network file says: its models in order, and the place of the root among them.
@@ -93,15 +95,15 @@ impl Bind {
     }
 }
 
-impl Part {
+impl Instance {
     /// An equal instance.
-    pub fn copy(&self) -> Result<Part, Memory>
+    pub fn copy(&self) -> Result<Instance, Memory>
         ensures { IfOk result (λ c. c ≡ self.now) }
     {
-        Ok(Part {
+        Ok(Instance {
             line: self.line,
             model: self.model.copy()?,
-            instance: self.instance.copy()?,
+            name: self.name.copy()?,
             binds: copy_binds(&self.binds)?,
         })
     }
@@ -120,7 +122,7 @@ impl FileModel {
             tables: copy_tables(&self.tables)?,
             latches: copy_latches(&self.latches)?,
             resets: copy_tables(&self.resets)?,
-            parts: copy_parts(&self.parts)?,
+            instances: copy_instances(&self.instances)?,
         })
     }
 }

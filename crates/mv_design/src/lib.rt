@@ -8,7 +8,7 @@ mod short;
 mod table;
 
 pub use copies::{copy_entries, copy_sets, short_sets};
-pub use design::{Bind, Decl, Design, FileLatch, FileModel, Part};
+pub use design::{Bind, Decl, Design, FileLatch, FileModel, Instance};
 pub use rows::Rows;
 pub use short::{Entries, Sets};
 pub use table::{Entry, FileTable, Row};

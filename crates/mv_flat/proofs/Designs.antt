@@ -63,7 +63,7 @@ pub root_named : (d : Design) → IsProper d → IsRootNamed d
 unfolding root_of
 root_named d proper = record { named = named_at d.models d.root proper.differ proper.root }
 
-lawful_places : (d : Design) (tree : Instances) → IsProper d → Unfolds d (root_of d).parts tree → All (λ p. IsLawful p.model) (places (root_of d) tree)
+lawful_places : (d : Design) (tree : Instances) → IsProper d → Unfolds d (root_of d).instances tree → All (λ p. IsLawful p.model) (places (root_of d) tree)
 lawful_places d tree proper unfolds =
     lawful_models d (root_of d) tree unfolds (All-weaker IsProperModel IsLawful (λ m h. h.lawful) d.models proper.models) (root_proper d proper).lawful
 
@@ -76,7 +76,7 @@ pub record IsOneModel (d : Design) (tree : Instances) (m : FileModel) : Type 0 w
   pub limits : IsWithinLimits m
   pub means : SameMeaning (of_model m) (of_tree (root_of d) tree)
 
-one_model : (d : Design) (tree : Instances) → IsProper d → Unfolds d (root_of d).parts tree → AreBound (root_of d) tree → HasGoodNets (root_of d) tree
+one_model : (d : Design) (tree : Instances) → IsProper d → Unfolds d (root_of d).instances tree → AreBound (root_of d) tree → HasGoodNets (root_of d) tree
     → HasShortNames (root_of d) tree → IsOneModel d tree (unfolded (root_of d) tree)
 one_model d tree proper unfolds bound good short =
     let root = root_of d in

@@ -51,3 +51,4 @@ pub mod Refusals
 pub mod Passing
 pub mod Origins
 pub mod Listing
+pub mod Alone

@@ -110,6 +110,6 @@ one_of_model m one other lawful sound limits p q =
 pub one_network : (d : Design) (one other : NetParts) → IsProper d → IsFlat one d → IsFlat other d → one ≡ other
 one_network d one other proper p q =
     let h = model_sound d proper p.sound p.limits in
-    let same : q.sound.tree ≡ p.sound.tree = one_tree d (root_of d).parts q.sound.tree p.sound.tree q.sound.unfolds p.sound.unfolds in
+    let same : q.sound.tree ≡ p.sound.tree = one_tree d (root_of d).instances q.sound.tree p.sound.tree q.sound.unfolds p.sound.unfolds in
     let P : Instances → Type 0 = λ t. IsBuilt (with_reset_nets (unfolded (root_of d) t)) other in
     one_of_model (model_of d p.sound) one other h.one.lawful h.sound h.one.limits p.built (subst P same q.built)

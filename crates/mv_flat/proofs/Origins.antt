@@ -11,7 +11,7 @@ use Rattle.mv_design.specs.declared.design.FileModel.{FileModel}
 use Rattle.mv_design.specs.declared.table.FileTable.{FileTable}
 use Rattle.mv_design.specs.Nets.{no_model, root_of}
 use Rattle.mv_tree.specs.Places.{Place, places, root_place}
-use Rattle.mv_tree.specs.Tree.{Instances, NoMore, Instance}
+use Rattle.mv_tree.specs.Tree.{Instances, NoMore, More}
 use Rattle.mv_tree.specs.Unfolded.{numbered, renamed, tables_in, unfolded}
 use Rattle.mv_walk.specs.declared.opened.Opened.{Opened}
 use Rattle.mv_walk.specs.Openings.{AreOpened, openings}
@@ -196,7 +196,7 @@ unfolded_known : (d : Design) (os : List Opened) (s : SharedTables) (tree : Inst
     → All (IsFrom s) (tables_in 0 (places_by d os)) → (os ≡ [] → s.origins.items ≡ []) → All (IsFrom s) (unfolded (root_of d) tree).tables
 unfolding unfolded
 unfolded_known d os s NoMore is places known none = none_known s (root_of d).tables (none is)
-unfolded_known d os s (Instance part model inside rest) is places known none =
+unfolded_known d os s (More instance model inside rest) is places known none =
     let P : List Place → Type 0 = λ ps. All (IsFrom s) (tables_in 0 ps) in
     subst P places known
 

@@ -122,7 +122,7 @@ past_of_model m f lawful sound limits past small =
 large_excludes : (d : Design) (f : FlatFault) → IsProper d → HasLargeNetwork d f → (s : IsSound d) → HasSmallNetwork (model_of d s) → ⊥
 large_excludes d f proper large s small =
     let h = model_sound d proper large.sound large.limits in
-    let same : s.tree ≡ large.sound.tree = one_tree d (root_of d).parts s.tree large.sound.tree s.unfolds large.sound.unfolds in
+    let same : s.tree ≡ large.sound.tree = one_tree d (root_of d).instances s.tree large.sound.tree s.unfolds large.sound.unfolds in
     let P : Instances → Type 0 = λ t. HasSmallNetwork (unfolded (root_of d) t) in
     past_of_model (model_of d large.sound) f h.one.lawful h.sound h.one.limits large.past (subst P same small)
 

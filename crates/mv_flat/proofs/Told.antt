@@ -14,7 +14,7 @@ use Rattle.mv_fault.specs.declared.flat.FlatFault.TheVariants.{Cycle, ResetReads
 use Rattle.mv_design.specs.declared.design.Bind.{Bind}
 use Rattle.mv_design.specs.declared.design.Design.{Design}
 use Rattle.mv_design.specs.declared.design.FileModel.{FileModel}
-use Rattle.mv_design.specs.declared.design.Part.{Part}
+use Rattle.mv_design.specs.declared.design.Instance.{Instance}
 use Rattle.mv_design.specs.Nets.{root_of, drivers_of, latch_outputs}
 use Rattle.mv_design.specs.Values.{count_of}
 use Rattle.mv_tree.specs.Tree.{Instances as Tree, model_named}
@@ -59,23 +59,23 @@ none_of_bind l path m b =
     none_both (when (not (among b.formal (formals_of m))) (NoFormal (path ++ b.formal))) _ (none_when _ (NoFormal (path ++ b.formal)) refl)
     (none_when (not (count_of m.decls b.formal == count_of l.model.decls b.actual)) (PortValues (path ++ b.formal) (l.path ++ b.actual)) refl)
 
-none_of_ports : (l : Level) (p : Part) (m : FileModel) → NoneAbove (bound_port_faults l p m)
+none_of_ports : (l : Level) (p : Instance) (m : FileModel) → NoneAbove (bound_port_faults l p m)
 none_of_ports l p m =
-    let path = path_in l.path p.instance in
+    let path = path_in l.path p.name in
     none_both (flat_map (bind_faults l path m) p.binds) _ (none_flat (bind_faults l path m) (none_of_bind l path m) p.binds)
     (none_flat (open_faults p.binds path) (λ net. none_when (not (is_bound p.binds net)) (PortOpen (path ++ net)) refl) m.inputs)
 
 none_of_visit : (d : Design) (c : ℕ) (v : Visit) → NoneAbove (visit_faults d c v)
-none_of_visit d c v = of_model (model_named d.models v.part.model) refl
+none_of_visit d c v = of_model (model_named d.models v.instance.model) refl
   where
-    of_model : (o : Option FileModel) → model_named d.models v.part.model ≡ o → NoneAbove (visit_faults d c v)
+    of_model : (o : Option FileModel) → model_named d.models v.instance.model ≡ o → NoneAbove (visit_faults d c v)
     of_model None e = rw e refl
     of_model (Some m) e =
         rw e
-        (none_both (when (among v.part.model v.level.round) (Recursive v.part.model)) _ (none_when _ (Recursive v.part.model) refl)
+        (none_both (when (among v.instance.model v.level.round) (Recursive v.instance.model)) _ (none_when _ (Recursive v.instance.model) refl)
         (none_both (when (nat_lt MAX_DEPTH (length v.level.round)) (Limit Depth (MAX_DEPTH + 1))) _ (none_when _ (Limit Depth (MAX_DEPTH + 1)) refl)
         (none_both (when (nat_le MAX_INSTANCES c) (Limit Instances (MAX_INSTANCES + 1))) _ (none_when _ (Limit Instances (MAX_INSTANCES + 1)) refl)
-        (none_of_ports v.level v.part m))))
+        (none_of_ports v.level v.instance m))))
 
 none_of_visits : (d : Design) (c : ℕ) (vs : List Visit) → NoneAbove (visits_faults d c vs)
 none_of_visits d c [] = refl

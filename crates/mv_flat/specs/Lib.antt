@@ -11,3 +11,4 @@ pub mod Marks
 pub mod Placed
 pub mod Sized
 pub mod Shared
+pub mod Roots

@@ -1,10 +1,14 @@
-ghost use Rattle.std.specs.Prelude.{◌≡◌, ◌≤◌, length, All, IfOk, IfErr, OnOk};
+ghost use Rattle.std.specs.Prelude.{◌≡◌, ◌<◌, ◌≤◌, [], length, All, IfOk, IfErr, IfSome, OnOk};
 ghost use Rattle.mv_base.specs.declared.limits.TheConstants.{MAX_FLAT_NETS, MAX_NETS};
 ghost use Rattle.mv_design.specs.Nets.{drivers};
 ghost use Rattle.mv_flat.specs.Places.{net_places};
 ghost use Rattle.mv_design.specs.Proper.{IsLawful, IsProper};
 ghost use Rattle.mv_flat.specs.Built.{IsBuilt};
 ghost use Rattle.mv_flat.specs.Gathered.{counts_of};
+ghost use Rattle.mv_tree.specs.Unfolded.{tables_in};
+ghost use Rattle.mv_walk.specs.Openings.{AreOpened};
+ghost use Rattle.mv_unfold.specs.Placed.{places_by};
+ghost use Rattle.mv_flat.specs.Roots.{IsSoundRoot};
 ghost use Rattle.mv_flat.specs.Flat.{HasSmallNetwork, IsFlat, IsRefusedDesign};
 ghost use Rattle.mv_resets.specs.NetModels.{HasSoundNets, IsNetModel};
 ghost use Rattle.mv_resets.specs.Resets.{all_tables, with_reset_nets};
@@ -18,14 +22,14 @@ use crate::latches::flat_latches;
 use crate::numbers::{NumberedNets, numbered};
 use crate::shared::SharedTables;
 use crate::tables::nets;
-use mv_acyclic::{Numbers, check};
-use mv_base::Memory;
+use mv_acyclic::{Numbers, check, sound};
+use mv_base::{Items, Memory};
 use mv_design::{Design, FileModel};
 use mv_fault::FlatFault;
 use mv_net::{NetParts, Network};
 use mv_resets::with_reset_nets;
-use mv_unfold::{Whole, whole};
-use mv_walk::walk;
+use mv_unfold::{Whole, into_root, whole};
+use mv_walk::{Opened, walk};
 use std::alloc::Global;
 
 /// The network of a sound design, over all nets of its instances: a net for each input of the root and for each latch, and for
@@ -41,7 +45,8 @@ pub fn flatten(alloc: Global, design: &Design) -> Result<Network, FlatFault>
 }
 
 /// The same for a design that isn't needed any more: the design is let go as soon as its instances are one model, and each table
-/// of this model as soon as its nets are made, so that the whole model never stands in memory beside the whole network.
+/// of this model as soon as its nets are made, so that the whole model never stands in memory beside the whole network. A sound
+/// design without instances is known by its drivers and columns alone; all names of another one are gathered.
 #[tactic(auto, using(crate::proofs::Refusals::refusals))]
 pub fn flatten_owned(alloc: Global, design: Design) -> Result<Network, FlatFault>
     requires { IsProper design }
@@ -49,9 +54,42 @@ pub fn flatten_owned(alloc: Global, design: Design) -> Result<Network, FlatFault
     ensures fault { IfErr result (IsRefusedDesign design) }
 {
     let opened = walk(alloc, &design)?;
-    let instances = opened.as_slice();
-    let shared = SharedTables::of(alloc, &design, instances)?;
-    let Whole { model, nets } = whole(alloc, design, instances)?;
+    let shared = SharedTables::of(alloc, &design, opened.as_slice())?;
+    match sound_root(alloc, &design, opened.as_slice())? {
+        Some(driven) => network(alloc, into_root(design), driven, shared),
+        None => of_whole(alloc, design, opened, shared),
+    }
+}
+
+/// The driven nets of the root of a design without instances, if it is sound and within the limits.
+fn sound_root(alloc: Global, design: &Design, opened: &[Opened]) -> Result<Option<Numbers>, Memory>
+    requires { design.now.root < length design.now.models }
+    ensures { IfOk result
+        (λ found. IfSome found (IsSoundRoot design.now opened.now)) }
+{
+    if opened.is_empty() {
+        return sound(alloc, &design.models.as_slice()[design.root as usize]);
+    }
+    Ok(None)
+}
+
+/// The network of a design with these instances, or the first fault of its instances, nets and reset tables, or else the first
+/// limit that the network passes.
+#[tactic(auto, using(crate::proofs::Refusals::refusals))]
+fn of_whole(
+    alloc: Global,
+    design: Design,
+    opened: Items<Opened>,
+    shared: SharedTables,
+) -> Result<Network, FlatFault>
+    requires proper { IsProper design }
+    requires opened { AreOpened design opened }
+    requires known { All (IsFrom shared) (tables_in 0 (places_by design opened)) }
+    requires none { opened ≡ [] → shared.origins.items ≡ [] }
+    ensures ok { IfOk result (λ net. IsFlat net design) }
+    ensures fault { IfErr result (IsRefusedDesign design) }
+{
+    let Whole { model, nets } = whole(alloc, design, opened.as_slice())?;
     drop(opened);
     let driven = check(alloc, &model, nets.as_slice())?;
     drop(nets);

@@ -8,8 +8,8 @@ use Rattle.mv_base.proofs.NameLemmas.{differ-repeated}
 use Rattle.mv_design.specs.declared.design.Bind.{Bind}
 use Rattle.mv_fault.proofs.Firsts.{append-nothing}
 use Rattle.mv_instances.specs.Binding.{before_equal, binding_of, binding_faults, bindings_faults}
-use Rattle.mv_instances.specs.Line.{own_name_faults, instance_faults, part_faults, instance_of, part_said}
-use Rattle.mv_design.specs.Proper.{IsFileBind, IsFilePart}
+use Rattle.mv_instances.specs.Line.{own_name_faults, instance_name_faults, instance_faults, instance_name, instance_said}
+use Rattle.mv_design.specs.Proper.{IsFileBind, IsFileInstance}
 use Rattle.mv_instances.proofs.Lawful.{formals, AreNewBinds}
 
 -- a lawful name has a byte
@@ -48,16 +48,16 @@ own_name-accepted : (n : ℕ) (w : List ℕ) → is_model_name w ≡ true → ow
 unfolding own_name_faults
 own_name-accepted n w y = rw y refl
 
-instance-accepted : (n : ℕ) (known : List (List ℕ)) (w : List ℕ) → is_model_name w ≡ true → among w known ≡ false → instance_faults n known w ≡ []
-unfolding instance_faults
-instance-accepted n known w y new = append-nothing (own_name_faults n w) _ (own_name-accepted n w y) (rw new refl)
+instance_name-accepted : (n : ℕ) (known : List (List ℕ)) (w : List ℕ) → is_model_name w ≡ true → among w known ≡ false → instance_name_faults n known w ≡ []
+unfolding instance_name_faults
+instance_name-accepted n known w y new = append-nothing (own_name_faults n w) _ (own_name-accepted n w y) (rw new refl)
 
-pub part-accepted : (n : ℕ) (word : List ℕ) (known words : List (List ℕ)) → 2 ≤ length words → IsFilePart (part_said n words)
-    → among (instance_of words) known ≡ false → part_faults n word known words ≡ []
-unfolding part_faults part_said
-part-accepted n word known [] enough h new = absurd (omega arith)
-part-accepted n word known (model ∷ []) enough h new = absurd (omega arith)
-part-accepted n word known (model ∷ instance ∷ words) enough h new =
-    append-nothing (own_name_faults n model ++ instance_faults n known instance) _
-    (append-nothing (own_name_faults n model) _ (own_name-accepted n model h.model) (instance-accepted n known instance h.instance new))
+pub instance-accepted : (n : ℕ) (word : List ℕ) (known words : List (List ℕ)) → 2 ≤ length words → IsFileInstance (instance_said n words)
+    → among (instance_name words) known ≡ false → instance_faults n word known words ≡ []
+unfolding instance_faults instance_said
+instance-accepted n word known [] enough h new = absurd (omega arith)
+instance-accepted n word known (model ∷ []) enough h new = absurd (omega arith)
+instance-accepted n word known (model ∷ instance ∷ words) enough h new =
+    append-nothing (own_name_faults n model ++ instance_name_faults n known instance) _
+    (append-nothing (own_name_faults n model) _ (own_name-accepted n model h.model) (instance_name-accepted n known instance h.name new))
     (binds-accepted n word [] words (record { lawful = h.binds; differ = h.differ }))

@@ -11,8 +11,8 @@ use Rattle.mv_fault.specs.declared.fault.ParseFault.TheVariants.{Missing, BadNam
 use Rattle.mv_fault.specs.Tells.{when}
 use Rattle.mv_fault.proofs.Nothing.{left-nothing, right-nothing, when-nothing}
 use Rattle.mv_instances.specs.Binding.{before_equal, binding_of, lacks_side, binding_faults, bindings_faults}
-use Rattle.mv_instances.specs.Line.{own_name_faults, instance_faults, part_faults, instance_of, part_said}
-use Rattle.mv_design.specs.Proper.{IsFileBind, IsFilePart}
+use Rattle.mv_instances.specs.Line.{own_name_faults, instance_name_faults, instance_faults, instance_name, instance_said}
+use Rattle.mv_design.specs.Proper.{IsFileBind, IsFileInstance}
 
 -- a binding without a fault: its names are lawful, and its formal wasn't bound before
 record IsNewBind (bound : List (List ℕ)) (b : Bind) : Type 0 where
@@ -60,40 +60,40 @@ own_name-lawful : (n : ℕ) (w : List ℕ) → own_name_faults n w ≡ [] → is
 unfolding own_name_faults
 own_name-lawful n w none = not-false _ (when-nothing _ _ none)
 
-instance-lawful : (n : ℕ) (known : List (List ℕ)) (w : List ℕ) → instance_faults n known w ≡ [] → is_model_name w ≡ true
-unfolding instance_faults
-instance-lawful n known w none = own_name-lawful n w (left-nothing (own_name_faults n w) (when (among w known) (Repeated n w)) none)
+instance_name-lawful : (n : ℕ) (known : List (List ℕ)) (w : List ℕ) → instance_name_faults n known w ≡ [] → is_model_name w ≡ true
+unfolding instance_name_faults
+instance_name-lawful n known w none = own_name-lawful n w (left-nothing (own_name_faults n w) (when (among w known) (Repeated n w)) none)
 
-instance-new : (n : ℕ) (known : List (List ℕ)) (w : List ℕ) → instance_faults n known w ≡ [] → among w known ≡ false
-unfolding instance_faults
-instance-new n known w none = when-nothing _ _ (right-nothing (own_name_faults n w) (when (among w known) (Repeated n w)) none)
+instance_name-new : (n : ℕ) (known : List (List ℕ)) (w : List ℕ) → instance_name_faults n known w ≡ [] → among w known ≡ false
+unfolding instance_name_faults
+instance_name-new n known w none = when-nothing _ _ (right-nothing (own_name_faults n w) (when (among w known) (Repeated n w)) none)
 
-pub part-lawful : (n : ℕ) (word : List ℕ) (known words : List (List ℕ)) → part_faults n word known words ≡ [] → IsFilePart (part_said n words)
-unfolding part_faults part_said
-part-lawful n word known [] none = cc
-part-lawful n word known (model ∷ []) none = let lacks : Missing n word ∷ [] ≡ [] = right-nothing (own_name_faults n model) (Missing n word ∷ []) none in cc
-part-lawful n word known (model ∷ instance ∷ words) none =
-    let names = own_name_faults n model ++ instance_faults n known instance in
+pub instance-lawful : (n : ℕ) (word : List ℕ) (known words : List (List ℕ)) → instance_faults n word known words ≡ [] → IsFileInstance (instance_said n words)
+unfolding instance_faults instance_said
+instance-lawful n word known [] none = cc
+instance-lawful n word known (model ∷ []) none = let lacks : Missing n word ∷ [] ≡ [] = right-nothing (own_name_faults n model) (Missing n word ∷ []) none in cc
+instance-lawful n word known (model ∷ instance ∷ words) none =
+    let names = own_name_faults n model ++ instance_name_faults n known instance in
     let front : names ≡ [] = left-nothing names (bindings_faults n word [] words) none in
     let binds = new_binds n word [] words (right-nothing names (bindings_faults n word [] words) none) refl in
     record {
-      model = own_name-lawful n model (left-nothing (own_name_faults n model) (instance_faults n known instance) front);
-      instance = instance-lawful n known instance (right-nothing (own_name_faults n model) (instance_faults n known instance) front);
+      model = own_name-lawful n model (left-nothing (own_name_faults n model) (instance_name_faults n known instance) front);
+      name = instance_name-lawful n known instance (right-nothing (own_name_faults n model) (instance_name_faults n known instance) front);
       binds = binds.lawful;
       differ = binds.differ;
     }
 
 -- the words of such a line are a model and an instance at least
-pub part-enough : (n : ℕ) (word : List ℕ) (known words : List (List ℕ)) → part_faults n word known words ≡ [] → 2 ≤ length words
-unfolding part_faults
-part-enough n word known [] none = cc
-part-enough n word known (model ∷ []) none = let lacks : Missing n word ∷ [] ≡ [] = right-nothing (own_name_faults n model) (Missing n word ∷ []) none in cc
-part-enough n word known (model ∷ instance ∷ words) none = omega arith
+pub instance-enough : (n : ℕ) (word : List ℕ) (known words : List (List ℕ)) → instance_faults n word known words ≡ [] → 2 ≤ length words
+unfolding instance_faults
+instance-enough n word known [] none = cc
+instance-enough n word known (model ∷ []) none = let lacks : Missing n word ∷ [] ≡ [] = right-nothing (own_name_faults n model) (Missing n word ∷ []) none in cc
+instance-enough n word known (model ∷ instance ∷ words) none = omega arith
 
-pub part-new : (n : ℕ) (word : List ℕ) (known words : List (List ℕ)) → part_faults n word known words ≡ [] → among (instance_of words) known ≡ false
-unfolding part_faults
-part-new n word known [] none = cc
-part-new n word known (model ∷ []) none = let lacks : Missing n word ∷ [] ≡ [] = right-nothing (own_name_faults n model) (Missing n word ∷ []) none in cc
-part-new n word known (model ∷ instance ∷ words) none =
-    let names = own_name_faults n model ++ instance_faults n known instance in
-    instance-new n known instance (right-nothing (own_name_faults n model) (instance_faults n known instance) (left-nothing names (bindings_faults n word [] words) none))
+pub instance-new : (n : ℕ) (word : List ℕ) (known words : List (List ℕ)) → instance_faults n word known words ≡ [] → among (instance_name words) known ≡ false
+unfolding instance_faults
+instance-new n word known [] none = cc
+instance-new n word known (model ∷ []) none = let lacks : Missing n word ∷ [] ≡ [] = right-nothing (own_name_faults n model) (Missing n word ∷ []) none in cc
+instance-new n word known (model ∷ instance ∷ words) none =
+    let names = own_name_faults n model ++ instance_name_faults n known instance in
+    instance_name-new n known instance (right-nothing (own_name_faults n model) (instance_name_faults n known instance) (left-nothing names (bindings_faults n word [] words) none))

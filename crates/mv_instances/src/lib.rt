@@ -5,5 +5,5 @@ mod binding;
 mod laws;
 mod line;
 
-pub use laws::{binding_laws, part_laws};
-pub use line::{add_part, check_part, read_part};
+pub use laws::{binding_laws, instance_laws};
+pub use line::{add_instance, check_instance, read_instance};

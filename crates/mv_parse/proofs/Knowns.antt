@@ -11,57 +11,57 @@ use Rattle.mv_fault.specs.declared.fault.ParseFault.{ParseFault}
 use Rattle.mv_fault.proofs.Nothing.{left-nothing}
 use Rattle.mv_line.specs.Words.{behind_first, first_word}
 use Rattle.mv_parse.specs.declared.command.Command.{Command}
-use Rattle.mv_parse.specs.declared.command.Command.TheVariants.{Model, Inputs, Outputs, Mv, Table, Latch, Reset, Default, Row, End, Root as NamesRoot, Part, Unknown}
+use Rattle.mv_parse.specs.declared.command.Command.TheVariants.{Model, Inputs, Outputs, Mv, Table, Latch, Reset, Default, Row, End, Root as NamesRoot, Instance, Unknown}
 use Rattle.mv_parse.specs.declared.known.Root.{Root}
 use Rattle.mv_parse.specs.declared.known.Known.{Known}
 use Rattle.mv_parse.specs.Commands.{command_at, is_model, is_end, is_root}
-use Rattle.mv_parse.specs.Known.{root_said, first_root, ended_parts, open_part, open_model, open_of, file_model, model_said, models_of, model_names, known, inputs_of, outputs_of, instances_of}
+use Rattle.mv_parse.specs.Known.{root_said, first_root, ended_parts, open_part, open_model, open_of, file_model, model_said, models_of, model_names, known, inputs_of, outputs_of, instance_names_of}
 use Rattle.mv_parse.specs.Grammar.{model_faults, root_faults, outside_faults, inside_faults, body_faults, unended_faults, line_faults, behind_model}
 use Rattle.mv_parse.specs.Steps.{with_no_table, inside_step, body_step, line_step}
-use Rattle.mv_parse.proofs.Opens.{inputs-push, outputs-push, decls-push, instances-push, open_table-row, open_table-default, open_table-table, open_table-reset, open_table-other}
+use Rattle.mv_parse.proofs.Opens.{inputs-push, outputs-push, decls-push, instance_names-push, open_table-row, open_table-default, open_table-table, open_table-reset, open_table-other}
 use Rattle.mv_parse.proofs.Parts.{opened_with, open_part-more, ended_parts-more, open_part-end, ended_parts-end}
 use Rattle.mv_parse.proofs.NamedRoots.{root-more, root-named, none-named}
 
 -- a line within a model
 model-inputs : (m : LexLine) (ls : List LexLine) (l : LexLine) → command_at l ≡ Inputs → open_model m (ls ++ l ∷ []) ≡ inside_step Inputs l (open_model m ls)
 model-inputs m ls l e =
-    rw (inputs-push ls l, outputs-push ls l, decls-push ls l, instances-push ls l, open_table-other ls l Inputs e refl refl, e, append-nil (outputs_of ls), append-nil (instances_of ls)) refl
+    rw (inputs-push ls l, outputs-push ls l, decls-push ls l, instance_names-push ls l, open_table-other ls l Inputs e refl refl, e, append-nil (outputs_of ls), append-nil (instance_names_of ls)) refl
 
 model-outputs : (m : LexLine) (ls : List LexLine) (l : LexLine) → command_at l ≡ Outputs → open_model m (ls ++ l ∷ []) ≡ inside_step Outputs l (open_model m ls)
 model-outputs m ls l e =
-    rw (inputs-push ls l, outputs-push ls l, decls-push ls l, instances-push ls l, open_table-other ls l Outputs e refl refl, e, append-nil (inputs_of ls), append-nil (instances_of ls)) refl
+    rw (inputs-push ls l, outputs-push ls l, decls-push ls l, instance_names-push ls l, open_table-other ls l Outputs e refl refl, e, append-nil (inputs_of ls), append-nil (instance_names_of ls)) refl
 
 model-mv : (m : LexLine) (ls : List LexLine) (l : LexLine) → command_at l ≡ Mv → open_model m (ls ++ l ∷ []) ≡ inside_step Mv l (open_model m ls)
 model-mv m ls l e =
-    rw (inputs-push ls l, outputs-push ls l, decls-push ls l, instances-push ls l, open_table-other ls l Mv e refl refl, e, append-nil (inputs_of ls), append-nil (outputs_of ls), append-nil (instances_of ls)) refl
+    rw (inputs-push ls l, outputs-push ls l, decls-push ls l, instance_names-push ls l, open_table-other ls l Mv e refl refl, e, append-nil (inputs_of ls), append-nil (outputs_of ls), append-nil (instance_names_of ls)) refl
 
 model-table : (m : LexLine) (ls : List LexLine) (l : LexLine) → command_at l ≡ Table → open_model m (ls ++ l ∷ []) ≡ inside_step Table l (open_model m ls)
 model-table m ls l e =
-    rw (inputs-push ls l, outputs-push ls l, decls-push ls l, instances-push ls l, open_table-table ls l e, e, append-nil (inputs_of ls), append-nil (outputs_of ls), append-nil (instances_of ls)) refl
+    rw (inputs-push ls l, outputs-push ls l, decls-push ls l, instance_names-push ls l, open_table-table ls l e, e, append-nil (inputs_of ls), append-nil (outputs_of ls), append-nil (instance_names_of ls)) refl
 
 model-latch : (m : LexLine) (ls : List LexLine) (l : LexLine) → command_at l ≡ Latch → open_model m (ls ++ l ∷ []) ≡ inside_step Latch l (open_model m ls)
 model-latch m ls l e =
-    rw (inputs-push ls l, outputs-push ls l, decls-push ls l, instances-push ls l, open_table-other ls l Latch e refl refl, e, append-nil (inputs_of ls), append-nil (outputs_of ls), append-nil (instances_of ls)) refl
+    rw (inputs-push ls l, outputs-push ls l, decls-push ls l, instance_names-push ls l, open_table-other ls l Latch e refl refl, e, append-nil (inputs_of ls), append-nil (outputs_of ls), append-nil (instance_names_of ls)) refl
 
 model-reset : (m : LexLine) (ls : List LexLine) (l : LexLine) → command_at l ≡ Reset → open_model m (ls ++ l ∷ []) ≡ inside_step Reset l (open_model m ls)
 model-reset m ls l e =
-    rw (inputs-push ls l, outputs-push ls l, decls-push ls l, instances-push ls l, open_table-reset ls l e, e, append-nil (inputs_of ls), append-nil (outputs_of ls), append-nil (instances_of ls)) refl
+    rw (inputs-push ls l, outputs-push ls l, decls-push ls l, instance_names-push ls l, open_table-reset ls l e, e, append-nil (inputs_of ls), append-nil (outputs_of ls), append-nil (instance_names_of ls)) refl
 
 model-default : (m : LexLine) (ls : List LexLine) (l : LexLine) → command_at l ≡ Default → open_model m (ls ++ l ∷ []) ≡ inside_step Default l (open_model m ls)
 model-default m ls l e =
-    rw (inputs-push ls l, outputs-push ls l, decls-push ls l, instances-push ls l, open_table-default ls l e, e, append-nil (inputs_of ls), append-nil (outputs_of ls), append-nil (instances_of ls)) refl
+    rw (inputs-push ls l, outputs-push ls l, decls-push ls l, instance_names-push ls l, open_table-default ls l e, e, append-nil (inputs_of ls), append-nil (outputs_of ls), append-nil (instance_names_of ls)) refl
 
 model-row : (m : LexLine) (ls : List LexLine) (l : LexLine) → command_at l ≡ Row → open_model m (ls ++ l ∷ []) ≡ inside_step Row l (open_model m ls)
 model-row m ls l e =
-    rw (inputs-push ls l, outputs-push ls l, decls-push ls l, instances-push ls l, open_table-row ls l e, e, append-nil (inputs_of ls), append-nil (outputs_of ls), append-nil (instances_of ls)) refl
+    rw (inputs-push ls l, outputs-push ls l, decls-push ls l, instance_names-push ls l, open_table-row ls l e, e, append-nil (inputs_of ls), append-nil (outputs_of ls), append-nil (instance_names_of ls)) refl
 
-model-part : (m : LexLine) (ls : List LexLine) (l : LexLine) → command_at l ≡ Part → open_model m (ls ++ l ∷ []) ≡ inside_step Part l (open_model m ls)
-model-part m ls l e =
-    rw (inputs-push ls l, outputs-push ls l, decls-push ls l, instances-push ls l, open_table-other ls l Part e refl refl, e, append-nil (inputs_of ls), append-nil (outputs_of ls)) refl
+model-instance : (m : LexLine) (ls : List LexLine) (l : LexLine) → command_at l ≡ Instance → open_model m (ls ++ l ∷ []) ≡ inside_step Instance l (open_model m ls)
+model-instance m ls l e =
+    rw (inputs-push ls l, outputs-push ls l, decls-push ls l, instance_names-push ls l, open_table-other ls l Instance e refl refl, e, append-nil (inputs_of ls), append-nil (outputs_of ls)) refl
 
 model-root : (m : LexLine) (ls : List LexLine) (l : LexLine) → command_at l ≡ NamesRoot → open_model m (ls ++ l ∷ []) ≡ with_no_table (open_model m ls)
 model-root m ls l e =
-    rw (inputs-push ls l, outputs-push ls l, decls-push ls l, instances-push ls l, open_table-other ls l NamesRoot e refl refl, e, append-nil (inputs_of ls), append-nil (outputs_of ls), append-nil (instances_of ls)) refl
+    rw (inputs-push ls l, outputs-push ls l, decls-push ls l, instance_names-push ls l, open_table-other ls l NamesRoot e refl refl, e, append-nil (inputs_of ls), append-nil (outputs_of ls), append-nil (instance_names_of ls)) refl
 
 -- a line that may stand in a model alone, and doesn't end it
 model-body : (c : Command) (m : LexLine) (ls : List LexLine) (l : LexLine) → command_at l ≡ c → is_model c ≡ false → is_root c ≡ false → is_end c ≡ false
@@ -77,7 +77,7 @@ model-body Default m ls l e no_model no_root no_end h = model-default m ls l e
 model-body Row m ls l e no_model no_root no_end h = model-row m ls l e
 model-body End m ls l e no_model no_root no_end h = cc
 model-body NamesRoot m ls l e no_model no_root no_end h = cc
-model-body Part m ls l e no_model no_root no_end h = model-part m ls l e
+model-body Instance m ls l e no_model no_root no_end h = model-instance m ls l e
 model-body Unknown m ls l e no_model no_root no_end h = cc
 
 -- ---- the commands apart

@@ -16,7 +16,7 @@ use Rattle.mv_parse.specs.declared.command.Command.{Command}
 use Rattle.mv_parse.specs.declared.command.Command.TheVariants.{Table, Reset, Default, Row}
 use Rattle.mv_parse.specs.declared.known.OpenTable.{OpenTable}
 use Rattle.mv_parse.specs.Commands.{command_at, keeps_table, is_row, is_default, is_table}
-use Rattle.mv_parse.specs.Known.{inputs_at, inputs_of, outputs_at, outputs_of, decls_at, decls_of, instances_at, instances_of, table_state, open_table}
+use Rattle.mv_parse.specs.Known.{inputs_at, inputs_of, outputs_at, outputs_of, decls_at, decls_of, instance_names_at, instance_names_of, table_state, open_table}
 use Rattle.mv_parse.specs.Steps.{new_table, default_seen, row_seen}
 
 -- one more piece at the end of many
@@ -29,8 +29,8 @@ inputs-push ls l = flat_map-push (λ x. inputs_at (command_at x) (behind_first x
 pub outputs-push : (ls : List LexLine) (l : LexLine) → outputs_of (ls ++ l ∷ []) ≡ outputs_of ls ++ outputs_at (command_at l) (behind_first l)
 outputs-push ls l = flat_map-push (λ x. outputs_at (command_at x) (behind_first x)) ls l
 
-pub instances-push : (ls : List LexLine) (l : LexLine) → instances_of (ls ++ l ∷ []) ≡ instances_of ls ++ instances_at (command_at l) (behind_first l)
-instances-push ls l = flat_map-push (λ x. instances_at (command_at x) (behind_first x)) ls l
+pub instance_names-push : (ls : List LexLine) (l : LexLine) → instance_names_of (ls ++ l ∷ []) ≡ instance_names_of ls ++ instance_names_at (command_at l) (behind_first l)
+instance_names-push ls l = flat_map-push (λ x. instance_names_at (command_at x) (behind_first x)) ls l
 
 with_decls-append : (ds xs ys : List Decl) → with_decls ds (xs ++ ys) ≡ with_decls (with_decls ds xs) ys
 with_decls-append ds [] ys = refl

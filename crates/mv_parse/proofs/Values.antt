@@ -12,12 +12,12 @@ use Rattle.mv_fault.proofs.Firsts.{first-append}
 use Rattle.mv_line.specs.Latches.{latch_of}
 use Rattle.mv_line.specs.Words.{behind_first}
 use Rattle.mv_table.specs.Tables.{table_of}
-use Rattle.mv_instances.specs.Line.{part_said}
+use Rattle.mv_instances.specs.Line.{instance_said}
 use Rattle.mv_parse.specs.declared.command.Command.{Command}
-use Rattle.mv_parse.specs.declared.command.Command.TheVariants.{Table, Latch, Reset, Part}
+use Rattle.mv_parse.specs.declared.command.Command.TheVariants.{Table, Latch, Reset, Instance}
 use Rattle.mv_parse.specs.declared.known.Contents.{Contents}
 use Rattle.mv_parse.specs.Commands.{command_at}
-use Rattle.mv_parse.specs.Known.{front_rows, table_at, tables_of, latch_at, latches_of, reset_at, resets_of, part_at, parts_of}
+use Rattle.mv_parse.specs.Known.{front_rows, table_at, tables_of, latch_at, latches_of, reset_at, resets_of, instance_at, instances_of}
 use Rattle.mv_parse.specs.Grammar.{table_value_faults, tables_faults, end_faults}
 use Rattle.mv_parse.specs.Steps.{contents_of, with_line}
 
@@ -45,15 +45,15 @@ pub record IsRead (ds : List Decl) (lines left : List LexLine) (k : Contents) : 
   pub tables : k.tables ++ tables_of ds left ≡ tables_of ds lines
   pub latches : k.latches ++ latches_of left ≡ latches_of lines
   pub resets : k.resets ++ resets_of ds left ≡ resets_of ds lines
-  pub parts : k.parts ++ parts_of left ≡ parts_of lines
+  pub instances : k.instances ++ instances_of left ≡ instances_of lines
   pub fault : tables_faults ds left ≡ tables_faults ds lines
 
-pub read-none : (ds : List Decl) (lines : List LexLine) (k : Contents) → k.tables ≡ [] → k.latches ≡ [] → k.resets ≡ [] → k.parts ≡ [] → IsRead ds lines lines k
+pub read-none : (ds : List Decl) (lines : List LexLine) (k : Contents) → k.tables ≡ [] → k.latches ≡ [] → k.resets ≡ [] → k.instances ≡ [] → IsRead ds lines lines k
 read-none ds lines k t h r p = record {
   tables = ap (λ ts. ts ++ tables_of ds lines) t;
   latches = ap (λ hs. hs ++ latches_of lines) h;
   resets = ap (λ ts. ts ++ resets_of ds lines) r;
-  parts = ap (λ ps. ps ++ parts_of lines) p;
+  instances = ap (λ ps. ps ++ instances_of lines) p;
   fault = refl;
 }
 
@@ -69,9 +69,9 @@ resets-more : (c : Command) (ds : List Decl) (l : LexLine) (ls : List LexLine) (
 resets-more Reset ds l ls k = append_assoc k.resets (table_of ds l (front_rows ls) ∷ []) (resets_of ds ls)
 resets-more _ ds l ls k = refl
 
-parts-more : (c : Command) (ds : List Decl) (l : LexLine) (ls : List LexLine) (k : Contents) → (with_line c ds l ls k).parts ++ parts_of ls ≡ k.parts ++ (part_at c l ++ parts_of ls)
-parts-more Part ds l ls k = append_assoc k.parts (part_said l.number (behind_first l) ∷ []) (parts_of ls)
-parts-more _ ds l ls k = refl
+instances-more : (c : Command) (ds : List Decl) (l : LexLine) (ls : List LexLine) (k : Contents) → (with_line c ds l ls k).instances ++ instances_of ls ≡ k.instances ++ (instance_at c l ++ instances_of ls)
+instances-more Instance ds l ls k = append_assoc k.instances (instance_said l.number (behind_first l) ∷ []) (instances_of ls)
+instances-more _ ds l ls k = refl
 
 -- a line whose values have no fault has been read
 pub read-next : (ds : List Decl) (lines : List LexLine) (l : LexLine) (ls : List LexLine) (k : Contents) → IsRead ds lines (l ∷ ls) k → table_value_faults (command_at l) ds l ls ≡ [] → IsRead ds lines ls (with_line (command_at l) ds l ls k)
@@ -79,7 +79,7 @@ read-next ds lines l ls k h none = record {
   tables = tables-more (command_at l) ds l ls k ∙ h.tables;
   latches = latches-more (command_at l) ds l ls k ∙ h.latches;
   resets = resets-more (command_at l) ds l ls k ∙ h.resets;
-  parts = parts-more (command_at l) ds l ls k ∙ h.parts;
+  instances = instances-more (command_at l) ds l ls k ∙ h.instances;
   fault = sym (ap (λ fs. fs ++ tables_faults ds ls) none) ∙ h.fault;
 }
 
@@ -94,5 +94,5 @@ read-all ds lines k h =
     let tables : k.tables ≡ tables_of ds lines = sym (append-nil k.tables) ∙ h.tables in
     let latches : k.latches ≡ latches_of lines = sym (append-nil k.latches) ∙ h.latches in
     let resets : k.resets ≡ resets_of ds lines = sym (append-nil k.resets) ∙ h.resets in
-    let parts : k.parts ≡ parts_of lines = sym (append-nil k.parts) ∙ h.parts in
-    rw (← tables, ← latches, ← resets, ← parts) refl
+    let instances : k.instances ≡ instances_of lines = sym (append-nil k.instances) ∙ h.instances in
+    rw (← tables, ← latches, ← resets, ← instances) refl

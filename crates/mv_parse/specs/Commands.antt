@@ -5,7 +5,7 @@ use Rattle.mv_lex.specs.declared.lines.LexLine.{LexLine}
 use Rattle.mv_line.specs.Words.{first_word}
 use Rattle.mv_table.specs.Tables.{is_default_word}
 use Rattle.mv_parse.specs.declared.command.Command.{Command}
-use Rattle.mv_parse.specs.declared.command.Command.TheVariants.{Model, Inputs, Outputs, Mv, Table, Latch, Reset, Default, Row, End, Root, Part, Unknown}
+use Rattle.mv_parse.specs.declared.command.Command.TheVariants.{Model, Inputs, Outputs, Mv, Table, Latch, Reset, Default, Row, End, Root, Instance, Unknown}
 
 -- the words that say that a line begins a table
 abbrev pub is_table_word : List ℕ → Bool
@@ -29,7 +29,7 @@ command_of w =
     else if same_word w (codes ".latch") then Latch
     else if is_reset_word w then Reset
     else if same_word w (codes ".root") then Root
-    else if same_word w (codes ".subckt") then Part
+    else if same_word w (codes ".subckt") then Instance
     else Unknown
 
 -- what a line is

@@ -22,9 +22,9 @@ use Rattle.mv_line.specs.Latches.{latch_of}
 use Rattle.mv_line.specs.Ports.{port_faults}
 use Rattle.mv_line.specs.Words.{behind_first, first_word}
 use Rattle.mv_table.specs.Tables.{table_faults}
-use Rattle.mv_instances.specs.Line.{part_faults}
+use Rattle.mv_instances.specs.Line.{instance_faults}
 use Rattle.mv_parse.specs.declared.command.Command.{Command}
-use Rattle.mv_parse.specs.declared.command.Command.TheVariants.{Inputs, Outputs, Mv, Table, Latch, Reset, Default, Row, Part, Unknown}
+use Rattle.mv_parse.specs.declared.command.Command.TheVariants.{Inputs, Outputs, Mv, Table, Latch, Reset, Default, Row, Instance, Unknown}
 use Rattle.mv_parse.specs.declared.known.OpenTable.{OpenTable}
 use Rattle.mv_parse.specs.declared.known.OpenModel.{OpenModel}
 use Rattle.mv_parse.specs.declared.known.Root.{Root}
@@ -116,7 +116,7 @@ inside_faults Reset m l = reset_faults l.number (first_word l) (behind_first l)
 inside_faults Default m l =
     at_table l.number m.table (λ t. default_faults l.number (first_word l) t (behind_first l))
 inside_faults Row m l = at_table l.number m.table (λ t. row_faults l.number t l.words)
-inside_faults Part m l = part_faults l.number (first_word l) m.instances (behind_first l)
+inside_faults Instance m l = instance_faults l.number (first_word l) m.instances (behind_first l)
 inside_faults Unknown m l = UnknownCommand l.number (first_word l) ∷ []
 inside_faults _ m l = []
 

@@ -6,7 +6,7 @@ use Rattle.mv_lex.specs.Cuts.{closed, open_piece}
 use Rattle.mv_design.specs.declared.design.Decl.{Decl}
 use Rattle.mv_design.specs.declared.design.FileLatch.{FileLatch}
 use Rattle.mv_design.specs.declared.design.FileModel.{FileModel}
-use Rattle.mv_design.specs.declared.design.Part.{Part}
+use Rattle.mv_design.specs.declared.design.Instance.{Instance}
 use Rattle.mv_design.specs.declared.table.FileTable.{FileTable}
 use Rattle.mv_fault.specs.Tells.{first}
 use Rattle.mv_decl.specs.Nets.{with_decls}
@@ -15,9 +15,9 @@ use Rattle.mv_table.specs.Columns.{ins_of, outs_of}
 use Rattle.mv_line.specs.Latches.{latch_of}
 use Rattle.mv_line.specs.Words.{behind_first, first_of}
 use Rattle.mv_table.specs.Tables.{table_of}
-use Rattle.mv_instances.specs.Line.{instance_of, part_said}
+use Rattle.mv_instances.specs.Line.{instance_name, instance_said}
 use Rattle.mv_parse.specs.declared.command.Command.{Command}
-use Rattle.mv_parse.specs.declared.command.Command.TheVariants.{Inputs, Outputs, Mv, Table, Latch, Reset, Part as SaysPart}
+use Rattle.mv_parse.specs.declared.command.Command.TheVariants.{Inputs, Outputs, Mv, Table, Latch, Reset, Instance as SaysInstance}
 use Rattle.mv_parse.specs.declared.known.OpenTable.{OpenTable}
 use Rattle.mv_parse.specs.declared.known.OpenModel.{OpenModel}
 use Rattle.mv_parse.specs.declared.known.Root.{Root}
@@ -54,13 +54,13 @@ abbrev pub decls_of : List LexLine → List Decl
 decls_of ls = with_decls [] (flat_map (λ l. decls_at (command_at l) (behind_first l)) ls)
 
 -- the name of the instance that a line says, if it says one
-abbrev pub instances_at : Command → List (List ℕ) → List (List ℕ)
-instances_at SaysPart words = instance_of words ∷ []
-instances_at _ words = []
+abbrev pub instance_names_at : Command → List (List ℕ) → List (List ℕ)
+instance_names_at SaysInstance words = instance_name words ∷ []
+instance_names_at _ words = []
 
 -- the names of the instances of a model with these lines, in order
-abbrev pub instances_of : List LexLine → List (List ℕ)
-instances_of ls = flat_map (λ l. instances_at (command_at l) (behind_first l)) ls
+abbrev pub instance_names_of : List LexLine → List (List ℕ)
+instance_names_of ls = flat_map (λ l. instance_names_at (command_at l) (behind_first l)) ls
 
 -- a table has the rows and the default that come right behind its first line
 abbrev pub front_rows : List LexLine → List LexLine
@@ -97,13 +97,13 @@ resets_of ds [] = []
 resets_of ds (l ∷ ls) = reset_at (command_at l) ds l ls ++ resets_of ds ls
 
 -- the instance of a line, if it says one
-abbrev pub part_at : Command → LexLine → List Part
-part_at SaysPart l = part_said l.number (behind_first l) ∷ []
-part_at _ l = []
+abbrev pub instance_at : Command → LexLine → List Instance
+instance_at SaysInstance l = instance_said l.number (behind_first l) ∷ []
+instance_at _ l = []
 
 -- the instances of a model with these lines
-abbrev pub parts_of : List LexLine → List Part
-parts_of ls = flat_map (λ l. part_at (command_at l) l) ls
+abbrev pub instances_of : List LexLine → List Instance
+instances_of ls = flat_map (λ l. instance_at (command_at l) l) ls
 
 -- the table that is open behind these lines: the last one, where only rows and defaults stand
 -- behind its first line
@@ -165,7 +165,7 @@ open_model l ls = record {
   inputs = inputs_of ls;
   outputs = outputs_of ls;
   decls = decls_of ls;
-  instances = instances_of ls;
+  instances = instance_names_of ls;
   table = open_table ls;
 }
 
@@ -184,7 +184,7 @@ file_model m ls = record {
   tables = tables_of m.decls ls;
   latches = latches_of ls;
   resets = resets_of m.decls ls;
-  parts = parts_of ls;
+  instances = instances_of ls;
 }
 
 -- the model that has ended, if there is one

@@ -10,16 +10,16 @@ use Rattle.mv_table.specs.Columns.{ins_of, outs_of}
 use Rattle.mv_line.specs.Latches.{latch_of}
 use Rattle.mv_line.specs.Words.{behind_first, first_of}
 use Rattle.mv_table.specs.Tables.{table_of}
-use Rattle.mv_instances.specs.Line.{instance_of, part_said}
+use Rattle.mv_instances.specs.Line.{instance_name, instance_said}
 use Rattle.mv_parse.specs.declared.command.Command.{Command}
-use Rattle.mv_parse.specs.declared.command.Command.TheVariants.{Inputs, Outputs, Mv, Table, Latch, Reset, Default, Row, Part}
+use Rattle.mv_parse.specs.declared.command.Command.TheVariants.{Inputs, Outputs, Mv, Table, Latch, Reset, Default, Row, Instance}
 use Rattle.mv_parse.specs.declared.known.OpenTable.{OpenTable}
 use Rattle.mv_parse.specs.declared.known.OpenModel.{OpenModel}
 use Rattle.mv_parse.specs.declared.known.Contents.{Contents}
 use Rattle.mv_parse.specs.declared.known.Known.{Known}
 use Rattle.mv_base.specs.declared.limits.TheConstants.{MAX_COLUMNS, MAX_MODELS}
 use Rattle.mv_parse.specs.Commands.{command_at, is_table, is_model, is_end, is_root}
-use Rattle.mv_parse.specs.Known.{front_rows, tables_of, latches_of, resets_of, parts_of, root_said, file_model}
+use Rattle.mv_parse.specs.Known.{front_rows, tables_of, latches_of, resets_of, instances_of, root_said, file_model}
 
 -- a model and a table that begin
 abbrev pub new_model : LexLine → OpenModel
@@ -58,7 +58,8 @@ with_declared words m = record m { decls = with_decls m.decls (decls_said words)
 
 -- a model with the name of one more instance, which these words say; the line closes its table
 abbrev pub with_instance : List (List ℕ) → OpenModel → OpenModel
-with_instance words m = record m { instances = m.instances ++ instance_of words ∷ []; table = None }
+with_instance words m =
+    record m { instances = m.instances ++ instance_name words ∷ []; table = None }
 
 -- a model whose table is closed
 abbrev pub with_no_table : OpenModel → OpenModel
@@ -94,7 +95,7 @@ inside_step Latch l m = with_no_table m
 inside_step Reset l m = with_open_table (behind_first l) m
 inside_step Default l m = with_default m
 inside_step Row l m = with_row m
-inside_step Part l m = with_instance (behind_first l) m
+inside_step Instance l m = with_instance (behind_first l) m
 inside_step _ l m = m
 
 -- a line within a model goes on with it, or ends it
@@ -137,7 +138,7 @@ contents_of ds ls =
       tables = tables_of ds ls;
       latches = latches_of ls;
       resets = resets_of ds ls;
-      parts = parts_of ls;
+      instances = instances_of ls;
     }
 
 -- that of the lines before, with what a line adds, where these lines stand behind it
@@ -145,7 +146,8 @@ abbrev pub with_line : Command → List Decl → LexLine → List LexLine → Co
 with_line Table ds l ls k = record k { tables = k.tables ++ table_of ds l (front_rows ls) ∷ [] }
 with_line Latch ds l ls k = record k { latches = k.latches ++ latch_of l ∷ [] }
 with_line Reset ds l ls k = record k { resets = k.resets ++ table_of ds l (front_rows ls) ∷ [] }
-with_line Part ds l ls k = record k { parts = k.parts ++ part_said l.number (behind_first l) ∷ [] }
+with_line Instance ds l ls k =
+    record k { instances = k.instances ++ instance_said l.number (behind_first l) ∷ [] }
 with_line _ ds l ls k = k
 
 -- a first line of a table or a reset table has no more columns than a table may have

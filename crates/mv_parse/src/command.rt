@@ -20,7 +20,7 @@ pub enum Command {
     Row,
     End,
     Root,
-    Part,
+    Instance,
     Unknown,
 }
 
@@ -66,7 +66,7 @@ fn command_of(word: &[u8]) -> Command
     } else if is_text(word, b".root") {
         Command::Root
     } else if is_text(word, b".subckt") {
-        Command::Part
+        Command::Instance
     } else {
         Command::Unknown
     }

@@ -1,6 +1,6 @@
 use mv_base::{Items, Name, NameSet};
 use mv_decl::Decls;
-use mv_design::{FileLatch, FileModel, FileTable, Part};
+use mv_design::{FileLatch, FileModel, FileTable, Instance};
 
 /// What the lines of the open table say so far: how many columns of each kind it has, how many rows, and whether its
 /// default has stood.
@@ -30,7 +30,7 @@ pub struct Contents {
     pub tables: Items<FileTable>,
     pub latches: Items<FileLatch>,
     pub resets: Items<FileTable>,
-    pub parts: Items<Part>,
+    pub instances: Items<Instance>,
 }
 
 /// The root as a line names it.

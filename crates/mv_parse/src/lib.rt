@@ -10,6 +10,6 @@ mod roots;
 mod step;
 mod tables;
 
-pub use mv_design::{Bind, Decl, Design, Entry, FileLatch, FileModel, FileTable, Part, Row};
+pub use mv_design::{Bind, Decl, Design, Entry, FileLatch, FileModel, FileTable, Instance, Row};
 pub use mv_fault::{ParseFault, Which, put_parse_fault};
 pub use reader::{one_answer, parse, parse_owned};

@@ -3,7 +3,7 @@ ghost use Rattle.mv_base.specs.declared.limits.TheConstants.{MAX_COLUMNS as most
 ghost use Rattle.mv_fault.specs.Tells.{Tells};
 ghost use Rattle.mv_decl.specs.Line.{decl_faults};
 ghost use Rattle.mv_table.specs.Columns.{columns_faults, reset_faults};
-ghost use Rattle.mv_instances.specs.Line.{part_faults};
+ghost use Rattle.mv_instances.specs.Line.{instance_faults};
 ghost use Rattle.mv_line.specs.Ports.{port_faults};
 ghost use Rattle.mv_line.specs.Words.{first_of};
 ghost use Rattle.mv_parse.specs.Grammar.{model_name_faults, model_faults, latch_faults, row_faults, default_faults};
@@ -14,7 +14,7 @@ use crate::latches::check_latch;
 use mv_base::{MAX_MODELS, MAX_TABLE_LINES, Name, NameSet};
 use mv_decl::declare;
 use mv_fault::{ParseFault, Which};
-use mv_instances::add_part;
+use mv_instances::add_instance;
 use mv_line::add_ports;
 use mv_table::{check_columns, check_reset, ins, outs};
 use mv_word::is_model_name;
@@ -159,18 +159,18 @@ pub fn pass_latch(
 }
 
 /// Reads the words behind `.subckt`: the instance's name alone, for what they say is read at the end of the model.
-pub fn pass_part(
+pub fn pass_instance(
     alloc: Global,
     model: &mut OpenModel,
     number: u32,
     word: &Name,
     words: &[Name],
 ) -> Result<(), ParseFault>
-    ensures fault { Tells result (part_faults number word.now model.old.instances words.now) }
+    ensures fault { Tells result (instance_faults number word.now model.old.instances words.now) }
     ensures ok { OnOk result (model.new ≡ with_instance words.now model.old) }
 {
     model.table = None;
-    add_part(alloc, &mut model.instances, number, word, words)
+    add_instance(alloc, &mut model.instances, number, word, words)
 }
 
 /// Counts a row of the open table.

@@ -13,7 +13,7 @@ ghost use Rattle.mv_parse.specs.Steps.{inside_step, body_step, with_model, with_
 use crate::command::{Command, is_end, is_model, is_root};
 use crate::known::{Known, OpenModel};
 use crate::lines::{
-    begin_reset, begin_table, count_default, count_row, model_name, pass_latch, pass_part,
+    begin_reset, begin_table, count_default, count_row, model_name, pass_instance, pass_latch,
     read_decls, read_inputs, read_outputs,
 };
 use crate::roots::read_root;
@@ -162,9 +162,9 @@ fn inside_line(
         }
         Command::Row => row_line(model, line),
         Command::Default => default_line(alloc, model, line),
-        Command::Part => {
+        Command::Instance => {
             let word = Name::new(alloc, first_word(line))?;
-            pass_part(alloc, model, number, &word, words)
+            pass_instance(alloc, model, number, &word, words)
         }
         Command::Model | Command::Root | Command::End => unreachable!(),
         Command::Unknown => Err(ParseFault::UnknownCommand {

@@ -13,7 +13,7 @@ use mv_base::Items;
 use mv_decl::Decls;
 use mv_design::FileModel;
 use mv_fault::ParseFault;
-use mv_instances::read_part;
+use mv_instances::read_instance;
 use mv_lex::LexLine;
 use mv_line::behind_first;
 use mv_table::read_table;
@@ -56,9 +56,9 @@ fn add_line(
             let table = read_table(alloc, decls, line, front_rows(behind))?;
             contents.resets.push(table)?;
         }
-        Command::Part => {
-            let part = read_part(alloc, line.number, behind_first(line))?;
-            contents.parts.push(part)?;
+        Command::Instance => {
+            let instance = read_instance(alloc, line.number, behind_first(line))?;
+            contents.instances.push(instance)?;
         }
         _ => {}
     }
@@ -77,7 +77,7 @@ fn contents(alloc: Global, decls: &Decls, lines: Items<LexLine>) -> Result<Conte
         tables: Items::new(alloc),
         latches: Items::new(alloc),
         resets: Items::new(alloc),
-        parts: Items::new(alloc),
+        instances: Items::new(alloc),
     };
     let mut left = lines;
     for at in 0..left.len() {
@@ -110,6 +110,6 @@ pub fn end_model(
         tables: contents.tables,
         latches: contents.latches,
         resets: contents.resets,
-        parts: contents.parts,
+        instances: contents.instances,
     })
 }

@@ -13,7 +13,7 @@ pub mod Ports
 pub mod Tables
 pub mod Said
 pub mod Latches
-pub mod Parts
+pub mod Instances
 pub mod Order
 pub mod Models
 pub mod Proper

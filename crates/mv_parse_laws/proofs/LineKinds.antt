@@ -7,7 +7,7 @@ use Rattle.mv_base.proofs.NameLemmas.{same_word_is}
 use Rattle.mv_lex.specs.declared.lines.LexLine.{LexLine}
 use Rattle.mv_table.specs.Tables.{is_default_word, begins_default, says_default}
 use Rattle.mv_parse.specs.declared.command.Command.{Command}
-use Rattle.mv_parse.specs.declared.command.Command.TheVariants.{Model, Inputs, Outputs, Mv, Table, Latch, Reset, Default, Row, End, Root, Part, Unknown}
+use Rattle.mv_parse.specs.declared.command.Command.TheVariants.{Model, Inputs, Outputs, Mv, Table, Latch, Reset, Default, Row, End, Root, Instance, Unknown}
 use Rattle.mv_line.specs.Words.{first_of}
 use Rattle.mv_parse.specs.Commands.{is_table_word, is_reset_word, command_of, command_at}
 
@@ -32,8 +32,8 @@ past false x y other e = e
 default-word : (w : List ℕ) → command_of w ≡ Default → is_default_word w ≡ true
 unfolding command_of
 default-word w e =
-    let parts : Command = if same_word w (codes ".subckt") then Part else Unknown in
-    let roots : Command = if same_word w (codes ".root") then Root else parts in
+    let instances : Command = if same_word w (codes ".subckt") then Instance else Unknown in
+    let roots : Command = if same_word w (codes ".root") then Root else instances in
     let resets : Command = if is_reset_word w then Reset else roots in
     let latches : Command = if same_word w (codes ".latch") then Latch else resets in
     let ended : Command = if same_word w (codes ".end") then End else latches in
@@ -56,8 +56,8 @@ default-word w e =
     let i : latches ≡ Default = past (same_word w (codes ".end")) End latches (λ x. cc) h in
     let j : resets ≡ Default = past (same_word w (codes ".latch")) Latch resets (λ x. cc) i in
     let k : roots ≡ Default = past (is_reset_word w) Reset roots (λ x. cc) j in
-    let m : parts ≡ Default = past (same_word w (codes ".root")) Root parts (λ x. cc) k in
-    let n : Unknown ≡ Default = past (same_word w (codes ".subckt")) Part Unknown (λ x. cc) m in
+    let m : instances ≡ Default = past (same_word w (codes ".root")) Root instances (λ x. cc) k in
+    let n : Unknown ≡ Default = past (same_word w (codes ".subckt")) Instance Unknown (λ x. cc) m in
     cc)
     (cases_Bool (is_default_word w))
 

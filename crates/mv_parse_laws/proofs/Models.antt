@@ -19,10 +19,10 @@ use Rattle.mv_parse.specs.declared.command.Command.TheVariants.{Inputs, Outputs,
 use Rattle.mv_parse.specs.declared.known.OpenTable.{OpenTable}
 use Rattle.mv_parse.specs.declared.known.OpenModel.{OpenModel}
 use Rattle.mv_parse.specs.Commands.{command_at, keeps_table, is_table}
-use Rattle.mv_parse.specs.Known.{inputs_at, inputs_of, outputs_at, outputs_of, decls_at, decls_of, latches_of, parts_of, open_model, file_model}
+use Rattle.mv_parse.specs.Known.{inputs_at, inputs_of, outputs_at, outputs_of, decls_at, decls_of, latches_of, instances_of, open_model, file_model}
 use Rattle.mv_parse.specs.Grammar.{row_faults, default_faults, tables_faults, at_table, inside_faults}
 use Rattle.mv_parse.proofs.Opens.{inputs-push, outputs-push, decls-push}
-use Rattle.mv_design.specs.Proper.{IsFileDecl, IsFilePart, numbers_ascend, IsProperModel}
+use Rattle.mv_design.specs.Proper.{IsFileDecl, IsFileInstance, numbers_ascend, IsProperModel}
 use Rattle.mv_parse_laws.specs.Lines.{numbers_of}
 use Rattle.mv_parse_laws.proofs.Rows.{IsEntryLine, HasColumns}
 use Rattle.mv_parse_laws.proofs.Names.{IsNames, no-names, IsNames-nil}
@@ -32,7 +32,7 @@ use Rattle.mv_parse_laws.proofs.LineKinds.{line-default, line-row}
 use Rattle.mv_parse_laws.proofs.Ports.{ports-named}
 use Rattle.mv_parse_laws.proofs.Tables.{AreTables, tables-push, tables-fit}
 use Rattle.mv_parse_laws.proofs.Latches.{IsNamed, latches-push, latches-fit}
-use Rattle.mv_parse_laws.proofs.Parts.{parts-push}
+use Rattle.mv_parse_laws.proofs.Instances.{instances-push}
 use Rattle.mv_parse_laws.proofs.Order.{stands}
 
 -- a model that is open, by its first line and those behind it
@@ -43,10 +43,10 @@ pub record IsOpen (m : LexLine) (ls : List LexLine) : Type 0 where
   pub decls : All IsFileDecl (decls_of ls)
   pub tables : AreTables ls
   pub latches : All IsNamed (latches_of ls)
-  pub parts : All IsFilePart (parts_of ls)
+  pub instances : All IsFileInstance (instances_of ls)
 
 pub IsOpen-new : (m : LexLine) → is_model_name (first_of (behind_first m)) ≡ true → IsOpen m []
-IsOpen-new m y = record { name = y; inputs = no-names is_net_name; outputs = no-names is_net_name; decls = All-nil IsFileDecl; tables = tt; latches = All-nil IsNamed; parts = All-nil IsFilePart }
+IsOpen-new m y = record { name = y; inputs = no-names is_net_name; outputs = no-names is_net_name; decls = All-nil IsFileDecl; tables = tt; latches = All-nil IsNamed; instances = All-nil IsFileInstance }
 
 -- ---- what one more line adds
 
@@ -115,7 +115,7 @@ IsOpen-push m ls l h none =
       decls = subst (All IsFileDecl) (sym (decls-push ls l)) (decls-step c o l none h.decls);
       tables = tables-push ls l h.tables (head-step c o l none) (entry-step c o l refl none);
       latches = latches-push o ls l none h.latches;
-      parts = parts-push o ls l none h.parts;
+      instances = instances-push o ls l none h.instances;
     }
 
 -- ---- at its end
@@ -135,7 +135,7 @@ IsOpen-proper m ls h up none =
         tables = fit.tables;
         latches = latches-fit (decls_of ls) ls h.latches none;
         resets = fit.resets;
-        parts = h.parts;
+        instances = h.instances;
       };
       order = stands m ls up;
     }

@@ -8,15 +8,15 @@ use Rattle.std.proofs.lemmas.List.Elements.{All-nil, All-cons}
 use Rattle.mv_lex.specs.declared.lines.LexLine.{LexLine}
 use Rattle.mv_design.specs.declared.design.Decl.{Decl}
 use Rattle.mv_design.specs.declared.design.FileLatch.{FileLatch}
-use Rattle.mv_design.specs.declared.design.Part.{Part}
+use Rattle.mv_design.specs.declared.design.Instance.{Instance}
 use Rattle.mv_design.specs.declared.table.FileTable.{FileTable}
-use Rattle.mv_design.specs.Proper.{numbers_ascend, none_in_both, table_lines, latch_lines, part_lines, SharesOwnOnly, StandsByLine}
+use Rattle.mv_design.specs.Proper.{numbers_ascend, none_in_both, table_lines, latch_lines, instance_lines, SharesOwnOnly, StandsByLine}
 use Rattle.mv_table.specs.Tables.{table_of}
-use Rattle.mv_instances.specs.Line.{part_said}
+use Rattle.mv_instances.specs.Line.{instance_said}
 use Rattle.mv_parse.specs.declared.command.Command.{Command}
-use Rattle.mv_parse.specs.declared.command.Command.TheVariants.{Table, Latch, Reset, Part as SaysPart}
+use Rattle.mv_parse.specs.declared.command.Command.TheVariants.{Table, Latch, Reset, Instance as SaysInstance}
 use Rattle.mv_parse.specs.Commands.{command_at}
-use Rattle.mv_parse.specs.Known.{table_at, tables_of, latch_at, latches_of, reset_at, resets_of, part_at, parts_of, decls_of, open_model, file_model}
+use Rattle.mv_parse.specs.Known.{table_at, tables_of, latch_at, latches_of, reset_at, resets_of, instance_at, instances_of, decls_of, open_model, file_model}
 use Rattle.mv_parse_laws.specs.Lines.{numbers_of}
 use Rattle.mv_parse_laws.proofs.Ascending.{first-below, ascend-tail, ascend-cons, ascend-lower, none-behind, none-first}
 
@@ -97,9 +97,9 @@ says_reset Reset = true
 says_reset _ = false
 
 -- the line says an instance
-abbrev says_part : Command → Bool
-says_part SaysPart = true
-says_part _ = false
+abbrev says_instance : Command → Bool
+says_instance SaysInstance = true
+says_instance _ = false
 
 table-more : (c : Command) (ds : List Decl) (l : LexLine) (ls : List LexLine) (rest : List FileTable)
     → table_lines (table_at c ds l ls ++ rest) ≡ with_number (says_table c) l (table_lines rest)
@@ -117,10 +117,10 @@ unfolding table_of
 reset-more Reset ds l ls rest = refl
 reset-more _ ds l ls rest = refl
 
-part-more : (c : Command) (l : LexLine) (rest : List Part) → part_lines (part_at c l ++ rest) ≡ with_number (says_part c) l (part_lines rest)
-unfolding part_said
-part-more SaysPart l rest = refl
-part-more _ l rest = refl
+instance-more : (c : Command) (l : LexLine) (rest : List Instance) → instance_lines (instance_at c l ++ rest) ≡ with_number (says_instance c) l (instance_lines rest)
+unfolding instance_said
+instance-more SaysInstance l rest = refl
+instance-more _ l rest = refl
 
 tables-said : (ds : List Decl) (ls : List LexLine) → table_lines (tables_of ds ls) ≡ kind_lines says_table ls
 tables-said ds =
@@ -137,10 +137,10 @@ resets-said ds =
     said-lines (λ (t : FileTable). t.line) says_reset (resets_of ds)
     (record { none = refl; more = λ l ls. reset-more (command_at l) ds l ls (resets_of ds ls) })
 
-parts-said : (ls : List LexLine) → part_lines (parts_of ls) ≡ kind_lines says_part ls
-parts-said =
-    said-lines (λ (p : Part). p.line) says_part parts_of
-    (record { none = refl; more = λ l ls. part-more (command_at l) l (parts_of ls) })
+instances-said : (ls : List LexLine) → instance_lines (instances_of ls) ≡ kind_lines says_instance ls
+instances-said =
+    said-lines (λ (p : Instance). p.line) says_instance instances_of
+    (record { none = refl; more = λ l ls. instance-more (command_at l) l (instances_of ls) })
 
 latch-no-table : AreApart says_latch says_table
 latch-no-table Latch y = refl
@@ -154,17 +154,17 @@ reset-no-latch : AreApart says_reset says_latch
 reset-no-latch Reset y = refl
 reset-no-latch _ y = cc
 
-part-no-table : AreApart says_part says_table
-part-no-table SaysPart y = refl
-part-no-table _ y = cc
+instance-no-table : AreApart says_instance says_table
+instance-no-table SaysInstance y = refl
+instance-no-table _ y = cc
 
-latch-no-part : AreApart says_latch says_part
-latch-no-part Latch y = refl
-latch-no-part _ y = cc
+latch-no-instance : AreApart says_latch says_instance
+latch-no-instance Latch y = refl
+latch-no-instance _ y = cc
 
-reset-no-part : AreApart says_reset says_part
-reset-no-part Reset y = refl
-reset-no-part _ y = cc
+reset-no-instance : AreApart says_reset says_instance
+reset-no-instance Reset y = refl
+reset-no-instance _ y = cc
 
 -- ---- reset tables share no line with a latch
 
@@ -191,7 +191,7 @@ stands m ls up =
     let tables = tables-said ds ls in
     let latches = latches-said ls in
     let resets = resets-said ds ls in
-    let parts = parts-said ls in
+    let instances = instances-said ls in
     let ascends = λ (kind : Command → Bool). ascend-tail m.number (kind_lines kind ls) (kind-ascends kind m.number ls up) in
     let none : none_in_both (table_lines (resets_of ds ls)) (latch_lines (latches_of ls)) ≡ true =
     rw (resets, latches) (kinds-apart says_reset says_latch m.number ls reset-no-latch up) in
@@ -199,11 +199,11 @@ stands m ls up =
       tables = rw tables (ascends says_table);
       latches = rw latches (ascends says_latch);
       resets = rw resets (ascends says_reset);
-      parts = rw parts (ascends says_part);
+      instances = rw instances (ascends says_instance);
       latches_tables = rw (latches, tables) (kinds-apart says_latch says_table m.number ls latch-no-table up);
       resets_tables = rw (resets, tables) (kinds-apart says_reset says_table m.number ls reset-no-table up);
-      parts_tables = rw (parts, tables) (kinds-apart says_part says_table m.number ls part-no-table up);
-      latches_parts = rw (latches, parts) (kinds-apart says_latch says_part m.number ls latch-no-part up);
-      resets_parts = rw (resets, parts) (kinds-apart says_reset says_part m.number ls reset-no-part up);
+      instances_tables = rw (instances, tables) (kinds-apart says_instance says_table m.number ls instance-no-table up);
+      latches_instances = rw (latches, instances) (kinds-apart says_latch says_instance m.number ls latch-no-instance up);
+      resets_instances = rw (resets, instances) (kinds-apart says_reset says_instance m.number ls reset-no-instance up);
       resets_latches = none-shares (resets_of ds ls) (latches_of ls) none;
     }

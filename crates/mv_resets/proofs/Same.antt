@@ -15,7 +15,7 @@ changed m decls resets = record {
   tables = m.tables;
   latches = m.latches;
   resets = resets;
-  parts = m.parts;
+  instances = m.instances;
 }
 
 no_reset_nets : (m : FileModel) → with_reset_nets (changed m m.decls []) ≡ changed m m.decls []

@@ -42,5 +42,5 @@ with_reset_nets m = record {
   tables = all_tables m;
   latches = m.latches;
   resets = [];
-  parts = m.parts;
+  instances = m.instances;
 }

@@ -28,7 +28,7 @@ pub fn with_reset_nets(alloc: Global, model: FileModel) -> Result<FileModel, Mem
         tables,
         latches,
         resets,
-        parts,
+        instances,
     } = model;
     let decls = all_decls(alloc, decls, resets.as_slice())?;
     let tables = all_tables(alloc, tables, resets)?;
@@ -40,7 +40,7 @@ pub fn with_reset_nets(alloc: Global, model: FileModel) -> Result<FileModel, Mem
         tables,
         latches,
         resets: Items::new(alloc),
-        parts,
+        instances,
     })
 }
 

@@ -1,5 +1,5 @@
 -- What a run of the program says of a recorded run.
-use Rattle.std.proofs.Common.{◌≡◌, ◌∙◌, ◌⊎◌, ℕ, ◌<◌, is_some, List, [], ◌∷◌, length, Option, Some, None, inl, inr, refl, sym, ap, subst, arith, ⊎_elim}
+use Rattle.std.proofs.Common.{◌≡◌, ◌∙◌, ◌⊎◌, ℕ, is_some, List, [], ◌∷◌, Option, Some, None, inl, inr, refl, sym, ap, subst, arith, ⊎_elim}
 use Rattle.std.specs.Prelude.{IsTrue}
 use Rattle.mv_base.specs.Meaning.{Meaning}
 use Rattle.mv_base.specs.Outside.{Gained}

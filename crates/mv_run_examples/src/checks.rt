@@ -35,6 +35,20 @@ add k;line a (2,00001,2) -> 001;default (0);end; | \
 .table n -> y;(0,1) 1;2 0;.end; | encode n 2 r s 00 01 10; | \
 .model h;.inputs a b;.outputs z y;.table r s -> z;0 0 0;0 1 1;1 - 1;.table r -> y;0 1;1 0;\
 .table a b -> r;0 - 0;1 0 0;1 1 1;.table a b -> s;0 - 0;1 0 1;1 1 0;.end; | # done 9 17;
+-- What is read by none goes; what varies goes into its reader; a table gives way to a smaller one in a window of one step.
+.model h;.inputs a b;.outputs z y;.mv n 3;.table a b -> n;0 - 0;1 0 1;1 1 2;.table n -> z;0 0;(1,2) 1;\
+.table n -> y;0 1;(1,2) 0;.table -> c;-;.table c -> d;0 0;.table a -> e;0 0;1 1;.end; | remove e; | \
+.model h;.inputs a b;.outputs z y;.mv n 3;.table a b -> n;0 - 0;1 0 1;1 1 2;.table n -> z;0 0;(1,2) 1;\
+.table n -> y;0 1;(1,2) 0;.table -> c;-;.table c -> d;0 0;.end; | # done 12 10;
+.model h;.inputs a b;.outputs z y;.mv n 3;.table a b -> n;0 - 0;1 0 1;1 1 2;.table n -> z;0 0;(1,2) 1;\
+.table n -> y;0 1;(1,2) 0;.table -> c;-;.table c -> d;0 0;.table a -> e;0 0;1 1;.end; | collapse c; | \
+.model h;.inputs a b;.outputs z y;.mv n 3;.table a b -> n;0 - 0;1 0 1;1 1 2;.table n -> z;0 0;(1,2) 1;\
+.table n -> y;0 1;(1,2) 0;.table -> d;0;.table a -> e;0 0;1 1;.end; | # done 12 11;
+.model h;.inputs a b;.outputs z y;.mv n 3;.table a b -> n;0 - 0;1 0 1;1 1 2;.table n -> z;0 0;(1,2) 1;\
+.table n -> y;0 1;(1,2) 0;.table -> c;-;.table c -> d;0 0;.table a -> e;0 0;1 1;.end; | \
+narrow n 1 0;line a 0 -> 0;line a 1 -> 1;end; | \
+.model h;.inputs a b;.outputs z y;.mv n 3;.table a -> n;0 0;1 1;.table n -> z;0 0;(1,2) 1;\
+.table n -> y;0 1;(1,2) 0;.table -> c;-;.table c -> d;0 0;.table a -> e;0 0;1 1;.end; | # done 12 9;
 ";
 
 #[test]
@@ -67,6 +81,12 @@ add k;default 0;end;divide n k;line a 0 -> 0;line a 1 b 0 -> 1;line a 1 b 1 -> 2
 wire n; | 1 NotSame
 wire e; | 1 Unread
 collapse e; | 1 Unread
+narrow n 9 0;line a 0 -> 0;end; | 1 Form
+narrow n 0 0;line z 0 -> 0;end; | 1 Outside
+narrow c 0 0;line -> 0;end; | 1 Partial
+narrow n 0 0;line a 0 -> 0;line a 1 -> 1;end; | 1 Outside
+narrow n 0 0;line a 0 -> 0;end; | 1 Lost
+narrow n 0 0;line a 0 -> 0; | 1 Syntax
 merge z 0 1; | 1 Visible
 merge n 3 0; | 1 Form
 merge n 0 1; | 1 NotSame
@@ -76,6 +96,8 @@ encode z 1 k 0 1; | 1 Visible
 encode c 1 k 0 1; | 1 Varied
 encode n 1 k 0 1; | 1 Form
 encode n 2 k k 00 01 10; | 1 NotFresh
+encode n 2 k l 00 01 01; | 1 Form
+encode n 2 k z 00 01 10; | 1 NotFresh
 remove; | 1 Syntax
 line a 0 -> 0; | 1 Syntax
 add k;line b 2000 -> 1;default 0;end; | 2 Syntax
@@ -111,6 +133,8 @@ const REFUSED: &str = "\
 .model s;.inputs;.outputs p q;.table -> c;-;.table c -> p;- =c;.table c -> q;- =c;.end; | collapse c; | 1 Shared
 .model s;.inputs;.outputs p q;.table -> c;-;.table c -> p;- =c;.table c -> q;- =c;.end; | wire c; | 1 NotSame
 .model f;.inputs a b c d;.outputs f;.table a b c d -> f;.default 0;1 1 - - 1;1 - 1 - 1;1 - - 1 1;.end; | # begin kernel;add _m1;line b 1 -> 1;line c 1 -> 0;line d 1 -> 1;default 0;end; | 2 Form
+.model l;.inputs a d;.outputs z;.latch d s;.table s -> z;- =s;.reset a -> s;- =a;.end; | add k;line a 1 s 1 -> 1;default 0;end;\
+divide .s k;line a 0 -> 0;line a 1 -> 1;line a 0 k 1 -> 0;end; | 5 Loop
  | divide a; | 1 Syntax
 ";
 

@@ -50,14 +50,15 @@ fn runs_are_allowed_or_not(rt: HostRuntime) -> Result<(), Fail> {
 }
 
 /// Run files that the controller's network refuses: lines that are too short or too long, words that name no value, a fault of the
-/// bytes, a step too many.
+/// bytes, lines of which two faults can be told, the last of them one too many.
 const REFUSED: &str = "\
 0 IDLE; | 1 Columns 3 2
 0 IDLE 0;# a comment;0 IDLE 0 0; | 3 Columns 3 4
 0 IDLE 2; | 1 UnknownValue 2
 0 1 0; | 1 UnknownValue 1
 0 IDLE 0;\u{80} | 2 Lex 1
-~100001*0 IDLE 0; | 100001 Steps
+2 9; | 1 Columns 3 2
+~100000*0 IDLE 0;~0; | 100001 Steps
 ";
 
 #[test]

@@ -3,15 +3,15 @@ use Rattle.std.proofs.Common.{◌≡◌, ◌∙◌, ℕ, zero, suc, ◌+◌, ◌
 use Rattle.std.specs.Prelude.{slice_index}
 use Rattle.std.proofs.lemmas.Bool.{cases_lt, and_parts, false≢true, lt-ltb, le-ltb, ltb-true}
 use Rattle.mv_base.specs.declared.number.NetId.{NetId}
+use Rattle.mv_graph.specs.Nets.{all_differ}
 use Rattle.mv_graph.specs.Sorting.{net_at}
 use Rattle.mv_net.specs.declared.parts.FlatNet.{FlatNet}
 use Rattle.mv_net.specs.Nets.{slot, values_in}
 use Rattle.mv_net.specs.Index.{is_held}
 use Rattle.mv_net.specs.Allowed.{net_allows, net_table_allows}
-use Rattle.mv_net.specs.Order.{IsOrder}
 use Rattle.mv_solve.specs.declared.asked.Asked.{Asked}
 use Rattle.mv_solve.specs.Asked.{takes, asked_of}
-use Rattle.mv_solve.specs.Way.{AreSettled, Goes}
+use Rattle.mv_solve.specs.Way.{IsWay, AreSettled, Goes}
 use Rattle.mv_solve.proofs.Orders.{has_at, has_here, has_further}
 use Rattle.mv_solve.proofs.Settling.{put_alike}
 use Rattle.mv_solve.proofs.Mixed.{left, left_falls}
@@ -55,9 +55,9 @@ base nets = all_values nets + 1
 pub to_try : List (Option FlatNet) → List NetId → List ℕ → ℕ → ℕ
 to_try nets order values place = left (base nets) (digit order (slice_index values) place) (length order)
 
-digit_below : (nets : List (Option FlatNet)) (order : List NetId) (asked : List Asked) (bounds values : List ℕ) (place i : ℕ) → IsOrder nets order → AreSettled nets order asked bounds (slice_index values) place → digit order (slice_index values) place i < base nets
+digit_below : (nets : List (Option FlatNet)) (order : List NetId) (starts : List ℕ) (asked : List Asked) (bounds values : List ℕ) (place i : ℕ) → IsWay nets order starts asked → AreSettled nets order starts asked bounds (slice_index values) place → digit order (slice_index values) place i < base nets
 unfolding base
-digit_below nets order asked bounds values place i o s =
+digit_below nets order starts asked bounds values place i o s =
     ⊎_elim
     (λ (less : i < place).
     let n = net_at order i in
@@ -68,32 +68,32 @@ digit_below nets order asked bounds values place i o s =
     (cases_lt i place)
 
 -- a net more has a value
-pub falls_on : (nets : List (Option FlatNet)) (order : List NetId) (asked : List Asked) (bounds values : List ℕ) (place v : ℕ) → IsOrder nets order → place < length order → AreSettled nets order asked bounds (slice_index values) place → to_try nets order (set values (net_at order place) v) (place + 1) < to_try nets order values place
+pub falls_on : (nets : List (Option FlatNet)) (order : List NetId) (starts : List ℕ) (asked : List Asked) (bounds values : List ℕ) (place v : ℕ) → IsWay nets order starts asked → place < length order → AreSettled nets order starts asked bounds (slice_index values) place → to_try nets order (set values (net_at order place) v) (place + 1) < to_try nets order values place
 unfolding to_try
-falls_on nets order asked bounds values place v o lt s =
+falls_on nets order starts asked bounds values place v o lt s =
     let now = set values (net_at order place) v in
-    let kept = put_alike nets order values place v o lt in
-    left_falls (base nets) (digit order (slice_index values) place) (digit order (slice_index now) (place + 1)) (length order) place lt (λ i low. digit_below nets order asked bounds values place i o s)
+    let kept = put_alike order values place v o.once lt in
+    left_falls (base nets) (digit order (slice_index values) place) (digit order (slice_index now) (place + 1)) (length order) place lt (λ i low. digit_below nets order starts asked bounds values place i o s)
     (λ i less. digit_on order (slice_index values) place i less ∙ (ap (λ k. k + 1) (sym (kept.same (net_at order i) (has_further order (i + 1) place (net_at order i) (omega arith) (has_here order i (omega arith))))) ∙ sym (digit_on order (slice_index now) (place + 1) i (omega arith))))
     (omega (arith, digit_off order (slice_index values) place place (omega arith), digit_on order (slice_index now) (place + 1) place (omega arith)))
 
 -- the net at an earlier place has a higher value
-pub falls_back : (nets : List (Option FlatNet)) (order : List NetId) (asked : List Asked) (bounds values now : List ℕ) (from next : ℕ) → IsOrder nets order → AreSettled nets order asked bounds (slice_index values) from → Goes order (slice_index values) (slice_index now) from next → to_try nets order now next < to_try nets order values from
+pub falls_back : (nets : List (Option FlatNet)) (order : List NetId) (starts : List ℕ) (asked : List Asked) (bounds values now : List ℕ) (from next : ℕ) → IsWay nets order starts asked → AreSettled nets order starts asked bounds (slice_index values) from → Goes order (slice_index values) (slice_index now) from next → to_try nets order now next < to_try nets order values from
 unfolding to_try
-falls_back nets order asked bounds values now from next o s g =
+falls_back nets order starts asked bounds values now from next o s g =
     let q = g.place in
     let on : q < from = g.back in
     let is : next ≡ q + 1 = g.behind in
-    left_falls (base nets) (digit order (slice_index values) from) (digit order (slice_index now) next) (length order) q (omega (arith, s.inside)) (λ i low. digit_below nets order asked bounds values from i o s)
+    left_falls (base nets) (digit order (slice_index values) from) (digit order (slice_index now) next) (length order) q (omega (arith, s.inside)) (λ i low. digit_below nets order starts asked bounds values from i o s)
     (λ i less. digit_on order (slice_index values) from i (omega arith) ∙ (ap (λ k. k + 1) (sym (g.same i less)) ∙ sym (digit_on order (slice_index now) next i (omega arith))))
     (omega (arith, digit_on order (slice_index values) from q on, digit_on order (slice_index now) next q (omega arith), g.more))
 
 -- a net that gets a higher value on the way back
-pub goes_back : (nets : List (Option FlatNet)) (order : List NetId) (values first : List ℕ) (from place v : ℕ) → IsOrder nets order → place < length order → place < from → net_at order place < length values → values ≡ first → slice_index values (net_at order place) + 1 ≤ v → Goes order (slice_index first) (slice_index (set values (net_at order place) v)) from (place + 1)
-goes_back nets order values first from place v o lt on room same more =
+pub goes_back : (order : List NetId) (values first : List ℕ) (from place v : ℕ) → all_differ order ≡ true → place < length order → place < from → net_at order place < length values → values ≡ first → slice_index values (net_at order place) + 1 ≤ v → Goes order (slice_index first) (slice_index (set values (net_at order place) v)) from (place + 1)
+goes_back order values first from place v once lt on room same more =
     let n = net_at order place in
     let now = slice_index (set values n v) in
-    let kept = put_alike nets order values place v o lt in
+    let kept = put_alike order values place v once lt in
     record {
       place = place;
       behind = refl;

@@ -48,12 +48,12 @@ first_either s t start end v w f g = record {
 
 -- ---- the values that lines give
 
-gives_more : (at : ℕ → ℕ) (v : ℕ) (ls : List Line) (i : ℕ) (l : Line) → i < length ls → l ≡ get_or ls i l → some_gives at v (take (i + 1) ls) ≡ (some_gives at v (take i ls) || (matches at l.cube && has l.out v))
+pub gives_more : (at : ℕ → ℕ) (v : ℕ) (ls : List Line) (i : ℕ) (l : Line) → i < length ls → l ≡ get_or ls i l → some_gives at v (take (i + 1) ls) ≡ (some_gives at v (take i ls) || (matches at l.cube && has l.out v))
 gives_more at v ls i l lt is =
     let p : Line → Bool = λ (m : Line). matches at m.cube && has m.out v in
     gives-any at v (take (i + 1) ls) ∙ (list_any_more p ls i l lt ∙ λ j. sym (gives-any at v (take i ls)) j || p (sym is j))
 
-matches_more : (at : ℕ → ℕ) (ls : List Line) (i : ℕ) (l : Line) → i < length ls → l ≡ get_or ls i l → some_matches at (take (i + 1) ls) ≡ (some_matches at (take i ls) || matches at l.cube)
+pub matches_more : (at : ℕ → ℕ) (ls : List Line) (i : ℕ) (l : Line) → i < length ls → l ≡ get_or ls i l → some_matches at (take (i + 1) ls) ≡ (some_matches at (take i ls) || matches at l.cube)
 matches_more at ls i l lt is =
     let p : Line → Bool = λ (m : Line). matches at m.cube in
     matches-any at (take (i + 1) ls) ∙ (list_any_more p ls i l lt ∙ λ j. sym (matches-any at (take i ls)) j || p (sym is j))

@@ -1,6 +1,9 @@
 pub mod Firsts
+pub mod Knowing
+pub mod Spreading
 pub mod Orders
 pub mod Marking
+pub mod Putting
 pub mod Settling
 pub mod Turning
 pub mod Mixed

@@ -1,8 +1,10 @@
 ghost use Rattle.std.specs.Prelude.{◌≡◌, ◌&&◌, ◌<◌, ◌≤◌, ℕ, nat_eq};
 ghost use Rattle.mv_solve.specs.Asked.{takes};
 ghost use Rattle.mv_solve.specs.First.{IsNarrowed};
+ghost use Rattle.mv_solve.specs.Known.{is_only, may_be_in, must_be_in};
 
 use mv_base::Value;
+use mv_cover::Lit;
 
 /// What is asked of the value of a net.
 #[derive(Clone, Copy, Debug, Default, PartialEq, Eq)]
@@ -31,6 +33,33 @@ impl Asked {
                 }
             }
             Asked::Nothing => Asked::Nothing,
+        }
+    }
+
+    /// Whether one value is asked for.
+    pub fn is_only(self) -> bool
+        ensures { result ≡ is_only self }
+    {
+        matches!(self, Asked::Only(_))
+    }
+
+    /// Whether the literal may hold where this is asked of its net.
+    pub fn may_hold(self, literal: &Lit) -> bool
+        ensures { result ≡ may_be_in self literal.now.set }
+    {
+        match self {
+            Asked::Only(value) => literal.has(value),
+            _ => true,
+        }
+    }
+
+    /// Whether the literal holds where this is asked of its net.
+    pub fn must_hold(self, literal: &Lit) -> bool
+        ensures { result ≡ must_be_in self literal.now.set }
+    {
+        match self {
+            Asked::Only(value) => literal.has(value),
+            _ => false,
         }
     }
 

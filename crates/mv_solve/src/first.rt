@@ -31,7 +31,7 @@ fn all_hold(values: &[u16], cube: &[Lit]) -> bool
 }
 
 /// The first value of the set from `start` on and below `end`, or `end` where there is none.
-fn first_in(set: &PackedSet, start: u16, end: u16) -> u16
+pub fn first_in(set: &PackedSet, start: u16, end: u16) -> u16
     ensures { IsFirst (has set.now) start end result }
 {
     for value in start..end {

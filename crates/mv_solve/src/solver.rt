@@ -4,8 +4,8 @@ ghost use Rattle.mv_net.specs.Order.{IsOrder};
 ghost use Rattle.mv_solve.specs.Asked.{asked_of, HasAsked, IsSolution, NoSolution};
 
 use crate::Asked;
+use crate::finding::find;
 use crate::first::value_of;
-use crate::search::search;
 use mv_base::{Memory, NetId, Value};
 use mv_net::Network;
 use std::marker::Model;
@@ -17,9 +17,15 @@ use std::marker::Model;
 pub struct Solver {
     order: Vec<NetId>,
     asked: Vec<Asked>,
+    known: Vec<Asked>,
     marks: Vec<bool>,
     bounds: Vec<usize>,
     values: Vec<u16>,
+    heads: Vec<Option<NetId>>,
+    nexts: Vec<Option<NetId>>,
+    way: Vec<NetId>,
+    starts: Vec<usize>,
+    places: Vec<usize>,
 }
 
 impl Model for Solver {
@@ -27,7 +33,7 @@ impl Model for Solver {
 
     ghost Value = { Search };
 
-    ghost use Rattle.mv_solve.specs.Way.{HasRoom};
+    ghost use Rattle.mv_solve.specs.Way.{IsRoomy};
 
     ghost view = { λ s. record {
       order = s.order.items;
@@ -35,8 +41,9 @@ impl Model for Solver {
       values = s.values.items;
     } };
 
-    ghost invariant = { λ s. HasRoom
-        s.order.items s.asked.items s.marks.items s.bounds.items s.values.items };
+    ghost invariant = { λ s. IsRoomy s.order.items s.asked.items s.known.items s.marks.items
+        s.bounds.items s.values.items s.heads.items s.nexts.items s.way.items s.starts.items
+        s.places.items };
 }
 
 impl Solver {
@@ -50,15 +57,27 @@ impl Solver {
         let alloc = *order.allocator();
         let count = net.next_number() as usize;
         let asked = vec![in alloc; Asked::Anything; count]?;
+        let known = vec![in alloc; Asked::Anything; count]?;
         let marks = vec![in alloc; false; count]?;
         let bounds = vec![in alloc; 0; order.len()]?;
         let values = vec![in alloc; 0; count]?;
+        let heads = vec![in alloc; None; count]?;
+        let nexts = vec![in alloc; None; count]?;
+        let way = vec![in alloc; NetId(0); order.len()]?;
+        let starts = vec![in alloc; 0; order.len()]?;
+        let places = vec![in alloc; 0; count]?;
         Ok(Solver {
             order,
             asked,
+            known,
             marks,
             bounds,
             values,
+            heads,
+            nexts,
+            way,
+            starts,
+            places,
         })
     }
 
@@ -95,13 +114,19 @@ impl Solver {
         ensures order { self.new.order ≡ self.old.order }
         ensures asked { self.new.asked ≡ self.old.asked }
     {
-        search(
+        find(
             net,
             self.order.as_slice(),
             self.asked.as_slice(),
+            self.known.as_mut_slice(),
             self.marks.as_mut_slice(),
             self.bounds.as_mut_slice(),
             self.values.as_mut_slice(),
+            self.heads.as_mut_slice(),
+            self.nexts.as_mut_slice(),
+            self.way.as_mut_slice(),
+            self.starts.as_mut_slice(),
+            self.places.as_mut_slice(),
         )
     }
 

@@ -30,7 +30,7 @@ use Rattle.mv_text_back.proofs.HeldTables.{table-net}
 use Rattle.mv_text_back.proofs.LatchLines.{latches-said, latches-fine, latches-valued}
 use Rattle.mv_text_back.proofs.NetSays.{model_line, inputs_line, outputs_line, decl_part, latches_from, latch_part, tables_from, table_part, inner_part}
 use Rattle.mv_text_back.proofs.NetSays.{end_line, body, net-split}
-use Rattle.mv_text_back.proofs.NetSays.{net-goes, net-inputs, net-outputs, net-parts, net-decls, net-latches, net-tables, net-resets, net-values}
+use Rattle.mv_text_back.proofs.NetSays.{net-goes, net-inputs, net-outputs, net-instances, net-decls, net-latches, net-tables, net-resets, net-values}
 use Rattle.mv_lines_back.specs.TextWords.{lines_from}
 
 -- the lines of the network say this model, and it is the network's
@@ -92,7 +92,7 @@ module _ (net : NetParts) (formed : WellFormed net) where
     tables = subst (AreTablesOf net.nets is_other_net net.nets) (sym tables_are) say.tables;
     latches = subst (AreLatchesOf net.nets net.latches) (sym (net-latches net say.inside)) (latches-said net.nets (latches_from net) net.latches);
     resets = subst (AreTablesOf net.nets is_reset_net net.nets) (sym resets_are) say.resets;
-    parts = net-parts net say.inside;
+    instances = net-instances net say.inside;
   }
 
   -- ---- the faults of the lines

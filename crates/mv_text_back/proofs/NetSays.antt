@@ -10,7 +10,7 @@ use Rattle.mv_design.specs.declared.design.Decl.{Decl}
 use Rattle.mv_parse.specs.declared.command.Command.{Command}
 use Rattle.mv_parse.specs.declared.command.Command.TheVariants.{Mv, Latch}
 use Rattle.mv_parse.specs.Commands.{command_at}
-use Rattle.mv_parse.specs.Known.{inputs_of, outputs_of, decls_of, tables_of, latch_at, latches_of, resets_of, parts_of}
+use Rattle.mv_parse.specs.Known.{inputs_of, outputs_of, decls_of, tables_of, latch_at, latches_of, resets_of, instances_of}
 use Rattle.mv_parse.specs.Grammar.{tables_faults}
 use Rattle.mv_net.specs.declared.parts.FlatNet.{FlatNet}
 use Rattle.mv_net.specs.declared.parts.NetParts.{NetParts}
@@ -20,7 +20,7 @@ use Rattle.mv_text_back.proofs.Commands.{command-model, command-inputs, command-
 use Rattle.mv_text_back.proofs.Opened.{goes_on}
 use Rattle.mv_lines_back.proofs.LinesFrom.{lines_from-append}
 use Rattle.mv_text_back.proofs.Tells.{all_pass, AllAre, are-pass, is_of_table, is_inner, is_other_than_mv, is_other_than_latch, begins_none, says_none, tables-inner, tables-no_mv, tables-no_latch}
-use Rattle.mv_text_back.proofs.Tells.{inner-goes, inner-inputs, inner-outputs, inner-parts, decls-front, others-latches, tables-behind, resets-behind, AllValued, none-valued, values-behind}
+use Rattle.mv_text_back.proofs.Tells.{inner-goes, inner-inputs, inner-outputs, inner-instances, decls-front, others-latches, tables-behind, resets-behind, AllValued, none-valued, values-behind}
 use Rattle.mv_text_back.proofs.LatchLines.{are-latches}
 use Rattle.mv_lines_back.specs.TextWords.{lines_from}
 
@@ -110,8 +110,8 @@ module _ (net : NetParts) (tables : all_pass is_of_table (table_part net) ≡ tr
   net-outputs = rw (command-inputs, command-outputs, inner-outputs (inner_part net) inner_are) (append-nil (names_of net.nets net.outputs))
 
   -- no line says an instance
-  pub net-parts : parts_of (body net) ≡ []
-  net-parts = rw (command-inputs, command-outputs) (inner-parts (inner_part net) inner_are)
+  pub net-instances : instances_of (body net) ≡ []
+  net-instances = rw (command-inputs, command-outputs) (inner-instances (inner_part net) inner_are)
 
   -- lines of latches and of tables declare nothing
   pub net-decls : (front : List LexLine) → decls_of (front ++ (latch_part net ++ table_part net)) ≡ decls_of front

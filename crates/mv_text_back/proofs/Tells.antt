@@ -9,10 +9,10 @@ use Rattle.mv_design.specs.declared.design.Decl.{Decl}
 use Rattle.mv_decl.specs.Nets.{with_decls}
 use Rattle.mv_line.specs.Words.{behind_first}
 use Rattle.mv_parse.specs.declared.command.Command.{Command}
-use Rattle.mv_parse.specs.declared.command.Command.TheVariants.{Inputs, Outputs, Mv, Table, Latch, Reset, Default, Row, Part}
+use Rattle.mv_parse.specs.declared.command.Command.TheVariants.{Inputs, Outputs, Mv, Table, Latch, Reset, Default, Row, Instance}
 use Rattle.mv_parse.specs.Commands.{command_at, is_table}
 use Rattle.mv_parse.specs.Known.{inputs_at, inputs_of, outputs_at, outputs_of, decls_at, decls_of, latch_at, latches_of}
-use Rattle.mv_parse.specs.Known.{table_at, tables_of, reset_at, resets_of, part_at, parts_of}
+use Rattle.mv_parse.specs.Known.{table_at, tables_of, reset_at, resets_of, instance_at, instances_of}
 use Rattle.mv_parse.specs.Grammar.{table_value_faults, tables_faults}
 use Rattle.mv_text_back.proofs.Opened.{stays, goes_on}
 
@@ -121,12 +121,12 @@ inner-outputs ls e =
     let F = λ (l : LexLine). outputs_at (command_at l) (behind_first l) in
     flat_map-nothing F (λ l. is_inner (command_at l)) (λ l y. no_outputs (command_at l) (behind_first l) y) ls e
 
-no_parts : (c : Command) (l : LexLine) → is_inner c ≡ true → part_at c l ≡ []
-no_parts Part l e = cc
-no_parts _ l e = refl
+no_instances : (c : Command) (l : LexLine) → is_inner c ≡ true → instance_at c l ≡ []
+no_instances Instance l e = cc
+no_instances _ l e = refl
 
-pub inner-parts : (ls : List LexLine) → all_pass is_inner ls ≡ true → parts_of ls ≡ []
-inner-parts ls e = flat_map-nothing (λ l. part_at (command_at l) l) (λ l. is_inner (command_at l)) (λ l y. no_parts (command_at l) l y) ls e
+pub inner-instances : (ls : List LexLine) → all_pass is_inner ls ≡ true → instances_of ls ≡ []
+inner-instances ls e = flat_map-nothing (λ l. instance_at (command_at l) l) (λ l. is_inner (command_at l)) (λ l y. no_instances (command_at l) l y) ls e
 
 -- ---- declarations and latches
 

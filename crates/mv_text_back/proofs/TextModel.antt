@@ -90,7 +90,7 @@ pub record IsModelOf (net : NetParts) (m : FileModel) : Type 0 where
   pub tables : AreTablesOf net.nets is_other_net net.nets m.tables
   pub latches : AreLatchesOf net.nets net.latches m.latches
   pub resets : AreTablesOf net.nets is_reset_net net.nets m.resets
-  pub parts : m.parts ≡ []
+  pub instances : m.instances ≡ []
 
 -- a design of this one model
 abbrev pub design_with : FileModel → Design

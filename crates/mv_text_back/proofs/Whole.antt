@@ -6,7 +6,7 @@ use Rattle.mv_base.proofs.Meanings.{SameMeaning-then}
 use Rattle.mv_lex.specs.declared.lines.LexLine.{LexLine}
 use Rattle.mv_parse.specs.Grammar.{IsDesign}
 use Rattle.mv_design.specs.declared.design.FileModel.{FileModel}
-use Rattle.mv_design.specs.declared.design.Part.{Part}
+use Rattle.mv_design.specs.declared.design.Instance.{Instance}
 use Rattle.mv_design.specs.declared.table.FileTable.{FileTable}
 use Rattle.mv_design.specs.Nets.{root_of}
 use Rattle.mv_design.specs.Meaning.{of_model}
@@ -33,8 +33,8 @@ use Rattle.mv_text_back.proofs.BackMeaning.{means-back}
 
 -- ---- a model without instances, as a design
 
-no_instances : (net : NetParts) (m : FileModel) → IsModelOf net m → Unfolds (design_with m) m.parts NoMore
-no_instances net m model = subst (λ (ps : List Part). Unfolds (design_with m) ps NoMore) (sym model.parts) tt
+no_instances : (net : NetParts) (m : FileModel) → IsModelOf net m → Unfolds (design_with m) m.instances NoMore
+no_instances net m model = subst (λ (ps : List Instance). Unfolds (design_with m) ps NoMore) (sym model.instances) tt
 
 sound : (net : NetParts) (m : FileModel) → WellFormed net → IsModelOf net m → IsSound (design_with m)
 unfolding root_of unfolded
@@ -44,7 +44,7 @@ sound net m formed model =
       tree = NoMore;
       unfolds = no_instances net m model;
       bound = tt;
-      nets = good_alone m model.parts s.driven s.resets;
+      nets = good_alone m model.instances s.driven s.resets;
       acyclic = s.acyclic;
       alone = s.alone;
     }

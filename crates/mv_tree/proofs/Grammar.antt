@@ -8,11 +8,11 @@ use Rattle.mv_design.specs.declared.design.Decl.{Decl}
 use Rattle.mv_design.specs.declared.design.Design.{Design}
 use Rattle.mv_design.specs.declared.design.FileLatch.{FileLatch}
 use Rattle.mv_design.specs.declared.design.FileModel.{FileModel}
-use Rattle.mv_design.specs.declared.design.Part.{Part}
+use Rattle.mv_design.specs.declared.design.Instance.{Instance}
 use Rattle.mv_design.specs.declared.table.FileTable.{FileTable}
 use Rattle.mv_design.specs.Nets.{columns_of}
-use Rattle.mv_design.specs.Proper.{IsFileBind, IsFileTable, IsFileReset, IsFileLatch, IsFileDecl, IsFilePart, IsLawful}
-use Rattle.mv_tree.specs.Tree.{Instances, NoMore, Instance, Unfolds}
+use Rattle.mv_design.specs.Proper.{IsFileBind, IsFileTable, IsFileReset, IsFileLatch, IsFileDecl, IsFileInstance, IsLawful}
+use Rattle.mv_tree.specs.Tree.{Instances, NoMore, More, Unfolds}
 use Rattle.mv_tree.specs.Places.{all_nets, actual_of, Place, root_place, path_in, place_in, places_in, places, own_nets, homes}
 use Rattle.mv_tree.specs.Unfolded.{placed_decl, decls_in, numbered, renamed, tables_in, placed_reset, resets_in, placed_latch, latches_in, joined, unfolded}
 use Rattle.mv_tree.specs.Bound.{AreBound, FollowsGrammar}
@@ -37,40 +37,40 @@ record IsPlaced (p : Place) : Type 0 where
   own : (net : List ℕ) → actual_of p.binds net ≡ None → p.home net ≡ p.path ++ net
   once : names_differ (formals p.binds) ≡ true
 
-placed_inside : (round : Place) (part : Part) (model : FileModel) → IsPath round.path → IsFilePart part → IsPlaced (place_in round part model)
-placed_inside round part model h f =
+placed_inside : (round : Place) (instance : Instance) (model : FileModel) → IsPath round.path → IsFileInstance instance → IsPlaced (place_in round instance model)
+placed_inside round instance model h f =
     record {
-      path = path_inside round.path part.instance h f.instance;
-      own = λ net e. through-own round.home (λ n. path_in round.path part.instance ++ n) part.binds net e;
+      path = path_inside round.path instance.name h f.name;
+      own = λ net e. through-own round.home (λ n. path_in round.path instance.name ++ n) instance.binds net e;
       once = f.differ;
     }
 
-placed_in : (d : Design) (round : Place) (parts : List Part) (tree : Instances) → Unfolds d parts tree → IsPath round.path → AllByRecursion IsFilePart parts
+placed_in : (d : Design) (round : Place) (instances : List Instance) (tree : Instances) → Unfolds d instances tree → IsPath round.path → AllByRecursion IsFileInstance instances
     → AllByRecursion IsLawfulPlace (places_in round tree) → AllByRecursion IsPlaced (places_in round tree)
 placed_in d round [] NoMore u h f l = tt
-placed_in d round [] (Instance part model inside rest) u h f l = absurd u
+placed_in d round [] (More instance model inside rest) u h f l = absurd u
 placed_in d round (q ∷ qs) NoMore u h f l = absurd u
-placed_in d round (q ∷ qs) (Instance part model inside rest) u h f l =
-    let p = place_in round part model in
-    let here = placed_inside round part model h (subst IsFilePart (sym u.0.is) f.0) in
+placed_in d round (q ∷ qs) (More instance model inside rest) u h f l =
+    let p = place_in round instance model in
+    let here = placed_inside round instance model h (subst IsFileInstance (sym u.0.is) f.0) in
     let these = places_in p inside in
     let more = places_in round rest in (
       here,
       each-append IsPlaced these more
-          (placed_in d p model.parts inside u.1 here.path (recursion_from_All IsFilePart model.parts l.0.parts) (each-front IsLawfulPlace these more l.1))
+          (placed_in d p model.instances inside u.1 here.path (recursion_from_All IsFileInstance model.instances l.0.instances) (each-front IsLawfulPlace these more l.1))
           (placed_in d round qs rest u.2 h f.1 (each-behind IsLawfulPlace these more l.1)),
     )
 
-all_placed : (d : Design) (root : FileModel) (tree : Instances) → Unfolds d root.parts tree → AllByRecursion IsLawfulPlace (places root tree)
+all_placed : (d : Design) (root : FileModel) (tree : Instances) → Unfolds d root.instances tree → AllByRecursion IsLawfulPlace (places root tree)
     → AllByRecursion IsPlaced (places root tree)
 all_placed d root tree u l = (
   record { path = no_path; own = λ net e. refl; once = refl },
-  placed_in d (root_place root) root.parts tree u no_path (recursion_from_All IsFilePart root.parts l.0.parts) l.1,
+  placed_in d (root_place root) root.instances tree u no_path (recursion_from_All IsFileInstance root.instances l.0.instances) l.1,
 )
 
 -- ---- the grammar
 
-pub follows_grammar : (d : Design) (root : FileModel) (tree : Instances) → Unfolds d root.parts tree → All (λ p. IsLawful p.model) (places root tree)
+pub follows_grammar : (d : Design) (root : FileModel) (tree : Instances) → Unfolds d root.instances tree → All (λ p. IsLawful p.model) (places root tree)
     → All FollowsGrammar (places root tree)
 follows_grammar d root tree u l =
     let ps = places root tree in
@@ -91,13 +91,13 @@ follows_grammar d root tree u l =
 abbrev IsNet : List ℕ → Type 0
 IsNet w = is_net_name w ≡ true
 
-actuals_lawful : (parts : List Part) → AllByRecursion IsFilePart parts → AllByRecursion IsNet (flat_map actuals parts)
-actuals_lawful parts h =
-    each-from_flat IsNet actuals parts
-    (each-weaker IsFilePart (λ p. AllByRecursion IsNet (actuals p))
+actuals_lawful : (instances : List Instance) → AllByRecursion IsFileInstance instances → AllByRecursion IsNet (flat_map actuals instances)
+actuals_lawful instances h =
+    each-from_flat IsNet actuals instances
+    (each-weaker IsFileInstance (λ p. AllByRecursion IsNet (actuals p))
     (λ p f.
     each-map IsNet (λ b. b.actual) p.binds
-    (each-weaker IsFileBind (λ b. IsNet b.actual) (λ b g. g.actual) p.binds (recursion_from_All IsFileBind p.binds f.binds))) parts h)
+    (each-weaker IsFileBind (λ b. IsNet b.actual) (λ b g. g.actual) p.binds (recursion_from_All IsFileBind p.binds f.binds))) instances h)
 
 columns_lawful : (ds : List Decl) (ts : List FileTable) → AllByRecursion (IsFileTable ds) ts → AllByRecursion IsNet (flat_map columns_of ts)
 columns_lawful ds ts h =
@@ -120,10 +120,10 @@ net_lawful m h net e =
     let resets = columns_lawful m.decls m.resets (resets_are_tables m.decls m.resets h.resets) in
     let tables = columns_lawful m.decls m.tables (recursion_from_All (IsFileTable m.decls) m.tables h.tables) in
     let commands = each-append IsNet (flat_map latch_nets m.latches) _ latches (each-append IsNet (flat_map columns_of m.resets) _ resets tables) in
-    let parts = each-append IsNet (flat_map actuals m.parts) _ (actuals_lawful m.parts (recursion_from_All IsFilePart m.parts h.parts)) commands in
-    let outputs = each-append IsNet m.outputs _ (each-from_test is_net_name m.outputs h.outputs) parts in
+    let instances = each-append IsNet (flat_map actuals m.instances) _ (actuals_lawful m.instances (recursion_from_All IsFileInstance m.instances h.instances)) commands in
+    let outputs = each-append IsNet m.outputs _ (each-from_test is_net_name m.outputs h.outputs) instances in
     let all = each-append IsNet m.inputs _ (each-from_test is_net_name m.inputs h.inputs) outputs in
-    each-named IsNet (m.inputs ++ (m.outputs ++ (flat_map actuals m.parts ++ command_nets m))) net all (sym (among-all_nets net m) ∙ e)
+    each-named IsNet (m.inputs ++ (m.outputs ++ (flat_map actuals m.instances ++ command_nets m))) net all (sym (among-all_nets net m) ∙ e)
 
 -- and so have the nets of the whole
 homes_lawful : (ps : List Place) → AllByRecursion IsLawfulPlace ps → AllByRecursion IsPlaced ps → AreLawful (homes ps)
@@ -228,15 +228,15 @@ joined_lawful root ps l names h =
       tables = All-from_recursion (IsFileTable ds) (tables_in 0 ps) (tables_lawful ps 0 ps names h);
       latches = All-from_recursion (IsFileLatch ds) (latches_in ps) (latches_lawful_in ps ps names h);
       resets = All-from_recursion (IsFileReset ds) (resets_in 0 ps) (resets_lawful ps 0 ps names h);
-      parts = All-nil IsFilePart;
+      instances = All-nil IsFileInstance;
     }
 
-pub lawful : (d : Design) (root : FileModel) (tree : Instances) → Unfolds d root.parts tree → AreBound root tree → names_differ (homes (places root tree)) ≡ true
+pub lawful : (d : Design) (root : FileModel) (tree : Instances) → Unfolds d root.instances tree → AreBound root tree → names_differ (homes (places root tree)) ≡ true
     → All (λ p. IsLawful p.model) (places root tree) → IsLawful (unfolded root tree)
 unfolding unfolded
 lawful d root NoMore u bound differ l = (recursion_from_All IsLawfulPlace (places root NoMore) l).0
-lawful d root (Instance part model inside rest) u bound differ l =
-    let tree = Instance part model inside rest in
+lawful d root (More instance model inside rest) u bound differ l =
+    let tree = More instance model inside rest in
     let ps = places root tree in
     let each = recursion_from_All IsLawfulPlace ps l in
     let stand = all_stand root tree (are_named d root tree u) bound differ in

@@ -11,8 +11,8 @@ use Rattle.mv_base.proofs.NameLemmas.{same_word_is}
 use Rattle.mv_design.specs.declared.design.Bind.{Bind}
 use Rattle.mv_design.specs.declared.design.Design.{Design}
 use Rattle.mv_design.specs.declared.design.FileModel.{FileModel}
-use Rattle.mv_design.specs.declared.design.Part.{Part}
-use Rattle.mv_tree.specs.Tree.{Instances, NoMore, Instance, Unfolds}
+use Rattle.mv_design.specs.declared.design.Instance.{Instance}
+use Rattle.mv_tree.specs.Tree.{Instances, NoMore, More, Unfolds}
 use Rattle.mv_tree.specs.Places.{all_nets, actual_of, is_bound, Place, root_place, through, path_in, place_in, places_in, places, own_nets}
 use Rattle.mv_tree.proofs.Each.{each_among, each-mapped, each-front, each-behind, each-append}
 use Rattle.mv_tree.proofs.Homes.{Seat, TellsOwn}
@@ -64,19 +64,19 @@ actual_listed binds net actual e =
 
 abbrev pub AreNamed : FileModel → Instances → Type 0
 AreNamed round NoMore = Unit {0}
-AreNamed round (Instance part model inside rest) = AreAmong (actuals part) (all_nets round) × AreNamed model inside × AreNamed round rest
+AreNamed round (More instance model inside rest) = AreAmong (actuals instance) (all_nets round) × AreNamed model inside × AreNamed round rest
 
-parts_named : (d : Design) (round : FileModel) (parts : List Part) (tree : Instances) → Unfolds d parts tree
-    → AllByRecursion (λ p. AreAmong (actuals p) (all_nets round)) parts → AreNamed round tree
-parts_named d round [] NoMore u h = tt
-parts_named d round [] (Instance part model inside rest) u h = absurd u
-parts_named d round (p ∷ ps) NoMore u h = absurd u
-parts_named d round (p ∷ ps) (Instance part model inside rest) u h =
-    let P : Part → Type 0 = λ q. AreAmong (actuals q) (all_nets round) in
-    (subst P (sym u.0.is) h.0, parts_named d model model.parts inside u.1 (actuals_among model), parts_named d round ps rest u.2 h.1)
+instances_named : (d : Design) (round : FileModel) (instances : List Instance) (tree : Instances) → Unfolds d instances tree
+    → AllByRecursion (λ p. AreAmong (actuals p) (all_nets round)) instances → AreNamed round tree
+instances_named d round [] NoMore u h = tt
+instances_named d round [] (More instance model inside rest) u h = absurd u
+instances_named d round (p ∷ ps) NoMore u h = absurd u
+instances_named d round (p ∷ ps) (More instance model inside rest) u h =
+    let P : Instance → Type 0 = λ q. AreAmong (actuals q) (all_nets round) in
+    (subst P (sym u.0.is) h.0, instances_named d model model.instances inside u.1 (actuals_among model), instances_named d round ps rest u.2 h.1)
 
-pub are_named : (d : Design) (root : FileModel) (tree : Instances) → Unfolds d root.parts tree → AreNamed root tree
-are_named d root tree u = parts_named d root root.parts tree u (actuals_among root)
+pub are_named : (d : Design) (root : FileModel) (tree : Instances) → Unfolds d root.instances tree → AreNamed root tree
+are_named d root tree u = instances_named d root root.instances tree u (actuals_among root)
 
 -- ---- what is told of all nets
 
@@ -85,17 +85,17 @@ pub record TellsAll {X : Type 0} (f : List ℕ → X) (s : Seat X) : Type 0 wher
   pub all : (net : List ℕ) → among net (all_nets s.place.model) ≡ true → f (s.place.home net) ≡ s.tells net
 
 -- of an instance: where it tells of a formal that is bound what is told of the net round it
-pub told_inside : {X : Type 0} (f : List ℕ → X) (round : Place) (at_round : List ℕ → X) (part : Part) (model : FileModel) (tells : List ℕ → X)
-    → ((net actual : List ℕ) → actual_of part.binds net ≡ Some actual → tells net ≡ at_round actual) → AreAmong (actuals part) (all_nets round.model)
-    → TellsAll f (record { place = round; tells = at_round }) → TellsOwn f (record { place = place_in round part model; tells = tells })
-    → TellsAll f (record { place = place_in round part model; tells = tells })
-told_inside {X} f round at_round part model tells bound named all own = record { all = λ net listed. by net listed (actual_of part.binds net) refl }
+pub told_inside : {X : Type 0} (f : List ℕ → X) (round : Place) (at_round : List ℕ → X) (instance : Instance) (model : FileModel) (tells : List ℕ → X)
+    → ((net actual : List ℕ) → actual_of instance.binds net ≡ Some actual → tells net ≡ at_round actual) → AreAmong (actuals instance) (all_nets round.model)
+    → TellsAll f (record { place = round; tells = at_round }) → TellsOwn f (record { place = place_in round instance model; tells = tells })
+    → TellsAll f (record { place = place_in round instance model; tells = tells })
+told_inside {X} f round at_round instance model tells bound named all own = record { all = λ net listed. by net listed (actual_of instance.binds net) refl }
   where
-    by : (net : List ℕ) → among net (all_nets model) ≡ true → (o : Option (List ℕ)) → actual_of part.binds net ≡ o → f ((place_in round part model).home net) ≡ tells net
-    by net listed None e = own.own net (own-from_unbound (place_in round part model) net e listed)
+    by : (net : List ℕ) → among net (all_nets model) ≡ true → (o : Option (List ℕ)) → actual_of instance.binds net ≡ o → f ((place_in round instance model).home net) ≡ tells net
+    by net listed None e = own.own net (own-from_unbound (place_in round instance model) net e listed)
     by net listed (Some actual) e =
-        ap f (through-bound round.home (λ n. path_in round.path part.instance ++ n) part.binds net actual e)
-        ∙ (all.all actual (named.each actual (actual_listed part.binds net actual e)) ∙ sym (bound net actual e))
+        ap f (through-bound round.home (λ n. path_in round.path instance.name ++ n) instance.binds net actual e)
+        ∙ (all.all actual (named.each actual (actual_listed instance.binds net actual e)) ∙ sym (bound net actual e))
 
 -- of the root, all whose nets are its own
 pub told_root : {X : Type 0} (f : List ℕ → X) (root : FileModel) (tells : List ℕ → X) → TellsOwn f (record { place = root_place root; tells = tells })
@@ -104,8 +104,8 @@ told_root f root tells own = record { all = λ net listed. own.own net (own-from
 
 -- what places tell where each tells of a formal that is bound what the place round it tells
 pub record Inherits {X : Type 0} (tells : Place → List ℕ → X) : Type 0 where
-  pub bound : (round : Place) (part : Part) (model : FileModel) (net actual : List ℕ) → actual_of part.binds net ≡ Some actual
-      → tells (place_in round part model) net ≡ tells round actual
+  pub bound : (round : Place) (instance : Instance) (model : FileModel) (net actual : List ℕ) → actual_of instance.binds net ≡ Some actual
+      → tells (place_in round instance model) net ≡ tells round actual
 
 abbrev pub seated : {X : Type 0} → (Place → List ℕ → X) → Place → Seat X
 seated tells p = record { place = p; tells = tells p }
@@ -114,10 +114,10 @@ told_in : {X : Type 0} (f : List ℕ → X) (tells : Place → List ℕ → X) �
     → TellsAll f (seated tells round) → AllByRecursion (λ p. TellsOwn f (seated tells p)) (places_in round tree)
     → AllByRecursion (λ p. TellsAll f (seated tells p)) (places_in round tree)
 told_in f tells h round NoMore named all own = tt
-told_in f tells h round (Instance part model inside rest) named all own =
-    let p = place_in round part model in
+told_in f tells h round (More instance model inside rest) named all own =
+    let p = place_in round instance model in
     let Own : Place → Type 0 = λ q. TellsOwn f (seated tells q) in
-    let here = told_inside f round (tells round) part model (tells p) (h.bound round part model) named.0 all own.0 in (
+    let here = told_inside f round (tells round) instance model (tells p) (h.bound round instance model) named.0 all own.0 in (
       here,
       each-append _ (places_in p inside) (places_in round rest) (told_in f tells h p inside named.1 here (each-front Own (places_in p inside) (places_in round rest) own.1))
           (told_in f tells h round rest named.2 all (each-behind Own (places_in p inside) (places_in round rest) own.1)),

@@ -9,11 +9,11 @@ use Rattle.mv_base.specs.Names.{same_word, among}
 use Rattle.mv_base.proofs.NameLemmas.{same_word_is, among-append}
 use Rattle.mv_design.specs.declared.design.FileLatch.{FileLatch}
 use Rattle.mv_design.specs.declared.design.FileModel.{FileModel}
-use Rattle.mv_design.specs.declared.design.Part.{Part}
+use Rattle.mv_design.specs.declared.design.Instance.{Instance}
 use Rattle.mv_design.specs.ByLine.{by_line}
 use Rattle.mv_design.proofs.ByLine.{any-by_line}
 use Rattle.mv_design.specs.Nets.{Naming, columns_of, latch_naming, namings, nets_named, table_naming}
-use Rattle.mv_tree.specs.Places.{part_naming, all_namings, all_nets}
+use Rattle.mv_tree.specs.Places.{instance_naming, all_namings, all_nets}
 
 -- ---- the names of commands
 
@@ -32,7 +32,7 @@ named_by naming w (x ∷ xs) =
 abbrev pub latch_nets : FileLatch → List (List ℕ)
 latch_nets l = l.input ∷ l.output ∷ []
 
-abbrev pub actuals : Part → List (List ℕ)
+abbrev pub actuals : Instance → List (List ℕ)
 actuals p = map (λ b. b.actual) p.binds
 
 -- what latches, reset tables and tables name
@@ -71,14 +71,14 @@ among-firsts w (u ∷ us) =
     (cases_Bool (same_word w u))
 
 -- the nets of a model, in no order
-pub among-all_nets : (w : List ℕ) (m : FileModel) → among w (all_nets m) ≡ among w (m.inputs ++ (m.outputs ++ (flat_map actuals m.parts ++ command_nets m)))
+pub among-all_nets : (w : List ℕ) (m : FileModel) → among w (all_nets m) ≡ among w (m.inputs ++ (m.outputs ++ (flat_map actuals m.instances ++ command_nets m)))
 unfolding all_nets all_namings
 among-all_nets w m =
     among-firsts w _
     ∙ same_behind w m.inputs _ _ (same_behind w m.outputs _ _
     (among_named w (all_namings m)
-    ∙ (any-by_line (λ n. n.line) (naming_has w) (map part_naming m.parts) (namings m)
-    ∙ (rw (named_by part_naming w m.parts, among_namings w m) (sym (among-append w (flat_map actuals m.parts) (command_nets m)))))))
+    ∙ (any-by_line (λ n. n.line) (naming_has w) (map instance_naming m.instances) (namings m)
+    ∙ (rw (named_by instance_naming w m.instances, among_namings w m) (sym (among-append w (flat_map actuals m.instances) (command_nets m)))))))
 
 -- ---- names among others
 
@@ -117,7 +117,7 @@ among_all f (x ∷ xs) names h = among_both (f x) (flat_map f xs) names h.0 (amo
 
 -- ---- the nets of a model
 
-all_among : (m : FileModel) → AreAmong (m.inputs ++ (m.outputs ++ (flat_map actuals m.parts ++ command_nets m))) (all_nets m)
+all_among : (m : FileModel) → AreAmong (m.inputs ++ (m.outputs ++ (flat_map actuals m.instances ++ command_nets m))) (all_nets m)
 all_among m = record { each = λ w e. among-all_nets w m ∙ e }
 
 -- what names the nets of a model: its inputs and outputs, its instances, and its tables, latches and reset tables
@@ -133,7 +133,7 @@ pub nets_among : (m : FileModel) → NamesAmong m (all_nets m)
 nets_among m =
     let all = all_among m in
     let behind = among_right m.inputs _ _ all in
-    let commands = among_right (flat_map actuals m.parts) _ _ (among_right m.outputs _ _ behind) in
+    let commands = among_right (flat_map actuals m.instances) _ _ (among_right m.outputs _ _ behind) in
     let tables = among_right (flat_map latch_nets m.latches) _ _ commands in
     record {
       inputs = among_left m.inputs _ _ all;
@@ -144,8 +144,8 @@ nets_among m =
     }
 
 -- and so is what its instances name
-pub actuals_among : (m : FileModel) → AllByRecursion (λ p. AreAmong (actuals p) (all_nets m)) m.parts
-actuals_among m = among_each actuals m.parts _ (among_left _ (command_nets m) _ (among_right m.outputs _ _ (among_right m.inputs _ _ (all_among m))))
+pub actuals_among : (m : FileModel) → AllByRecursion (λ p. AreAmong (actuals p) (all_nets m)) m.instances
+actuals_among m = among_each actuals m.instances _ (among_left _ (command_nets m) _ (among_right m.outputs _ _ (among_right m.inputs _ _ (all_among m))))
 
 -- names that take in what names a model's nets, but for its instances, take in what it names
 pub named_among : (m : FileModel) (names : List (List ℕ)) → NamesAmong m names → AreAmong (nets_named m) names

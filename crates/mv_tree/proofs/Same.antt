@@ -9,11 +9,11 @@ use Rattle.mv_base.specs.Names.{among, names_differ}
 use Rattle.mv_design.specs.declared.design.Decl.{Decl}
 use Rattle.mv_design.specs.declared.design.Design.{Design}
 use Rattle.mv_design.specs.declared.design.FileModel.{FileModel}
-use Rattle.mv_design.specs.declared.design.Part.{Part}
+use Rattle.mv_design.specs.declared.design.Instance.{Instance}
 use Rattle.mv_design.specs.Meaning.{in_values, table_holds, may_begin_all, port, latch_port, AllowsModel, of_model}
 use Rattle.mv_design.specs.Nets.{latch_inputs, latch_outputs, nets_named}
 use Rattle.mv_design.specs.Values.{count_of}
-use Rattle.mv_tree.specs.Tree.{Instances, NoMore, Instance, Unfolds}
+use Rattle.mv_tree.specs.Tree.{Instances, NoMore, More, Unfolds}
 use Rattle.mv_tree.specs.Places.{all_nets, root_place, places_in, places, homes}
 use Rattle.mv_tree.specs.Unfolded.{tables_in, latches_in, joined, unfolded}
 use Rattle.mv_tree.specs.Meaning.{NoValues, Valued, valued_in, states_of, nexts_of, BeginWith, AllowsTree, of_tree}
@@ -194,12 +194,12 @@ root_same root a = record {
 
 -- ---- the whole
 
-whole_joined : (d : Design) (root : FileModel) (part : Part) (model : FileModel) (inside rest : Instances) → Unfolds d root.parts (Instance part model inside rest)
-    → IsWhole root (Instance part model inside rest) → All FollowsGrammar (places root (Instance part model inside rest))
-    → IsJoined root (Instance part model inside rest)
+whole_joined : (d : Design) (root : FileModel) (instance : Instance) (model : FileModel) (inside rest : Instances) → Unfolds d root.instances (More instance model inside rest)
+    → IsWhole root (More instance model inside rest) → All FollowsGrammar (places root (More instance model inside rest))
+    → IsJoined root (More instance model inside rest)
 unfolding unfolded
-whole_joined d root part model inside rest u w g =
-    let tree = Instance part model inside rest in
+whole_joined d root instance model inside rest u w g =
+    let tree = More instance model inside rest in
     let ps = places root tree in
     let named = are_named d root tree u in
     let latches : names_differ (latch_homes ps) ≡ true = ap names_differ (sym (latch_outputs_in ps)) ∙ w.latches in
@@ -216,9 +216,9 @@ root_named : (root : FileModel) → IsWhole root NoMore → AreAmong (all_nets r
 unfolding unfolded
 root_named root w = record { each = λ net l. w.named net ((all_stand root NoMore tt tt w.differ).0.listed net l) }
 
-pub same_meaning : (d : Design) (root : FileModel) (tree : Instances) → Unfolds d root.parts tree → IsWhole root tree → All FollowsGrammar (places root tree)
+pub same_meaning : (d : Design) (root : FileModel) (tree : Instances) → Unfolds d root.instances tree → IsWhole root tree → All FollowsGrammar (places root tree)
     → SameMeaning (of_model (unfolded root tree)) (of_tree root tree)
 unfolding unfolded
 same_meaning d root NoMore u w g = root_same root (root_named root w)
-same_meaning d root (Instance part model inside rest) u w g =
-    joined_same root (Instance part model inside rest) (whole_joined d root part model inside rest u w g)
+same_meaning d root (More instance model inside rest) u w g =
+    joined_same root (More instance model inside rest) (whole_joined d root instance model inside rest u w g)

@@ -9,9 +9,9 @@ use Rattle.std.proofs.lemmas.Simd.{map-map}
 use Rattle.mv_base.specs.Names.{same_word, among, names_differ}
 use Rattle.mv_design.specs.declared.design.Decl.{Decl}
 use Rattle.mv_design.specs.declared.design.FileModel.{FileModel}
-use Rattle.mv_design.specs.declared.design.Part.{Part}
+use Rattle.mv_design.specs.declared.design.Instance.{Instance}
 use Rattle.mv_design.specs.Values.{values_of, two_values, count_of}
-use Rattle.mv_tree.specs.Tree.{Instances, NoMore, Instance}
+use Rattle.mv_tree.specs.Tree.{Instances, NoMore, More}
 use Rattle.mv_tree.specs.Places.{actual_of, all_nets, Place, root_place, place_in, places_in, places, own_nets, homes}
 use Rattle.mv_tree.specs.Unfolded.{placed_decl, decls_in}
 use Rattle.mv_tree.specs.Bound.{IsBound, AreBound}
@@ -62,9 +62,9 @@ record HasOwnValues (p : Place) : Type 0 where
 
 own_values_in : (round : Place) (tree : Instances) → AllByRecursion HasOwnValues (places_in round tree)
 own_values_in round NoMore = tt
-own_values_in round (Instance part model inside rest) =
-    let p = place_in round part model in (
-      record { own = λ net e. through-own round.values (values_of model.decls) part.binds net e },
+own_values_in round (More instance model inside rest) =
+    let p = place_in round instance model in (
+      record { own = λ net e. through-own round.values (values_of model.decls) instance.binds net e },
       each-append HasOwnValues (places_in p inside) (places_in round rest) (own_values_in p inside) (own_values_in round rest),
     )
 
@@ -75,22 +75,22 @@ own_values root tree = (record { own = λ net e. refl }, own_values_in (root_pla
 record HasCounts (p : Place) : Type 0 where
   count : (net : List ℕ) → length (p.values net) ≡ count_of p.model.decls net
 
-counts_inside : (round : Place) (part : Part) (model : FileModel) → IsBound round.model part model → HasCounts round → HasCounts (place_in round part model)
-counts_inside round part model bound h = record { count = λ net. by net (actual_of part.binds net) refl }
+counts_inside : (round : Place) (instance : Instance) (model : FileModel) → IsBound round.model instance model → HasCounts round → HasCounts (place_in round instance model)
+counts_inside round instance model bound h = record { count = λ net. by net (actual_of instance.binds net) refl }
   where
-    by : (net : List ℕ) (o : Option (List ℕ)) → actual_of part.binds net ≡ o → length ((place_in round part model).values net) ≡ count_of model.decls net
-    by net None e = ap length (through-own round.values (values_of model.decls) part.binds net e)
+    by : (net : List ℕ) (o : Option (List ℕ)) → actual_of instance.binds net ≡ o → length ((place_in round instance model).values net) ≡ count_of model.decls net
+    by net None e = ap length (through-own round.values (values_of model.decls) instance.binds net e)
     by net (Some actual) e =
-        let each = each-from_test (λ b. count_of model.decls b.formal == count_of round.model.decls b.actual) part.binds bound.counts in
-        let same = each_bound (λ f a. (count_of model.decls f == count_of round.model.decls a) ≡ true) part.binds net actual each e in
-        ap length (through-bound round.values (values_of model.decls) part.binds net actual e)
+        let each = each-from_test (λ b. count_of model.decls b.formal == count_of round.model.decls b.actual) instance.binds bound.counts in
+        let same = each_bound (λ f a. (count_of model.decls f == count_of round.model.decls a) ≡ true) instance.binds net actual each e in
+        ap length (through-bound round.values (values_of model.decls) instance.binds net actual e)
         ∙ (h.count actual ∙ sym (eqb-true (count_of model.decls net) (count_of round.model.decls actual) same))
 
 counts_in : (round : Place) (tree : Instances) → AreBound round.model tree → HasCounts round → AllByRecursion HasCounts (places_in round tree)
 counts_in round NoMore bound h = tt
-counts_in round (Instance part model inside rest) bound h =
-    let p = place_in round part model in
-    let here = counts_inside round part model bound.0 h in
+counts_in round (More instance model inside rest) bound h =
+    let p = place_in round instance model in
+    let here = counts_inside round instance model bound.0 h in
     (here, each-append HasCounts (places_in p inside) (places_in round rest) (counts_in p inside bound.1 here) (counts_in round rest bound.2 h))
 
 -- ---- places in the whole
@@ -102,10 +102,10 @@ pub record Stands (ps : List Place) (p : Place) : Type 0 where
   pub count : (net : List ℕ) → among net (all_nets p.model) ≡ true → count_of (decls_in ps) (p.home net) ≡ count_of p.model.decls net
 
 listed_inherits : Inherits (λ _ _. true)
-listed_inherits = record { bound = λ round part model net actual e. refl }
+listed_inherits = record { bound = λ round instance model net actual e. refl }
 
 values_inherit : Inherits values_at
-values_inherit = record { bound = λ round part model net actual e. through-bound round.values (values_of model.decls) part.binds net actual e }
+values_inherit = record { bound = λ round instance model net actual e. through-bound round.values (values_of model.decls) instance.binds net actual e }
 
 pub all_stand : (root : FileModel) (tree : Instances) → AreNamed root tree → AreBound root tree → names_differ (homes (places root tree)) ≡ true
     → AllByRecursion (Stands (places root tree)) (places root tree)

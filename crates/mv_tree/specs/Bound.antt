@@ -4,10 +4,10 @@ use Rattle.std.specs.Prelude.{◌≡◌, ℕ, Bool, true, ◌==◌, List, ◌++�
 use Rattle.std.specs.List.{list_all}
 use Rattle.mv_base.specs.Names.{among, names_differ}
 use Rattle.mv_design.specs.declared.design.FileModel.{FileModel}
-use Rattle.mv_design.specs.declared.design.Part.{Part}
+use Rattle.mv_design.specs.declared.design.Instance.{Instance}
 use Rattle.mv_design.specs.Nets.{nets_named, latch_outputs, output_of}
 use Rattle.mv_design.specs.Values.{count_of}
-use Rattle.mv_tree.specs.Tree.{Instances, NoMore, Instance}
+use Rattle.mv_tree.specs.Tree.{Instances, NoMore, More}
 use Rattle.mv_tree.specs.Places.{Place, places, is_bound, homes}
 use Rattle.mv_tree.specs.Unfolded.{unfolded}
 
@@ -17,7 +17,7 @@ formals_of m = m.inputs ++ m.outputs
 
 -- the bindings of an instance fit: each binds a formal, to a net of as many values, and each input
 -- is bound
-pub record IsBound (round : FileModel) (p : Part) (m : FileModel) : Type 0 where
+pub record IsBound (round : FileModel) (p : Instance) (m : FileModel) : Type 0 where
   pub formals : list_all (λ b. among b.formal (formals_of m)) p.binds ≡ true
   pub counts : list_all (λ b. count_of m.decls b.formal == count_of round.decls b.actual) p.binds
       ≡ true
@@ -26,7 +26,8 @@ pub record IsBound (round : FileModel) (p : Part) (m : FileModel) : Type 0 where
 -- all bindings fit of the instances in a model, and of those inside them
 abbrev pub AreBound : FileModel → Instances → Type 0
 AreBound round NoMore = Unit {0}
-AreBound round (Instance part model inside rest) = IsBound round part model × AreBound model inside
+AreBound round (More instance model inside rest) = IsBound round instance model
+    × AreBound model inside
     × AreBound round rest
 
 -- what the grammar makes sure of in the command and the model of an instance: no formal is bound

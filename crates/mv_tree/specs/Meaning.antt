@@ -10,7 +10,7 @@ use Rattle.mv_design.specs.declared.design.FileLatch.{FileLatch}
 use Rattle.mv_design.specs.declared.design.FileModel.{FileModel}
 use Rattle.mv_design.specs.Nets.{latch_inputs, latch_outputs}
 use Rattle.mv_design.specs.Meaning.{in_values, table_holds, has_reset_table, may_begin_all, port}
-use Rattle.mv_tree.specs.Tree.{Instances, NoMore, Instance}
+use Rattle.mv_tree.specs.Tree.{Instances, NoMore, More}
 use Rattle.mv_tree.specs.Places.{Place, places, all_nets}
 
 -- valuations of instances: of each the values of its nets, and the valuations of those inside it
@@ -32,9 +32,9 @@ binds_hold round here binds = list_all (λ b. nat_eq (here b.formal) (round b.ac
 abbrev pub AreConsistent : (List ℕ → ℕ) → Instances → Values → Type 0
 AreConsistent round NoMore NoValues = Unit {0}
 AreConsistent round NoMore (At _ _ _) = ⊥
-AreConsistent round (Instance _ _ _ _) NoValues = ⊥
-AreConsistent round (Instance part model inside rest) (At here inner others) =
-    AllowsValues model here × (binds_hold round here part.binds ≡ true)
+AreConsistent round (More _ _ _ _) NoValues = ⊥
+AreConsistent round (More instance model inside rest) (At here inner others) =
+    AllowsValues model here × (binds_hold round here instance.binds ≡ true)
     × AreConsistent here inside inner × AreConsistent round rest others
 
 -- a model, and values of its nets
@@ -45,8 +45,8 @@ pub record Valued : Type 0 where
 -- the models of instances in unfolding order, with the values of their nets
 abbrev pub valued_in : Instances → Values → List Valued
 valued_in NoMore _ = []
-valued_in (Instance _ _ _ _) NoValues = []
-valued_in (Instance part model inside rest) (At here inner others) =
+valued_in (More _ _ _ _) NoValues = []
+valued_in (More instance model inside rest) (At here inner others) =
     record { model = model; value = here } ∷ (valued_in inside inner ++ valued_in rest others)
 
 -- the values of all latch outputs

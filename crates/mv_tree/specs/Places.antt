@@ -8,21 +8,21 @@ use Rattle.mv_base.specs.Firsts.{firsts_by}
 use Rattle.mv_base.specs.Names.{same_word}
 use Rattle.mv_design.specs.declared.design.Bind.{Bind}
 use Rattle.mv_design.specs.declared.design.FileModel.{FileModel}
-use Rattle.mv_design.specs.declared.design.Part.{Part}
+use Rattle.mv_design.specs.declared.design.Instance.{Instance}
 use Rattle.mv_design.specs.ByLine.{by_line}
 use Rattle.mv_design.specs.Nets.{Naming, namings}
 use Rattle.mv_design.specs.Values.{values_of}
-use Rattle.mv_tree.specs.Tree.{Instances, NoMore, Instance}
+use Rattle.mv_tree.specs.Tree.{Instances, NoMore, More}
 
 -- ---- the nets of a model with instances
 
 -- what an instance's command names of its model: the nets to which formals are bound
-abbrev pub part_naming : Part → Naming
-part_naming p = record { line = p.line; nets = map (λ b. b.actual) p.binds }
+abbrev pub instance_naming : Instance → Naming
+instance_naming p = record { line = p.line; nets = map (λ b. b.actual) p.binds }
 
 -- what the commands of a model name, its instances among them, by line
 unfoldable pub all_namings : FileModel → List Naming
-all_namings m = by_line (λ x. x.line) (map part_naming m.parts) (namings m)
+all_namings m = by_line (λ x. x.line) (map instance_naming m.instances) (namings m)
 
 -- the nets of a model, each once, in the order in which it first names them
 unfoldable pub all_nets : FileModel → List (List ℕ)
@@ -69,20 +69,20 @@ path_in path instance = path ++ (instance ++ codes ".")
 
 -- an instance: a formal that is bound is the net round it, and any other net is its own, with the
 -- path before its name
-abbrev pub place_in : Place → Part → FileModel → Place
+abbrev pub place_in : Place → Instance → FileModel → Place
 place_in round p m = record {
   model = m;
   binds = p.binds;
-  path = path_in round.path p.instance;
-  home = through round.home (λ net. path_in round.path p.instance ++ net) p.binds;
+  path = path_in round.path p.name;
+  home = through round.home (λ net. path_in round.path p.name ++ net) p.binds;
   values = through round.values (values_of m.decls) p.binds;
 }
 
 -- the instances inside a place: each stands before those inside it
 abbrev pub places_in : Place → Instances → List Place
 places_in round NoMore = []
-places_in round (Instance part model inside rest) = place_in round part model
-    ∷ (places_in (place_in round part model) inside ++ places_in round rest)
+places_in round (More instance model inside rest) = place_in round instance model
+    ∷ (places_in (place_in round instance model) inside ++ places_in round rest)
 
 -- the root and all instances
 abbrev pub places : FileModel → Instances → List Place

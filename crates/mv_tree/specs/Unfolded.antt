@@ -8,7 +8,7 @@ use Rattle.mv_design.specs.declared.design.FileModel.{FileModel}
 use Rattle.mv_design.specs.declared.table.FileTable.{FileTable}
 use Rattle.mv_design.specs.ByLine.{before_line}
 use Rattle.mv_design.specs.Values.{values_of}
-use Rattle.mv_tree.specs.Tree.{Instances, NoMore, Instance}
+use Rattle.mv_tree.specs.Tree.{Instances, NoMore, More}
 use Rattle.mv_tree.specs.Places.{Place, places, own_nets}
 
 -- a table over other names, at another line
@@ -72,11 +72,11 @@ joined root ps = record {
   tables = tables_in 0 ps;
   latches = latches_in ps;
   resets = resets_in 0 ps;
-  parts = [];
+  instances = [];
 }
 
 -- a root with its instances as one model. One without instances is that already
 unfoldable pub unfolded : FileModel → Instances → FileModel
 unfolded root NoMore = root
-unfolded root (Instance part model inside rest) =
-    joined root (places root (Instance part model inside rest))
+unfolded root (More instance model inside rest) =
+    joined root (places root (More instance model inside rest))

@@ -16,7 +16,7 @@ ghost use Rattle.mv_tree.specs.Bound.{AreBound, FollowsGrammar, IsWhole};
 /// keeps its own, no formal is bound twice, and each reset table has one output.
 #[tactic(auto, using(crate::proofs::Same::same_meaning))]
 pub fn same_meaning()
-    ensures { (d : Design) (root : FileModel) (tree : Instances) → Unfolds d root.parts tree
+    ensures { (d : Design) (root : FileModel) (tree : Instances) → Unfolds d root.instances tree
         → IsWhole root tree
         → All FollowsGrammar (places root tree)
         → SameMeaning (of_model (unfolded root tree)) (of_tree root tree) }
@@ -25,14 +25,14 @@ pub fn same_meaning()
 /// Where each model of a design is as the grammar has models, so are those of the instances of a root, and their commands follow
 /// the grammar; and the one model over all nets is such a model, where the bindings fit and no two nets of the whole have one name.
 pub fn lawful()
-    ensures places { (d : Design) (root : FileModel) (tree : Instances) → Unfolds d root.parts tree
-        → All IsLawful d.models → IsLawful root
+    ensures places { (d : Design) (root : FileModel) (tree : Instances)
+        → Unfolds d root.instances tree → All IsLawful d.models → IsLawful root
         → All (λ p. IsLawful p.model) (places root tree) }
     ensures grammar { (d : Design) (root : FileModel) (tree : Instances)
-        → Unfolds d root.parts tree → All (λ p. IsLawful p.model) (places root tree)
+        → Unfolds d root.instances tree → All (λ p. IsLawful p.model) (places root tree)
         → All FollowsGrammar (places root tree) }
-    ensures whole { (d : Design) (root : FileModel) (tree : Instances) → Unfolds d root.parts tree
-        → AreBound root tree
+    ensures whole { (d : Design) (root : FileModel) (tree : Instances)
+        → Unfolds d root.instances tree → AreBound root tree
         → names_differ (homes (places root tree)) ≡ true
         → All (λ p. IsLawful p.model) (places root tree) → IsLawful (unfolded root tree) }
 {}

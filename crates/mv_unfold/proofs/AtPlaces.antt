@@ -32,7 +32,7 @@ use Rattle.mv_unfold.specs.Locals.{cut}
 use Rattle.mv_unfold.specs.Placed.{model_at, place_at}
 use Rattle.mv_unfold.proofs.Counting.{tally_alike, driven_grown}
 use Rattle.mv_unfold.proofs.Filled.{known_counts}
-use Rattle.mv_unfold.proofs.Laid.{instance_at, laid_model, of_place, root_model, nets_read, read_as}
+use Rattle.mv_unfold.proofs.Laid.{instance_placed, laid_model, of_place, root_model, nets_read, read_as}
 use Rattle.mv_unfold.proofs.Placed.{places_of_tree}
 use Rattle.mv_unfold.proofs.Wholly.{HasSubtree, HasDrivers, all_places, subtrees, have_drivers}
 
@@ -43,18 +43,18 @@ known_below : (l : Layout) (slots : List (Option (List ℕ))) → IsLaid l → A
 known_below l slots laid h root zero n lt low = absurd (omega arith)
 known_below l slots laid h root (suc b) zero lt low = subst (IsKnown slots) (sym (ap (λ ks. get_or ks 0 0) laid.models)) root
 known_below l slots laid h root (suc b) (suc n) lt low =
-    let p = instance_at l (suc n) laid (omega arith) low in
+    let p = instance_placed l (suc n) laid (omega arith) low in
     let round = p.round in
     let o = opened_at l (suc n) in
     let r = get_or l.models o.round 0 in
     let m = laid_model l o.round laid (omega arith) in
     let q = of_place l (suc n) r laid (omega arith) low m in
     let outer = known_below l slots laid h root b o.round (omega arith) (omega arith) in
-    let inner = h.closed r o.part outer q.part in
+    let inner = h.closed r o.instance outer q.instance in
     let one : suc n - 1 ≡ n = omega arith in
-    let number : (get_or (get_or l.commands r []) o.part no_command).model ≡ get_or l.models (suc n) 0 =
-    q.number ∙ sym (ap (λ ks. get_or ks (suc n) 0) laid.models ∙ (get_or-map (λ x. x.model) l.opened.now n (record { model = 0; round = 0; part = 0 }) 0 (omega arith)
-    ∙ ap (λ k. (get_or l.opened.now k (record { model = 0; round = 0; part = 0 })).model) (sym one))) in
+    let number : (get_or (get_or l.commands r []) o.instance no_command).model ≡ get_or l.models (suc n) 0 =
+    q.number ∙ sym (ap (λ ks. get_or ks (suc n) 0) laid.models ∙ (get_or-map (λ x. x.model) l.opened.now n (record { model = 0; round = 0; instance = 0 }) 0 (omega arith)
+    ∙ ap (λ k. (get_or l.opened.now k (record { model = 0; round = 0; instance = 0 })).model) (sym one))) in
     subst (IsKnown slots) number inner
 
 -- ---- the counts of a place
@@ -79,9 +79,9 @@ swapped i j k e = omega arith
 
 -- the tally of a model, where it is known
 slot_tally : (l : Layout) (slots : List (Option (List ℕ))) (k : ℕ) (m : FileModel) (tree : Instances) → AreTallies l slots → IsKnown slots k
-    → model_at l.design.now k ≡ m → Unfolds l.design.now m.parts tree → counts_at slots k ≡ tally (all_nets m) (driven_in m tree)
+    → model_at l.design.now k ≡ m → Unfolds l.design.now m.instances tree → counts_at slots k ≡ tally (all_nets m) (driven_in m tree)
 slot_tally l slots k m tree h known is u =
-    (h.right k (counts_at slots k) (known_counts (get_or slots k None) known)).is tree (subst (λ (x : FileModel). Unfolds l.design.now x.parts tree) (sym is) u)
+    (h.right k (counts_at slots k) (known_counts (get_or slots k None) known)).is tree (subst (λ (x : FileModel). Unfolds l.design.now x.instances tree) (sym is) u)
     ∙ ap (λ (x : FileModel). tally (all_nets x) (driven_in x tree)) is
 
 pub counted_at : (l : Layout) (slots : List (Option (List ℕ))) (rootc : List ℕ) (h : AreOpened l.design.now l.opened.now) → IsLaid l → AreTallies l slots
@@ -246,7 +246,7 @@ pub inside_root : (d : Design) (list : List Opened) (h : AreOpened d list) → H
 inside_root d list h =
     record {
       tree = h.tree;
-      unfolds = subst (λ (m : FileModel). Unfolds d m.parts h.tree) (root_model d) h.has.unfolds;
+      unfolds = subst (λ (m : FileModel). Unfolds d m.instances h.tree) (root_model d) h.has.unfolds;
       shallow = h.has.shallow;
     }
 

@@ -12,10 +12,10 @@ use Rattle.mv_design.specs.declared.design.Bind.{Bind}
 use Rattle.mv_design.specs.declared.design.Design.{Design}
 use Rattle.mv_design.specs.declared.design.FileLatch.{FileLatch}
 use Rattle.mv_design.specs.declared.design.FileModel.{FileModel}
-use Rattle.mv_design.specs.declared.design.Part.{Part}
+use Rattle.mv_design.specs.declared.design.Instance.{Instance}
 use Rattle.mv_design.specs.declared.table.FileTable.{FileTable}
 use Rattle.mv_design.specs.Nets.{no_model, latch_outputs, nets_driven, columns_of}
-use Rattle.mv_tree.specs.Tree.{Instances, NoMore, Instance, Unfolds, IsWithinDepth, model_named}
+use Rattle.mv_tree.specs.Tree.{Instances, NoMore, More, Unfolds, IsWithinDepth, model_named}
 use Rattle.mv_tree.specs.Places.{actual_of, all_nets}
 use Rattle.mv_tree.proofs.Each.{each-weaker}
 use Rattle.mv_tree.proofs.Named.{AreAmong, among_both, among_single, among_all, among_right, latch_nets, nets_among}
@@ -23,10 +23,10 @@ use Rattle.mv_tree.proofs.Inside.{actual_listed, AreNamed, are_named}
 use Rattle.mv_acyclic.proofs.Names.{count_of_append}
 use Rattle.mv_unfold.specs.declared.commands.Command.{Command}
 use Rattle.mv_unfold.specs.declared.layout.Layout.{Layout}
-use Rattle.mv_unfold.specs.Placed.{model_at, no_part}
+use Rattle.mv_unfold.specs.Placed.{model_at, no_instance}
 use Rattle.mv_unfold.specs.Commands.{no_command, IsCommand}
 use Rattle.mv_unfold.specs.Laid.{IsLaid}
-use Rattle.mv_unfold.specs.Driven.{own_driven, net_in, passed, passed_up, driven_in, tally, counts_at, with_parts, counted, HasInside, IsTally, IsKnown, AreTallies}
+use Rattle.mv_unfold.specs.Driven.{own_driven, net_in, passed, passed_up, driven_in, tally, counts_at, with_instances, counted, HasInside, IsTally, IsKnown, AreTallies}
 use Rattle.mv_unfold.proofs.Kept.{none_there}
 use Rattle.mv_unfold.proofs.Placed.{named_model}
 use Rattle.mv_unfold.proofs.Laid.{nets_read}
@@ -48,9 +48,9 @@ passed_named binds (x ∷ ws) =
 
 passed_up_named : (round : FileModel) (tree : Instances) → AreNamed round tree → AreAmong (passed_up tree) (all_nets round)
 passed_up_named round NoMore h = none_among (all_nets round)
-passed_up_named round (Instance part model inside rest) h =
-    let here = passed_named part.binds (driven_in model inside) in
-    among_both (passed part.binds (driven_in model inside)) (passed_up rest) (all_nets round) (record { each = λ w e. (h.0).each w (here.each w e) })
+passed_up_named round (More instance model inside rest) h =
+    let here = passed_named instance.binds (driven_in model inside) in
+    among_both (passed instance.binds (driven_in model inside)) (passed_up rest) (all_nets round) (record { each = λ w e. (h.0).each w (here.each w e) })
     (passed_up_named round rest h.2)
 
 outputs_named : (names : List (List ℕ)) (ls : List FileLatch) → AllByRecursion (λ l. AreAmong (latch_nets l) names) ls → AreAmong (map (λ l. l.output) ls) names
@@ -60,7 +60,7 @@ outputs_named names (l ∷ ls) h =
     (among_single l.output names ((h.0).each l.output (or_right (same_word l.output l.input) _ (or_left _ _ (same_word_refl l.output)))))
     (outputs_named names ls h.1)
 
-pub driven_named : (d : Design) (m : FileModel) (tree : Instances) → Unfolds d m.parts tree → AreAmong (driven_in m tree) (all_nets m)
+pub driven_named : (d : Design) (m : FileModel) (tree : Instances) → Unfolds d m.instances tree → AreAmong (driven_in m tree) (all_nets m)
 driven_named d m tree u =
     let names = all_nets m in
     let a = nets_among m in
@@ -77,16 +77,16 @@ known_counts None e = absurd (false≢true e)
 known_counts (Some c) e = refl
 
 -- what is known of the commands from some on
-pub record AreReady (d : Design) (slots : List (Option (List ℕ))) (ps : List Part) (cs : List Command) : Type 0 where
+pub record AreReady (d : Design) (slots : List (Option (List ℕ))) (ps : List Instance) (cs : List Command) : Type 0 where
   pub long : length cs ≡ length ps
-  pub each : (j : ℕ) → j < length cs → IsCommand d.models (get_or ps j no_part) (get_or cs j no_command)
+  pub each : (j : ℕ) → j < length cs → IsCommand d.models (get_or ps j no_instance) (get_or cs j no_command)
   pub known : (j : ℕ) → j < length cs → IsKnown slots (get_or cs j no_command).model
 
 -- the counts of models that are known
 pub record AreRight (d : Design) (slots : List (Option (List ℕ))) : Type 0 where
   pub each : (k : ℕ) (counts : List ℕ) → get_or slots k None ≡ Some counts → IsTally d k counts
 
-ready_rest : (d : Design) (slots : List (Option (List ℕ))) (p : Part) (ps : List Part) (c : Command) (cs : List Command) → AreReady d slots (p ∷ ps) (c ∷ cs)
+ready_rest : (d : Design) (slots : List (Option (List ℕ))) (p : Instance) (ps : List Instance) (c : Command) (cs : List Command) → AreReady d slots (p ∷ ps) (c ∷ cs)
     → AreReady d slots ps cs
 ready_rest d slots p ps c cs h = record {
   long = let l = h.long in omega arith;
@@ -98,53 +98,53 @@ three : (i j k : ℕ) → (i + j) + k ≡ i + (j + k)
 three i j k = omega arith
 
 -- what is read of the model of an instance
-inner_counts : (d : Design) (all : List (List (List ℕ))) (slots : List (Option (List ℕ))) (p part : Part) (c : Command) (model : FileModel) (inside : Instances)
-    → all ≡ map all_nets d.models → AreRight d slots → IsCommand d.models p c → IsKnown slots c.model → part ≡ p → model_named d.models p.model ≡ Some model
-    → Unfolds d model.parts inside → AreCounts (get_or all c.model []) (counts_at slots c.model) (driven_in model inside)
-inner_counts d all slots p part c model inside nets right h known is named u =
+inner_counts : (d : Design) (all : List (List (List ℕ))) (slots : List (Option (List ℕ))) (p instance : Instance) (c : Command) (model : FileModel) (inside : Instances)
+    → all ≡ map all_nets d.models → AreRight d slots → IsCommand d.models p c → IsKnown slots c.model → instance ≡ p → model_named d.models p.model ≡ Some model
+    → Unfolds d model.instances inside → AreCounts (get_or all c.model []) (counts_at slots c.model) (driven_in model inside)
+inner_counts d all slots p instance c model inside nets right h known is named u =
     let m = named_model d p.model model named in
     let at : model_at d c.model ≡ model = ap (model_at d) h.model ∙ m.is in
     let read : get_or all c.model [] ≡ all_nets model =
     ap (λ (xs : List (List (List ℕ))). get_or xs c.model []) nets ∙ (get_or-map all_nets d.models c.model no_model [] h.below ∙ ap all_nets at) in
     let slot = known_counts (get_or slots c.model None) known in
     let counts : counts_at slots c.model ≡ tally (all_nets model) (driven_in model inside) =
-    (right.each c.model (counts_at slots c.model) slot).is inside (subst (λ (x : FileModel). Unfolds d x.parts inside) (sym at) u)
+    (right.each c.model (counts_at slots c.model) slot).is inside (subst (λ (x : FileModel). Unfolds d x.instances inside) (sym at) u)
     ∙ ap (λ (x : FileModel). tally (all_nets x) (driven_in x inside)) at in
     subst (λ ns. AreCounts ns (counts_at slots c.model) (driven_in model inside)) (sym read)
     (subst (λ ks. AreCounts (all_nets model) ks (driven_in model inside)) (sym counts) (are_counts (all_nets model) (driven_in model inside) (driven_named d model inside u)))
 
-parts_grown : (d : Design) (all : List (List (List ℕ))) (slots : List (Option (List ℕ))) (nets : List (List ℕ)) (f : List ℕ → ℕ) (ps : List Part) (cs : List Command)
+instances_grown : (d : Design) (all : List (List (List ℕ))) (slots : List (Option (List ℕ))) (nets : List (List ℕ)) (f : List ℕ → ℕ) (ps : List Instance) (cs : List Command)
     (tree : Instances) → AreApart nets → all ≡ map all_nets d.models → AreRight d slots → AreReady d slots ps cs → Unfolds d ps tree
-    → with_parts nets all slots (tally_by nets f) ps cs ≡ tally_by nets (λ v. f v + count_by (same_word v) (passed_up tree))
-parts_grown d all slots nets f [] cs NoMore apart is right h u = tally_alike nets f (λ v. f v + 0) (λ v. omega arith)
-parts_grown d all slots nets f [] cs (Instance _ _ _ _) apart is right h u = absurd u
-parts_grown d all slots nets f (p ∷ ps) cs NoMore apart is right h u = absurd u
-parts_grown d all slots nets f (p ∷ ps) [] (Instance part model inside rest) apart is right h u = absurd (let l = h.long in omega arith)
-parts_grown d all slots nets f (p ∷ ps) (c ∷ cs) (Instance part model inside rest) apart is right h u =
+    → with_instances nets all slots (tally_by nets f) ps cs ≡ tally_by nets (λ v. f v + count_by (same_word v) (passed_up tree))
+instances_grown d all slots nets f [] cs NoMore apart is right h u = tally_alike nets f (λ v. f v + 0) (λ v. omega arith)
+instances_grown d all slots nets f [] cs (More _ _ _ _) apart is right h u = absurd u
+instances_grown d all slots nets f (p ∷ ps) cs NoMore apart is right h u = absurd u
+instances_grown d all slots nets f (p ∷ ps) [] (More instance model inside rest) apart is right h u = absurd (let l = h.long in omega arith)
+instances_grown d all slots nets f (p ∷ ps) (c ∷ cs) (More instance model inside rest) apart is right h u =
     let ws = driven_in model inside in
     let inner = get_or all c.model [] in
     let ic = counts_at slots c.model in
-    let counts = inner_counts d all slots p part c model inside is right (h.each 0 (omega arith)) (h.known 0 (omega arith)) u.0.is u.0.named u.1 in
+    let counts = inner_counts d all slots p instance c model inside is right (h.each 0 (omega arith)) (h.known 0 (omega arith)) u.0.is u.0.named u.1 in
     let g : List ℕ → ℕ = λ v. f v + count_by (same_word v) (passed p.binds ws) in
-    ap (λ ks. with_parts nets all slots ks ps cs) (binds_passed nets inner ic ws f p.binds apart counts)
-    ∙ (parts_grown d all slots nets g ps cs rest apart is right (ready_rest d slots p ps c cs h) u.2
-    ∙ tally_alike nets (λ v. g v + count_by (same_word v) (passed_up rest)) (λ v. f v + count_by (same_word v) (passed_up (Instance part model inside rest)))
+    ap (λ ks. with_instances nets all slots ks ps cs) (binds_passed nets inner ic ws f p.binds apart counts)
+    ∙ (instances_grown d all slots nets g ps cs rest apart is right (ready_rest d slots p ps c cs h) u.2
+    ∙ tally_alike nets (λ v. g v + count_by (same_word v) (passed_up rest)) (λ v. f v + count_by (same_word v) (passed_up (More instance model inside rest)))
     (λ v.
     three (f v) (count_by (same_word v) (passed p.binds ws)) (count_by (same_word v) (passed_up rest))
-    ∙ (ap (λ (x : Part). f v + (count_by (same_word v) (passed x.binds ws) + count_by (same_word v) (passed_up rest))) (sym u.0.is)
-    ∙ ap (λ n. f v + n) (sym (count_of_append v (passed part.binds ws) (passed_up rest))))))
+    ∙ (ap (λ (x : Instance). f v + (count_by (same_word v) (passed x.binds ws) + count_by (same_word v) (passed_up rest))) (sym u.0.is)
+    ∙ ap (λ n. f v + n) (sym (count_of_append v (passed instance.binds ws) (passed_up rest))))))
 
 -- the counts of a model are right where those are of what stands in it
 pub counted_right : (d : Design) (all : List (List (List ℕ))) (slots : List (Option (List ℕ))) (k : ℕ) (row : List Command) (counts : List ℕ)
-    → IsDistinct (all_nets (model_at d k)) → all ≡ map all_nets d.models → AreRight d slots → AreReady d slots (model_at d k).parts row
+    → IsDistinct (all_nets (model_at d k)) → all ≡ map all_nets d.models → AreRight d slots → AreReady d slots (model_at d k).instances row
     → counts ≡ counted (all_nets (model_at d k)) all slots (model_at d k) row → IsTally d k counts
 counted_right d all slots k row counts distinct is right ready e = record {
   is = λ tree u.
       let m = model_at d k in
       let nets = all_nets m in
       e
-      ∙ (ap (λ ks. with_parts nets all slots ks m.parts row) (own_counted nets m distinct.apart)
-      ∙ (parts_grown d all slots nets (λ v. count_by (same_word v) (own_driven m)) m.parts row tree distinct.apart is right ready u
+      ∙ (ap (λ ks. with_instances nets all slots ks m.instances row) (own_counted nets m distinct.apart)
+      ∙ (instances_grown d all slots nets (λ v. count_by (same_word v) (own_driven m)) m.instances row tree distinct.apart is right ready u
       ∙ tally_alike nets (λ v. count_by (same_word v) (own_driven m) + count_by (same_word v) (passed_up tree)) (λ v. count_by (same_word v) (driven_in m tree))
       (λ v. sym (count_of_append v (own_driven m) (passed_up tree)))));
 }
@@ -199,20 +199,20 @@ filled l slots new k counts laid lt h inner right is =
 -- ---- where the recursion goes
 
 -- a command makes an instance of a model, inside which there are fewer levels
-record HasPart (d : Design) (levels : ℕ) (p : Part) : Type 0 where
+record HasInstance (d : Design) (levels : ℕ) (p : Instance) : Type 0 where
   model : FileModel
   inside : Instances
   named : model_named d.models p.model ≡ Some model
   some : 0 < levels
-  unfolds : Unfolds d model.parts inside
+  unfolds : Unfolds d model.instances inside
   shallow : IsWithinDepth (levels - 1) inside
 
-part_inside : (d : Design) (levels : ℕ) (ps : List Part) (tree : Instances) → Unfolds d ps tree → IsWithinDepth levels tree → (j : ℕ) → j < length ps
-    → HasPart d levels (get_or ps j no_part)
-part_inside d levels [] tree u s j lt = absurd (omega arith)
-part_inside d levels (p ∷ ps) NoMore u s j lt = absurd u
-part_inside d zero (p ∷ ps) (Instance part model inside rest) u s j lt = absurd s
-part_inside d (suc levels) (p ∷ ps) (Instance part model inside rest) u s zero lt = record {
+instance_inside : (d : Design) (levels : ℕ) (ps : List Instance) (tree : Instances) → Unfolds d ps tree → IsWithinDepth levels tree → (j : ℕ) → j < length ps
+    → HasInstance d levels (get_or ps j no_instance)
+instance_inside d levels [] tree u s j lt = absurd (omega arith)
+instance_inside d levels (p ∷ ps) NoMore u s j lt = absurd u
+instance_inside d zero (p ∷ ps) (More instance model inside rest) u s j lt = absurd s
+instance_inside d (suc levels) (p ∷ ps) (More instance model inside rest) u s zero lt = record {
   model = model;
   inside = inside;
   named = u.0.named;
@@ -220,7 +220,7 @@ part_inside d (suc levels) (p ∷ ps) (Instance part model inside rest) u s zero
   unfolds = u.1;
   shallow = let e : levels ≡ suc levels - 1 = omega arith in subst (λ n. IsWithinDepth n inside) e s.0;
 }
-part_inside d (suc levels) (p ∷ ps) (Instance part model inside rest) u s (suc j) lt = part_inside d (suc levels) ps rest u.2 s.1 j (omega arith)
+instance_inside d (suc levels) (p ∷ ps) (More instance model inside rest) u s (suc j) lt = instance_inside d (suc levels) ps rest u.2 s.1 j (omega arith)
 
 pub record IsInside (l : Layout) (levels : ℕ) (c : Command) : Type 0 where
   pub some : 0 < levels
@@ -235,14 +235,14 @@ command_inside l levels k j laid h lt low =
     let c = get_or row j no_command in
     let long : length l.commands ≡ length d.models = laid.commands.long in
     let of = laid.commands.each k (omega arith) in
-    let same : length row ≡ length (model_at d k).parts = of.long in
+    let same : length row ≡ length (model_at d k).instances = of.long in
     let cmd = of.each j low in
-    let p = part_inside d levels (model_at d k).parts h.tree h.unfolds h.shallow j (omega arith) in
-    let m = named_model d (get_or (model_at d k).parts j no_part).model p.model p.named in
+    let p = instance_inside d levels (model_at d k).instances h.tree h.unfolds h.shallow j (omega arith) in
+    let m = named_model d (get_or (model_at d k).instances j no_instance).model p.model p.named in
     let at : model_at d c.model ≡ p.model = ap (model_at d) cmd.model ∙ m.is in
     record {
       some = p.some;
-      inside = record { tree = p.inside; unfolds = subst (λ (x : FileModel). Unfolds d x.parts p.inside) (sym at) p.unfolds; shallow = p.shallow };
+      inside = record { tree = p.inside; unfolds = subst (λ (x : FileModel). Unfolds d x.instances p.inside) (sym at) p.unfolds; shallow = p.shallow };
       below = cmd.below;
     }
 
@@ -281,7 +281,7 @@ filled_now l slots held new k row nets local file counts laid lt h is known same
     let of = laid.commands.each k (omega arith) in
     let inner : (j : ℕ) → j < length (get_or l.commands k []) → IsKnown slots (get_or (get_or l.commands k []) j no_command).model =
     subst (λ (xs : List Command). (j : ℕ) → j < length xs → IsKnown slots (get_or xs j no_command).model) is known in
-    let ready : AreReady d slots (model_at d k).parts (get_or l.commands k []) = record { long = of.long; each = of.each; known = inner } in
+    let ready : AreReady d slots (model_at d k).instances (get_or l.commands k []) = record { long = of.long; each = of.each; known = inner } in
     let counted_is : counts ≡ counted (all_nets (model_at d k)) nets slots (model_at d k) (get_or l.commands k []) =
     e
     ∙ (ap (λ (ns : List (List ℕ)). counted ns nets held file row) own

@@ -7,7 +7,7 @@ use Rattle.std.proofs.lemmas.Grind.{flat_map-append}
 use Rattle.std.proofs.lemmas.Option.{slice_get-get_or}
 use Rattle.mv_design.specs.declared.design.Design.{Design}
 use Rattle.mv_design.specs.declared.design.FileModel.{FileModel}
-use Rattle.mv_design.specs.declared.design.Part.{Part}
+use Rattle.mv_design.specs.declared.design.Instance.{Instance}
 use Rattle.mv_design.specs.Nets.{no_model, root_of}
 use Rattle.mv_design.specs.declared.design.Bind.{Bind}
 use Rattle.mv_tree.specs.Places.{Place, root_place, all_nets, actual_of, is_bound, through, path_in, own_nets, homes_at, homes}
@@ -19,12 +19,12 @@ use Rattle.mv_unfold.specs.ByName.{FindsFirst, formals_bound}
 use Rattle.mv_unfold.specs.Commands.{no_command}
 use Rattle.mv_unfold.specs.Locals.{AreOwn, cut}
 use Rattle.mv_unfold.specs.Named.{under}
-use Rattle.mv_unfold.specs.Placed.{model_place, model_at, part_at, place_at, IsPlaced}
-use Rattle.mv_unfold.specs.Laid.{model_numbers, IsLaid, places_of, no_opened, opened_at, laid_part}
+use Rattle.mv_unfold.specs.Placed.{model_place, model_at, instance_at, place_at, IsPlaced}
+use Rattle.mv_unfold.specs.Laid.{model_numbers, IsLaid, places_of, no_opened, opened_at, laid_instance}
 
 -- an instance stands in its place
-pub instance_at : (l : Layout) (n : ℕ) → IsLaid l → 0 < n → n ≤ length l.opened.now → IsPlaced l.design.now (places_of l) n (opened_at l n)
-instance_at l n h some low =
+pub instance_placed : (l : Layout) (n : ℕ) → IsLaid l → 0 < n → n ≤ length l.opened.now → IsPlaced l.design.now (places_of l) n (opened_at l n)
+instance_placed l n h some low =
     let list = l.opened.now in
     let one : 1 + (n - 1) ≡ n = omega arith in
     subst (λ k. IsPlaced l.design.now (places_of l) k (opened_at l n)) one
@@ -61,38 +61,38 @@ laid_model l (suc n) h low =
 -- what the command of an instance makes
 pub record IsOfPlace (l : Layout) (n r : ℕ) : Type 0 where
   pub row : r < length l.commands
-  pub part : (opened_at l n).part < length (get_or l.commands r [])
-  pub listed : (opened_at l n).part < length (model_at l.design.now r).parts
-  pub command : part_at (model_at l.design.now r) (opened_at l n).part ≡ laid_part l n
-  pub number : (get_or (get_or l.commands r []) (opened_at l n).part no_command).model ≡ (opened_at l n).model
-  pub made : (place_at (places_of l) n).model ≡ model_at l.design.now (get_or (get_or l.commands r []) (opened_at l n).part no_command).model
-  pub binds : (place_at (places_of l) n).binds ≡ (laid_part l n).binds
-  pub own : AreOwn (all_nets (place_at (places_of l) n).model) (place_at (places_of l) n).binds (get_or (get_or l.commands r []) (opened_at l n).part no_command).own
-  pub formals : FindsFirst (get_or (get_or l.commands r []) (opened_at l n).part no_command).formals (formals_bound (laid_part l n).binds)
+  pub instance : (opened_at l n).instance < length (get_or l.commands r [])
+  pub listed : (opened_at l n).instance < length (model_at l.design.now r).instances
+  pub command : instance_at (model_at l.design.now r) (opened_at l n).instance ≡ laid_instance l n
+  pub number : (get_or (get_or l.commands r []) (opened_at l n).instance no_command).model ≡ (opened_at l n).model
+  pub made : (place_at (places_of l) n).model ≡ model_at l.design.now (get_or (get_or l.commands r []) (opened_at l n).instance no_command).model
+  pub binds : (place_at (places_of l) n).binds ≡ (laid_instance l n).binds
+  pub own : AreOwn (all_nets (place_at (places_of l) n).model) (place_at (places_of l) n).binds (get_or (get_or l.commands r []) (opened_at l n).instance no_command).own
+  pub formals : FindsFirst (get_or (get_or l.commands r []) (opened_at l n).instance no_command).formals (formals_bound (laid_instance l n).binds)
 
 pub of_place : (l : Layout) (n r : ℕ) → IsLaid l → 0 < n → n ≤ length l.opened.now → IsModelOf l (opened_at l n).round r → IsOfPlace l n r
 of_place l n r h some low m =
     let d = l.design.now in
     let o = opened_at l n in
     let ps = places_of l in
-    let p = instance_at l n h some low in
+    let p = instance_placed l n h some low in
     let row = get_or l.commands r [] in
     let long : length l.commands ≡ length d.models = h.commands.long in
     let below : r < length d.models = m.below in
     let in_row : r < length l.commands = omega arith in
     let known = h.commands.each r in_row in
-    let listed : o.part < length (model_at d r).parts = subst (λ (x : FileModel). o.part < length x.parts) m.is p.part in
-    let same : length row ≡ length (model_at d r).parts = known.long in
-    let in_parts : o.part < length row = omega arith in
-    let cmd = known.each o.part in_parts in
-    let made = get_or row o.part no_command in
-    let command : part_at (model_at d r) o.part ≡ laid_part l n = ap (λ (x : FileModel). part_at x o.part) (sym m.is) in
-    let number : made.model ≡ o.model = cmd.model ∙ (ap (λ (x : Part). model_place d.models x.model) command ∙ sym p.named) in
+    let listed : o.instance < length (model_at d r).instances = subst (λ (x : FileModel). o.instance < length x.instances) m.is p.instance in
+    let same : length row ≡ length (model_at d r).instances = known.long in
+    let in_instances : o.instance < length row = omega arith in
+    let cmd = known.each o.instance in_instances in
+    let made = get_or row o.instance no_command in
+    let command : instance_at (model_at d r) o.instance ≡ laid_instance l n = ap (λ (x : FileModel). instance_at x o.instance) (sym m.is) in
+    let number : made.model ≡ o.model = cmd.model ∙ (ap (λ (x : Instance). model_place d.models x.model) command ∙ sym p.named) in
     let model : (place_at ps n).model ≡ model_at d made.model = ap (λ (q : Place). q.model) p.is ∙ ap (model_at d) (sym number) in
-    let binds : (place_at ps n).binds ≡ (laid_part l n).binds = ap (λ (q : Place). q.binds) p.is in
+    let binds : (place_at ps n).binds ≡ (laid_instance l n).binds = ap (λ (q : Place). q.binds) p.is in
     record {
       row = in_row;
-      part = in_parts;
+      instance = in_instances;
       listed = listed;
       command = command;
       number = number;
@@ -100,8 +100,8 @@ of_place l n r h some low m =
       binds = binds;
       own =
           subst (λ (x : FileModel). AreOwn (all_nets x) (place_at ps n).binds made.own) (sym model)
-          (subst (λ bs. AreOwn (all_nets (model_at d made.model)) bs made.own) (ap (λ (x : Part). x.binds) command ∙ sym binds) cmd.own);
-      formals = subst (λ (x : Part). FindsFirst made.formals (formals_bound x.binds)) command cmd.formals;
+          (subst (λ bs. AreOwn (all_nets (model_at d made.model)) bs made.own) (ap (λ (x : Instance). x.binds) command ∙ sym binds) cmd.own);
+      formals = subst (λ (x : Instance). FindsFirst made.formals (formals_bound x.binds)) command cmd.formals;
     }
 
 -- what is read of a list that is another
@@ -110,14 +110,14 @@ read_as {X} xs ys i x d e lt is = get_or_read ys i x lt (is ∙ ap (λ zs. get_o
 
 -- a path behind another
 pub path_more : (l : Layout) (n : ℕ) (start round grown pushed instance : List ℕ) → IsPlaced l.design.now (places_of l) n (opened_at l n)
-    → round ≡ start ++ (place_at (places_of l) (opened_at l n).round).path → instance ≡ (laid_part l n).instance → grown ≡ round ++ instance
+    → round ≡ start ++ (place_at (places_of l) (opened_at l n).round).path → instance ≡ (laid_instance l n).name → grown ≡ round ++ instance
     → pushed ≡ grown ++ 46 ∷ [] → pushed ≡ start ++ (place_at (places_of l) n).path
 path_more l n start round grown pushed instance p r i g e =
     let outer = (place_at (places_of l) (opened_at l n).round).path in
     e
     ∙ (ap (λ w. w ++ 46 ∷ []) (g ∙ (ap (λ w. w ++ instance) r ∙ ap (λ w. (start ++ outer) ++ w) i))
-    ∙ (append_assoc (start ++ outer) (laid_part l n).instance (46 ∷ [])
-    ∙ (append_assoc start outer ((laid_part l n).instance ++ 46 ∷ []) ∙ ap (λ (q : Place). start ++ q.path) (sym p.is))))
+    ∙ (append_assoc (start ++ outer) (laid_instance l n).name (46 ∷ [])
+    ∙ (append_assoc start outer ((laid_instance l n).name ++ 46 ∷ []) ∙ ap (λ (q : Place). start ++ q.path) (sym p.is))))
 
 -- the nets of a model, read from a list of those of all
 pub nets_read : (ms : List FileModel) (nets : List (List (List ℕ))) (k : ℕ) (ns : List (List ℕ)) → nets ≡ map all_nets ms → k < length ms → ns ≡ get_or nets k ns
@@ -144,12 +144,12 @@ pub homes_under : (l : Layout) (n : ℕ) → IsLaid l → n ≤ length l.opened.
     → homes_at (place_at (places_of l) n) ≡ under (place_at (places_of l) n).path (own_nets (place_at (places_of l) n))
 homes_under l zero h low = subst (λ (p : Place). homes_at p ≡ under p.path (own_nets p)) (sym h.placed.root) refl
 homes_under l (suc n) h low =
-    let p = instance_at l (suc n) h (omega arith) low in
+    let p = instance_placed l (suc n) h (omega arith) low in
     let o = opened_at l (suc n) in
     let round = place_at (places_of l) o.round in
-    let part = laid_part l (suc n) in
+    let instance = laid_instance l (suc n) in
     subst (λ (q : Place). homes_at q ≡ under q.path (own_nets q)) (sym p.is)
-    (own_under round.home (path_in round.path part.instance) part.binds (all_nets (model_at l.design.now o.model)))
+    (own_under round.home (path_in round.path instance.name) instance.binds (all_nets (model_at l.design.now o.model)))
 
 -- the names of the nets of these spans are those of a place
 pub span_homes : (l : Layout) (n : ℕ) (own : List Span) → IsLaid l → n ≤ length l.opened.now

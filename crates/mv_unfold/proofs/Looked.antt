@@ -17,27 +17,27 @@ use Rattle.mv_tree.specs.Places.{Place, root_place, actual_of, path_in}
 use Rattle.mv_tree.proofs.Inside.{through-bound, through-own}
 use Rattle.mv_acyclic.specs.Sound.{reset_owner_faults, resets_named, model_reset_faults}
 use Rattle.mv_unfold.specs.declared.layout.Layout.{Layout}
-use Rattle.mv_unfold.specs.Laid.{places_of, opened_at, laid_part}
+use Rattle.mv_unfold.specs.Laid.{places_of, opened_at, laid_instance}
 use Rattle.mv_unfold.specs.Placed.{model_at, place_at, IsPlaced}
 use Rattle.mv_unfold.specs.Resets.{at_home, AreLooked}
 use Rattle.mv_unfold.specs.Whole.{resets_faults, place_faults}
 
 -- ---- names
 
-pub home_bound : (l : Layout) (n : ℕ) (net actual : List ℕ) → IsPlaced l.design.now (places_of l) n (opened_at l n) → actual_of (laid_part l n).binds net ≡ Some actual
+pub home_bound : (l : Layout) (n : ℕ) (net actual : List ℕ) → IsPlaced l.design.now (places_of l) n (opened_at l n) → actual_of (laid_instance l n).binds net ≡ Some actual
     → (place_at (places_of l) (opened_at l n).round).home actual ≡ (place_at (places_of l) n).home net
 home_bound l n net actual p e =
     let round = place_at (places_of l) (opened_at l n).round in
-    let part = laid_part l n in
-    sym (ap (λ (q : Place). q.home net) p.is ∙ through-bound round.home (λ x. path_in round.path part.instance ++ x) part.binds net actual e)
+    let instance = laid_instance l n in
+    sym (ap (λ (q : Place). q.home net) p.is ∙ through-bound round.home (λ x. path_in round.path instance.name ++ x) instance.binds net actual e)
 
-pub home_own : (l : Layout) (n : ℕ) (net : List ℕ) → IsPlaced l.design.now (places_of l) n (opened_at l n) → actual_of (laid_part l n).binds net ≡ None
+pub home_own : (l : Layout) (n : ℕ) (net : List ℕ) → IsPlaced l.design.now (places_of l) n (opened_at l n) → actual_of (laid_instance l n).binds net ≡ None
     → (place_at (places_of l) n).path ++ net ≡ (place_at (places_of l) n).home net
 home_own l n net p e =
     let round = place_at (places_of l) (opened_at l n).round in
-    let part = laid_part l n in
+    let instance = laid_instance l n in
     ap (λ (q : Place). q.path ++ net) p.is
-    ∙ sym (ap (λ (q : Place). q.home net) p.is ∙ through-own round.home (λ x. path_in round.path part.instance ++ x) part.binds net e)
+    ∙ sym (ap (λ (q : Place). q.home net) p.is ∙ through-own round.home (λ x. path_in round.path instance.name ++ x) instance.binds net e)
 
 -- ---- the faults of a place
 

@@ -11,7 +11,7 @@ use Rattle.mv_design.specs.declared.design.Design.{Design}
 use Rattle.mv_design.specs.declared.design.FileModel.{FileModel}
 use Rattle.mv_design.specs.Nets.{nets_of, nets_driven, drivers, drivers_of, latch_outputs, output_of}
 use Rattle.mv_design.specs.Proper.{IsLawful}
-use Rattle.mv_tree.specs.Tree.{Instances, NoMore, Instance, Unfolds}
+use Rattle.mv_tree.specs.Tree.{Instances, NoMore, More, Unfolds}
 use Rattle.mv_tree.specs.Places.{root_place, places_in, places, homes}
 use Rattle.mv_tree.specs.Unfolded.{joined, unfolded}
 use Rattle.mv_tree.specs.Bound.{AreBound, FollowsGrammar, IsWhole, resets_have_latches}
@@ -27,8 +27,8 @@ use Rattle.mv_acyclic.proofs.Distinct.{differ_counted, drivers_counted}
 use Rattle.mv_acyclic.proofs.Named.{among-nets_of}
 use Rattle.mv_acyclic.proofs.Names.{all_among, among_counted, count_of_append}
 use Rattle.mv_unfold.specs.Whole.{HasGoodNets, HasShortNames}
-use Rattle.mv_unfold.proofs.Alone.{homes_alone, no_parts}
-use Rattle.mv_unfold.proofs.Firsts.{nets_differ, no_more}
+use Rattle.mv_unfold.proofs.Alone.{homes_alone, no_instances}
+use Rattle.mv_acyclic.proofs.Distinct.{nets_differ, no_more}
 use Rattle.mv_unfold.proofs.Resetting.{joined_resets}
 
 -- ---- the nets
@@ -46,28 +46,28 @@ home_is_net root tree good net e =
     driver_is_net m net (among_counted net (drivers m) ∙ ap (nat_lt 0) (driven_in_whole root tree good net e))
 
 -- a net of the one model is one of the whole
-net_is_home : (d : Design) (root : FileModel) (tree : Instances) → Unfolds d root.parts tree → AreBound root tree → names_differ (homes (places root tree)) ≡ true
+net_is_home : (d : Design) (root : FileModel) (tree : Instances) → Unfolds d root.instances tree → AreBound root tree → names_differ (homes (places root tree)) ≡ true
     → (net : List ℕ) → among net (nets_of (unfolded root tree)) ≡ true → among net (homes (places root tree)) ≡ true
 unfolding unfolded
-net_is_home d root NoMore u bound differ net e = ap (among net) (homes_alone root (no_parts d root.parts u)) ∙ e
-net_is_home d root (Instance part model inside rest) u bound differ net e =
-    let tree = Instance part model inside rest in
+net_is_home d root NoMore u bound differ net e = ap (among net) (homes_alone root (no_instances d root.instances u)) ∙ e
+net_is_home d root (More instance model inside rest) u bound differ net e =
+    let tree = More instance model inside rest in
     let qs = places_in (root_place root) tree in
     let stand = all_stand root tree (are_named d root tree u) bound differ in
     (joined_among root qs stand).each net (sym (among-nets_of net (joined root (places root tree))) ∙ e)
 
-pub same_nets : (d : Design) (root : FileModel) (tree : Instances) → Unfolds d root.parts tree → AreBound root tree → HasGoodNets root tree
+pub same_nets : (d : Design) (root : FileModel) (tree : Instances) → Unfolds d root.instances tree → AreBound root tree → HasGoodNets root tree
     → (net : List ℕ) → among net (homes (places root tree)) ≡ among net (nets_of (unfolded root tree))
 same_nets d root tree u bound good net =
     both_ways (among net (homes (places root tree))) (among net (nets_of (unfolded root tree))) (home_is_net root tree good net)
     (net_is_home d root tree u bound good.differ net)
 
-pub driven_once : (d : Design) (root : FileModel) (tree : Instances) → Unfolds d root.parts tree → AreBound root tree → HasGoodNets root tree
+pub driven_once : (d : Design) (root : FileModel) (tree : Instances) → Unfolds d root.instances tree → AreBound root tree → HasGoodNets root tree
     → IsDrivenOnce (unfolded root tree)
 driven_once d root tree u bound good =
     record { once = λ net e. driven_in_whole root tree good net (same_nets d root tree u bound good net ∙ e) }
 
-pub within_limits : (d : Design) (root : FileModel) (tree : Instances) → Unfolds d root.parts tree → AreBound root tree → HasGoodNets root tree
+pub within_limits : (d : Design) (root : FileModel) (tree : Instances) → Unfolds d root.instances tree → AreBound root tree → HasGoodNets root tree
     → HasShortNames root tree → IsWithinLimits (unfolded root tree)
 within_limits d root tree u bound good short =
     let m = unfolded root tree in
@@ -94,7 +94,7 @@ have_latches : (m : FileModel) → HasResetsOfLatches m → resets_have_latches 
 have_latches m h = sym (list_all-map (λ w. among w (latch_outputs m)) output_of m.resets) ∙ h.latches
 
 -- a root and its instances are one model
-pub is_whole : (d : Design) (root : FileModel) (tree : Instances) → Unfolds d root.parts tree → AreBound root tree → HasGoodNets root tree → IsWhole root tree
+pub is_whole : (d : Design) (root : FileModel) (tree : Instances) → Unfolds d root.instances tree → AreBound root tree → HasGoodNets root tree → IsWhole root tree
 is_whole d root tree u bound good =
     let m = unfolded root tree in
     let ps = places root tree in
@@ -109,12 +109,12 @@ is_whole d root tree u bound good =
           (recursion_from_All (λ p. HasResetsOfLatches p.model) ps good.resets));
     }
 
-pub resets_of_whole : (d : Design) (root : FileModel) (tree : Instances) → Unfolds d root.parts tree → All (λ p. IsLawful p.model) (places root tree)
+pub resets_of_whole : (d : Design) (root : FileModel) (tree : Instances) → Unfolds d root.instances tree → All (λ p. IsLawful p.model) (places root tree)
     → AreBound root tree → HasGoodNets root tree → HasResetsOfLatches (unfolded root tree)
 unfolding unfolded
 resets_of_whole d root NoMore u lawful bound good = (recursion_from_All (λ p. HasResetsOfLatches p.model) (places root NoMore) good.resets).0
-resets_of_whole d root (Instance part model inside rest) u lawful bound good =
-    let tree = Instance part model inside rest in
+resets_of_whole d root (More instance model inside rest) u lawful bound good =
+    let tree = More instance model inside rest in
     let ps = places root tree in
     let m = joined root ps in
     joined_resets root ps (recursion_from_All FollowsGrammar ps (follows_grammar d root tree u lawful))

@@ -10,14 +10,14 @@ use Rattle.mv_base.specs.Names.{same_word, place_of}
 use Rattle.mv_base.proofs.NameLemmas.{place_of-cons}
 use Rattle.mv_design.specs.declared.design.Design.{Design}
 use Rattle.mv_design.specs.declared.design.FileModel.{FileModel}
-use Rattle.mv_design.specs.declared.design.Part.{Part}
+use Rattle.mv_design.specs.declared.design.Instance.{Instance}
 use Rattle.mv_design.specs.Nets.{no_model, root_of}
-use Rattle.mv_tree.specs.Tree.{Instances, NoMore, Instance, Unfolds, model_named, size_of}
+use Rattle.mv_tree.specs.Tree.{Instances, NoMore, More, Unfolds, model_named, size_of}
 use Rattle.mv_tree.specs.Places.{Place, root_place, place_in, places_in, places}
 use Rattle.mv_walk.specs.declared.opened.Opened.{Opened}
 use Rattle.mv_walk.specs.Walk.{HasTree}
 use Rattle.mv_walk.specs.Openings.{openings, AreOpened}
-use Rattle.mv_unfold.specs.Placed.{model_place, model_at, no_part, part_at, place_at, part_in, opened_place, with_places, places_by, IsPlaced, ArePlaced}
+use Rattle.mv_unfold.specs.Placed.{model_place, model_at, no_instance, instance_at, place_at, instance_in, opened_place, with_places, places_by, IsPlaced, ArePlaced}
 
 -- ---- the model with a name
 
@@ -69,13 +69,13 @@ named_model d name m e =
 abbrev HavePlaces : Design → List Place → List Opened → Type 0
 HavePlaces d ps [] = Unit {0}
 HavePlaces d ps (o ∷ os) =
-    (o.round < length ps) × (o.model < length d.models) × (o.part < length (place_at ps o.round).model.parts)
-    × (o.model ≡ model_place d.models (part_in ps o).model) × HavePlaces d (ps ++ opened_place d ps o ∷ []) os
+    (o.round < length ps) × (o.model < length d.models) × (o.instance < length (place_at ps o.round).model.instances)
+    × (o.model ≡ model_place d.models (instance_in ps o).model) × HavePlaces d (ps ++ opened_place d ps o ∷ []) os
 
 pub length-places_in : (p : Place) (tree : Instances) → length (places_in p tree) ≡ size_of tree
 length-places_in p NoMore = refl
-length-places_in p (Instance part model inside rest) =
-    let q = place_in p part model in
+length-places_in p (More instance model inside rest) =
+    let q = place_in p instance model in
     let a = length-append (places_in q inside) (places_in p rest) in
     let i = length-places_in q inside in
     let r = length-places_in p rest in
@@ -87,14 +87,14 @@ record Leads (d : Design) (ps : List Place) (list : List Opened) (qs : List Plac
   fit : HavePlaces d qs os → HavePlaces d ps list
 
 -- the first of the commands from a number on
-commands_at : (xs : List Part) (at : ℕ) (z c : Part) (cs : List Part) → drop at xs ≡ c ∷ cs → (at < length xs) × (get_or xs at z ≡ c) × (drop (suc at) xs ≡ cs)
+commands_at : (xs : List Instance) (at : ℕ) (z c : Instance) (cs : List Instance) → drop at xs ≡ c ∷ cs → (at < length xs) × (get_or xs at z ≡ c) × (drop (suc at) xs ≡ cs)
 commands_at [] zero z c cs e = cc
 commands_at [] (suc at) z c cs e = cc
 commands_at (x ∷ xs) zero z c cs e = (omega arith, cc, cc)
 commands_at (x ∷ xs) (suc at) z c cs e = let r = commands_at xs at z c cs e in (omega (arith, r.0), r.1, r.2)
 
-tree_leads : (d : Design) (ps : List Place) (round next at : ℕ) (p : Place) (cs : List Part) (tree : Instances) (os : List Opened) → round < length ps
-    → place_at ps round ≡ p → length ps ≡ next → drop at p.model.parts ≡ cs → Unfolds d cs tree
+tree_leads : (d : Design) (ps : List Place) (round next at : ℕ) (p : Place) (cs : List Instance) (tree : Instances) (os : List Opened) → round < length ps
+    → place_at ps round ≡ p → length ps ≡ next → drop at p.model.instances ≡ cs → Unfolds d cs tree
     → Leads d ps (openings d round next at tree ++ os) (ps ++ places_in p tree) os
 tree_leads d ps round next at p [] NoMore os low is long rest u =
     let e = append-nil ps in
@@ -102,17 +102,17 @@ tree_leads d ps round next at p [] NoMore os low is long rest u =
       placed = ap (λ qs. with_places d qs os) (sym e);
       fit = λ h. subst (λ (qs : List Place). HavePlaces d qs os) e h;
     }
-tree_leads d ps round next at p [] (Instance _ _ _ _) os low is long rest u = absurd u
+tree_leads d ps round next at p [] (More _ _ _ _) os low is long rest u = absurd u
 tree_leads d ps round next at p (_ ∷ _) NoMore os low is long rest u = absurd u
-tree_leads d ps round next at p (c ∷ cs) (Instance part model inside others) os low is long rest u =
-    let k = commands_at p.model.parts at no_part c cs rest in
-    let behind_at : drop (at + 1) p.model.parts ≡ cs = ap (λ n. drop n p.model.parts) (add-one at) ∙ k.2 in
-    let m = named_model d part.model model (ap (λ (x : Part). model_named d.models x.model) u.0.is ∙ u.0.named) in
-    let o : Opened = record { model = model_place d.models part.model; round = round; part = at } in
-    let q = place_in p part model in
+tree_leads d ps round next at p (c ∷ cs) (More instance model inside others) os low is long rest u =
+    let k = commands_at p.model.instances at no_instance c cs rest in
+    let behind_at : drop (at + 1) p.model.instances ≡ cs = ap (λ n. drop n p.model.instances) (add-one at) ∙ k.2 in
+    let m = named_model d instance.model model (ap (λ (x : Instance). model_named d.models x.model) u.0.is ∙ u.0.named) in
+    let o : Opened = record { model = model_place d.models instance.model; round = round; instance = at } in
+    let q = place_in p instance model in
     let here : opened_place d ps o ≡ q =
-    ap (λ (r : Place). place_in r (part_at r.model at) (model_at d o.model)) is
-    ∙ (ap (λ (x : Part). place_in p x (model_at d o.model)) (k.1 ∙ sym u.0.is) ∙ ap (place_in p part) m.is) in
+    ap (λ (r : Place). place_in r (instance_at r.model at) (model_at d o.model)) is
+    ∙ (ap (λ (x : Instance). place_in p x (model_at d o.model)) (k.1 ∙ sym u.0.is) ∙ ap (place_in p instance) m.is) in
     let one = ps ++ q ∷ [] in
     let two = one ++ places_in q inside in
     let first = openings d next (next + 1) 0 inside in
@@ -124,7 +124,7 @@ tree_leads d ps round next at p (c ∷ cs) (Instance part model inside others) o
     let in_one : place_at one round ≡ p = get_or_append_left ps (q ∷ []) (root_place no_model) round low ∙ is in
     let in_two : place_at two round ≡ p = get_or_append_left one (places_in q inside) (root_place no_model) round one_low ∙ in_one in
     let at_next : place_at one next ≡ q = ap (place_at one) (sym long) ∙ get_or-append_seam ps q [] (root_place no_model) in
-    let within = tree_leads d one next (next + 1) 0 q model.parts inside (second ++ os) (omega arith) at_next (omega arith) refl u.1 in
+    let within = tree_leads d one next (next + 1) 0 q model.instances inside (second ++ os) (omega arith) at_next (omega arith) refl u.1 in
     let behind =
     tree_leads d two round (next + 1 + size_of inside) (at + 1) p cs others os (omega arith) in_two (omega arith) behind_at u.2 in
     let joined : two ++ places_in p others ≡ ps ++ (q ∷ (places_in q inside ++ places_in p others)) =
@@ -136,8 +136,8 @@ tree_leads d ps round next at p (c ∷ cs) (Instance part model inside others) o
       fit = λ h. (
         low,
         m.below,
-        subst (λ (r : Place). at < length r.model.parts) (sym is) k.0,
-        ap (λ (x : Part). model_place d.models x.model) (sym (ap (λ (r : Place). part_at r.model at) is ∙ (k.1 ∙ sym u.0.is))),
+        subst (λ (r : Place). at < length r.model.instances) (sym is) k.0,
+        ap (λ (x : Instance). model_place d.models x.model) (sym (ap (λ (r : Place). instance_at r.model at) is ∙ (k.1 ∙ sym u.0.is))),
         subst (λ (x : Place). HavePlaces d (ps ++ x ∷ []) ((first ++ second) ++ os)) (sym here)
             (subst (HavePlaces d one) (sym (append_assoc first second os))
             (within.fit (behind.fit (subst (λ (qs : List Place). HavePlaces d qs os) (sym joined) h)))),
@@ -174,13 +174,13 @@ placed_at d ps (x ∷ xs) zero o h e =
     let placed : IsPlaced d all (length ps + 0) x = record {
       round = let l = h.0 in omega arith;
       model = h.1;
-      part = subst (λ (r : Place). x.part < length r.model.parts) (sym old) h.2;
-      named = h.3 ∙ ap (λ (r : Place). model_place d.models (part_at r.model x.part).model) (sym old);
+      instance = subst (λ (r : Place). x.instance < length r.model.instances) (sym old) h.2;
+      named = h.3 ∙ ap (λ (r : Place). model_place d.models (instance_at r.model x.instance).model) (sym old);
       is =
           ap (place_at all) (omega arith)
           ∙ (with_places_kept d more xs (length ps) (omega arith)
           ∙ (get_or-append_seam ps q [] (root_place no_model)
-          ∙ ap (λ (r : Place). place_in r (part_at r.model x.part) (model_at d x.model)) (sym old)));
+          ∙ ap (λ (r : Place). place_in r (instance_at r.model x.instance) (model_at d x.model)) (sym old)));
     } in
     subst (IsPlaced d all (length ps + 0)) same placed
 placed_at d ps (x ∷ xs) (suc k) o h e =
@@ -196,7 +196,7 @@ root_only d = root_place (root_of d) ∷ []
 list_leads : (d : Design) (tree : Instances) (list : List Opened) → HasTree d tree → list ≡ openings d 0 1 0 tree
     → (with_places d (root_only d) list ≡ places (root_of d) tree) × HavePlaces d (root_only d) list
 list_leads d tree list h is =
-    let r = tree_leads d (root_only d) 0 1 0 (root_place (root_of d)) (root_of d).parts tree [] (omega arith) refl refl refl h.unfolds in
+    let r = tree_leads d (root_only d) 0 1 0 (root_place (root_of d)) (root_of d).instances tree [] (omega arith) refl refl refl h.unfolds in
     let e : list ≡ openings d 0 1 0 tree ++ [] = is ∙ sym (append-nil (openings d 0 1 0 tree)) in
     (ap (with_places d (root_only d)) e ∙ r.placed, subst (HavePlaces d (root_only d)) (sym e) (r.fit tt))
 

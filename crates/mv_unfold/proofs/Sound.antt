@@ -23,7 +23,7 @@ sound_tree : (d : Design) (s : IsSound d) → IsWithinDesignLimits d s.tree → 
 sound_tree d s within = record { unfolds = s.unfolds; bound = s.bound; shallow = within.shallow; few = within.few }
 
 same_tree : (d : Design) (s : IsSound d) (tree : Instances) → HasTree d tree → tree ≡ s.tree
-same_tree d s tree h = one_tree d (root_of d).parts tree s.tree h.unfolds s.unfolds
+same_tree d s tree h = one_tree d (root_of d).instances tree s.tree h.unfolds s.unfolds
 
 nothing_first : (fs : List FlatFault) (f : FlatFault) → fs ≡ [] → first fs ≡ Some f → ⊥
 nothing_first [] f e h = cc
@@ -49,4 +49,4 @@ fault_excludes d named s within Memory h n = n refl
 fault_excludes d named s within f h n = none_told d f named s within h
 
 pub one_sound : (d : Design) (a b : IsSound d) → a.tree ≡ b.tree
-one_sound d a b = one_tree d (root_of d).parts a.tree b.tree a.unfolds b.unfolds
+one_sound d a b = one_tree d (root_of d).instances a.tree b.tree a.unfolds b.unfolds

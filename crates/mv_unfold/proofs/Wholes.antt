@@ -7,7 +7,7 @@ use Rattle.mv_fault.specs.declared.flat.FlatFault.TheVariants.{Memory}
 use Rattle.mv_design.specs.declared.design.Design.{Design}
 use Rattle.mv_design.specs.declared.design.FileModel.{FileModel}
 use Rattle.mv_design.specs.Nets.{root_of}
-use Rattle.mv_tree.specs.Tree.{Instances, NoMore, Instance}
+use Rattle.mv_tree.specs.Tree.{Instances, NoMore, More}
 use Rattle.mv_tree.specs.Places.{places}
 use Rattle.mv_tree.specs.Unfolded.{joined, unfolded}
 use Rattle.mv_walk.specs.declared.opened.Opened.{Opened}
@@ -31,13 +31,13 @@ told_fault (Err f) d list h t =
 pub whole_root : (d : Design) (root : FileModel) (tree : Instances) → [] ≡ openings d 0 1 0 tree → root ≡ unfolded root tree
 unfolding unfolded
 whole_root d root NoMore e = refl
-whole_root d root (Instance p m inside rest) e = cc
+whole_root d root (More p m inside rest) e = cc
 
 pub whole_joined : (d : Design) (root : FileModel) (tree : Instances) (list : List Opened) → list ≡ openings d 0 1 0 tree → 0 < length list
     → joined root (places root tree) ≡ unfolded root tree
 unfolding unfolded
 whole_joined d root NoMore list e some = let l : length list ≡ 0 = ap length e in absurd (omega arith)
-whole_joined d root (Instance p m inside rest) list e some = refl
+whole_joined d root (More p m inside rest) list e some = refl
 
 pub no_elements : {X : Type 0} (xs : List X) → length xs ≡ 0 → [] ≡ xs
 no_elements [] e = refl

@@ -11,12 +11,12 @@ use Rattle.mv_base.specs.Names.{same_word, among, names_differ}
 use Rattle.mv_base.proofs.NameLemmas.{among-append, same_word_is, same_word_refl}
 use Rattle.mv_design.specs.declared.design.Bind.{Bind}
 use Rattle.mv_design.specs.declared.design.Design.{Design}
-use Rattle.mv_design.specs.declared.design.Part.{Part}
+use Rattle.mv_design.specs.declared.design.Instance.{Instance}
 use Rattle.mv_design.specs.declared.design.FileLatch.{FileLatch}
 use Rattle.mv_design.specs.declared.design.FileModel.{FileModel}
 use Rattle.mv_design.specs.declared.table.FileTable.{FileTable}
 use Rattle.mv_design.specs.Nets.{latch_outputs, nets_driven, drivers, drivers_of}
-use Rattle.mv_tree.specs.Tree.{Instances, NoMore, Instance, Unfolds}
+use Rattle.mv_tree.specs.Tree.{Instances, NoMore, More, Unfolds}
 use Rattle.mv_tree.specs.Places.{Place, root_place, place_in, places_in, places, actual_of, is_bound, through, all_nets, own_nets, homes_at, homes}
 use Rattle.mv_tree.specs.Unfolded.{placed_latch, numbered, tables_in, latches_in, unfolded}
 use Rattle.mv_tree.proofs.Each.{each-weaker, each-append}
@@ -91,23 +91,23 @@ times_flat w f us ws = ap (times w) (flat_map-append f us ws) ∙ count_of_appen
 settled : (w : List ℕ) (p : Place) (tree : Instances)
     → times w (map p.home (passed_up tree)) + times w (all_at_home (drivings_in p tree)) ≡ times w (flat_map own_homes (places_in p tree))
 settled w p NoMore = refl
-settled w p (Instance part model inside rest) =
-    let q = place_in p part model in
+settled w p (More instance model inside rest) =
+    let q = place_in p instance model in
     let ws = driven_in model inside in
     let g : Driving = record { place = q; driven = ws } in
-    let a1 = times_map w p.home (passed part.binds ws) (passed_up rest) in
+    let a1 = times_map w p.home (passed instance.binds ws) (passed_up rest) in
     let a2 = count_of_append w (at_home g) (all_at_home (drivings_in q inside ++ drivings_in p rest)) in
     let a3 = times_flat w at_home (drivings_in q inside) (drivings_in p rest) in
-    let k = passed_or_own w p.home (λ net. q.path ++ net) part.binds ws in
+    let k = passed_or_own w p.home (λ net. q.path ++ net) instance.binds ws in
     let a4 = times_map w q.home (own_driven model) (passed_up inside) in
     let i = settled w q inside in
     let r = settled w p rest in
     let b1 = count_of_append w (own_homes q) (flat_map own_homes (places_in q inside ++ places_in p rest)) in
     let b2 = times_flat w own_homes (places_in q inside) (places_in p rest) in
-    add_up (times w (map p.home (passed part.binds ws))) (times w (map p.home (passed_up rest))) (times w (at_home g)) (times w (all_at_home (drivings_in q inside)))
+    add_up (times w (map p.home (passed instance.binds ws))) (times w (map p.home (passed_up rest))) (times w (at_home g)) (times w (all_at_home (drivings_in q inside)))
     (times w (all_at_home (drivings_in p rest))) (times w (map q.home ws)) (times w (own_homes q)) (times w (map q.home (passed_up inside)))
     (times w (flat_map own_homes (places_in q inside))) (times w (flat_map own_homes (places_in p rest)))
-    (times w (map p.home (passed part.binds ws ++ passed_up rest))) (times w (all_at_home (g ∷ (drivings_in q inside ++ drivings_in p rest))))
+    (times w (map p.home (passed instance.binds ws ++ passed_up rest))) (times w (all_at_home (g ∷ (drivings_in q inside ++ drivings_in p rest))))
     (times w (all_at_home (drivings_in q inside ++ drivings_in p rest))) (times w (flat_map own_homes (q ∷ (places_in q inside ++ places_in p rest))))
     (times w (flat_map own_homes (places_in q inside ++ places_in p rest)))
     a1 a2 a3 k a4 i r b1 b2
@@ -172,8 +172,8 @@ drivers_settled w root NoMore =
     same_names (own (root_place root) (root.inputs ++ (own_driven root ++ []))) ∙ all_own root (root.inputs ++ (own_driven root ++ [])) in
     ap (λ ws. times w (root.inputs ++ ws)) (sym (append-nil (own_driven root)))
     ∙ (ap (times w) (sym e) ∙ ap (times w) (sym (append-nil (at_home (record { place = root_place root; driven = root.inputs ++ (own_driven root ++ []) })))))
-drivers_settled w root (Instance part model inside rest) =
-    let tree = Instance part model inside rest in
+drivers_settled w root (More instance model inside rest) =
+    let tree = More instance model inside rest in
     let r = root_place root in
     let ps = places root tree in
     let ws = root.inputs ++ driven_in root tree in
@@ -299,8 +299,8 @@ all_driven (g ∷ gs) differ h =
 
 places_driven : (p : Place) (tree : Instances) → places_of_drivings (drivings_in p tree) ≡ places_in p tree
 places_driven p NoMore = refl
-places_driven p (Instance part model inside rest) =
-    let q = place_in p part model in
+places_driven p (More instance model inside rest) =
+    let q = place_in p instance model in
     ap (λ ps. q ∷ ps)
     (map-append (λ (g : Driving). g.place) (drivings_in q inside) (drivings_in p rest)
     ∙ (ap (λ ps. ps ++ places_of_drivings (drivings_in p rest)) (places_driven q inside) ∙ ap (λ ps. places_in q inside ++ ps) (places_driven p rest)))
@@ -311,21 +311,21 @@ all_places root tree = ap (λ ps. root_place root ∷ ps) (places_driven (root_p
 -- what is driven of a place is what a tree of its commands drives
 pub record HasSubtree (d : Design) (g : Driving) : Type 0 where
   pub tree : Instances
-  pub unfolds : Unfolds d g.place.model.parts tree
+  pub unfolds : Unfolds d g.place.model.instances tree
   pub is : g.driven ≡ driven_in g.place.model tree
 
-subtrees_in : (d : Design) (p : Place) (ps : List Part) (tree : Instances) → Unfolds d ps tree → AllByRecursion (HasSubtree d) (drivings_in p tree)
+subtrees_in : (d : Design) (p : Place) (ps : List Instance) (tree : Instances) → Unfolds d ps tree → AllByRecursion (HasSubtree d) (drivings_in p tree)
 subtrees_in d p [] NoMore u = tt
-subtrees_in d p [] (Instance _ _ _ _) u = absurd u
+subtrees_in d p [] (More _ _ _ _) u = absurd u
 subtrees_in d p (_ ∷ _) NoMore u = absurd u
-subtrees_in d p (c ∷ cs) (Instance part model inside rest) u =
-    let q = place_in p part model in
-    (record { tree = inside; unfolds = u.1; is = refl }, each-append (HasSubtree d) (drivings_in q inside) (drivings_in p rest) (subtrees_in d q model.parts inside u.1) (subtrees_in d p cs rest u.2))
+subtrees_in d p (c ∷ cs) (More instance model inside rest) u =
+    let q = place_in p instance model in
+    (record { tree = inside; unfolds = u.1; is = refl }, each-append (HasSubtree d) (drivings_in q inside) (drivings_in p rest) (subtrees_in d q model.instances inside u.1) (subtrees_in d p cs rest u.2))
 
-pub subtrees : (d : Design) (root : FileModel) (tree : Instances) → Unfolds d root.parts tree → AllByRecursion (HasSubtree d) (drivings_in (root_place root) tree)
-subtrees d root tree u = subtrees_in d (root_place root) root.parts tree u
+pub subtrees : (d : Design) (root : FileModel) (tree : Instances) → Unfolds d root.instances tree → AllByRecursion (HasSubtree d) (drivings_in (root_place root) tree)
+subtrees d root tree u = subtrees_in d (root_place root) root.instances tree u
 
-named_drivings : (d : Design) (root : FileModel) (tree : Instances) → Unfolds d root.parts tree → AllByRecursion IsNamed (drivings root tree)
+named_drivings : (d : Design) (root : FileModel) (tree : Instances) → Unfolds d root.instances tree → AllByRecursion IsNamed (drivings root tree)
 named_drivings d root tree u = (
   record { named = among_both root.inputs (driven_in root tree) (all_nets root) (nets_among root).inputs (driven_named d root tree u) },
   each-weaker (HasSubtree d) IsNamed
@@ -338,7 +338,7 @@ named_drivings d root tree u = (
 pub record HasDrivers (root : FileModel) (tree : Instances) (g : Driving) : Type 0 where
   pub is : (net : List ℕ) → among net (own_nets g.place) ≡ true → drivers_of (unfolded root tree) (g.place.home net) ≡ count_by (same_word net) g.driven
 
-pub have_drivers : (d : Design) (root : FileModel) (tree : Instances) → Unfolds d root.parts tree → names_differ (homes (places root tree)) ≡ true
+pub have_drivers : (d : Design) (root : FileModel) (tree : Instances) → Unfolds d root.instances tree → names_differ (homes (places root tree)) ≡ true
     → AllByRecursion (HasDrivers root tree) (drivings root tree)
 have_drivers d root tree u differ =
     let gs = drivings root tree in

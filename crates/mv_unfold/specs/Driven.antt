@@ -8,10 +8,10 @@ use Rattle.mv_design.specs.declared.design.Bind.{Bind}
 use Rattle.mv_design.specs.declared.design.Design.{Design}
 use Rattle.mv_design.specs.declared.design.FileLatch.{FileLatch}
 use Rattle.mv_design.specs.declared.design.FileModel.{FileModel}
-use Rattle.mv_design.specs.declared.design.Part.{Part}
+use Rattle.mv_design.specs.declared.design.Instance.{Instance}
 use Rattle.mv_design.specs.declared.table.FileTable.{FileTable}
 use Rattle.mv_design.specs.Nets.{latch_outputs, nets_driven}
-use Rattle.mv_tree.specs.Tree.{Instances, NoMore, Instance, Unfolds, IsWithinDepth}
+use Rattle.mv_tree.specs.Tree.{Instances, NoMore, More, Unfolds, IsWithinDepth}
 use Rattle.mv_tree.specs.Places.{actual_of, all_nets, homes_at}
 use Rattle.mv_fault.specs.Tells.{when}
 use Rattle.mv_fault.specs.declared.flat.FlatFault.{FlatFault}
@@ -45,8 +45,8 @@ passed binds nets = flat_map (λ net. net_in (actual_of binds net)) nets
 -- the nets of a model that what is inside these instances of it drives, as often as it does
 abbrev pub passed_up : Instances → List (List ℕ)
 passed_up NoMore = []
-passed_up (Instance part model inside rest) =
-    passed part.binds (own_driven model ++ passed_up inside) ++ passed_up rest
+passed_up (More instance model inside rest) =
+    passed instance.binds (own_driven model ++ passed_up inside) ++ passed_up rest
 
 -- the nets of a model with instances that are driven by it or from inside them, as often as they
 -- are
@@ -109,12 +109,12 @@ abbrev pub counts_at : List (Option (List ℕ)) → ℕ → List ℕ
 counts_at slots k = unwrap_or (slice_index_or slots k None) []
 
 -- the counts of nets, with what drives them from inside the instances that these commands make
-abbrev pub with_parts : List (List ℕ) → List (List (List ℕ)) → List (Option (List ℕ)) → List ℕ
-    → List Part → List Command → List ℕ
-with_parts nets all slots counts [] _ = counts
-with_parts nets all slots counts (_ ∷ _) [] = counts
-with_parts nets all slots counts (p ∷ ps) (c ∷ cs) =
-    with_parts nets all slots
+abbrev pub with_instances : List (List ℕ) → List (List (List ℕ)) → List (Option (List ℕ)) → List ℕ
+    → List Instance → List Command → List ℕ
+with_instances nets all slots counts [] _ = counts
+with_instances nets all slots counts (_ ∷ _) [] = counts
+with_instances nets all slots counts (p ∷ ps) (c ∷ cs) =
+    with_instances nets all slots
     (with_binds nets counts (slice_index_or all c.model [])
     (counts_at slots c.model) [] p.binds) ps cs
 
@@ -122,20 +122,20 @@ with_parts nets all slots counts (p ∷ ps) (c ∷ cs) =
 abbrev pub counted : List (List ℕ) → List (List (List ℕ)) → List (Option (List ℕ)) → FileModel
     → List Command → List ℕ
 counted nets all slots m row =
-    with_parts nets all slots
-    (with_tables nets (with_latches nets (map (λ net. 0) nets) m.latches) m.tables) m.parts row
+    with_instances nets all slots
+    (with_tables nets (with_latches nets (map (λ net. 0) nets) m.latches) m.tables) m.instances row
 
 -- ---- models in order
 
 -- the instances inside a model are a tree that is no deeper than so many levels
 pub record HasInside (d : Design) (levels k : ℕ) : Type 0 where
   pub tree : Instances
-  pub unfolds : Unfolds d (model_at d k).parts tree
+  pub unfolds : Unfolds d (model_at d k).instances tree
   pub shallow : IsWithinDepth levels tree
 
 -- these are the counts of a model
 pub record IsTally (d : Design) (k : ℕ) (counts : List ℕ) : Type 0 where
-  pub is : (tree : Instances) → Unfolds d (model_at d k).parts tree
+  pub is : (tree : Instances) → Unfolds d (model_at d k).instances tree
       → counts ≡ tally (all_nets (model_at d k)) (driven_in (model_at d k) tree)
 
 -- the counts of a model are known

@@ -1,7 +1,7 @@
 -- Which nets of each place are driven, by it and from inside it.
 use Rattle.std.specs.Prelude.{ℕ, List, [], ◌∷◌, ◌++◌}
 use Rattle.mv_design.specs.declared.design.FileModel.{FileModel}
-use Rattle.mv_tree.specs.Tree.{Instances, NoMore, Instance}
+use Rattle.mv_tree.specs.Tree.{Instances, NoMore, More}
 use Rattle.mv_tree.specs.Places.{Place, root_place, place_in}
 use Rattle.mv_unfold.specs.Driven.{driven_in}
 
@@ -14,9 +14,9 @@ pub record Driving : Type 0 where
 -- the same of the instances inside a place
 abbrev pub drivings_in : Place → Instances → List Driving
 drivings_in round NoMore = []
-drivings_in round (Instance part model inside rest) =
-    record { place = place_in round part model; driven = driven_in model inside }
-    ∷ (drivings_in (place_in round part model) inside ++ drivings_in round rest)
+drivings_in round (More instance model inside rest) =
+    record { place = place_in round instance model; driven = driven_in model inside }
+    ∷ (drivings_in (place_in round instance model) inside ++ drivings_in round rest)
 
 -- the same of the root, whose inputs are driven, and of all instances
 abbrev pub drivings : FileModel → Instances → List Driving

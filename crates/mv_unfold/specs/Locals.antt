@@ -3,7 +3,7 @@ use Rattle.std.specs.Prelude.{◌≡◌, ℕ, Bool, ◌-◌, ◌<◌, ◌≤◌,
 use Rattle.std.specs.List.{list_any, flat_map, range_with_len}
 use Rattle.mv_base.specs.Names.{place_of}
 use Rattle.mv_design.specs.declared.design.Bind.{Bind}
-use Rattle.mv_design.specs.declared.design.Part.{Part}
+use Rattle.mv_design.specs.declared.design.Instance.{Instance}
 use Rattle.mv_design.specs.ByLine.{before_line, from_line}
 use Rattle.mv_design.specs.Nets.{Naming}
 use Rattle.mv_tree.specs.Places.{is_bound}
@@ -17,7 +17,7 @@ abbrev pub actuals_of : List Bind → List (List ℕ)
 actuals_of binds = map (λ b. b.actual) binds
 
 -- names with those more that instances and other commands name, by line
-abbrev pub with_commands : List (List ℕ) → List Part → List Naming → List (List ℕ)
+abbrev pub with_commands : List (List ℕ) → List Instance → List Naming → List (List ℕ)
 with_commands names [] ns = with_named names ns
 with_commands names (p ∷ ps) ns =
     with_commands

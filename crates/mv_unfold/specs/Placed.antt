@@ -3,7 +3,7 @@
 use Rattle.std.specs.Prelude.{ℕ, ◌+◌, ◌<◌, ◌≡◌, Some, List, [], ◌∷◌, ◌++◌, length, slice_index_or, slice_get, unwrap_or}
 use Rattle.mv_design.specs.declared.design.Design.{Design}
 use Rattle.mv_design.specs.declared.design.FileModel.{FileModel}
-use Rattle.mv_design.specs.declared.design.Part.{Part}
+use Rattle.mv_design.specs.declared.design.Instance.{Instance}
 use Rattle.mv_design.specs.Nets.{no_model, root_of}
 use Rattle.mv_tree.specs.Places.{Place, root_place, place_in}
 use Rattle.mv_walk.specs.declared.opened.Opened.{Opened}
@@ -18,24 +18,24 @@ abbrev pub model_place : List FileModel → List ℕ → ℕ
 model_place ms name = unwrap_or (place_named ms name) 0
 
 -- a command that binds nothing
-abbrev pub no_part : Part
-no_part = record { line = 0; model = []; instance = []; binds = [] }
+abbrev pub no_instance : Instance
+no_instance = record { line = 0; model = []; name = []; binds = [] }
 
 -- the command of a model with a number
-abbrev pub part_at : FileModel → ℕ → Part
-part_at m k = slice_index_or m.parts k no_part
+abbrev pub instance_at : FileModel → ℕ → Instance
+instance_at m k = slice_index_or m.instances k no_instance
 
 -- the place with a number
 abbrev pub place_at : List Place → ℕ → Place
 place_at ps k = slice_index_or ps k (root_place no_model)
 
 -- the command that makes an instance in one of these places
-abbrev pub part_in : List Place → Opened → Part
-part_in ps o = part_at (place_at ps o.round).model o.part
+abbrev pub instance_in : List Place → Opened → Instance
+instance_in ps o = instance_at (place_at ps o.round).model o.instance
 
 -- the place of an instance in one of these
 abbrev pub opened_place : Design → List Place → Opened → Place
-opened_place d ps o = place_in (place_at ps o.round) (part_in ps o) (model_at d o.model)
+opened_place d ps o = place_in (place_at ps o.round) (instance_in ps o) (model_at d o.model)
 
 -- these places, and behind them those of instances
 abbrev pub with_places : Design → List Place → List Opened → List Place
@@ -51,8 +51,8 @@ places_by d list = with_places d (root_place (root_of d) ∷ []) list
 pub record IsPlaced (d : Design) (ps : List Place) (n : ℕ) (o : Opened) : Type 0 where
   pub round : o.round < n
   pub model : o.model < length d.models
-  pub part : o.part < length (place_at ps o.round).model.parts
-  pub named : o.model ≡ model_place d.models (part_in ps o).model
+  pub instance : o.instance < length (place_at ps o.round).model.instances
+  pub named : o.model ≡ model_place d.models (instance_in ps o).model
   pub is : place_at ps n ≡ opened_place d ps o
 
 -- the places of a list: first the root, and then those of the instances in order

@@ -23,7 +23,7 @@ use Rattle.mv_unfold.specs.Whole.{HasGoodNets, HasShortNames, HasWholeFault, who
 -- itself, and no latch above a reset value. Of the limits of the program it says nothing
 pub record IsSound (d : Design) : Type 0 where
   pub tree : Instances
-  pub unfolds : Unfolds d (root_of d).parts tree
+  pub unfolds : Unfolds d (root_of d).instances tree
   pub bound : AreBound (root_of d) tree
   pub nets : HasGoodNets (root_of d) tree
   pub acyclic : IsAcyclic (reads (unfolded (root_of d) tree))

@@ -8,7 +8,7 @@ ghost use Rattle.mv_unfold.specs.Commands.{AreCommands, AreCommandsOf, IsCommand
 use crate::by_name::FirstPlaces;
 use crate::spans::{Span, own_spans};
 use mv_base::{Items, Memory, NameSet};
-use mv_design::{FileModel, Part};
+use mv_design::{FileModel, Instance};
 use std::alloc::Global;
 
 /// What a command makes: an instance of the model with this number, of whose nets these are its own,
@@ -32,7 +32,7 @@ pub fn commands(
     let names = FirstPlaces::of_models(alloc, models)?;
     let mut all = Items::with_room(alloc, models.len())?;
     for model in models {
-        all.push(commands_of(alloc, models, nets, &names, model.parts.as_slice())?)?;
+        all.push(commands_of(alloc, models, nets, &names, model.instances.as_slice())?)?;
     }
     Ok(all)
 }
@@ -43,16 +43,16 @@ fn commands_of(
     models: &[FileModel],
     nets: &[NameSet],
     names: &FirstPlaces,
-    parts: &[Part],
+    instances: &[Instance],
 ) -> Result<Items<Command>, Memory>
     requires some { 0 < length models.now }
     requires nets { nets.now ≡ map all_nets models.now }
     requires names { FindsFirst names.now (names_of models.now) }
-    ensures { IfOk result (λ row. AreCommandsOf models.now parts.now row) }
+    ensures { IfOk result (λ row. AreCommandsOf models.now instances.now row) }
 {
-    let mut row = Items::with_room(alloc, parts.len())?;
-    for part in parts {
-        row.push(made_by(alloc, models, nets, names, part)?)?;
+    let mut row = Items::with_room(alloc, instances.len())?;
+    for instance in instances {
+        row.push(made_by(alloc, models, nets, names, instance)?)?;
     }
     Ok(row)
 }
@@ -63,16 +63,16 @@ fn made_by(
     models: &[FileModel],
     nets: &[NameSet],
     names: &FirstPlaces,
-    part: &Part,
+    instance: &Instance,
 ) -> Result<Command, Memory>
     requires some { 0 < length models.now }
     requires nets { nets.now ≡ map all_nets models.now }
     requires names { FindsFirst names.now (names_of models.now) }
-    ensures { IfOk result (λ command. IsCommand models.now part.now command) }
+    ensures { IfOk result (λ command. IsCommand models.now instance.now command) }
 {
-    let model = names.number(&part.model);
-    let own = own_spans(alloc, &nets[model], part.binds.as_slice())?;
-    let formals = FirstPlaces::of_binds(alloc, part.binds.as_slice())?;
+    let model = names.number(&instance.model);
+    let own = own_spans(alloc, &nets[model], instance.binds.as_slice())?;
+    let formals = FirstPlaces::of_binds(alloc, instance.binds.as_slice())?;
     Ok(Command {
         model,
         own,

@@ -1,11 +1,11 @@
 //! How often the nets of a model are driven, as far as two.
 ghost use Rattle.std.specs.Prelude.{◌≡◌, ◌<◌, [], All, map, length, slice_index, IfOk, OnOk};
-ghost use Rattle.mv_unfold.specs.Driven.{count_in, counted, counts_at, with_binds, with_count, with_driven, with_latches, with_parts, with_tables};
+ghost use Rattle.mv_unfold.specs.Driven.{count_in, counted, counts_at, with_binds, with_count, with_driven, with_latches, with_instances, with_tables};
 
 use crate::commands::Command;
 use mv_acyclic::add_net;
 use mv_base::{Items, Memory, Name, NameSet};
-use mv_design::{Bind, FileLatch, FileModel, FileTable, Part};
+use mv_design::{Bind, FileLatch, FileModel, FileTable, Instance};
 use std::alloc::Global;
 
 /// How often a model's nets are driven, where it is known of what its commands make.
@@ -17,7 +17,7 @@ pub fn counts_of(
     model: &FileModel,
     row: &[Command],
 ) -> Result<Items<u8>, Memory>
-    requires long { length row.now ≡ length model.now.parts }
+    requires long { length row.now ≡ length model.now.instances }
     requires known { All (λ command. command.model < length all.now) row.now }
     ensures { IfOk result
         (λ counts. counts ≡ counted nets.now all.now slots.now model.now row.now) }
@@ -25,13 +25,13 @@ pub fn counts_of(
     let mut counts = zeros(alloc, nets)?;
     add_latches(nets, &mut counts, model.latches.as_slice());
     add_tables(nets, &mut counts, model.tables.as_slice());
-    add_parts(
+    add_instances(
         alloc,
         all,
         slots,
         nets,
         &mut counts,
-        model.parts.as_slice(),
+        model.instances.as_slice(),
         row,
     )?;
     Ok(Items::of(counts))
@@ -91,22 +91,22 @@ fn add_tables(nets: &NameSet, counts: &mut [u8], tables: &[FileTable])
 }
 
 /// Adds what drives nets from inside the instances that these commands make.
-fn add_parts(
+fn add_instances(
     alloc: Global,
     all: &[NameSet],
     slots: &[Option<Items<u8>>],
     nets: &NameSet,
     counts: &mut [u8],
-    parts: &[Part],
+    instances: &[Instance],
     row: &[Command],
 ) -> Result<(), Memory>
-    requires long { length row.now ≡ length parts.now }
+    requires long { length row.now ≡ length instances.now }
     requires known { All (λ command. command.model < length all.now) row.now }
     requires nets { length counts.old ≡ length nets.now }
     ensures { OnOk result
-        (counts.new ≡ with_parts nets.now all.now slots.now counts.old parts.now row.now) }
+        (counts.new ≡ with_instances nets.now all.now slots.now counts.old instances.now row.now) }
 {
-    for at in 0..parts.len() {
+    for at in 0..instances.len() {
         let inner = row[at].model;
         add_binds(
             alloc,
@@ -114,7 +114,7 @@ fn add_parts(
             counts,
             &all[inner],
             slot(slots, inner),
-            parts[at].binds.as_slice(),
+            instances[at].binds.as_slice(),
         )?;
     }
     Ok(())

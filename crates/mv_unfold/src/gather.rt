@@ -6,7 +6,7 @@ ghost use Rattle.mv_unfold.specs.Locals.{actuals_of, with_commands};
 
 use mv_acyclic::{Naming, add_named, add_net, add_nets, front_before, namings};
 use mv_base::{Items, Memory, NameSet};
-use mv_design::{Bind, FileModel, Part};
+use mv_design::{Bind, FileModel, Instance};
 use std::alloc::Global;
 
 /// The nets of each model.
@@ -31,19 +31,23 @@ fn nets_of(alloc: Global, model: &FileModel) -> Result<NameSet, Memory>
     add_nets(&mut nets, model.inputs.as_slice())?;
     add_nets(&mut nets, model.outputs.as_slice())?;
     let namings = namings(alloc, model)?;
-    add_commands(&mut nets, model.parts.as_slice(), namings.as_slice())?;
+    add_commands(&mut nets, model.instances.as_slice(), namings.as_slice())?;
     Ok(nets)
 }
 
 /// Adds the nets that instances and other commands name and that aren't there yet, by line.
-fn add_commands(nets: &mut NameSet, parts: &[Part], namings: &[Naming<'_>]) -> Result<(), Memory>
-    ensures { OnOk result (nets.new ≡ with_commands nets.old parts.now namings.now) }
+fn add_commands(
+    nets: &mut NameSet,
+    instances: &[Instance],
+    namings: &[Naming<'_>],
+) -> Result<(), Memory>
+    ensures { OnOk result (nets.new ≡ with_commands nets.old instances.now namings.now) }
 {
     let mut done = 0;
-    for part in parts {
-        let front = front_before(&namings[done..], part.line);
+    for instance in instances {
+        let front = front_before(&namings[done..], instance.line);
         add_named(nets, front)?;
-        add_actuals(nets, part.binds.as_slice())?;
+        add_actuals(nets, instance.binds.as_slice())?;
         done += front.len();
     }
     add_named(nets, &namings[done..])

@@ -27,6 +27,6 @@ pub fn joined(alloc: Global, layout: &Layout<'_>) -> Result<FileModel, Memory>
         tables: tables(alloc, layout)?,
         latches: latches(alloc, layout)?,
         resets: resets(alloc, layout)?,
-        parts: Items::new(alloc),
+        instances: Items::new(alloc),
     })
 }

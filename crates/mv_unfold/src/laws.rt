@@ -30,23 +30,23 @@ pub fn whole_laws()
 /// of the whole, each of them is driven once, each reset table has its own latch, and it passes no limit where the whole passes
 /// none. Of a model without instances it holds the other way round: its own nets are those of the whole.
 pub fn model_laws()
-    ensures whole { (d : Design) (root : FileModel) (tree : Instances) → Unfolds d root.parts tree
-        → AreBound root tree → HasGoodNets root tree
+    ensures whole { (d : Design) (root : FileModel) (tree : Instances)
+        → Unfolds d root.instances tree → AreBound root tree → HasGoodNets root tree
         → IsWhole root tree }
-    ensures driven { (d : Design) (root : FileModel) (tree : Instances) → Unfolds d root.parts tree
-        → AreBound root tree → HasGoodNets root tree
+    ensures driven { (d : Design) (root : FileModel) (tree : Instances)
+        → Unfolds d root.instances tree → AreBound root tree → HasGoodNets root tree
         → IsDrivenOnce (unfolded root tree) }
-    ensures resets { (d : Design) (root : FileModel) (tree : Instances) → Unfolds d root.parts tree
-        → All (λ p. IsLawful p.model) (places root tree)
+    ensures resets { (d : Design) (root : FileModel) (tree : Instances)
+        → Unfolds d root.instances tree → All (λ p. IsLawful p.model) (places root tree)
         → AreBound root tree → HasGoodNets root tree → HasResetsOfLatches (unfolded root tree) }
-    ensures nets { (d : Design) (root : FileModel) (tree : Instances) → Unfolds d root.parts tree
-        → AreBound root tree → HasGoodNets root tree
+    ensures nets { (d : Design) (root : FileModel) (tree : Instances)
+        → Unfolds d root.instances tree → AreBound root tree → HasGoodNets root tree
         → (net : List ℕ)
         → among net (homes (places root tree)) ≡ among net (nets_of (unfolded root tree)) }
-    ensures limits { (d : Design) (root : FileModel) (tree : Instances) → Unfolds d root.parts tree
-        → AreBound root tree → HasGoodNets root tree
+    ensures limits { (d : Design) (root : FileModel) (tree : Instances)
+        → Unfolds d root.instances tree → AreBound root tree → HasGoodNets root tree
         → HasShortNames root tree → IsWithinLimits (unfolded root tree) }
-    ensures alone { (m : FileModel) → m.parts ≡ [] → IsDrivenOnce m → HasResetsOfLatches m
+    ensures alone { (m : FileModel) → m.instances ≡ [] → IsDrivenOnce m → HasResetsOfLatches m
         → HasGoodNets m NoMore }
 {}
 

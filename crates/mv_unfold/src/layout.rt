@@ -4,7 +4,7 @@ ghost use Rattle.std.specs.Prelude.{◌≡◌, ◌+◌, ◌<◌, ◌≤◌, ◌+
 ghost use Rattle.mv_tree.specs.Places.{actual_of, all_nets};
 ghost use Rattle.mv_walk.specs.Openings.{AreOpened};
 ghost use Rattle.mv_unfold.specs.ByName.{FindsFirst, formals_bound};
-ghost use Rattle.mv_unfold.specs.Laid.{IsLaid, model_numbers, laid_part, places_of};
+ghost use Rattle.mv_unfold.specs.Laid.{IsLaid, model_numbers, laid_instance, places_of};
 ghost use Rattle.mv_unfold.specs.Locals.{AreOwn};
 ghost use Rattle.mv_unfold.specs.Placed.{model_at, place_at};
 
@@ -12,7 +12,7 @@ use crate::commands::{Command, commands};
 use crate::gather::local_nets;
 use crate::spans::{Span, own_spans};
 use mv_base::{Items, Memory, Name, NameSet};
-use mv_design::{Design, FileModel, Part};
+use mv_design::{Design, FileModel, Instance};
 use mv_walk::Opened;
 use std::alloc::Global;
 
@@ -101,23 +101,23 @@ impl<'a> Layout<'a> {
         ensures own { AreOwn (all_nets (place_at (places_of self.now) number).model)
             (place_at (places_of self.now) number).binds result.now.own }
         ensures formals { FindsFirst result.now.formals
-            (formals_bound (laid_part self.now number).binds) }
+            (formals_bound (laid_instance self.now number).binds) }
     {
         let opened = &self.opened[number - 1];
         let round = self.model(opened.round as usize);
-        &self.commands.as_slice()[round].as_slice()[opened.part as usize]
+        &self.commands.as_slice()[round].as_slice()[opened.instance as usize]
     }
 
     /// The command that makes an instance.
-    pub fn part(&self, number: usize) -> &Part
+    pub fn instance(&self, number: usize) -> &Instance
         requires laid { IsLaid self.now }
         requires some { 0 < number }
         requires number { number ≤ length self.now.opened.now }
-        ensures { result.now ≡ laid_part self.now number }
+        ensures { result.now ≡ laid_instance self.now number }
     {
         let opened = &self.opened[number - 1];
         let round = self.model(opened.round as usize);
-        &self.design.models.as_slice()[round].parts.as_slice()[opened.part as usize]
+        &self.design.models.as_slice()[round].instances.as_slice()[opened.instance as usize]
     }
 
     /// The net to which a formal of an instance is bound.
@@ -125,10 +125,10 @@ impl<'a> Layout<'a> {
         requires laid { IsLaid self.now }
         requires some { 0 < number }
         requires number { number ≤ length self.now.opened.now }
-        ensures { option_copied result ≡ actual_of (laid_part self.now number).binds net.now }
+        ensures { option_copied result ≡ actual_of (laid_instance self.now number).binds net.now }
     {
         match self.command(number).formals.place(net) {
-            Some(place) => Some(&self.part(number).binds.as_slice()[place].actual),
+            Some(place) => Some(&self.instance(number).binds.as_slice()[place].actual),
             None => None,
         }
     }
@@ -144,7 +144,7 @@ impl<'a> Layout<'a> {
             return Ok(());
         }
         self.add_path(path, self.opened[number - 1].round as usize)?;
-        path.extend_from_slice(self.part(number).instance.bytes())?;
+        path.extend_from_slice(self.instance(number).name.bytes())?;
         path.push(b'.')?;
         Ok(())
     }

@@ -26,4 +26,4 @@ mod tallies;
 
 pub use laws::{model_laws, sound_laws, whole_laws};
 pub use made::Whole;
-pub use model::whole;
+pub use model::{into_root, whole};

@@ -52,7 +52,7 @@ fn built(alloc: Global, design: Design, opened: &[Opened]) -> Result<Whole, Flat
     if opened.is_empty() {
         let nets = checked(alloc, &design, opened)?;
         return Ok(Whole {
-            model: root(design),
+            model: into_root(design),
             nets,
         });
     }
@@ -90,8 +90,8 @@ fn joined_whole(alloc: Global, design: &Design, opened: &[Opened]) -> Result<Who
     Ok(Whole { model, nets })
 }
 
-/// The root of the design.
-fn root(design: Design) -> FileModel
+/// The root of the design, which is let go.
+pub fn into_root(design: Design) -> FileModel
     requires { design.root < length design.models }
     ensures { result ≡ root_of design }
 {

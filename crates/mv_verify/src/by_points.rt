@@ -96,6 +96,22 @@ fn lost(alloc: Global, b: &mut Side, a: &mut Side) -> Result<Option<Point>, Memo
     lost_among(alloc, b, a, values.as_mut_slice())
 }
 
+/// Whether the network b, which has the interface of a, refines a, where free under values where a allows some choice; if not, the
+/// evidence.
+#[tactic(auto, unfolding(mv_net::specs::Allowed::of_net))]
+fn compared(alloc: Global, b: &mut Side, a: &mut Side, free: bool) -> Result<Answer, Memory>
+    requires { interface_of b.old ≡ interface_of a.old }
+    ensures { IfOk result (λ answer. IsAnswer free (of_net b.old) (of_net a.old) answer) }
+{
+    if let Some((point, choice)) = extra(alloc, b, a, free)? {
+        return Ok(Answer::Extra(point, choice));
+    }
+    if let Some(point) = lost(alloc, b, a)? {
+        return Ok(Answer::Lost(point));
+    }
+    Ok(Answer::Yes)
+}
+
 /// Whether the network b refines a, where free under values where a allows some choice; if not, the evidence. It goes
 /// through the choices of b and the points of a, and asks the other network for each. The time may grow as the number
 /// of these; each is asked with the first values that rule it out.
@@ -113,11 +129,5 @@ pub fn verify_by_points(
     }
     let mut new = Side::new(alloc, b)?;
     let mut old = Side::new(alloc, a)?;
-    if let Some((point, choice)) = extra(alloc, &mut new, &mut old, free)? {
-        return Ok(Answer::Extra(point, choice));
-    }
-    if let Some(point) = lost(alloc, &mut new, &mut old)? {
-        return Ok(Answer::Lost(point));
-    }
-    Ok(Answer::Yes)
+    compared(alloc, &mut new, &mut old, free)
 }

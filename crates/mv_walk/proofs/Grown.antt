@@ -4,7 +4,7 @@ use Rattle.std.proofs.lemmas.List.{length-append, length-map}
 use Rattle.mv_base.specs.declared.limits.TheConstants.{MAX_DEPTH, MAX_INSTANCES}
 use Rattle.mv_fault.proofs.Nothing.{left-nothing, right-nothing}
 use Rattle.mv_design.specs.declared.design.Design.{Design}
-use Rattle.mv_design.specs.declared.design.Part.{Part}
+use Rattle.mv_design.specs.declared.design.Instance.{Instance}
 use Rattle.mv_design.specs.Nets.{root_of}
 use Rattle.mv_tree.specs.Tree.{Instances, NoMore, Unfolds, IsWithinDepth, size_of}
 use Rattle.mv_tree.specs.Bound.{AreBound}
@@ -14,20 +14,20 @@ use Rattle.mv_walk.proofs.Visits.{insides, insides-cons, visits_faults-append, p
 
 -- the instances that the commands of a level make, and how many these are, down to so many levels
 pub record Grown (n : ℕ) (d : Design) (l : Level) : Type 0 where
-  pub unfolds : Unfolds d l.model.parts (tree_of n d l.model)
+  pub unfolds : Unfolds d l.model.instances (tree_of n d l.model)
   pub bound : AreBound l.model (tree_of n d l.model)
   pub shallow : IsWithinDepth n (tree_of n d l.model)
   pub size : length (visits n d l) ≡ size_of (tree_of n d l.model)
 
 -- the same of some of the commands
-record GrownOf (n : ℕ) (d : Design) (l : Level) (ps : List Part) (tree : Instances) : Type 0 where
+record GrownOf (n : ℕ) (d : Design) (l : Level) (ps : List Instance) (tree : Instances) : Type 0 where
   unfolds : Unfolds d ps tree
   bound : AreBound l.model tree
   shallow : IsWithinDepth (suc n) tree
   size : length ps + length (insides n d l ps) ≡ size_of tree
 
 -- no command stands too deep
-pub none_deep : (d : Design) (c : ℕ) (l : Level) (ps : List Part) → length l.round ≡ suc MAX_DEPTH → visits_faults d c (map (visit l) ps) ≡ []
+pub none_deep : (d : Design) (c : ℕ) (l : Level) (ps : List Instance) → length l.round ≡ suc MAX_DEPTH → visits_faults d c (map (visit l) ps) ≡ []
     → ps ≡ []
 none_deep d c l [] deep e = refl
 none_deep d c l (p ∷ ps) deep e =
@@ -37,7 +37,7 @@ none_deep d c l (p ∷ ps) deep e =
 
 grown_of : (n : ℕ) (d : Design) (l : Level)
     → ((m : Level) (c : ℕ) → n + length m.round ≡ suc MAX_DEPTH → visits_faults d c (visits n d m) ≡ [] → Grown n d m)
-    → suc n + length l.round ≡ suc MAX_DEPTH → (c k : ℕ) (ps : List Part)
+    → suc n + length l.round ≡ suc MAX_DEPTH → (c k : ℕ) (ps : List Instance)
     → visits_faults d c (map (visit l) ps) ≡ [] → visits_faults d k (insides n d l ps) ≡ []
     → GrownOf n d l ps (trees (tree_of n d) d ps)
 grown_of n d l each deep c k [] here there = record { unfolds = tt; bound = tt; shallow = tt; size = refl }
@@ -63,29 +63,29 @@ grown_of n d l each deep c k (p ∷ ps) here there =
 -- the commands of a level without faults, and those inside their instances, make a tree
 pub grown : (n : ℕ) (d : Design) (l : Level) (c : ℕ) → n + length l.round ≡ suc MAX_DEPTH → visits_faults d c (visits n d l) ≡ [] → Grown n d l
 grown zero d l c deep e =
-    let none = none_deep d c l l.model.parts (omega arith) e in
+    let none = none_deep d c l l.model.instances (omega arith) e in
     record {
-      unfolds = subst (λ (ps : List Part). Unfolds d ps NoMore) (sym none) tt;
+      unfolds = subst (λ (ps : List Instance). Unfolds d ps NoMore) (sym none) tt;
       bound = tt;
       shallow = tt;
       size = ap (λ ps. length (map (visit l) ps)) none;
     }
 grown (suc n) d l c deep e =
-    let faults = sym (visits_faults-append d c (visits_at l) (insides n d l l.model.parts)) ∙ e in
-    let g = grown_of n d l (λ m k. grown n d m k) deep c (c + length (visits_at l)) l.model.parts
+    let faults = sym (visits_faults-append d c (visits_at l) (insides n d l l.model.instances)) ∙ e in
+    let g = grown_of n d l (λ m k. grown n d m k) deep c (c + length (visits_at l)) l.model.instances
     (left-nothing (visits_faults d c (visits_at l)) _ faults) (right-nothing (visits_faults d c (visits_at l)) _ faults) in
     record {
       unfolds = g.unfolds;
       bound = g.bound;
       shallow = g.shallow;
-      size = length-append (visits_at l) (insides n d l l.model.parts) ∙ (ap (λ k. k + length (insides n d l l.model.parts)) (length-map l.model.parts (visit l)) ∙ g.size);
+      size = length-append (visits_at l) (insides n d l l.model.instances) ∙ (ap (λ k. k + length (insides n d l l.model.instances)) (length-map l.model.instances (visit l)) ∙ g.size);
     }
 
 -- there are no more commands than there may be instances
 pub few_visits : (d : Design) (c : ℕ) (vs : List Visit) → c ≤ MAX_INSTANCES → visits_faults d c vs ≡ [] → c + length vs ≤ MAX_INSTANCES
 few_visits d c [] h e = omega arith
 few_visits d c (v ∷ vs) h e =
-    let one = (passes d c v.level v.part (left-nothing (visit_faults d c v) _ e)).1 in
+    let one = (passes d c v.level v.instance (left-nothing (visit_faults d c v) _ e)).1 in
     let few : c < MAX_INSTANCES = one.few in
     let rest : suc c + length vs ≤ MAX_INSTANCES = few_visits d (suc c) vs (omega arith) (right-nothing (visit_faults d c v) _ e) in
     omega arith

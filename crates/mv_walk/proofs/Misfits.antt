@@ -7,7 +7,7 @@ use Rattle.mv_fault.specs.Tells.{when, first}
 use Rattle.mv_fault.specs.declared.flat.FlatFault.{FlatFault}
 use Rattle.mv_design.specs.declared.design.Bind.{Bind}
 use Rattle.mv_design.specs.declared.design.FileModel.{FileModel}
-use Rattle.mv_design.specs.declared.design.Part.{Part}
+use Rattle.mv_design.specs.declared.design.Instance.{Instance}
 use Rattle.mv_tree.specs.Places.{path_in, is_bound}
 use Rattle.mv_walk.specs.Walk.{Level, bind_faults, open_faults, bound_port_faults}
 use Rattle.mv_walk.specs.Misfits.{Misfit, misfit_fault, bind_misfits, open_misfits, misfits}
@@ -33,10 +33,10 @@ told_bind l path m b = told_both l.path path _ _ _ _
 told_open : (outer : List ℕ) (binds : List Bind) (path net : List ℕ) → open_faults binds path net ≡ map (misfit_fault outer path) (open_misfits (is_bound binds) net)
 told_open outer binds path net = told_when outer path _ _
 
-pub bound_port_faults-misfits : (l : Level) (p : Part) (m : FileModel) → bound_port_faults l p m ≡ map (misfit_fault l.path (path_in l.path p.instance)) (misfits l.model p m)
+pub bound_port_faults-misfits : (l : Level) (p : Instance) (m : FileModel) → bound_port_faults l p m ≡ map (misfit_fault l.path (path_in l.path p.name)) (misfits l.model p m)
 bound_port_faults-misfits l p m =
     let outer = l.path in
-    let inner = path_in l.path p.instance in
+    let inner = path_in l.path p.name in
     ap (λ fs. fs ++ flat_map (open_faults p.binds inner) m.inputs) (told_each outer inner (bind_faults l inner m) (bind_misfits l.model m) (told_bind l inner m) p.binds)
     ∙ (ap (λ fs. map (misfit_fault outer inner) (flat_map (bind_misfits l.model m) p.binds) ++ fs) (told_each outer inner (open_faults p.binds inner) (open_misfits (is_bound p.binds)) (told_open outer p.binds inner) m.inputs)
     ∙ sym (map-append (misfit_fault outer inner) (flat_map (bind_misfits l.model m) p.binds) (flat_map (open_misfits (is_bound p.binds)) m.inputs)))

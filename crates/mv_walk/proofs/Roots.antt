@@ -5,7 +5,7 @@ use Rattle.std.proofs.lemmas.Bool.Decides.{nat_tests}
 use Rattle.mv_base.specs.declared.limits.TheConstants.{MAX_DEPTH}
 use Rattle.mv_design.specs.declared.design.Design.{Design}
 use Rattle.mv_design.specs.declared.design.FileModel.{FileModel}
-use Rattle.mv_design.specs.declared.design.Part.{Part}
+use Rattle.mv_design.specs.declared.design.Instance.{Instance}
 use Rattle.mv_design.specs.Nets.{root_of, no_model}
 use Rattle.mv_tree.specs.Tree.{NoMore, Unfolds, size_of}
 use Rattle.mv_walk.specs.declared.walker.Walker.{Walker}
@@ -19,28 +19,28 @@ use Rattle.mv_walk.proofs.Grown.{grown_tree}
 
 -- ---- a root without commands
 
-no_visits : (n : ℕ) (d : Design) (l : Level) → l.model.parts ≡ [] → visits n d l ≡ []
+no_visits : (n : ℕ) (d : Design) (l : Level) → l.model.instances ≡ [] → visits n d l ≡ []
 no_visits zero d l e = ap (λ ps. map (visit l) ps) e
 no_visits (suc n) d l e = ap (λ ps. map (visit l) ps ++ insides n d l ps) e
 
-pub no_faults : (d : Design) → (root_of d).parts ≡ [] → walk_faults d ≡ []
+pub no_faults : (d : Design) → (root_of d).instances ≡ [] → walk_faults d ≡ []
 unfolding walk_faults
 no_faults d e = ap (visits_faults d 0) (no_visits MAX_DEPTH d (root_level (root_of d)) e)
 
-pub no_instances : (d : Design) → (root_of d).parts ≡ [] → AreOpened d []
+pub no_instances : (d : Design) → (root_of d).instances ≡ [] → AreOpened d []
 no_instances d e = record {
   tree = NoMore;
-  has = record { unfolds = subst (λ (ps : List Part). Unfolds d ps NoMore) (sym e) tt; bound = tt; shallow = tt; few = omega arith };
+  has = record { unfolds = subst (λ (ps : List Instance). Unfolds d ps NoMore) (sym e) tt; bound = tt; shallow = tt; few = omega arith };
   is = refl;
 }
 
 -- ---- the root by its place
 
-pub root_missing : (d : Design) → slice_get d.models d.root ≡ None → (root_of d).parts ≡ []
+pub root_missing : (d : Design) → slice_get d.models d.root ≡ None → (root_of d).instances ≡ []
 unfolding root_of
 root_missing d e = missing d.models d.root e
   where
-    missing : (ms : List FileModel) (k : ℕ) → slice_get ms k ≡ None → (get_or ms k no_model).parts ≡ []
+    missing : (ms : List FileModel) (k : ℕ) → slice_get ms k ≡ None → (get_or ms k no_model).instances ≡ []
     missing [] k e = refl
     missing (m ∷ ms) zero e = cc
     missing (m ∷ ms) (suc k) e = missing ms k e

@@ -6,7 +6,7 @@ use Rattle.mv_base.specs.Names.{among, same_word}
 use Rattle.mv_base.proofs.NameLemmas.{same_word_is, same_word_refl}
 use Rattle.mv_design.specs.declared.design.Design.{Design}
 use Rattle.mv_design.specs.declared.design.FileModel.{FileModel}
-use Rattle.mv_design.specs.declared.design.Part.{Part}
+use Rattle.mv_design.specs.declared.design.Instance.{Instance}
 use Rattle.mv_design.specs.Nets.{root_of}
 use Rattle.mv_tree.specs.Places.{path_in}
 use Rattle.mv_walk.specs.declared.walker.Walker.{Walker}
@@ -16,20 +16,20 @@ use Rattle.mv_walk.proofs.Placed.{place_within, one_name}
 
 -- ---- one instance more
 
-pub round-push : (round : List (List ℕ)) (ps : List Part) (p : Part) → round_from round (ps ++ p ∷ []) ≡ p.model ∷ round_from round ps
+pub round-push : (round : List (List ℕ)) (ps : List Instance) (p : Instance) → round_from round (ps ++ p ∷ []) ≡ p.model ∷ round_from round ps
 round-push round [] p = refl
 round-push round (q ∷ ps) p = round-push (q.model ∷ round) ps p
 
-pub path-push : (path : List ℕ) (ps : List Part) (p : Part) → path_from path (ps ++ p ∷ []) ≡ path_in (path_from path ps) p.instance
+pub path-push : (path : List ℕ) (ps : List Instance) (p : Instance) → path_from path (ps ++ p ∷ []) ≡ path_in (path_from path ps) p.name
 path-push path [] p = refl
-path-push path (q ∷ ps) p = path-push (path_in path q.instance) ps p
+path-push path (q ∷ ps) p = path-push (path_in path q.name) ps p
 
-pub length-round : (round : List (List ℕ)) (ps : List Part) → length (round_from round ps) ≡ length round + length ps
+pub length-round : (round : List (List ℕ)) (ps : List Instance) → length (round_from round ps) ≡ length round + length ps
 length-round round [] = omega arith
 length-round round (p ∷ ps) = let e = length-round (p.model ∷ round) ps in omega arith
 
 -- a level stands one deeper than there are instances round it
-pub level_deep : (d : Design) (m : FileModel) (trail : List Part) → length (level_of d m trail).round ≡ suc (length trail)
+pub level_deep : (d : Design) (m : FileModel) (trail : List Instance) → length (level_of d m trail).round ≡ suc (length trail)
 level_deep d m trail = let e : length (level_of d m trail).round ≡ 1 + length trail = length-round ((root_of d).name ∷ []) trail in omega arith
 
 -- there are as many of these as the walk keeps

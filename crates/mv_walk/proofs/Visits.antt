@@ -17,7 +17,7 @@ use Rattle.mv_fault.specs.declared.flat.FlatFault.TheVariants.{NoSuchModel, Recu
 use Rattle.mv_design.specs.declared.design.Bind.{Bind}
 use Rattle.mv_design.specs.declared.design.Design.{Design}
 use Rattle.mv_design.specs.declared.design.FileModel.{FileModel}
-use Rattle.mv_design.specs.declared.design.Part.{Part}
+use Rattle.mv_design.specs.declared.design.Instance.{Instance}
 use Rattle.mv_design.specs.Values.{count_of}
 use Rattle.mv_tree.specs.Tree.{model_named}
 use Rattle.mv_tree.specs.Places.{path_in, is_bound}
@@ -37,18 +37,18 @@ visits_faults-append d c (u ∷ us) vs =
     ∙ grouped (visit_faults d c u) (visits_faults d (suc c) us) (visits_faults d (c + length (u ∷ us)) vs)
 
 -- the commands inside the instances of these
-abbrev pub insides : ℕ → Design → Level → List Part → List Visit
+abbrev pub insides : ℕ → Design → Level → List Instance → List Visit
 insides n d l ps = flat_map (λ p. flat_map (visits n d) (levels_in d l p)) ps
 
 -- those inside the first instance, and inside the others
-pub insides-cons : (n : ℕ) (d : Design) (l : Level) (p : Part) (ps : List Part) (m : FileModel) → model_named d.models p.model ≡ Some m
+pub insides-cons : (n : ℕ) (d : Design) (l : Level) (p : Instance) (ps : List Instance) (m : FileModel) → model_named d.models p.model ≡ Some m
     → insides n d l (p ∷ ps) ≡ visits n d (level_in l p m) ++ insides n d l ps
 insides-cons n d l p ps m e = rw e (ap (λ vs. vs ++ insides n d l ps) (append-nil (visits n d (level_in l p m))))
 
 -- ---- one command
 
 -- a command has no fault behind so many others
-pub record Passes (d : Design) (c : ℕ) (l : Level) (p : Part) (m : FileModel) : Type 0 where
+pub record Passes (d : Design) (c : ℕ) (l : Level) (p : Instance) (m : FileModel) : Type 0 where
   pub named : model_named d.models p.model ≡ Some m
   pub new : among p.model l.round ≡ false
   pub shallow : length l.round ≤ MAX_DEPTH
@@ -70,7 +70,7 @@ many n e = grind (arith, nat_tests)
 nothing : (f : FlatFault) → f ∷ [] ≡ [] → ⊥
 nothing f e = cc
 
-pub passes : (d : Design) (c : ℕ) (l : Level) (p : Part) → visit_faults d c (visit l p) ≡ [] → (m : FileModel) × Passes d c l p m
+pub passes : (d : Design) (c : ℕ) (l : Level) (p : Instance) → visit_faults d c (visit l p) ≡ [] → (m : FileModel) × Passes d c l p m
 passes d c l p e = of_model (model_named d.models p.model) refl
   where
     of_model : (o : Option FileModel) → model_named d.models p.model ≡ o → (m : FileModel) × Passes d c l p m
@@ -89,7 +89,7 @@ passes d c l p e = of_model (model_named d.models p.model) refl
           },
         )
 
-pub passing : (d : Design) (c : ℕ) (l : Level) (p : Part) (m : FileModel) → Passes d c l p m → visit_faults d c (visit l p) ≡ []
+pub passing : (d : Design) (c : ℕ) (l : Level) (p : Instance) (m : FileModel) → Passes d c l p m → visit_faults d c (visit l p) ≡ []
 passing d c l p m h = rw (h.named, h.new, above (length l.round) h.shallow, many c h.few) h.fits
 
 -- ---- bindings
@@ -108,9 +108,9 @@ pub all-nothing : {X Y : Type 0} (f : X → List Y) (p : X → Bool) → ((x : X
 all-nothing f p h [] e = refl
 all-nothing f p h (x ∷ xs) e = and_from (p x) _ (h x (left-nothing (f x) _ e)) (all-nothing f p h xs (right-nothing (f x) _ e))
 
-pub fits-bound : (l : Level) (p : Part) (m : FileModel) → bound_port_faults l p m ≡ [] → IsBound l.model p m
+pub fits-bound : (l : Level) (p : Instance) (m : FileModel) → bound_port_faults l p m ≡ [] → IsBound l.model p m
 fits-bound l p m e =
-    let path = path_in l.path p.instance in
+    let path = path_in l.path p.name in
     let binds = left-nothing (flat_map (bind_faults l path m) p.binds) _ e in
     let opens = right-nothing (flat_map (bind_faults l path m) p.binds) _ e in
     record {
@@ -135,8 +135,8 @@ none_made f p q h (x ∷ xs) e g =
     let b = and_parts (q x) (list_all q xs) g in
     append-nothing (f x) _ (h x a.0 b.0) (none_made f p q h xs a.1 b.1)
 
-pub bound-fits : (l : Level) (p : Part) (m : FileModel) → IsBound l.model p m → bound_port_faults l p m ≡ []
+pub bound-fits : (l : Level) (p : Instance) (m : FileModel) → IsBound l.model p m → bound_port_faults l p m ≡ []
 bound-fits l p m h =
-    append-nothing (flat_map (bind_faults l (path_in l.path p.instance) m) p.binds) _
-    (none_made (bind_faults l (path_in l.path p.instance) m) _ _ (λ b. no_bind_fault l (path_in l.path p.instance) m b) p.binds h.formals h.counts)
-    (flat_map-nothing (open_faults p.binds (path_in l.path p.instance)) _ (λ net. no_open_fault p.binds (path_in l.path p.instance) net) m.inputs h.closed)
+    append-nothing (flat_map (bind_faults l (path_in l.path p.name) m) p.binds) _
+    (none_made (bind_faults l (path_in l.path p.name) m) _ _ (λ b. no_bind_fault l (path_in l.path p.name) m b) p.binds h.formals h.counts)
+    (flat_map-nothing (open_faults p.binds (path_in l.path p.name)) _ (λ net. no_open_fault p.binds (path_in l.path p.name) net) m.inputs h.closed)

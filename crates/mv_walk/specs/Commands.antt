@@ -8,7 +8,7 @@ use Rattle.mv_fault.specs.Tells.{first}
 use Rattle.mv_design.specs.declared.design.Bind.{Bind}
 use Rattle.mv_design.specs.declared.design.Decl.{Decl}
 use Rattle.mv_design.specs.declared.design.FileModel.{FileModel}
-use Rattle.mv_design.specs.declared.design.Part.{Part}
+use Rattle.mv_design.specs.declared.design.Instance.{Instance}
 use Rattle.mv_design.specs.Nets.{no_model}
 use Rattle.mv_tree.specs.Bound.{formals_of}
 use Rattle.mv_tree.specs.Places.{is_bound}
@@ -76,26 +76,27 @@ abbrev pub place_named : List FileModel → List ℕ → Option ℕ
 place_named ms name = place_of name (names_of ms)
 
 -- a command has this model, whose first misfit with the bindings is known
-pub record IsFound (ms : List FileModel) (round : FileModel) (p : Part) (f : Found) : Type 0 where
+pub record IsFound (ms : List FileModel) (round : FileModel) (p : Instance) (f : Found)
+    : Type 0 where
   pub place : place_named ms p.model ≡ Some f.place
   pub fault : misfit_in f.fault ≡ first (misfits round p (model_at ms f.place))
 
 -- a command has this model, if it has one
-abbrev pub FindsModel : List FileModel → FileModel → Part → Option Found → Type 0
+abbrev pub FindsModel : List FileModel → FileModel → Instance → Option Found → Type 0
 FindsModel ms round p None = place_named ms p.model ≡ None
 FindsModel ms round p (Some f) = IsFound ms round p f
 
 -- what a command says
-abbrev pub command_part : Command → Part
-command_part c = c.part.now
+abbrev pub command_instance : Command → Instance
+command_instance c = c.instance.now
 
 -- a command of a model
 pub record IsCommand (ms : List FileModel) (round : FileModel) (c : Command) : Type 0 where
-  pub found : FindsModel ms round (command_part c) c.found
+  pub found : FindsModel ms round (command_instance c) c.found
 
 -- the commands of a model
 pub record AreCommands (ms : List FileModel) (round : FileModel) (cs : List Command) : Type 0 where
-  pub parts : map command_part cs ≡ round.parts
+  pub instances : map command_instance cs ≡ round.instances
   pub each : All (IsCommand ms round) cs
 
 -- the commands of models, one list for each

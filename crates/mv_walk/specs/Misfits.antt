@@ -8,7 +8,7 @@ use Rattle.mv_fault.specs.declared.flat.FlatFault.{FlatFault}
 use Rattle.mv_fault.specs.declared.flat.FlatFault.TheVariants as fault
 use Rattle.mv_design.specs.declared.design.Bind.{Bind}
 use Rattle.mv_design.specs.declared.design.FileModel.{FileModel}
-use Rattle.mv_design.specs.declared.design.Part.{Part}
+use Rattle.mv_design.specs.declared.design.Instance.{Instance}
 use Rattle.mv_design.specs.Values.{count_of}
 use Rattle.mv_tree.specs.Bound.{formals_of}
 use Rattle.mv_tree.specs.Places.{is_bound}
@@ -33,7 +33,7 @@ abbrev pub open_misfits : (List ℕ → Bool) → List ℕ → List Misfit
 open_misfits bound net = when (not (bound net)) (Unbound net)
 
 -- what of the bindings of an instance doesn't fit
-abbrev pub misfits : FileModel → Part → FileModel → List Misfit
+abbrev pub misfits : FileModel → Instance → FileModel → List Misfit
 misfits round p m = flat_map (bind_misfits round m) p.binds
     ++ flat_map (open_misfits (is_bound p.binds)) m.inputs
 

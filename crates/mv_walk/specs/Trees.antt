@@ -2,24 +2,24 @@
 use Rattle.std.specs.Prelude.{◌≡◌, ℕ, zero, suc, Option, Some, None, List, [], ◌∷◌}
 use Rattle.mv_design.specs.declared.design.Design.{Design}
 use Rattle.mv_design.specs.declared.design.FileModel.{FileModel}
-use Rattle.mv_design.specs.declared.design.Part.{Part}
+use Rattle.mv_design.specs.declared.design.Instance.{Instance}
 use Rattle.mv_design.specs.Nets.{root_of}
-use Rattle.mv_tree.specs.Tree.{Instances, NoMore, Instance, model_named}
+use Rattle.mv_tree.specs.Tree.{Instances, NoMore, More, model_named}
 use Rattle.mv_walk.specs.Walk.{HasTree}
 
 -- the instances of these commands, where `inside` says which are inside an instance of a model
-abbrev pub trees : (FileModel → Instances) → Design → List Part → Instances
+abbrev pub trees : (FileModel → Instances) → Design → List Instance → Instances
 trees inside d [] = NoMore
 trees inside d (p ∷ ps) = of_model inside p (trees inside d ps) (model_named d.models p.model)
   where
-    of_model : (FileModel → Instances) → Part → Instances → Option FileModel → Instances
-    of_model inside p rest (Some m) = Instance p m (inside m) rest
+    of_model : (FileModel → Instances) → Instance → Instances → Option FileModel → Instances
+    of_model inside p rest (Some m) = More p m (inside m) rest
     of_model inside p rest None = NoMore
 
 -- the instances inside one of a model, down to so many levels
 abbrev pub tree_of : ℕ → Design → FileModel → Instances
 tree_of zero d m = NoMore
-tree_of (suc levels) d m = trees (tree_of levels d) d m.parts
+tree_of (suc levels) d m = trees (tree_of levels d) d m.instances
 
 -- a design has some tree of instances
 pub record HasSomeTree (d : Design) : Type 0 where

@@ -12,7 +12,7 @@ use Rattle.mv_fault.specs.declared.flat.FlatFault.TheVariants.{NoSuchModel, Recu
 use Rattle.mv_design.specs.declared.design.Bind.{Bind}
 use Rattle.mv_design.specs.declared.design.Design.{Design}
 use Rattle.mv_design.specs.declared.design.FileModel.{FileModel}
-use Rattle.mv_design.specs.declared.design.Part.{Part}
+use Rattle.mv_design.specs.declared.design.Instance.{Instance}
 use Rattle.mv_design.specs.Nets.{root_of}
 use Rattle.mv_design.specs.Values.{count_of}
 use Rattle.mv_tree.specs.Tree.{model_named, Unfolds, IsWithinDepth, size_of}
@@ -30,29 +30,29 @@ pub record Level : Type 0 where
 -- a command that makes an instance, and where it stands
 pub record Visit : Type 0 where
   pub level : Level
-  pub part : Part
+  pub instance : Instance
 
 -- the level of the root
 abbrev pub root_level : FileModel → Level
 root_level m = record { model = m; round = m.name ∷ []; path = [] }
 
 -- the level inside an instance of a model
-abbrev pub level_in : Level → Part → FileModel → Level
-level_in l p m = record { model = m; round = m.name ∷ l.round; path = path_in l.path p.instance }
+abbrev pub level_in : Level → Instance → FileModel → Level
+level_in l p m = record { model = m; round = m.name ∷ l.round; path = path_in l.path p.name }
 
 -- a command on a level
-abbrev pub visit : Level → Part → Visit
-visit l p = record { level = l; part = p }
+abbrev pub visit : Level → Instance → Visit
+visit l p = record { level = l; instance = p }
 
 -- the commands on a level
 abbrev pub visits_at : Level → List Visit
-visits_at l = map (visit l) l.model.parts
+visits_at l = map (visit l) l.model.instances
 
 -- the level inside the instance of a command, if it has a model
-abbrev pub levels_in : Design → Level → Part → List Level
+abbrev pub levels_in : Design → Level → Instance → List Level
 levels_in d l p = of_model l p (model_named d.models p.model)
   where
-    of_model : Level → Part → Option FileModel → List Level
+    of_model : Level → Instance → Option FileModel → List Level
     of_model l p (Some m) = level_in l p m ∷ []
     of_model l p None = []
 
@@ -60,7 +60,7 @@ levels_in d l p = of_model l p (model_named d.models p.model)
 abbrev pub visits : ℕ → Design → Level → List Visit
 visits zero d l = visits_at l
 visits (suc levels) d l = visits_at l
-    ++ flat_map (λ p. flat_map (visits levels d) (levels_in d l p)) l.model.parts
+    ++ flat_map (λ p. flat_map (visits levels d) (levels_in d l p)) l.model.instances
 
 -- ---- faults
 
@@ -76,17 +76,17 @@ abbrev pub open_faults : List Bind → List ℕ → List ℕ → List FlatFault
 open_faults binds path net = when (not (is_bound binds net)) (PortOpen (path ++ net))
 
 -- what is wrong with the bindings of an instance
-abbrev pub bound_port_faults : Level → Part → FileModel → List FlatFault
+abbrev pub bound_port_faults : Level → Instance → FileModel → List FlatFault
 bound_port_faults l p m =
-    flat_map (bind_faults l (path_in l.path p.instance) m) p.binds
-    ++ flat_map (open_faults p.binds (path_in l.path p.instance)) m.inputs
+    flat_map (bind_faults l (path_in l.path p.name) m) p.binds
+    ++ flat_map (open_faults p.binds (path_in l.path p.name)) m.inputs
 
 -- what is wrong with a command behind so many others: there is no model of that name; it is that of
 -- an instance round it; it stands too deep; it is one too many; its bindings don't fit
 abbrev pub visit_faults : Design → ℕ → Visit → List FlatFault
-visit_faults d count v = of_model d count v.level v.part (model_named d.models v.part.model)
+visit_faults d count v = of_model d count v.level v.instance (model_named d.models v.instance.model)
   where
-    of_model : Design → ℕ → Level → Part → Option FileModel → List FlatFault
+    of_model : Design → ℕ → Level → Instance → Option FileModel → List FlatFault
     of_model d count l p None = NoSuchModel p.model ∷ []
     of_model d count l p (Some m) =
         when (among p.model l.round) (Recursive p.model)
@@ -107,7 +107,7 @@ walk_faults d = visits_faults d 0 (visits MAX_DEPTH d (root_level (root_of d)))
 -- a design has this tree of instances; their bindings fit, none stands too deep, and there aren't
 -- too many
 pub record HasTree (d : Design) (tree : Tree) : Type 0 where
-  pub unfolds : Unfolds d (root_of d).parts tree
+  pub unfolds : Unfolds d (root_of d).instances tree
   pub bound : AreBound (root_of d) tree
   pub shallow : IsWithinDepth MAX_DEPTH tree
   pub few : size_of tree ≤ MAX_INSTANCES

@@ -9,7 +9,7 @@ ghost use Rattle.mv_walk.specs.Misfits.{bind_misfits, misfit_in, misfits, open_m
 use crate::command::PortFault;
 use crate::ports::Ports;
 use mv_base::{Items, Memory, Name, NameSet};
-use mv_design::{Bind, Part};
+use mv_design::{Bind, Instance};
 use std::alloc::Global;
 
 /// The first fault of the bindings of an instance in a model, if they don't fit its own: of each binding in order, and then of
@@ -17,16 +17,16 @@ use std::alloc::Global;
 pub fn port_fault<'a>(
     alloc: Global,
     round: &Ports<'a>,
-    part: &'a Part,
+    instance: &'a Instance,
     ports: &Ports<'a>,
 ) -> Result<Option<PortFault<'a>>, Memory>
     ensures { IfOk result
-        (λ fault. misfit_in fault ≡ first (misfits round.now part.now ports.now)) }
+        (λ fault. misfit_in fault ≡ first (misfits round.now instance.now ports.now)) }
 {
-    match bind_fault(round, part.binds.as_slice(), ports) {
+    match bind_fault(round, instance.binds.as_slice(), ports) {
         Some(fault) => Ok(Some(fault)),
         None => {
-            let bound = bound_formals(alloc, part.binds.as_slice())?;
+            let bound = bound_formals(alloc, instance.binds.as_slice())?;
             Ok(open_fault(&bound, ports.model().inputs.as_slice()))
         }
     }

@@ -1,5 +1,5 @@
 use mv_base::Name;
-use mv_design::{Bind, Part};
+use mv_design::{Bind, Instance};
 
 /// Why the bindings of a command don't fit its model, without where the instance stands.
 #[derive(Clone, Copy)]
@@ -22,6 +22,6 @@ pub struct Found<'a> {
 /// A command with its model, if there is one of that name.
 #[derive(Clone, Copy)]
 pub struct Command<'a> {
-    pub part: &'a Part,
+    pub instance: &'a Instance,
     pub found: Option<Found<'a>>,
 }

@@ -1,6 +1,6 @@
 //! What the commands of a design say of themselves, found once a model.
 ghost use Rattle.std.specs.Prelude.{◌≡◌, ◌<◌, length, IfOk};
-ghost use Rattle.mv_walk.specs.Commands.{AreCommands, AreKnown, Finds, FindsModel, IsCommand, model_at, command_part, place_named};
+ghost use Rattle.mv_walk.specs.Commands.{AreCommands, AreKnown, Finds, FindsModel, IsCommand, model_at, command_instance, place_named};
 
 use crate::bindings::port_fault;
 use crate::command::{Command, Found};
@@ -8,7 +8,7 @@ use crate::firsts::put_first;
 use crate::ports::Ports;
 use indexmap::IndexMap;
 use mv_base::{Items, Memory, Name};
-use mv_design::{Design, FileModel, Part};
+use mv_design::{Design, FileModel, Instance};
 use std::alloc::Global;
 use std::marker::Model;
 
@@ -117,10 +117,10 @@ fn commands_of<'a>(
     requires { Finds places.now (place_named models.now) }
     ensures { IfOk result (λ commands. AreCommands models.now round.now commands) }
 {
-    let parts = round.model().parts.as_slice();
-    let mut commands = Items::with_room(alloc, parts.len())?;
-    for part in parts {
-        commands.push(command_of(alloc, places, models, round, part)?)?;
+    let instances = round.model().instances.as_slice();
+    let mut commands = Items::with_room(alloc, instances.len())?;
+    for instance in instances {
+        commands.push(command_of(alloc, places, models, round, instance)?)?;
     }
     Ok(commands)
 }
@@ -131,14 +131,14 @@ fn command_of<'a>(
     places: &IndexMap<Name, usize>,
     models: &[Ports<'a>],
     round: &Ports<'a>,
-    part: &'a Part,
+    instance: &'a Instance,
 ) -> Result<Command<'a>, Memory>
     requires { Finds places.now (place_named models.now) }
-    ensures part { IfOk result (λ command. command_part command ≡ part.now) }
+    ensures instance { IfOk result (λ command. command_instance command ≡ instance.now) }
     ensures is { IfOk result (λ command. IsCommand models.now round.now command) }
 {
-    let found = found_of(alloc, places, models, round, part)?;
-    Ok(Command { part, found })
+    let found = found_of(alloc, places, models, round, instance)?;
+    Ok(Command { instance, found })
 }
 
 /// The model of a command of one of these models, if there is one of its name.
@@ -147,15 +147,15 @@ fn found_of<'a>(
     places: &IndexMap<Name, usize>,
     models: &[Ports<'a>],
     round: &Ports<'a>,
-    part: &'a Part,
+    instance: &'a Instance,
 ) -> Result<Option<Found<'a>>, Memory>
     requires { Finds places.now (place_named models.now) }
-    ensures { IfOk result (λ found. FindsModel models.now round.now part.now found) }
+    ensures { IfOk result (λ found. FindsModel models.now round.now instance.now found) }
 {
-    let Some(place) = places.get(&part.model) else {
+    let Some(place) = places.get(&instance.model) else {
         return Ok(None);
     };
-    let fault = port_fault(alloc, round, part, &models[*place])?;
+    let fault = port_fault(alloc, round, instance, &models[*place])?;
     Ok(Some(Found {
         place: *place,
         fault,

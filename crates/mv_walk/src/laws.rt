@@ -1,7 +1,7 @@
 //! What the faults of a walk say of a design.
 ghost use Rattle.std.specs.Prelude.{◌≡◌, List, []};
 ghost use Rattle.mv_design.specs.declared.design.Design.{Design};
-ghost use Rattle.mv_design.specs.declared.design.Part.{Part};
+ghost use Rattle.mv_design.specs.declared.design.Instance.{Instance};
 ghost use Rattle.mv_tree.specs.Tree.{Instances, Unfolds};
 ghost use Rattle.mv_walk.specs.Walk.{walk_faults, HasTree};
 ghost use Rattle.mv_walk.specs.Trees.{HasSomeTree, IsRootNamed};
@@ -13,6 +13,6 @@ pub fn walk_laws()
     ensures tree { (d : Design) → walk_faults d ≡ [] → HasSomeTree d }
     ensures none { (d : Design) (tree : Instances) → IsRootNamed d → HasTree d tree
         → walk_faults d ≡ [] }
-    ensures one { (d : Design) (parts : List Part) (a b : Instances) → Unfolds d parts a
-        → Unfolds d parts b → a ≡ b }
+    ensures one { (d : Design) (instances : List Instance) (a b : Instances) → Unfolds d instances a
+        → Unfolds d instances b → a ≡ b }
 {}

@@ -5,5 +5,5 @@
 pub struct Opened {
     pub model: usize,
     pub round: u32,
-    pub part: u32,
+    pub instance: u32,
 }

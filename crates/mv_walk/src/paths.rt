@@ -6,24 +6,24 @@ ghost use Rattle.mv_walk.specs.Steps.{path_from};
 
 use crate::command::PortFault;
 use mv_base::{Memory, Name};
-use mv_design::Part;
+use mv_design::Instance;
 use mv_fault::FlatFault;
 use std::alloc::Global;
 
 /// The fault of an instance's bindings, where these instances stand round it.
 pub fn told_fault(
     alloc: Global,
-    round: &[&Part],
-    part: &Part,
+    round: &[&Instance],
+    instance: &Instance,
     fault: &PortFault,
 ) -> Result<FlatFault, Memory>
     ensures { let outer = path_from [] (map (λ p. p.now) round.now) in
         IfOk result
-        (λ f. f ≡ misfit_fault outer (path_in outer part.now.instance) (misfit_of fault.now)) }
+        (λ f. f ≡ misfit_fault outer (path_in outer instance.now.name) (misfit_of fault.now)) }
 {
     let outer = path(alloc, round)?;
     let mut inner = Vec::from_slice(alloc, outer.as_slice())?;
-    add_step(&mut inner, part)?;
+    add_step(&mut inner, instance)?;
     Ok(match fault {
         PortFault::NoFormal(bind) => FlatFault::NoFormal {
             formal: name_in(alloc, inner.as_slice(), &bind.formal)?,
@@ -39,21 +39,21 @@ pub fn told_fault(
 }
 
 /// The path of the nets of an instance, given with those round it.
-fn path(alloc: Global, parts: &[&Part]) -> Result<Vec<u8>, Memory>
-    ensures { IfOk result (λ path. path.items ≡ path_from [] (map (λ p. p.now) parts.now)) }
+fn path(alloc: Global, instances: &[&Instance]) -> Result<Vec<u8>, Memory>
+    ensures { IfOk result (λ path. path.items ≡ path_from [] (map (λ p. p.now) instances.now)) }
 {
     let mut path = Vec::new(alloc);
-    for part in parts {
-        add_step(&mut path, part)?;
+    for instance in instances {
+        add_step(&mut path, instance)?;
     }
     Ok(path)
 }
 
 /// Adds the name of an instance, and a full stop.
-fn add_step(path: &mut Vec<u8>, part: &Part) -> Result<(), Memory>
-    ensures { OnOk result (path.new.items ≡ path_in path.old.items part.now.instance) }
+fn add_step(path: &mut Vec<u8>, instance: &Instance) -> Result<(), Memory>
+    ensures { OnOk result (path.new.items ≡ path_in path.old.items instance.now.name) }
 {
-    path.extend_from_slice(part.instance.bytes())?;
+    path.extend_from_slice(instance.name.bytes())?;
     path.push(b'.')?;
     Ok(())
 }

@@ -6,7 +6,7 @@ ghost use Rattle.mv_design.specs.declared.design.Design.{Design};
 ghost use Rattle.mv_tree.specs.Tree.{size_of};
 ghost use Rattle.mv_walk.specs.Walk.{visit, visits, visits_at, visit_faults, visits_faults};
 ghost use Rattle.mv_walk.specs.Trees.{tree_of};
-ghost use Rattle.mv_walk.specs.Commands.{IsCommand, model_at, command_part};
+ghost use Rattle.mv_walk.specs.Commands.{IsCommand, model_at, command_instance};
 ghost use Rattle.mv_walk.specs.Openings.{openings};
 ghost use Rattle.mv_walk.specs.Steps.{AreMarks, CanOpen, Entered, IsAt, IsMarked, IsStart, Left, Walked, level_at, level_inside, instance_model, opening};
 
@@ -15,7 +15,7 @@ use crate::command::Command;
 use crate::known::Known;
 use crate::paths::told_fault;
 use mv_base::{Items, MAX_DEPTH, MAX_INSTANCES, Memory};
-use mv_design::{FileModel, Part};
+use mv_design::{FileModel, Instance};
 use mv_fault::{FlatFault, Which};
 use std::alloc::Global;
 
@@ -25,7 +25,7 @@ use std::alloc::Global;
 pub struct Walker<'a> {
     pub list: Items<Opened>,
     count: usize,
-    trail: Vec<&'a Part>,
+    trail: Vec<&'a Instance>,
     marks: Vec<bool>,
 }
 
@@ -77,30 +77,32 @@ impl<'a> Walker<'a> {
         known: &Known<'a>,
         levels: usize,
         number: u32,
-        part: u32,
+        instance: u32,
         command: &Command<'a>,
     ) -> Result<(), FlatFault>
         requires at { IsAt known.now levels self.old }
         requires deep { 0 < levels }
         requires looked { length self.old.list < self.old.count }
         requires command { CanOpen known.now self.old command.now }
-        ensures faults { let level = level_inside known.now self.old (command_part command.now) in
+        ensures faults { let level =
+            level_inside known.now self.old (command_instance command.now) in
             TellsFirst FlatFault.Memory result
             (visits_faults known.now self.old.count (visits (levels - 1) known.now level)) }
         ensures done { let tree =
-            tree_of (levels - 1) known.now (instance_model known.now (command_part command.now)) in
+            tree_of (levels - 1) known.now
+            (instance_model known.now (command_instance command.now)) in
             let listed =
-            opening known.now number (length self.old.list + 1) part
-            (command_part command.now) tree in
+            opening known.now number (length self.old.list + 1) instance
+            (command_instance command.now) tree in
             OnOk result (Walked listed (size_of tree) self.old self.new) }
     {
         let found = command.found.unwrap();
         let opened = Opened {
             model: found.place,
             round: number,
-            part,
+            instance,
         };
-        self.enter(command.part, opened)?;
+        self.enter(command.instance, opened)?;
         let next = self.list.len() as u32;
         self.inside(alloc, known, levels - 1, found.place, next)?;
         self.leave(found.place);
@@ -116,7 +118,7 @@ impl<'a> Walker<'a> {
             TellsFirst FlatFault.Memory result
             (visits_faults known.now self.now.count (visits_at level)) }
         ensures count { IfOk result
-            (λ count. count ≡ self.now.count + length (model_at known.now.models model).parts) }
+            (λ count. count ≡ self.now.count + length (model_at known.now.models model).instances) }
         ensures few { IfOk result (λ count. count ≤ most_instances) }
     {
         let mut count = self.count;
@@ -132,17 +134,17 @@ impl<'a> Walker<'a> {
         requires { IfSome command.now.found (λ found. found.place < length self.now.marks.items) }
         ensures { (d : Design) (model : ℕ) → IsMarked d self.now
             → IsCommand d.models (model_at d.models model) command.now
-            → TellsFirst FlatFault.Memory result
-            (visit_faults d count (visit (level_at d model self.now) (command_part command.now))) }
+            → TellsFirst FlatFault.Memory result (visit_faults d count
+            (visit (level_at d model self.now) (command_instance command.now))) }
     {
         let Some(found) = command.found else {
             return Err(FlatFault::NoSuchModel {
-                model: command.part.model.copy()?,
+                model: command.instance.model.copy()?,
             });
         };
         if self.marks[found.place] {
             return Err(FlatFault::Recursive {
-                model: command.part.model.copy()?,
+                model: command.instance.model.copy()?,
             });
         }
         if self.trail.len() as u64 >= MAX_DEPTH {
@@ -158,18 +160,18 @@ impl<'a> Walker<'a> {
             });
         }
         match &found.fault {
-            Some(fault) => Err(told_fault(alloc, self.trail.as_slice(), command.part, fault)?),
+            Some(fault) => Err(told_fault(alloc, self.trail.as_slice(), command.instance, fault)?),
             None => Ok(()),
         }
     }
 
     /// Goes into an instance.
-    fn enter(&mut self, part: &'a Part, opened: Opened) -> Result<(), Memory>
+    fn enter(&mut self, instance: &'a Instance, opened: Opened) -> Result<(), Memory>
         requires { opened.model < length self.old.marks.items }
-        ensures { OnOk result (Entered self.old self.new part.now opened) }
+        ensures { OnOk result (Entered self.old self.new instance.now opened) }
     {
         self.list.push(opened)?;
-        self.trail.push(part)?;
+        self.trail.push(instance)?;
         self.marks[opened.model] = true;
         Ok(())
     }
@@ -179,7 +181,7 @@ impl<'a> Walker<'a> {
         requires { place < length self.old.marks.items }
         ensures { Left self.old self.new place }
     {
-        let _part = self.trail.pop();
+        let _instance = self.trail.pop();
         self.marks[place] = false;
     }
 }

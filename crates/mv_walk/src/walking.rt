@@ -24,7 +24,7 @@ pub fn walk(alloc: Global, design: &Design) -> Result<Items<Opened>, FlatFault>
     let Some(model) = design.models.get(root) else {
         return Ok(Items::new(alloc));
     };
-    if model.parts.is_empty() {
+    if model.instances.is_empty() {
         return Ok(Items::new(alloc));
     }
     let known = Known::of(alloc, design)?;

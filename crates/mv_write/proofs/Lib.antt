@@ -2,7 +2,7 @@ mod Members
 mod Spelling
 mod Ascending
 mod Walks
-mod Lines
-mod Parts
-mod Held
+pub mod Lines
+pub mod Parts
+pub mod Held
 mod Literals

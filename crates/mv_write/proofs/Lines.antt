@@ -50,7 +50,7 @@ pub names-none : (nets : List (Option FlatNet)) (list : List NetId) (i : ℕ) �
 unfolding spaced
 names-none nets list i high = at_drop_all (λ l. spaced (names_of nets l)) list i high
 
-spaced-append : (vs ws : List (List ℕ)) → spaced (vs ++ ws) ≡ spaced vs ++ spaced ws
+pub spaced-append : (vs ws : List (List ℕ)) → spaced (vs ++ ws) ≡ spaced vs ++ spaced ws
 unfolding spaced
 spaced-append vs ws = flat_map-append (λ w. 32 ∷ w) vs ws
 

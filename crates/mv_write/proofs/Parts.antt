@@ -1,5 +1,5 @@
 -- Texts of declarations, tables and networks, piece by piece as they are written.
-use Rattle.std.proofs.Common.{◌≡◌, ◌∙◌, ℕ, ◌+◌, ◌<◌, ◌≤◌, false, is_some, Option, Some, None, List, [], ◌∷◌, ◌++◌, length, drop, map, codes, refl, sym, ap}
+use Rattle.std.proofs.Common.{◌≡◌, ◌∙◌, ℕ, ◌+◌, ◌<◌, ◌≤◌, false, is_some, Option, Some, None, List, [], ◌∷◌, ◌++◌, length, drop, map, codes, refl, sym, ap, append_assoc}
 use Rattle.std.specs.List.{flat_map}
 use Rattle.std.proofs.lemmas.Bool.{false≢true}
 use Rattle.std.proofs.lemmas.List.{append-nil, at_drop_more, at_drop_all}
@@ -13,7 +13,7 @@ use Rattle.mv_net.specs.declared.parts.FlatNet.{FlatNet}
 use Rattle.mv_net.specs.declared.parts.NetParts.{NetParts}
 use Rattle.mv_net.specs.Nets.{slot, name_in, table_in, spelled_in}
 use Rattle.mv_text.specs.Text.{entry_word, fanins_of, line_words, default_words, cover_words, table_words, net_words, decl_words, names_of, inner_lines, net_lines, text_of, numbers, head_word, told_name, latch_words}
-use Rattle.mv_write.specs.Opened.{unopened}
+use Rattle.mv_write.specs.Opened.{ports_text, unopened}
 use Rattle.mv_write.proofs.Lines.{root-text}
 
 -- ---- lines of all nets, by number
@@ -38,7 +38,7 @@ default-text values default set e =
     let word = entry_word values set in
     ap (λ d. flat_map line_text (default_words values d)) e ∙ (append-nil (line_text (codes ".default" ∷ word ∷ [])) ∙ ap (λ t. codes ".default " ++ (t ++ 10 ∷ [])) (append-nil word))
 
-names-numbers : (nets : List (Option FlatNet)) (ns : List NetId) → map (λ m. name_in (slot nets m)) (numbers ns) ≡ names_of nets ns
+pub names-numbers : (nets : List (Option FlatNet)) (ns : List NetId) → map (λ m. name_in (slot nets m)) (numbers ns) ≡ names_of nets ns
 names-numbers nets [] = refl
 names-numbers nets (n ∷ ns) = ap (λ ws. name_in (slot nets n.0) ∷ ws) (names-numbers nets ns)
 
@@ -67,16 +67,26 @@ inner-text net =
     let tables = flat_map (net_words net.nets) net.nets in
     flat_map-append line_text decls (latches ++ tables) ∙ ap (λ t. flat_map line_text decls ++ t) (flat_map-append line_text latches tables)
 
--- the text behind the first word, as it is written
-pub unopened-text : (net : NetParts) (root : List ℕ) (inputs outputs : List NetId) → root ≡ net.root → inputs ≡ net.inputs → outputs ≡ net.outputs
-    → unopened net ≡ (root ++ 10 ∷ []) ++ (line_text (codes ".inputs" ∷ names_of net.nets inputs) ++ (line_text (codes ".outputs" ∷ names_of net.nets outputs) ++ (flat_map line_text (inner_lines net) ++ codes ".end\n")))
-unfolding unopened
-unopened-text net root inputs outputs r i o =
-    λ j. (sym r j ++ 10 ∷ []) ++ (line_text (codes ".inputs" ∷ names_of net.nets (sym i j)) ++ (line_text (codes ".outputs" ∷ names_of net.nets (sym o j)) ++ (flat_map line_text (inner_lines net) ++ codes ".end\n")))
+-- the lines of the root, the inputs and the outputs, as they are written
+pub ports-text : (net : NetParts) (root : List ℕ) (inputs outputs : List NetId) → root ≡ net.root → inputs ≡ net.inputs → outputs ≡ net.outputs
+    → ports_text net ≡ (root ++ 10 ∷ []) ++ (line_text (codes ".inputs" ∷ names_of net.nets inputs) ++ line_text (codes ".outputs" ∷ names_of net.nets outputs))
+unfolding ports_text
+ports-text net root inputs outputs r i o =
+    λ j. (sym r j ++ 10 ∷ []) ++ (line_text (codes ".inputs" ∷ names_of net.nets (sym i j)) ++ line_text (codes ".outputs" ∷ names_of net.nets (sym o j)))
 
-pub opened-text : (net : NetParts) → text_of net ≡ codes ".model " ++ unopened net
-unfolding text_of net_lines line_text spaced unopened
-opened-text net =
-    let inner = inner_lines net in
-    let before : List ℕ → List ℕ = λ t. line_text (codes ".inputs" ∷ names_of net.nets net.inputs) ++ (line_text (codes ".outputs" ∷ names_of net.nets net.outputs) ++ t) in
-    ap (λ t. line_text (codes ".model" ∷ net.root ∷ []) ++ before t) (flat_map-append line_text inner ((codes ".end" ∷ []) ∷ [])) ∙ ap (λ t. t ++ before (flat_map line_text inner ++ codes ".end\n")) (root-text net.root)
+-- the text of lines that begin with these, behind the first word
+pub opened-lines : (net : NetParts) (inner : List (List (List ℕ)))
+    → flat_map line_text ((codes ".model" ∷ net.root ∷ []) ∷ (codes ".inputs" ∷ names_of net.nets net.inputs) ∷ (codes ".outputs" ∷ names_of net.nets net.outputs) ∷ (inner ++ (codes ".end" ∷ []) ∷ [])) ≡ codes ".model " ++ unopened net inner
+unfolding line_text spaced ports_text
+opened-lines net inner =
+    let inputs = line_text (codes ".inputs" ∷ names_of net.nets net.inputs) in
+    let outputs = line_text (codes ".outputs" ∷ names_of net.nets net.outputs) in
+    let end : List ℕ = flat_map line_text inner ++ codes ".end\n" in
+    let root : List ℕ = net.root ++ 10 ∷ [] in
+    ap (λ t. line_text (codes ".model" ∷ net.root ∷ []) ++ (inputs ++ (outputs ++ t))) (flat_map-append line_text inner ((codes ".end" ∷ []) ∷ []))
+    ∙ (ap (λ t. t ++ (inputs ++ (outputs ++ end))) (root-text net.root)
+    ∙ ap (λ t. codes ".model " ++ t) (ap (λ t. root ++ t) (sym (append_assoc inputs outputs end)) ∙ sym (append_assoc root (inputs ++ outputs) end)))
+
+pub opened-text : (net : NetParts) → text_of net ≡ codes ".model " ++ unopened net (inner_lines net)
+unfolding text_of net_lines
+opened-text net = opened-lines net (inner_lines net)

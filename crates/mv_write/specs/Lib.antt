@@ -1,3 +1,2 @@
--- what private functions alone cite
 pub mod Opened
 pub mod Walk

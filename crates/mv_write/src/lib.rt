@@ -12,4 +12,8 @@ mod resets;
 mod rows;
 mod tables;
 
-pub use network::write;
+pub use network::{put_ports, write};
+pub use page::Page;
+pub use pieces::put_names;
+pub use resets::is_reset_net;
+pub use rows::behind as literals_behind;

@@ -3,7 +3,7 @@ ghost use Rattle.std.specs.List.{flat_map};
 ghost use Rattle.mv_base.specs.Outside.{Appends};
 ghost use Rattle.mv_lex.specs.Text.{line_text};
 ghost use Rattle.mv_page.specs.Page.{AddsPiece, paged};
-ghost use Rattle.mv_write.specs.Opened.{unopened};
+ghost use Rattle.mv_write.specs.Opened.{ports_text, unopened};
 ghost use Rattle.mv_text.specs.Text.{inner_lines, text_of};
 
 use crate::declarations::put_declarations;
@@ -32,15 +32,23 @@ fn put_inner<K: Sink>(net: &Network, page: &mut Page, out: &mut K) -> Result<(),
     put_tables(net, page, out)
 }
 
-/// Puts the lines of a network, from behind the first word.
-fn put_network<K: Sink>(net: &Network, page: &mut Page, out: &mut K) -> Result<(), Failed>
+/// Puts the lines of the root, the inputs and the outputs of a network, from behind the first word.
+pub fn put_ports<K: Sink>(net: &Network, page: &mut Page, out: &mut K) -> Result<(), Failed>
     ensures { AddsPiece (paged (K.state out.old) page.old) (paged (K.state out.new) page.new)
-        (unopened net.now) result }
+        (ports_text net.now) result }
 {
     net.well_formed();
     put_root(net.root(), page, out)?;
     put_list(b".inputs", net, net.inputs(), page, out)?;
-    put_list(b".outputs", net, net.outputs(), page, out)?;
+    put_list(b".outputs", net, net.outputs(), page, out)
+}
+
+/// Puts the lines of a network, from behind the first word.
+fn put_network<K: Sink>(net: &Network, page: &mut Page, out: &mut K) -> Result<(), Failed>
+    ensures { AddsPiece (paged (K.state out.old) page.old) (paged (K.state out.new) page.new)
+        (unopened net.now (inner_lines net.now)) result }
+{
+    put_ports(net, page, out)?;
     put_inner(net, page, out)?;
     page.put(b".end\n", out)
 }

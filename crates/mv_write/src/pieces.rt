@@ -9,7 +9,7 @@ use mv_base::{Failed, NetId, Sink};
 use mv_net::Network;
 
 /// Appends the names of these nets, each behind a space.
-fn put_names<K: Sink>(
+pub fn put_names<K: Sink>(
     net: &Network,
     nets: &[NetId],
     page: &mut Page,

@@ -18,7 +18,7 @@ use mv_cover::{Line, Lit};
 use mv_net::Network;
 
 /// The literals behind a net that is no higher than theirs.
-fn behind(lits: &[Lit], net: NetId) -> &[Lit]
+pub fn behind(lits: &[Lit], net: NetId) -> &[Lit]
     ensures { result.now ≡ literals_behind lits.now net.0 }
 {
     match lits.split_first() {

@@ -1,8 +1,6 @@
--- Inputs, outputs of latches and outputs of tables are the driven nets.
+-- Where each net is driven once, none is left out.
 use Rattle.mv_acyclic.proofs.Driven.{driven_gathered}
 use Rattle.mv_acyclic.proofs.drivers.driven.Goals as goal
 
 pub returns : goal.returns
-returns c =
-    rw (c.in_ok-add_tables.ensures, c.in_ok-add_latches.ensures, c.in_ok-add_names.ensures, c.in_ok-driven.ensures, c.as_slice.ensures, c.as_slice-2.ensures, c.as_slice-3.ensures)
-    (driven_gathered c.args.model.now c.requires)
+returns c = rw (c.in_ok-add_drivers.ensures, c.in_ok-driven.ensures) (driven_gathered c.args.model.now c.requires)

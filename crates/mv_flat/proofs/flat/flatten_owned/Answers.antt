@@ -1,90 +1,95 @@
--- The design's one model is sound where nothing is told of what is above what, and its network is the design's.
-use Rattle.std.proofs.Common.{◌≡◌, List, ℕ, ◌≤◌, length, sym, subst, All}
-use Rattle.std.proofs.lemmas.Result.{err_from_is_err_and}
-use Rattle.mv_base.specs.declared.limits.TheConstants.{MAX_FLAT_NETS}
-use Rattle.mv_acyclic.specs.Sound.{AreNetsOf, TellsAbove}
+-- A design without instances that is found sound is its root; another one is made one model.
+use Rattle.std.proofs.Common.{List, length, sym, ◌∙◌, ap, subst, All}
+use Rattle.std.specs.Prelude.{IfErr, IfOk, IfSome, OnOk}
+use Rattle.mv_design.specs.declared.design.FileModel.{FileModel}
+use Rattle.mv_design.specs.Nets.{drivers, root_of}
+use Rattle.mv_design.specs.Proper.{IsLawful}
+use Rattle.mv_tree.specs.Unfolded.{tables_in}
 use Rattle.mv_walk.specs.declared.opened.Opened.{Opened}
 use Rattle.mv_walk.specs.Openings.{AreOpened}
-use Rattle.mv_design.specs.declared.design.FileModel.{FileModel}
-use Rattle.mv_design.specs.declared.table.FileTable.{FileTable}
-use Rattle.mv_resets.specs.Resets.{all_tables}
-use Rattle.mv_resets.proofs.Nets.{resets_single}
+use Rattle.mv_unfold.specs.Placed.{places_by}
+use Rattle.mv_acyclic.specs.Sound.{IsSoundModel, IsWithinLimits}
+use Rattle.mv_resets.specs.Resets.{all_tables, with_reset_nets}
+use Rattle.mv_flat.specs.Built.{IsBuilt}
+use Rattle.mv_flat.specs.Flat.{HasSmallNetwork}
+use Rattle.mv_flat.specs.Roots.{IsSoundRoot}
 use Rattle.mv_flat.specs.Shared.{IsFrom}
-use Rattle.mv_flat.proofs.Origins.{opened_low, tables_known}
-use Rattle.mv_flat.proofs.Designs.{IsModelOf, answered_flat, made_few, made_nets, made_one, made_sound}
-use Rattle.mv_flat.proofs.Refusals.{above_refused, answered_refused}
+use Rattle.mv_flat.specs.Sized.{TellsLimit}
+use Rattle.mv_flat.proofs.Alone.{nets_alone, root_alone, tables_alone}
+use Rattle.mv_flat.proofs.Designs.{IsModelOf, answered_flat, made_one}
+use Rattle.mv_flat.proofs.Origins.{opened_low}
+use Rattle.mv_flat.proofs.Refusals.{answered_refused}
 use Rattle.mv_flat.proofs.flat.flatten_owned.Goals as goal
-use Rattle.mv_flat.proofs.flat.flatten_owned.Goals.{In_ok-model}
+use Rattle.mv_flat.proofs.flat.flatten_owned.Goals.{In-Some}
 
--- the one model, and its nets
-made : (c : In_ok-model) → IsModelOf c.args.design c.in_ok-model.field-0.model c.in_ok-model.field-0.nets
-made c =
-    let P : List Opened → Type 0 = AreOpened c.args.design in
-    let h : AreOpened c.args.design c.as_slice-instances.result.now = subst P (sym c.as_slice-instances.ensures) c.in_ok-opened.ensures.opened in
-    record {
-      tree = h.tree;
-      has = h.has;
-      good = c.in_ok-model.ensures.good h;
-      short = c.in_ok-model.ensures.short h;
-      model_is = c.in_ok-model.ensures.model h;
-      nets_are = c.in_ok-model.ensures.nets h;
-    }
+-- the instances, as they were handed on
+are_opened : (c : In-Some) → AreOpened c.args.design c.as_slice-2.result.now
+are_opened c = let P : List Opened → Type 0 = AreOpened c.args.design in subst P (sym c.as_slice-2.ensures) c.in_ok-opened.ensures.opened
+
+sound_root : (c : In-Some) → IsSoundRoot c.args.design c.as_slice-2.result.now c.in-Some.driven
+sound_root c = subst (λ o. IfSome o (IsSoundRoot c.args.design c.as_slice-2.result.now)) c.in-Some.is c.in_ok-driven.ensures
+
+model : (c : In-Some) → IsModelOf c.args.design (root_of c.args.design) (nets_alone c.args.design)
+model c = root_alone c.args.design c.as_slice-2.result.now c.in-Some.driven (are_opened c) (sound_root c)
 
 pub of-requires-clause-opened : goal.of-requires-clause-opened
 of-requires-clause-opened c =
     let P : List Opened → Type 0 = AreOpened c.args.design in
-    opened_low c.args.design c.as_slice-instances.result.now (subst P (sym c.as_slice-instances.ensures) c.in_ok-opened.ensures.opened)
-
-pub check-requires-clause-once : goal.check-requires-clause-once
-check-requires-clause-once c = (made_one _ _ _ c.requires (made (goal.at.check-requires-clause-once c).In_ok-model)).driven
-
-pub check-requires-clause-nets : goal.check-requires-clause-nets
-check-requires-clause-nets c =
-    let P : List (List ℕ) → Type 0 = AreNetsOf c.in_ok-model.field-0.model in
-    subst P (sym c.as_slice.ensures) (made_nets _ _ _ c.requires (made (goal.at.check-requires-clause-nets c).In_ok-model))
-
-pub check-requires-clause-few : goal.check-requires-clause-few
-check-requires-clause-few c =
-    let P : List (List ℕ) → Type 0 = λ ws. length ws ≤ MAX_FLAT_NETS in
-    subst P (sym c.as_slice.ensures) (made_few _ _ _ (made (goal.at.check-requires-clause-few c).In_ok-model))
-
-pub returns-in_err-driven-clause-fault : goal.returns-in_err-driven-clause-fault
-returns-in_err-driven-clause-fault c =
-    let to = goal.at.returns-in_err-driven-clause-fault c in
-    let P : List (List ℕ) → Type 0 = λ ws. TellsAbove ws c.in_ok-model.field-0.model c.in_err-driven.field-0.0 in
-    let e = err_from_is_err_and c.from_residual-in_err-driven.result c.from_residual-in_err-driven.ensures.1 in
-    rw (e.1, e.2) (above_refused _ _ _ _ (made to.In_ok-model) (subst P c.as_slice.ensures c.in_err-driven.ensures.fault))
+    opened_low c.args.design c.as_slice.result.now (subst P (sym c.as_slice.ensures) c.in_ok-opened.ensures.opened)
 
 pub network-requires-clause-lawful : goal.network-requires-clause-lawful
-network-requires-clause-lawful c = (made_one _ _ _ c.requires (made (goal.at.network-requires-clause-lawful c).In_ok-model)).lawful
+network-requires-clause-lawful c =
+    let s = (goal.at.network-requires-clause-lawful c).In-Some in
+    let P : FileModel → Type 0 = IsLawful in
+    subst P (sym c.into_root.ensures) (made_one _ _ _ c.requires (model s)).lawful
 
 pub network-requires-clause-sound : goal.network-requires-clause-sound
 network-requires-clause-sound c =
-    made_sound _ _ _ c.requires (made (goal.at.network-requires-clause-sound c).In_ok-model) c.in_ok-driven.ensures.acyclic c.in_ok-driven.ensures.alone
+    let s = (goal.at.network-requires-clause-sound c).In-Some in
+    let P : FileModel → Type 0 = IsSoundModel in
+    subst P (sym c.into_root.ensures) (sound_root s).known.sound
 
 pub network-requires-clause-limits : goal.network-requires-clause-limits
-network-requires-clause-limits c = (made_one _ _ _ c.requires (made (goal.at.network-requires-clause-limits c).In_ok-model)).limits
+network-requires-clause-limits c =
+    let s = (goal.at.network-requires-clause-limits c).In-Some in
+    let P : FileModel → Type 0 = IsWithinLimits in
+    subst P (sym c.into_root.ensures) (sound_root s).known.limits
+
+pub network-requires-clause-driven : goal.network-requires-clause-driven
+network-requires-clause-driven c =
+    let s = (goal.at.network-requires-clause-driven c).In-Some in
+    (sound_root s).known.is ∙ ap drivers (sym c.into_root.ensures)
 
 pub network-requires-clause-shared : goal.network-requires-clause-shared
-unfolding made
 network-requires-clause-shared c =
+    let s = (goal.at.network-requires-clause-shared c).In-Some in
     let d = c.args.design in
-    let os = c.as_slice-instances.result.now in
-    let O : List Opened → Type 0 = AreOpened d in
     let P : FileModel → Type 0 = λ m. All (IsFrom c.in_ok-shared.shared) (all_tables m) in
-    let Q : FileModel → Type 0 = λ m. All (λ (t : FileTable). length t.outputs ≡ 1) m.resets in
-    let m = made (goal.at.network-requires-clause-shared c).In_ok-model in
-    let single = subst Q m.model_is (resets_single c.in_ok-model.field-0.model (made_one _ _ _ c.requires m).lawful) in
-    subst P (sym m.model_is)
-    (tables_known d os (subst O (sym c.as_slice-instances.ensures) c.in_ok-opened.ensures.opened) c.in_ok-shared.shared c.in_ok-shared.ensures.known
-    c.in_ok-shared.ensures.none single)
+    let K : List Opened → Type 0 = λ os. All (IsFrom c.in_ok-shared.shared) (tables_in 0 (places_by d os)) in
+    subst P (sym c.into_root.ensures)
+    (tables_alone d c.as_slice-2.result.now c.in-Some.driven c.in_ok-shared.shared c.requires (are_opened s) (sound_root s)
+    (subst K (c.as_slice.ensures ∙ sym c.as_slice-2.ensures) c.in_ok-shared.ensures.known) (λ e. c.in_ok-shared.ensures.none (c.as_slice.ensures ∙ (sym c.as_slice-2.ensures ∙ e))))
 
-pub returns-clause-ok : goal.returns-clause-ok
-returns-clause-ok c =
-    answered_flat c.network.result _ _ _ c.requires (made (goal.at.returns-clause-ok c).In_ok-model) c.in_ok-driven.ensures.acyclic c.in_ok-driven.ensures.alone
-    c.network.ensures.fits c.network.ensures.built
+pub returns-in-Some-clause-ok : goal.returns-in-Some-clause-ok
+returns-in-Some-clause-ok c =
+    let s = (goal.at.returns-in-Some-clause-ok c).In-Some in
+    let known = (sound_root s).known in
+    let F : FileModel → Type 0 = λ m. OnOk c.network.result (HasSmallNetwork m) in
+    let B : FileModel → Type 0 = λ m. IfOk c.network.result (IsBuilt (with_reset_nets m)) in
+    answered_flat c.network.result _ _ _ c.requires (model s) known.sound.acyclic known.sound.alone (subst F c.into_root.ensures c.network.ensures.fits)
+    (subst B c.into_root.ensures c.network.ensures.built)
 
-pub returns-clause-fault : goal.returns-clause-fault
-returns-clause-fault c =
-    answered_refused c.network.result _ _ _ (made (goal.at.returns-clause-fault c).In_ok-model) c.in_ok-driven.ensures.acyclic c.in_ok-driven.ensures.alone
-    c.network.ensures.fault
+pub returns-in-Some-clause-fault : goal.returns-in-Some-clause-fault
+returns-in-Some-clause-fault c =
+    let s = (goal.at.returns-in-Some-clause-fault c).In-Some in
+    let known = (sound_root s).known in
+    let T : FileModel → Type 0 = λ m. IfErr c.network.result (TellsLimit (length (drivers m)) (with_reset_nets m)) in
+    answered_refused c.network.result _ _ _ (model s) known.sound.acyclic known.sound.alone (subst T c.into_root.ensures c.network.ensures.fault)
+
+pub of_whole-requires-clause-known : goal.of_whole-requires-clause-known
+of_whole-requires-clause-known c =
+    let K : List Opened → Type 0 = λ os. All (IsFrom c.in_ok-shared.shared) (tables_in 0 (places_by c.args.design os)) in
+    subst K c.as_slice.ensures c.in_ok-shared.ensures.known
+
+pub of_whole-requires-clause-none : goal.of_whole-requires-clause-none
+of_whole-requires-clause-none c = λ e. c.in_ok-shared.ensures.none (c.as_slice.ensures ∙ e)

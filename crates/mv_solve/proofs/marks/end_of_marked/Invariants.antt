@@ -4,8 +4,9 @@ use Rattle.mv_solve.proofs.marks.end_of_marked.Given as goal
 
 abbrev pub invariant-loop-end : goal.invariant-loop-end
 invariant-loop-end l = record {
-  within : MarkedWithin l.marks l.order l.end;
+  within : MarkedWithin l.marks l.order l.start l.end;
   low : l.end ≤ l.place;
+  above : l.start ≤ l.end;
 }
 
 abbrev pub decreases-loop-end : goal.decreases-loop-end

@@ -16,8 +16,8 @@ loop-model-preserved c =
     record {
       long = long_pushed all row c.push.new.self c.loop-model.model-index c.in_ok-push.ensures.ok c.loop-model.invariant.long;
       each =
-          each_pushed (λ k x. AreCommandsOf ms (get_or ms k no_model).parts x) all row [] c.push.new.self c.in_ok-push.ensures.ok c.loop-model.invariant.each
+          each_pushed (λ k x. AreCommandsOf ms (get_or ms k no_model).instances x) all row [] c.push.new.self c.in_ok-push.ensures.ok c.loop-model.invariant.each
           (subst (λ ps. AreCommandsOf ms ps row)
-          (c.as_slice.ensures ∙ ap (λ (m : FileModel). m.parts) (read ∙ ap (λ i. get_or ms i no_model) (sym c.loop-model.invariant.long)))
+          (c.as_slice.ensures ∙ ap (λ (m : FileModel). m.instances) (read ∙ ap (λ i. get_or ms i no_model) (sym c.loop-model.invariant.long)))
           c.in_ok-commands_of.ensures);
     }

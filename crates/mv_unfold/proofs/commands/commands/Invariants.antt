@@ -6,5 +6,5 @@ use Rattle.mv_unfold.proofs.commands.commands.Given as goal
 abbrev pub invariant-loop-model : goal.invariant-loop-model
 invariant-loop-model l = record {
   long : length l.all ≡ l.model-index;
-  each : (k : ℕ) → k < length l.all → AreCommandsOf l.models (get_or l.models k no_model).parts (get_or l.all k []);
+  each : (k : ℕ) → k < length l.all → AreCommandsOf l.models (get_or l.models k no_model).instances (get_or l.all k []);
 }

@@ -14,7 +14,7 @@ returns-then-is_empty-clause-model c = λ h.
     let t = c.if-is_empty.true in
     let e = c.is_empty.ensures in
     let none : length c.args.opened.now ≡ 0 = grind (arith, nat_tests) in
-    c.root.ensures ∙ whole_root d (root_of d) h.tree (no_elements c.args.opened.now none ∙ h.is)
+    c.into_root.ensures ∙ whole_root d (root_of d) h.tree (no_elements c.args.opened.now none ∙ h.is)
 
 pub returns-clause-model : goal.returns-clause-model
 returns-clause-model c = λ h.

@@ -20,14 +20,14 @@ pub returns-then-is_empty-clause-faults : goal.returns-then-is_empty-clause-faul
 returns-then-is_empty-clause-faults c =
     let d = c.args.design.now in
     let root = root_found d c.in-Some.model.now (sym c.in-Some.ensures) in
-    let none : (root_of d).parts ≡ [] = ap (λ m. m.parts) root.is ∙ nothing_of c.in-Some.model.now.parts c.is_empty.result c.is_empty.ensures c.if-is_empty.true in
+    let none : (root_of d).instances ≡ [] = ap (λ m. m.instances) root.is ∙ nothing_of c.in-Some.model.now.instances c.is_empty.result c.is_empty.ensures c.if-is_empty.true in
     no_faults d none
 
 pub returns-then-is_empty-clause-opened : goal.returns-then-is_empty-clause-opened
 returns-then-is_empty-clause-opened c =
     let d = c.args.design.now in
     let root = root_found d c.in-Some.model.now (sym c.in-Some.ensures) in
-    let none : (root_of d).parts ≡ [] = ap (λ m. m.parts) root.is ∙ nothing_of c.in-Some.model.now.parts c.is_empty.result c.is_empty.ensures c.if-is_empty.true in
+    let none : (root_of d).instances ≡ [] = ap (λ m. m.instances) root.is ∙ nothing_of c.in-Some.model.now.instances c.is_empty.result c.is_empty.ensures c.if-is_empty.true in
     subst (AreOpened d) (sym c.new-then-is_empty.ensures) (no_instances d none)
 
 pub inside-requires-clause-at : goal.inside-requires-clause-at

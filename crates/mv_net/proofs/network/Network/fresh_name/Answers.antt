@@ -5,7 +5,7 @@ use Rattle.std.proofs.lemmas.Option.{MatchOption-at_some}
 use Rattle.mv_net.specs.Fresh.{is_taken, IsFreeName, AreMade}
 use Rattle.mv_net.proofs.FreshNames.{passed_free, passed_taken, none_free, never_ends, at_none}
 use Rattle.mv_net.proofs.LawfulMade.{made_lawful, made_short}
-use Rattle.mv_net.proofs.network.Network.fresh_name.Goals.{in-Some+else-left-eq0+in-Shared-1, in-Some+else-left-eq0+in-Inline-1, in_default}
+use Rattle.mv_net.proofs.network.Network.fresh_name.Goals.{in-Some+else-left-eq0+in-Shared-1, in-Some+else-left-eq0+in-Beside-1, in-Some+else-left-eq0+in-Inline-1, in_default}
 use Rattle.mv_net.proofs.network.Network.fresh_name.Goals as goal
 
 pub loop-number-init : goal.loop-number-init
@@ -20,6 +20,7 @@ loop-number-preserved c =
     let free : 0 < left → is_taken nets number ≡ false → P (left - 1) = λ some f. passed_free nets c.args.skip left number (omega (arith, c.loop-number.auto.number)) some f c.loop-number.invariant in
     elim c.match-branch-2.branch [
       | in-Some+else-left-eq0+in-Shared-1 w ↦ subst P (sym w.left-is) (free (omega (arith, w.if-left-eq0.false)) (MatchOption-at_some _ (IsFreeName nets number) w.in-Some.name w.in-Some.is c.in_ok-name.ensures).free)
+      | in-Some+else-left-eq0+in-Beside-1 w ↦ subst P (sym w.left-is) (free (omega (arith, w.if-left-eq0.false)) (MatchOption-at_some _ (IsFreeName nets number) w.in-Some.name w.in-Some.is c.in_ok-name.ensures).free)
       | in-Some+else-left-eq0+in-Inline-1 w ↦ subst P (sym w.left-is) (free (omega (arith, w.if-left-eq0.false)) (MatchOption-at_some _ (IsFreeName nets number) w.in-Some.name w.in-Some.is c.in_ok-name.ensures).free)
       | in_default w ↦
           subst P (sym w.left-is) (passed_taken nets c.args.skip left number (omega (arith, c.loop-number.auto.number)) (at_none c.in_ok-name.field-0 _ _ c.in_ok-name.ensures w.in_default.not-Some) c.loop-number.invariant)

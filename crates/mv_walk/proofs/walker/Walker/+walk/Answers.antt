@@ -80,18 +80,18 @@ open-unwrap-found-requires t c = can_found c.args.known.now c.args.self.now c.ar
 pub open-inside-requires : goal.open-inside-requires
 open-inside-requires t c =
     let d = c.args.known.now in
-    let o : Opened = record { model = c.unwrap-found.result.place; round = c.args.number; part = c.args.part } in
+    let o : Opened = record { model = c.unwrap-found.result.place; round = c.args.number; instance = c.args.instance } in
     let place = can_place d c.args.self.now c.args.command.now c.unwrap-found.result c.requires.command c.unwrap-found.ensures in
-    let h : Enters d c.args.levels c.args.self.now c.enter.new.self c.args.command.now.part.now o = record { at = c.requires.at; deep = c.requires.deep; looked = c.requires.looked; place = place; new = c.requires.command.new; entered = c.in_ok-enter.ensures } in
+    let h : Enters d c.args.levels c.args.self.now c.enter.new.self c.args.command.now.instance.now o = record { at = c.requires.at; deep = c.requires.deep; looked = c.requires.looked; place = place; new = c.requires.command.new; entered = c.in_ok-enter.ensures } in
     let some : 0 < c.args.levels = c.requires.deep in
     let falls : 2 * (c.args.levels - 1) + 1 < 2 * c.args.levels = omega arith in
     let Below : ℕ → Type 0 = λ x. 2 * (c.args.levels - 1) + 1 < x in
-    (subst Below c.decreases falls, (entered_at d c.args.levels c.args.self.now c.enter.new.self c.args.command.now.part.now o h, place_within d.models c.args.command.now.part.now.model c.unwrap-found.result.place place))
+    (subst Below c.decreases falls, (entered_at d c.args.levels c.args.self.now c.enter.new.self c.args.command.now.instance.now o h, place_within d.models c.args.command.now.instance.now.model c.unwrap-found.result.place place))
 
 pub open-returns-clause-done : goal.open-returns-clause-done
 open-returns-clause-done t c =
     let d = c.args.known.now in
-    let o : Opened = record { model = c.unwrap-found.result.place; round = c.args.number; part = c.args.part } in
+    let o : Opened = record { model = c.unwrap-found.result.place; round = c.args.number; instance = c.args.instance } in
     let place = can_place d c.args.self.now c.args.command.now c.unwrap-found.result c.requires.command c.unwrap-found.ensures in
-    let h : Enters d c.args.levels c.args.self.now c.enter.new.self c.args.command.now.part.now o = record { at = c.requires.at; deep = c.requires.deep; looked = c.requires.looked; place = place; new = c.requires.command.new; entered = c.in_ok-enter.ensures } in
-    walked_one d c.args.levels c.args.self.now c.enter.new.self c.inside.new.self c.leave.new.self c.args.command.now.part.now o c.args.number c.args.part h refl refl (rw c.len-next.ensures at c.in_ok-inside.ensures.done) c.leave.ensures
+    let h : Enters d c.args.levels c.args.self.now c.enter.new.self c.args.command.now.instance.now o = record { at = c.requires.at; deep = c.requires.deep; looked = c.requires.looked; place = place; new = c.requires.command.new; entered = c.in_ok-enter.ensures } in
+    walked_one d c.args.levels c.args.self.now c.enter.new.self c.inside.new.self c.leave.new.self c.args.command.now.instance.now o c.args.number c.args.instance h refl refl (rw c.len-next.ensures at c.in_ok-inside.ensures.done) c.leave.ensures

@@ -27,6 +27,6 @@ loop-command-preserved c =
     let none = c.in_ok-check.ensures d c.args.model c.requires.marked nth.command in
     record {
       count = omega arith;
-      few = few_here d c.loop-command.count l c.command-item.result.part.now none;
+      few = few_here d c.loop-command.count l c.command-item.result.instance.now none;
       faults = none_here d l m c.args.self.now.count c.loop-command.count c.loop-command.command-index c.command-item.result c.loop-command.invariant.faults nth none;
     }

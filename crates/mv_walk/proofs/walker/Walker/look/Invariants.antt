@@ -11,5 +11,5 @@ invariant-loop-command l =
     record {
       count : l.count ≡ l.self.count + l.command-index;
       few : l.count ≤ MAX_INSTANCES;
-      faults : visits_faults l.known l.count (map (visit level) (drop l.command-index level.model.parts)) ≡ visits_faults l.known l.self.count (map (visit level) level.model.parts);
+      faults : visits_faults l.known l.count (map (visit level) (drop l.command-index level.model.instances)) ≡ visits_faults l.known l.self.count (map (visit level) level.model.instances);
     }

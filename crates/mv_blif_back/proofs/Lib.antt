@@ -1,0 +1,16 @@
+mod Picks
+mod Planes
+mod Choice
+mod Commands
+mod Written
+mod Walks
+mod Gates
+mod Ports
+mod Accepted
+mod Sayings
+mod Meanings
+mod Interfaces
+mod WrittenNets
+mod Agreeing
+mod Beginning
+mod Acyclic

@@ -1,0 +1,6 @@
+mod Faultless
+mod Tables
+mod Latches
+mod Ports
+mod Order
+mod Proper

@@ -1,0 +1,5 @@
+mod PlaneBytes
+mod RowText
+mod TableText
+mod LatchText
+mod Whole

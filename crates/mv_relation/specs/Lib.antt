@@ -1,0 +1,3 @@
+pub mod Relations
+-- what private functions alone cite
+pub mod Placing
