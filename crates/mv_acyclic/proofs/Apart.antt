@@ -4,7 +4,7 @@ use Rattle.std.specs.Prelude.{nat_lt, unwrap_or, if◌then◌else◌}
 use Rattle.std.specs.List.{flat_map, list_all}
 use Rattle.std.proofs.lemmas.Bool.{false≢true, and_from, and_parts, leb-true, or_cases}
 use Rattle.std.proofs.lemmas.Bool.Decides.{nat_tests}
-use Rattle.std.proofs.lemmas.List.{append-nil, append_assoc, length-append, map-append, take_more}
+use Rattle.std.proofs.lemmas.List.{append-nil, append_assoc, length-append, length-map, map-append, take_more}
 use Rattle.std.proofs.lemmas.List.Folds.{list_all_more}
 use Rattle.mv_base.specs.Names.{same_word, among, names_differ, place_of, AreApart, IsDistinct}
 use Rattle.mv_base.specs.declared.limits.TheConstants.{MAX_FLAT_NETS, MAX_FLAT_NAME_BYTES}
@@ -53,12 +53,8 @@ unfolding drivers
 length-drivers m =
     let a = length-append m.inputs (latch_outputs m ++ flat_map nets_driven m.tables) in
     let b = length-append (latch_outputs m) (flat_map nets_driven m.tables) in
-    let c = length_map (λ l. l.output) m.latches in
+    let c = length-map m.latches (λ l. l.output) in
     omega (arith, a, b, c)
-  where
-    length_map : (f : FileLatch → List ℕ) (ls : List FileLatch) → length (map f ls) ≡ length ls
-    length_map f [] = refl
-    length_map f (l ∷ ls) = let e = length_map f ls in omega (arith, e)
 
 -- drivers of which none is left out, and which pass no limit
 pub gathered_apart : (m : FileModel) (names : List (List ℕ)) → names ≡ with_names [] (drivers m) → IsDistinct names → length (drivers m) ≤ length names

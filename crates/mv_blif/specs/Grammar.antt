@@ -14,7 +14,7 @@ use Rattle.mv_blif_line.specs.declared.row.OpenTable.{OpenTable}
 use Rattle.mv_blif_line.specs.Commands.{command_at, is_model}
 use Rattle.mv_blif_line.specs.Heads.{model_faults, ports_faults, columns_faults, end_faults}
 use Rattle.mv_blif_line.specs.Rows.{row_faults}
-use Rattle.mv_blif_line.specs.Latches.{latch_faults, settings_at, control_faults}
+use Rattle.mv_blif_line.specs.Latches.{latch_line_faults, settings_at, control_faults}
 use Rattle.mv_blif.specs.declared.known.Known.{Known}
 use Rattle.mv_blif.specs.declared.design.BlifDesign.{BlifDesign}
 use Rattle.mv_blif.specs.Known.{known}
@@ -44,7 +44,7 @@ abbrev pub inside_faults : Command → Known → List LexLine → LexLine → Li
 inside_faults Inputs k ls l = ports_faults l.number k.inputs (behind_first l)
 inside_faults Outputs k ls l = ports_faults l.number k.outputs (behind_first l)
 inside_faults Names k ls l = columns_faults l.number (first_word l) (behind_first l)
-inside_faults Latch k ls l = latch_faults l.number (first_word l) (behind_first l)
+inside_faults Latch k ls l = latch_line_faults l.number (first_word l) (behind_first l)
 inside_faults Row k ls l = row_line_faults k.table l
 inside_faults End k ls l =
     end_faults l.number (first_word l) (behind_first l) ++ controls_faults k.inputs ls

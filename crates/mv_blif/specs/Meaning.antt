@@ -59,8 +59,8 @@ name_of [] = []
 name_of (l ∷ ls) = first_of (behind_first l)
 
 -- the model of these lines
-abbrev pub model_of : List LexLine → FileModel
-model_of ls = record {
+abbrev pub blif_model : List LexLine → FileModel
+blif_model ls = record {
   name = name_of ls;
   inputs = inputs_of ls;
   outputs = outputs_of ls;
@@ -74,4 +74,4 @@ model_of ls = record {
 -- what lines say
 unfoldable pub blif_of : List LexLine → BlifDesign
 blif_of ls =
-    record { design = record { root = 0; models = model_of ls ∷ [] }; latches = settings_said ls }
+    record { design = record { root = 0; models = blif_model ls ∷ [] }; latches = settings_said ls }

@@ -3,7 +3,7 @@ ghost use Rattle.std.specs.Prelude.{◌≡◌, OnOk};
 ghost use Rattle.mv_line.specs.Words.{behind_first, first_word};
 ghost use Rattle.mv_blif_line.specs.Faults.{Tells};
 ghost use Rattle.mv_blif_line.specs.Heads.{ports_faults, columns_faults};
-ghost use Rattle.mv_blif_line.specs.Latches.{latch_faults};
+ghost use Rattle.mv_blif_line.specs.Latches.{latch_line_faults};
 ghost use Rattle.mv_blif.specs.Grammar.{control_faults_at, controls_faults, row_line_faults, inside_faults};
 ghost use Rattle.mv_blif.specs.Steps.{line_step};
 
@@ -73,7 +73,7 @@ pub fn begin_table(alloc: Global, known: &mut Known, line: &LexLine) -> Result<(
 /// A line of a latch: what it says is read later.
 pub fn pass_latch(alloc: Global, known: &mut Known, line: &LexLine) -> Result<(), BlifFault>
     ensures fault { Tells result
-        (latch_faults line.now.number (first_word line.now) (behind_first line.now)) }
+        (latch_line_faults line.now.number (first_word line.now) (behind_first line.now)) }
     ensures ok { OnOk result (known.new ≡ line_step Command.Latch line.now known.old) }
 {
     let word = Name::new(alloc, first_word(line))?;

@@ -31,7 +31,7 @@ use Rattle.mv_blif_line.specs.declared.fault.BlifFault.TheVariants.{Line}
 use Rattle.mv_blif_line.specs.Commands.{command_at}
 use Rattle.mv_blif_line.specs.Faults.{shared}
 use Rattle.mv_blif_line.specs.Heads.{model_faults, ports_faults, end_faults}
-use Rattle.mv_blif_line.specs.Latches.{net_faults, latch_faults, settings_at, control_faults}
+use Rattle.mv_blif_line.specs.Latches.{net_faults, latch_line_faults, settings_at, control_faults}
 use Rattle.mv_blif.specs.declared.known.Known.{Known}
 use Rattle.mv_blif.specs.Known.{known}
 use Rattle.mv_blif.specs.Grammar.{controls_faults, inside_faults, line_faults, file_faults, faults_behind, faults_of, is_limit, IsBlif, AreWithinLimits}
@@ -79,8 +79,8 @@ module _ (p : BlifFault → Bool) (net : NetParts) (formed : WellFormed net) (pa
   outs = names_of net.nets net.outputs
 
   latch_none : (n : ℕ) (word : List ℕ) (l : FlatLatch) (b : BlifLatch) → IsLatch net.nets l → IsSaid net l b
-      → latch_faults n word (name_in (slot net.nets l.input.0) ∷ name_in (slot net.nets l.output.0) ∷ (kind_words b.kind b.control ++ decimal b.init ∷ [])) ≡ []
-  unfolding latch_faults
+      → latch_line_faults n word (name_in (slot net.nets l.input.0) ∷ name_in (slot net.nets l.output.0) ∷ (kind_words b.kind b.control ++ decimal b.init ∷ [])) ≡ []
+  unfolding latch_line_faults
   latch_none n word l b is said =
       append-nothing _ _
       (append-nothing _ _ (net_none n _ (readable-lawful net formed l.input.0 is.input)) (net_none n _ (readable-lawful net formed l.output.0 (latch-readable net formed l.output.0 is.output))))

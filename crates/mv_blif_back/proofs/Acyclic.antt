@@ -27,12 +27,12 @@ use Rattle.mv_blif_back.specs.Model.{gate_said, cover_said, net_said, tables_sai
 use Rattle.mv_blif_back.proofs.Agreeing.{AreHeld, held_all}
 
 -- a name among those of picked numbers is the name of one of them
-record IsPicked (name : ℕ → List ℕ) (p : ℕ → Bool) (w : List ℕ) : Type 0 where
-  number : ℕ
-  passes : p number ≡ true
-  named : name number ≡ w
+pub record IsPicked (name : ℕ → List ℕ) (p : ℕ → Bool) (w : List ℕ) : Type 0 where
+  pub number : ℕ
+  pub passes : p number ≡ true
+  pub named : name number ≡ w
 
-picked : (name : ℕ → List ℕ) (p : ℕ → Bool) (ms : List ℕ) (w : List ℕ) → among w (map name (filter p ms)) ≡ true → IsPicked name p w
+pub picked : (name : ℕ → List ℕ) (p : ℕ → Bool) (ms : List ℕ) (w : List ℕ) → among w (map name (filter p ms)) ≡ true → IsPicked name p w
 picked name p [] w a = absurd (false≢true a)
 picked name p (m ∷ ms) w a =
     ⊎_elim

@@ -14,3 +14,10 @@ mod WrittenNets
 mod Agreeing
 mod Beginning
 mod Acyclic
+mod Named
+mod Driven
+mod Values
+mod FirstValues
+mod Assigned
+mod Valued
+mod Whole

@@ -6,7 +6,7 @@ use Rattle.mv_net.specs.declared.parts.FlatLatch.{FlatLatch}
 use Rattle.mv_net.specs.declared.parts.FlatNet.{FlatNet}
 use Rattle.mv_net.specs.declared.parts.NetParts.{NetParts}
 use Rattle.mv_net.specs.Changes.{with_nets}
-use Rattle.mv_net.specs.Nets.{slot, name_in, spelled_in, port_of, latch_port_of, has_reset, interface_of}
+use Rattle.mv_net.specs.Nets.{slot, name_in, values_in, spelled_in, port_of, latch_port_of, has_reset, interface_of}
 
 -- the net at a number
 from_slot : (ls : List FlatLatch) (vs : List ℕ) (k : ℕ) (fs : List (Option FlatNet)) (n : ℕ) → slot (written_from ls vs k fs) n ≡ written_net ls vs (k + n) (slot fs n)
@@ -17,6 +17,14 @@ from_slot ls vs k (f ∷ fs) (suc n) = let e : (k + 1) + n ≡ k + suc n = omega
 pub written-slot : (net : NetParts) (vs : List ℕ) (n : ℕ) → slot (written_nets net vs) n ≡ written_net net.latches vs n (slot net.nets n)
 unfolding written_nets
 written-slot net vs n = let e : 0 + n ≡ n = omega arith in from_slot net.latches vs 0 net.nets n ∙ ap (λ i. written_net net.latches vs i (slot net.nets n)) e
+
+-- it has as many values as it had
+pub written-values : (net : NetParts) (vs : List ℕ) (n : ℕ) → values_in (slot (written_nets net vs) n) ≡ values_in (slot net.nets n)
+written-values net vs n = ap values_in (written-slot net vs n) ∙ count_kept net.latches vs n (slot net.nets n)
+  where
+    count_kept : (ls : List FlatLatch) (vs : List ℕ) (n : ℕ) (o : Option FlatNet) → values_in (written_net ls vs n o) ≡ values_in o
+    count_kept ls vs n None = refl
+    count_kept ls vs n (Some f) = refl
 
 name_kept : (ls : List FlatLatch) (vs : List ℕ) (n : ℕ) (o : Option FlatNet) → name_in (written_net ls vs n o) ≡ name_in o
 name_kept ls vs n None = refl

@@ -2,3 +2,4 @@ pub mod Said
 pub mod Rows
 pub mod Model
 pub mod Alike
+pub mod Back

@@ -4,6 +4,7 @@ ghost use Rattle.std.specs.List.{list_all};
 ghost use Rattle.mv_acyclic.specs.Sound.{reads, StandsAlone};
 ghost use Rattle.mv_blif.specs.Grammar.{IsBlif, AreWithinLimits};
 ghost use Rattle.mv_blif_back.specs.Alike.{AreAlike, ChoicesHold, HasValues};
+ghost use Rattle.mv_blif_back.specs.Back.{ReadsBack};
 ghost use Rattle.mv_blif_back.specs.Model.{gate_said, model_said, design_said};
 ghost use Rattle.mv_blif_back.specs.Said.{AreSaid, IsBinary, HasSmallTables, inits};
 ghost use Rattle.mv_blif_line.specs.Latches.{constant_reset};
@@ -97,4 +98,12 @@ pub fn blif_model_is_acyclic()
         → IsAcyclic (reads (model_said net bs)) }
     ensures alone { (net : NetParts) (bs : List BlifLatch) → WellFormed net
         → All (StandsAlone (model_said net bs)) (model_said net bs).resets }
+{}
+
+/// The text of a network that can be written as BLIF, with what is said of its latches, has no fault but limits. It reads as a sound
+/// design with the same said of them, which means what the network with its written tables means. Where its tables are small, its
+/// lines pass no limit.
+pub fn blif_reads_back()
+    ensures { (net : NetParts) (bs : List BlifLatch) → WellFormed net → IsBinary net
+        → AreSaid net net.latches bs → ReadsBack net bs }
 {}

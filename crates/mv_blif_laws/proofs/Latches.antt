@@ -19,7 +19,7 @@ use Rattle.mv_blif_line.specs.declared.command.Command.{Command}
 use Rattle.mv_blif_line.specs.declared.command.Command.TheVariants.{Latch}
 use Rattle.mv_blif_line.specs.declared.fault.BlifFault.TheVariants.{Line}
 use Rattle.mv_blif_line.specs.Commands.{command_at}
-use Rattle.mv_blif_line.specs.Latches.{net_faults, settings_faults, latch_faults, settings_at, constant_reset, resets_at}
+use Rattle.mv_blif_line.specs.Latches.{net_faults, settings_faults, latch_line_faults, settings_at, constant_reset, resets_at}
 use Rattle.mv_blif.specs.declared.known.Known.{Known}
 use Rattle.mv_blif.specs.Known.{known}
 use Rattle.mv_blif.specs.Grammar.{inside_faults, faults_behind}
@@ -36,8 +36,8 @@ net-named : (n : ℕ) (w : List ℕ) → net_faults n w ≡ [] → is_net_name w
 unfolding net_faults
 net-named n w none = net-lawful n w (map-nothing Line (net_name_faults n w) none)
 
-line-named : (n : ℕ) (word : List ℕ) (words : List (List ℕ)) → latch_faults n word words ≡ [] → IsNamed words
-unfolding latch_faults
+line-named : (n : ℕ) (word : List ℕ) (words : List (List ℕ)) → latch_line_faults n word words ≡ [] → IsNamed words
+unfolding latch_line_faults
 line-named n word [] none = cc
 line-named n word (input ∷ []) none =
     let lacks : Line (Missing n word) ∷ [] ≡ [] = right-nothing (net_faults n input) (Line (Missing n word) ∷ []) none in cc

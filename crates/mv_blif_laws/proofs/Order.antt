@@ -18,7 +18,7 @@ use Rattle.mv_blif_line.specs.declared.command.Command.TheVariants.{Model, Names
 use Rattle.mv_blif_line.specs.Commands.{command_at}
 use Rattle.mv_blif_line.specs.Latches.{settings_at, constant_reset, resets_at}
 use Rattle.mv_blif_line.specs.Tables.{table_of}
-use Rattle.mv_blif.specs.Meaning.{tables_at, tables_of, at_latch, latches_of, resets_of, front_rows, model_of}
+use Rattle.mv_blif.specs.Meaning.{tables_at, tables_of, at_latch, latches_of, resets_of, front_rows, blif_model}
 
 -- ---- reset tables and latches
 
@@ -132,7 +132,7 @@ none-in-none : (ns : List ℕ) → none_in_both ns [] ≡ true
 none-in-none [] = refl
 none-in-none (n ∷ ns) = none-in-none ns
 
-pub stands : (l : LexLine) (ls : List LexLine) → command_at l ≡ Model → numbers_ascend (numbers_of (l ∷ ls)) ≡ true → StandsByLine (model_of (l ∷ ls))
+pub stands : (l : LexLine) (ls : List LexLine) → command_at l ≡ Model → numbers_ascend (numbers_of (l ∷ ls)) ≡ true → StandsByLine (blif_model (l ∷ ls))
 stands l ls begins up =
     let b = all-behind l.number ls up in
     rw begins

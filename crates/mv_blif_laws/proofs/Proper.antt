@@ -8,14 +8,14 @@ use Rattle.mv_parse_laws.proofs.Nothing.{filters-nothing}
 use Rattle.mv_blif.specs.declared.design.BlifDesign.{BlifDesign}
 use Rattle.mv_blif.specs.Known.{known}
 use Rattle.mv_blif.specs.Grammar.{faults_of, is_limit, IsBlif, AreWithinLimits}
-use Rattle.mv_blif.specs.Meaning.{model_of, blif_of}
+use Rattle.mv_blif.specs.Meaning.{blif_model, blif_of}
 use Rattle.mv_blif_laws.specs.Flat.{IsFlat}
 use Rattle.mv_blif_laws.proofs.Tables.{tables-fit}
 use Rattle.mv_blif_laws.proofs.Latches.{latches-fit, resets-fit, settings-long}
 use Rattle.mv_blif_laws.proofs.Ports.{HasPorts, no-ports, ports-fit, begins}
 use Rattle.mv_blif_laws.proofs.Order.{stands}
 
-model-proper : (lines : List LexLine) → numbers_ascend (numbers_of lines) ≡ true → faults_of lines ≡ [] → IsProperModel (model_of lines)
+model-proper : (lines : List LexLine) → numbers_ascend (numbers_of lines) ≡ true → faults_of lines ≡ [] → IsProperModel (blif_model lines)
 unfolding faults_of known
 model-proper [] up none = cc
 model-proper (l ∷ ls) up none =
@@ -40,7 +40,7 @@ model-proper (l ∷ ls) up none =
 said-proper : (lines : List LexLine) → numbers_ascend (numbers_of lines) ≡ true → faults_of lines ≡ [] → IsProper (blif_of lines).design
 unfolding blif_of
 said-proper lines up none = record {
-  models = All-cons IsProperModel (model_of lines) [] (model-proper lines up none) (All-nil IsProperModel);
+  models = All-cons IsProperModel (blif_model lines) [] (model-proper lines up none) (All-nil IsProperModel);
   differ = refl;
   root = omega arith;
 }
@@ -52,7 +52,7 @@ proper lines d up is within =
 
 said-flat : (lines : List LexLine) → IsFlat (blif_of lines)
 unfolding blif_of
-said-flat lines = record { model = model_of lines; single = refl; decls = refl; instances = refl; said = settings-long lines }
+said-flat lines = record { model = blif_model lines; single = refl; decls = refl; instances = refl; said = settings-long lines }
 
 pub flat : (lines : List LexLine) (d : BlifDesign) → IsBlif lines d → IsFlat d
 flat lines d is = subst IsFlat (sym is.is) (said-flat lines)

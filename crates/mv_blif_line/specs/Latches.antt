@@ -59,10 +59,10 @@ unfoldable pub net_faults : ℕ → List ℕ → List BlifFault
 net_faults n w = shared (net_name_faults n w)
 
 -- all words behind `.latch`
-unfoldable pub latch_faults : ℕ → List ℕ → List (List ℕ) → List BlifFault
-latch_faults n word [] = Line (Missing n word) ∷ []
-latch_faults n word (input ∷ []) = net_faults n input ++ Line (Missing n word) ∷ []
-latch_faults n word (input ∷ output ∷ words) =
+unfoldable pub latch_line_faults : ℕ → List ℕ → List (List ℕ) → List BlifFault
+latch_line_faults n word [] = Line (Missing n word) ∷ []
+latch_line_faults n word (input ∷ []) = net_faults n input ++ Line (Missing n word) ∷ []
+latch_line_faults n word (input ∷ output ∷ words) =
     net_faults n input ++ net_faults n output ++ settings_faults n word words
 
 -- ---- what the line says

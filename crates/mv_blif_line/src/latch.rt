@@ -3,7 +3,7 @@ ghost use Rattle.mv_base.specs.declared.limits.TheConstants.{MAX_VALUES as most_
 ghost use Rattle.mv_line.specs.Latches.{latch_of};
 ghost use Rattle.mv_line.specs.Words.{behind_first, first_of};
 ghost use Rattle.mv_blif_line.specs.Faults.{Tells};
-ghost use Rattle.mv_blif_line.specs.Latches.{kind_of, init_of, kind_faults, init_faults, settings_faults, net_faults, latch_faults};
+ghost use Rattle.mv_blif_line.specs.Latches.{kind_of, init_of, kind_faults, init_faults, settings_faults, net_faults, latch_line_faults};
 ghost use Rattle.mv_blif_line.specs.Latches.{control_of, init_said, settings_of, settings_at, control_faults, constant_reset, resets_at};
 
 use crate::fault::BlifFault;
@@ -124,9 +124,9 @@ fn check_net(number: u32, word: &Name) -> Result<(), BlifFault>
 }
 
 /// Tells the first fault of the words behind `.latch`.
-#[tactic(auto, using(mv_fault::proofs::Firsts::firsts), unfolding(crate::specs::Latches::latch_faults))]
+#[tactic(auto, using(mv_fault::proofs::Firsts::firsts), unfolding(crate::specs::Latches::latch_line_faults))]
 pub fn check_latch(number: u32, word: &Name, words: &[Name]) -> Result<(), BlifFault>
-    ensures { Tells result (latch_faults number word.now words.now) }
+    ensures { Tells result (latch_line_faults number word.now words.now) }
 {
     match words {
         [] => Err(BlifFault::Line(ParseFault::Missing {

@@ -3,14 +3,15 @@ ghost use Rattle.mv_base.specs.Meaning.{Refines, SameMeaning};
 ghost use Rattle.mv_collapse.specs.Collapses.{CollapsesFreely, CollapsesNet, StaysFor};
 ghost use Rattle.mv_collapse.specs.Reasons.{why_for};
 ghost use Rattle.mv_entry.specs.declared.note.Command.TheVariants.{Collapse as collapse_command};
-ghost use Rattle.mv_entry.specs.Entries.{is_visible_name};
+ghost use Rattle.mv_entry.specs.Entries.{is_visible_name, HasVisibleNames, Noted};
+ghost use Rattle.mv_entry.specs.Tallies.{Takes};
 ghost use Rattle.mv_net.specs.Allowed.{of_net};
 ghost use Rattle.mv_pass.specs.Courses.{Perhaps};
 ghost use Rattle.mv_pass.specs.Going.{Begun, Does};
 ghost use Rattle.mv_pass.specs.Passing.{Passes};
 
 use crate::Stop;
-use mv_base::{Memory, Name};
+use mv_base::{Failed, Memory, Name};
 use mv_entry::{Command, Journal, Note, Rule, RuleFault, Why};
 use mv_net::Network;
 use mv_pass::{end, take};
@@ -63,6 +64,14 @@ fn reason(
     }
 }
 
+/// Takes down once that the net with this name stays, and why.
+fn put_note<J: Journal>(why: Why, name: Name, journal: &mut J) -> Result<(), Failed>
+    requires { HasVisibleNames (Noted (Note.Dropped why name)) }
+    ensures { Takes (J.state journal.old) (J.state journal.new) (Noted (Note.Dropped why name)) result }
+{
+    journal.note(&Note::Dropped(why, name))
+}
+
 /// Notes why the net with this name stays.
 fn note_reason<J: Journal>(
     net: &Network,
@@ -81,7 +90,7 @@ fn note_reason<J: Journal>(
         Ok(own) => own,
         Err(_memory) => return Err(Stop::Memory),
     };
-    match journal.note(&Note::Dropped(why, own)) {
+    match put_note(why, own, journal) {
         Ok(()) => Ok(()),
         Err(_failed) => Err(Stop::Note),
     }

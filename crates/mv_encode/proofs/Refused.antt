@@ -16,7 +16,7 @@ use Rattle.mv_plans.specs.Encoding.{EncodeRow, FailsEncode}
 use Rattle.mv_plans.proofs.Named.{one_tabled}
 use Rattle.mv_rules.specs.Applies.{Fails}
 use Rattle.mv_visit.proofs.Tabled.{its_table}
-use Rattle.mv_encode.specs.Encodes.{AreBitNames, IsRefused, IsToEncode, StaysFor, codes_of, rule_of}
+use Rattle.mv_encode.specs.Encodes.{AreBitNames, IsRefusedCoding, IsToEncode, StaysFor, codes_of, rule_of}
 use Rattle.mv_encode.specs.Encoding.{IsRuleFor, WasRefused}
 use Rattle.mv_encode.proofs.Binary.{are_codes, few_bits}
 use Rattle.mv_encode.proofs.Firsts.{are_new}
@@ -61,7 +61,7 @@ module _ (net : NetParts) (n : ℕ) (formed : WellFormed net) (few : length net.
     its_fault : IsFault net n fault
     its_fault = rule_fault was.is_rule.names was.is_rule.are was.is_rule.new fault named
 
-    refused_as : (other : RuleFault) → fault ≡ other → IsRefused net n other
+    refused_as : (other : RuleFault) → fault ≡ other → IsRefusedCoding net n other
     refused_as other e = record { names = was.is_rule.names; are = was.is_rule.are; fails = subst (λ f. Fails false (rule_of net n was.is_rule.names) net f) e named }
 
     pub stays_varied : fault ≡ Varied → StaysFor net n varied_table
@@ -75,7 +75,7 @@ module _ (net : NetParts) (n : ℕ) (formed : WellFormed net) (few : length net.
     pub stays_wide : fault ≡ Wide → StaysFor net n Lines
     stays_wide e = refused_as Wide e
 
-    pub is_full : fault ≡ Nets → IsRefused net n Nets
+    pub is_full : fault ≡ Nets → IsRefusedCoding net n Nets
     is_full e = refused_as Nets e
 
     pub no_other : (fault ≡ Varied → ⊥) → (fault ≡ Wide → ⊥) → (fault ≡ Nets → ⊥) → ⊥

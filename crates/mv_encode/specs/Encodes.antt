@@ -68,7 +68,7 @@ pub record IsToEncode (net : NetParts) (n : ℕ) : Type 0 where
   pub several : 2 < values_in (slot net.nets n)
 
 -- the rule for the net n is refused, for this fault
-pub record IsRefused (net : NetParts) (n : ℕ) (fault : RuleFault) : Type 0 where
+pub record IsRefusedCoding (net : NetParts) (n : ℕ) (fault : RuleFault) : Type 0 where
   pub names : List (List ℕ)
   pub are : AreBitNames net n names
   pub fails : Fails false (rule_of net n names) net fault
@@ -77,7 +77,7 @@ pub record IsRefused (net : NetParts) (n : ℕ) (fault : RuleFault) : Type 0 whe
 -- refused since a reader's table would be too wide
 abbrev pub StaysFor : NetParts → ℕ → Why → Type 0
 StaysFor net n Varied = IsPlainNet net.nets n → ⊥
-StaysFor net n Lines = IsRefused net n Wide
+StaysFor net n Lines = IsRefusedCoding net n Wide
 StaysFor net n _ = ⊥
 
 -- a visit of the net n: it isn't to be encoded, and is let be; or it is, and it is noted why it
@@ -97,7 +97,7 @@ pub data EncodesNet (n : ℕ) (old : NetParts) (entries : List Entry) (new : Net
 -- which was to have this name, a lawful one
 pub record IsFull (net : NetParts) (n : ℕ) (name : List ℕ) : Type 0 where
   pub to_encode : IsToEncode net n
-  pub full : IsRefused net n no_nets
+  pub full : IsRefusedCoding net n no_nets
   pub fresh : IsFreshName net.nets 0 name
   pub lawful : is_net_name name ≡ true
 

@@ -16,6 +16,17 @@ pub fn empty_rows(alloc: Global, count: usize) -> Result<Items<Items<NetId>>, Me
     Ok(rows)
 }
 
+/// Empty lists with room for so many nets each.
+pub fn roomy_rows(alloc: Global, rooms: &[u32]) -> Result<Items<Items<NetId>>, Memory>
+    ensures { IfOk result (λ rows. rows ≡ replicate (length rooms.now) []) }
+{
+    let mut rows = Items::with_room(alloc, rooms.len())?;
+    for room in rooms {
+        rows.push(Items::with_room(alloc, *room as usize)?)?;
+    }
+    Ok(rows)
+}
+
 /// Puts the net at the end of the list at this place. The other lists stay as they are, and all do on an error.
 pub fn push_to(rows: &mut Items<Items<NetId>>, at: usize, net: NetId) -> Result<(), Memory>
     requires { at < length rows.old }

@@ -6,7 +6,7 @@ ghost use Rattle.mv_graph.specs.Nets.{row, AllBelow};
 ghost use Rattle.mv_graph.specs.Transpose.{IsTranspose};
 ghost use Rattle.mv_graph.specs.Transposing.{is_last, with_last, IsPutOn};
 
-use crate::rows::{empty_rows, push_to};
+use crate::rows::{push_to, roomy_rows};
 use mv_base::{Items, MAX_NETS, Memory, NetId};
 use std::alloc::Global;
 
@@ -17,11 +17,34 @@ pub fn transposed(alloc: Global, rows: &[Items<NetId>]) -> Result<Items<Items<Ne
     requires few { length rows.now ≤ MAX_NETS }
     ensures { IfOk result (λ turned. IsTranspose rows.now turned) }
 {
-    let mut turned = empty_rows(alloc, rows.len())?;
+    let mut turned = roomy_rows(alloc, uses(alloc, rows)?.as_slice())?;
     for (number, nets) in rows.iter().enumerate() {
         put_on(&mut turned, nets.as_slice(), NetId(number as u32))?;
     }
     Ok(turned)
+}
+
+/// How often each net stands in a list, as far as can be counted.
+fn uses(alloc: Global, rows: &[Items<NetId>]) -> Result<Vec<u32>, Memory>
+    requires { AllBelow rows.now }
+    ensures { IfOk result (λ counts. length counts.items ≡ length rows.now) }
+{
+    let mut counts = vec![in alloc; 0u32; rows.len()]?;
+    for nets in rows {
+        count_all(&mut counts, nets.as_slice());
+    }
+    Ok(counts)
+}
+
+/// Counts these nets.
+fn count_all(counts: &mut [u32], nets: &[NetId])
+    requires { All (λ (n : NetId). n.0 < length counts.old) nets.now }
+    ensures { length counts.new ≡ length counts.old }
+{
+    for net in nets {
+        let at = net.0 as usize;
+        counts[at] = counts[at].saturating_add(1);
+    }
 }
 
 /// Puts the net at the end of the lists of those that it names.

@@ -16,3 +16,4 @@ pub mod Bare
 pub mod Alike
 pub mod LineSets
 pub mod Existing
+pub mod SameLines

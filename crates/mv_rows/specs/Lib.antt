@@ -6,6 +6,7 @@ pub mod Covers
 pub mod Marked
 pub mod Renumbered
 pub mod Once
+pub mod Named
 -- what private functions alone cite
 pub mod Columns
 pub mod Meeting

@@ -6,6 +6,7 @@ mod cube;
 mod line_set;
 mod lines;
 mod looks;
+mod named;
 mod stop;
 mod table;
 

@@ -16,6 +16,7 @@ ghost use Rattle.mv_rows.specs.Marked.{is_marked};
 
 use crate::column::{Column, Frame};
 use crate::line_set::LineSet;
+use crate::named::{only, put_row};
 use crate::stop::RowStop;
 use indexmap::IndexSet;
 use mv_base::{Items, Memory, NetId, PackedSet, Value};
@@ -218,34 +219,14 @@ fn distinct_lines(
     ensures stop { IfErr result (λ stop. StopsLines frame.now.columns rows.now most stop) }
 {
     let mut set = LineSet::new(alloc, most);
+    let mut named = IndexSet::new(alloc);
     for row in rows {
-        let here = one_row(alloc, frame, row)?;
-        match set.put_all(here) {
+        match put_row(&mut set, &mut named, alloc, frame, row) {
             Ok(()) => {}
             Err(stop) => return Err(stop),
         }
     }
     Ok(set)
-}
-
-/// The lines of one row.
-fn one_row(alloc: Global, frame: &Frame, row: &Row) -> Result<Vec<Line>, Memory>
-    requires frame { IsFrame frame.now }
-    requires row { IsRow frame.now.columns row.now }
-    ensures { IfOk result
-        (λ lines. EntryLines frame.now.columns row.now.ins (only_entry row.now.outs) lines.items) }
-{
-    let mut lines = Vec::new(alloc);
-    frame.put_row(&mut lines, alloc, row.ins.as_slice(), only(&row.outs))?;
-    Ok(lines)
-}
-
-/// The only entry.
-fn only(entries: &Entries) -> &Entry
-    requires { length entries.now ≡ 1 }
-    ensures { result.now ≡ only_entry entries.now }
-{
-    &entries.as_slice()[0]
 }
 
 /// The default, unless no value lies in its entry or some line has no literal.

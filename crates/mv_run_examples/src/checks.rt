@@ -1,6 +1,6 @@
 //! Certificates that are replayed, and those that are refused.
 use crate::cases::{Form, all_end};
-use crate::networks::INVERTER;
+use crate::networks::{INVERTER, WIDE};
 use crate::runs::{checked, ends, refused, written};
 use std::test::Fail;
 
@@ -148,6 +148,12 @@ fn certificates_are_refused_with_line_and_cause(rt: HostRuntime) -> Result<(), F
         INVERTER_REFUSED,
     )?;
     all_end(&rt, rt.alloc(), Form::Certificate, REFUSED)?;
+    all_end(
+        &rt,
+        rt.alloc(),
+        Form::CertificateOn(WIDE),
+        "collapse wide; | 1 Wide\n",
+    )?;
     let end = refused(2, b"# fault network 20 NoModel line 1\n");
     ends(&rt, rt.alloc(), checked(b"", b"remove z\n"), end)
 }

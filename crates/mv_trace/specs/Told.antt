@@ -10,13 +10,13 @@ unfoldable pub head : ℕ → List ℕ → List ℕ
 head line name = (codes "# fault trace " ++ decimal line) ++ 32 ∷ name
 
 -- a fault of this name at this line, with these words
-unfoldable pub told : ℕ → List ℕ → List (List ℕ) → List ℕ
-told line name words = head line name ++ tail words
+unfoldable pub trace_line : ℕ → List ℕ → List (List ℕ) → List ℕ
+trace_line line name words = head line name ++ tail words
 
 -- the line of each fault. (Want of memory is none: no lines have it.)
 abbrev pub fault_line : TraceFault → List ℕ
-fault_line (Steps line) = told line (codes "Steps") []
+fault_line (Steps line) = trace_line line (codes "Steps") []
 fault_line (Columns line want got) =
-    told line (codes "Columns") (decimal want ∷ decimal got ∷ [])
-fault_line (UnknownValue line word) = told line (codes "UnknownValue") (word ∷ [])
+    trace_line line (codes "Columns") (decimal want ∷ decimal got ∷ [])
+fault_line (UnknownValue line word) = trace_line line (codes "UnknownValue") (word ∷ [])
 fault_line Memory = codes "# fault memory\n"

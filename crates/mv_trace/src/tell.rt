@@ -1,6 +1,6 @@
 ghost use Rattle.std.specs.Prelude.{◌∷◌, [], decimal};
 ghost use Rattle.mv_base.specs.Outside.{Appends};
-ghost use Rattle.mv_trace.specs.Told.{head, told, fault_line};
+ghost use Rattle.mv_trace.specs.Told.{head, trace_line, fault_line};
 
 use crate::TraceFault;
 use itoa::Buffer;
@@ -17,7 +17,7 @@ fn put_head<K: Sink>(line: u32, name: &[u8], out: &mut K) -> Result<(), Failed>
 
 /// Puts a line without words.
 fn put_bare<K: Sink>(line: u32, name: &[u8], out: &mut K) -> Result<(), Failed>
-    ensures { Appends (K.state out.old) (K.state out.new) (told line name.now []) result }
+    ensures { Appends (K.state out.old) (K.state out.new) (trace_line line name.now []) result }
 {
     put_head(line, name, out)?;
     out.put(b"\n")
@@ -26,7 +26,7 @@ fn put_bare<K: Sink>(line: u32, name: &[u8], out: &mut K) -> Result<(), Failed>
 /// Puts a line with one word.
 fn put_word<K: Sink>(line: u32, name: &[u8], word: &[u8], out: &mut K) -> Result<(), Failed>
     ensures { Appends (K.state out.old) (K.state out.new)
-        (told line name.now (word.now ∷ [])) result }
+        (trace_line line name.now (word.now ∷ [])) result }
 {
     put_head(line, name, out)?;
     put_both(b" ", word, out)?;
@@ -42,7 +42,7 @@ fn put_words<K: Sink>(
     out: &mut K,
 ) -> Result<(), Failed>
     ensures { Appends (K.state out.old) (K.state out.new)
-        (told line name.now (first.now ∷ second.now ∷ [])) result }
+        (trace_line line name.now (first.now ∷ second.now ∷ [])) result }
 {
     put_head(line, name, out)?;
     put_both(b" ", first, out)?;
@@ -59,7 +59,7 @@ fn put_pair<K: Sink>(
     out: &mut K,
 ) -> Result<(), Failed>
     ensures { Appends (K.state out.old) (K.state out.new)
-        (told line name.now (decimal first ∷ decimal second ∷ [])) result }
+        (trace_line line name.now (decimal first ∷ decimal second ∷ [])) result }
 {
     let mut front = Buffer::new();
     let mut back = Buffer::new();

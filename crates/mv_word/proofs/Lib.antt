@@ -3,3 +3,4 @@ pub mod Turns
 pub mod Ranges
 pub mod Saying
 pub mod LawfulNames
+pub mod Plain

@@ -6,7 +6,7 @@ ghost use Rattle.mv_word.specs.declared.fault.EntryFault.{EntryFault};
 
 use crate::EntryFault;
 use crate::list::{list, place};
-use crate::names::is_text;
+use crate::names::is_byte;
 use mv_base::{Memory, Name, PackedSet, Value, ValueSet};
 use std::alloc::Global;
 
@@ -100,7 +100,7 @@ fn plain(alloc: Global, values: &[Name], word: &[u8], rest: &[u8]) -> Result<Pac
     ensures fault { IfErr result
         (λ f. (f ≡ EntryFault.Memory) ⊎ (plain_of values.now word.now rest.now ≡ Err f)) }
 {
-    if is_text(rest, b"-") {
+    if is_byte(rest, b'-') {
         return Ok(PackedSet::full(alloc, values.len() as u16)?);
     }
     match place(values, rest) {

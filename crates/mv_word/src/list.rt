@@ -1,4 +1,4 @@
-ghost use Rattle.std.specs.Prelude.{◌≡◌, ◌≤◌, ◌<◌, ◌⊎◌, ◌+◌, Ok, Err, Some, true, false, length, take, drop, slice_index, IfOk, IfErr, IfSome, IsSome, IsNone};
+ghost use Rattle.std.specs.Prelude.{◌≡◌, ◌≤◌, ◌<◌, ◌⊎◌, ◌+◌, Ok, Err, Some, true, false, length, take, drop, slice_index, ◌∷◌, [], IfOk, IfErr, IfSome, IsSome, IsNone};
 ghost use Rattle.mv_base.specs.Names.{place_of};
 ghost use Rattle.mv_base.specs.declared.limits.TheConstants.{MAX_VALUES as most_values};
 ghost use Rattle.mv_word.specs.Entries.{span as span_set, parts_range, range_of, item_of, is_inside, list_of};
@@ -6,6 +6,7 @@ ghost use Rattle.mv_lex.specs.Words.{front};
 ghost use Rattle.mv_word.specs.declared.fault.EntryFault.{EntryFault};
 
 use crate::EntryFault;
+use crate::names::is_byte;
 use mv_base::{Name, Value, ValueSet, same_bytes};
 use std::alloc::Global;
 
@@ -14,9 +15,20 @@ pub fn place(values: &[Name], word: &[u8]) -> Option<usize>
     ensures place { result ≡ place_of word.now values.now }
     ensures within { IfSome result (λ n. n < length values.now) }
 {
-    values
-        .iter()
-        .position(|value| same_bytes(word, value.bytes()))
+    match word {
+        [byte] => place_of_byte(values, *byte),
+        _ => values
+            .iter()
+            .position(|value| same_bytes(word, value.bytes())),
+    }
+}
+
+/// The place of the value whose name is this byte: most names of values have one.
+fn place_of_byte(values: &[Name], byte: u8) -> Option<usize>
+    ensures place { result ≡ place_of (byte ∷ []) values.now }
+    ensures within { IfSome result (λ n. n < length values.now) }
+{
+    values.iter().position(|value| is_byte(value.bytes(), byte))
 }
 
 /// The values from one place to another, or none where they run backwards.

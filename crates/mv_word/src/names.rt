@@ -1,14 +1,48 @@
-ghost use Rattle.std.specs.Prelude.{◌≡◌, ◌<◌, ◌&&◌, ◌==◌, ◌||◌, not, length, codes};
+ghost use Rattle.std.specs.Prelude.{◌≡◌, ◌<◌, ◌==◌, ◌||◌, ◌∷◌, [], length, codes};
 ghost use Rattle.std.specs.List.{list_all, list_any};
-ghost use Rattle.mv_base.specs.Names.{is_word, is_net_name, is_model_name, is_value_name, is_bracketed, is_visible, same_word, ends_with, begins_with};
+ghost use Rattle.mv_base.specs.Names.{is_net_name, is_model_name, is_value_name, is_bracketed, same_word, ends_with, begins_with};
+ghost use Rattle.mv_word.specs.Plain.{is_plain};
 
 use mv_base::same_bytes;
+
+/// Which bytes stand in names of nets: those that can be seen, but for `#` and `,`.
+const PLAIN: [bool; 256] = [
+    false, false, false, false, false, false, false, false, false, false, false, false, false,
+    false, false, false, false, false, false, false, false, false, false, false, false, false,
+    false, false, false, false, false, false, false, true, true, false, true, true, true, true,
+    true, true, true, true, false, true, true, true, true, true, true, true, true, true, true,
+    true, true, true, true, true, true, true, true, true, true, true, true, true, true, true, true,
+    true, true, true, true, true, true, true, true, true, true, true, true, true, true, true, true,
+    true, true, true, true, true, true, true, true, true, true, true, true, true, true, true, true,
+    true, true, true, true, true, true, true, true, true, true, true, true, true, true, true, true,
+    true, true, true, true, true, true, true, true, false, false, false, false, false, false,
+    false, false, false, false, false, false, false, false, false, false, false, false, false,
+    false, false, false, false, false, false, false, false, false, false, false, false, false,
+    false, false, false, false, false, false, false, false, false, false, false, false, false,
+    false, false, false, false, false, false, false, false, false, false, false, false, false,
+    false, false, false, false, false, false, false, false, false, false, false, false, false,
+    false, false, false, false, false, false, false, false, false, false, false, false, false,
+    false, false, false, false, false, false, false, false, false, false, false, false, false,
+    false, false, false, false, false, false, false, false, false, false, false, false, false,
+    false, false, false, false, false, false, false, false, false, false, false, false, false,
+    false, false, false, false, false, false,
+];
 
 /// Whether the word is this text.
 pub fn is_text(word: &[u8], text: &[u8]) -> bool
     ensures { result ≡ same_word word.now text.now }
 {
     same_bytes(word, text)
+}
+
+/// Whether the word is this byte alone.
+pub fn is_byte(word: &[u8], byte: u8) -> bool
+    ensures { result ≡ same_word (byte ∷ []) word.now }
+{
+    match word {
+        [only] => byte == *only,
+        _ => false,
+    }
 }
 
 /// Whether the word begins with a bracket behind any number of `!`.
@@ -40,12 +74,23 @@ pub fn begins_with(word: &[u8], byte: u8) -> bool
     0 < word.len() && word[0] == byte
 }
 
-/// Whether every byte can be seen and none begins a comment.
-fn is_visible(word: &[u8]) -> bool
-    ensures { result ≡ list_all (λ b. is_visible b && not (b == 35)) word.now }
+/// Whether the byte stands in names of nets.
+fn is_plain(byte: u8) -> bool
+    ensures { result ≡ is_plain byte }
 {
-    word.iter()
-        .all(|byte| 33 <= *byte && *byte <= 126 && *byte != b'#')
+    PLAIN[byte as usize]
+}
+
+/// Whether all bytes stand in names of nets: the bytes of each column of a file are looked at here.
+fn are_plain(word: &[u8]) -> bool
+    ensures { result ≡ list_all is_plain word.now }
+{
+    for byte in word {
+        if !is_plain(*byte) {
+            return false;
+        }
+    }
+    true
 }
 
 /// Whether the byte stands in the word.
@@ -55,24 +100,18 @@ fn holds(word: &[u8], byte: u8) -> bool
     word.iter().any(|other| *other == byte)
 }
 
-/// Whether the word is one that a file can hold: not empty, of visible bytes, not bracketed.
-#[tactic(auto, unfolding(mv_base::specs::Names::is_word))]
-fn is_word(word: &[u8]) -> bool
-    ensures { result ≡ is_word word.now }
-{
-    0 < word.len() && is_visible(word) && !is_bracketed(word)
-}
-
 /// Whether the word is a lawful name of a net.
-#[tactic(auto, unfolding(mv_base::specs::Names::is_net_name))]
+#[tactic(auto, using(crate::proofs::Plain::net_named))]
 pub fn is_net_name(word: &[u8]) -> bool
     ensures { result ≡ is_net_name word.now }
 {
-    is_word(word)
-        && !is_text(word, b"->")
-        && !begins_with(word, b'.')
-        && !holds(word, b',')
-        && !ends_with(word, b'\\')
+    let some = 0 < word.len();
+    let plain = are_plain(word);
+    let bracketed = is_bracketed(word);
+    let arrow = is_text(word, b"->");
+    let stop = begins_with(word, b'.');
+    let ends = ends_with(word, b'\\');
+    some & plain & !bracketed & !arrow & !stop & !ends
 }
 
 /// Whether the word is a lawful name of a model, which besides has no `=`.

@@ -1,7 +1,7 @@
 use Rattle.mv_rows.specs.Flat.{only_entry}
 use Rattle.mv_rows.specs.Lines.{EntryLines}
 use Rattle.mv_rows.proofs.Alike.{only_here}
-use Rattle.mv_rows.proofs.table.one_row.Goals as goal
+use Rattle.mv_rows.proofs.named.one_row.Goals as goal
 
 pub returns : goal.returns
 returns c =

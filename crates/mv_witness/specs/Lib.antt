@@ -1,0 +1,3 @@
+pub mod Commons
+-- what private functions alone cite
+pub mod Ready
