@@ -1,7 +1,7 @@
 -- The command behind a task's name, as it is built.
 use Rattle.std.proofs.Common.{◌≡◌, Bool, true, false, cond, List, [], ◌∷◌, Some, None, codes, refl, ℕ}
 use Rattle.std.specs.Str.{bytes_eq}
-use Rattle.mv_command_line.specs.Commands.{budget_given, command_given, free_given, two_given, word_given}
+use Rattle.mv_command_line.specs.Commands.{budget_option, command_given, free_option, two_given, word_given}
 use Rattle.clap.specs.Walk.{Rule, Text, arg_by_long, arg_by_short}
 use Rattle.clap.specs.Simple.{App, Shape, built, new_shape, with_rule}
 use Rattle.clap.specs.Faults.{is_simple_and_free}
@@ -10,10 +10,10 @@ use Rattle.clap.specs.declared.builder.value_parser.ValueParser.TheVariants.{Str
 
 -- the options and a positional word, as the build leaves them
 abbrev pub budget_rule : Rule
-budget_rule = record budget_given { range = Some (record { start_inclusive = 1; end_inclusive = 1 }); parser = Some text }
+budget_rule = record budget_option { range = Some (record { start_inclusive = 1; end_inclusive = 1 }); parser = Some text }
 
 abbrev pub free_rule : Rule
-free_rule = record free_given {
+free_rule = record free_option {
   range = Some (record { start_inclusive = 0; end_inclusive = 0 });
   defaults = codes "false" ∷ [];
   missing = codes "true" ∷ [];

@@ -5,12 +5,12 @@ use Rattle.clap.specs.Simple.{App, new_rule, new_shape}
 use Rattle.clap.specs.declared.builder.action.ArgAction.TheVariants.{Set, SetTrue}
 
 -- the options, and a positional word
-abbrev pub budget_given : Rule
-budget_given =
+abbrev pub budget_option : Rule
+budget_option =
     record (new_rule (codes "budget")) { long = Some (codes "budget"); action = Some Set }
 
-abbrev pub free_given : Rule
-free_given = record (new_rule (codes "free")) { long = Some (codes "free"); action = Some SetTrue }
+abbrev pub free_option : Rule
+free_option = record (new_rule (codes "free")) { long = Some (codes "free"); action = Some SetTrue }
 
 abbrev pub word_given : Text → Rule
 word_given id = record (new_rule id) { action = Some Set; required = true }
@@ -20,7 +20,7 @@ abbrev pub two_given : App
 two_given = record {
   top = record (new_shape (codes "mvopt")) {
     disable_help_flag = true;
-    rules = budget_given ∷ free_given ∷ word_given (codes "first") ∷ word_given (codes "second")
+    rules = budget_option ∷ free_option ∷ word_given (codes "first") ∷ word_given (codes "second")
         ∷ [];
   };
   subs = [];

@@ -1,7 +1,7 @@
 ghost use Rattle.std.specs.Prelude.{◌≡◌, ◌<◌, false, Some, [], IfOk, MatchResult, length, map, slice_index_or, string_bytes};
 ghost use Rattle.std.specs.Prelude.{option_map, option_and_then};
 ghost use Rattle.clap.specs.Words.{app_of, rule_of};
-ghost use Rattle.mv_command_line.specs.Commands.{budget_given, free_given, command_given, two_given, word_given};
+ghost use Rattle.mv_command_line.specs.Commands.{budget_option, free_option, command_given, two_given, word_given};
 ghost use Rattle.mv_command_line.specs.CommandLine.{opt, check, work, trace, asked_by, files_asked, draw_asked, names_asked, task_of};
 ghost use Rattle.mv_command_line.specs.Answers.{Answers, IsRefusedBy};
 ghost use Rattle.mv_command_line.specs.Given.{AreMatched, files_of, draw_of, names_of, rest_parts};
@@ -13,8 +13,8 @@ use clap::{Arg, ArgAction, ArgMatches, Command};
 use std::alloc::{AllocError, Global};
 
 /// The option `--budget`, whose value is a text.
-fn budget_given<'a>(alloc: Global) -> Arg<'a>
-    ensures rule { rule_of result ≡ budget_given }
+fn budget_option<'a>(alloc: Global) -> Arg<'a>
+    ensures rule { rule_of result ≡ budget_option }
     ensures local { result.global ≡ false }
 {
     Arg::new(alloc, "budget")
@@ -23,8 +23,8 @@ fn budget_given<'a>(alloc: Global) -> Arg<'a>
 }
 
 /// The option `--free`, which has no value.
-fn free_given<'a>(alloc: Global) -> Arg<'a>
-    ensures rule { rule_of result ≡ free_given }
+fn free_option<'a>(alloc: Global) -> Arg<'a>
+    ensures rule { rule_of result ≡ free_option }
     ensures local { result.global ≡ false }
 {
     Arg::new(alloc, "free")
@@ -46,8 +46,8 @@ fn two_words<'a>(alloc: Global) -> Result<Command<'a>, AllocError>
 {
     let command = Command::new(alloc, "mvopt")
         .disable_help_flag(true)
-        .arg(budget_given(alloc))?
-        .arg(free_given(alloc))?
+        .arg(budget_option(alloc))?
+        .arg(free_option(alloc))?
         .arg(word_given(alloc, "first"))?
         .arg(word_given(alloc, "second"))?;
     Ok(command)

@@ -1,5 +1,5 @@
 -- Many letters of a word read at once, and a whole word, are read as one byte after the other.
-use Rattle.std.proofs.Common.{◌≡◌, ℕ, ◌+◌, ◌<◌, ◌⊎◌, true, false, not, ◌&&◌, ◌||◌, ◌==◌, List, [], ◌∷◌, ◌++◌, length, take, drop, Some, None, if◌then◌else◌, refl, ap, sym, ◌∙◌, subst, arith, append_assoc, length-append, get_or, Bool, ⊎_elim}
+use Rattle.std.proofs.Common.{◌≡◌, ℕ, ◌+◌, ◌<◌, ◌≤◌, ◌⊎◌, true, false, not, ◌&&◌, ◌||◌, ◌==◌, List, [], ◌∷◌, ◌++◌, length, take, drop, Some, None, if◌then◌else◌, refl, ap, sym, ◌∙◌, subst, arith, append_assoc, length-append, get_or, Bool, ⊎_elim}
 use Rattle.std.specs.Prelude.{nat_le}
 use Rattle.std.specs.List.{list_all}
 use Rattle.std.proofs.lemmas.Bool.{cond-false, and_parts, and_left, and_right, or_cases, eqb-true, or_right, or_from, ne_eqb, leb-true, lt-leb, not-true, not_from_true}
@@ -15,7 +15,7 @@ use Rattle.mv_lex.specs.declared.parts.Kind.TheVariants.{Start, Plain}
 use Rattle.mv_lex.specs.Words.{is_blank, opens, is_bang, nonempty, finished}
 use Rattle.mv_lex.specs.Lines.{is_line_feed, is_hash, is_acceptable, line_at, first_fault}
 use Rattle.mv_lex.specs.Reading.{Reading, IsAfter}
-use Rattle.mv_lex.specs.Steps.{HasRead, is_letter, TakesLetters, with_letters, TakesWord, with_whole, ends_plain, new_line, kind_end_fault, with_byte, long_with, kind_long, held, is_backslash, settled, with_bytes, long_with_bytes, long_fault, end_fault_of, ends_line, text_fault, place_fault, fault_now, text_step, place_step, stepped, ended}
+use Rattle.mv_lex.specs.Steps.{HasRead, is_letter, TakesLetters, with_letters, TakesWord, with_whole, IsBetween, begins_plain, begins_one, ends_plain, new_line, kind_end_fault, with_byte, long_with, kind_long, held, is_backslash, settled, with_bytes, long_with_bytes, long_fault, end_fault_of, ends_line, text_fault, place_fault, fault_now, text_step, place_step, stepped, ended}
 use Rattle.mv_lex.proofs.Cutting.{cut_at, plain-solid, plain-blank, start-plain}
 use Rattle.mv_lex.proofs.After.{HasRead-start, HasRead-byte, HasRead-append, first_fault-met}
 
@@ -193,6 +193,45 @@ blank_ends r next lines word b h e n =
     HasRead-append r (begun r word) next lines lines lines word (b ∷ []) (begun_read r lines word h) last where
       long_blank : (words : List (List ℕ)) (word : List ℕ) (b : ℕ) → is_blank b ≡ true → long_with (cut_at words word Plain) b ≡ false
       long_blank words word b e = rw e refl
+
+-- a word of one byte and the space behind it, where they stand at the front of what comes
+pub one_long : (bytes : List ℕ) → begins_one bytes ≡ true → 2 ≤ length bytes
+one_long [] h = cc
+one_long (_ ∷ []) h = cc
+one_long (b ∷ end ∷ more) h = omega arith
+
+pub one_taken : (r : Reading) (bytes : List ℕ) → IsBetween r bytes → begins_one bytes ≡ true → TakesWord r (take 1 bytes)
+one_taken r [] h e = cc
+one_taken r (_ ∷ []) h e = cc
+one_taken r (b ∷ end ∷ more) h e =
+    let outer = and_parts ((end == 32) && begins_plain (b ∷ [])) (is_letter b) e in
+    let inner = and_parts (end == 32) (begins_plain (b ∷ [])) outer.0 in
+    record {
+      place = h.place;
+      kind = h.kind;
+      none = h.none;
+      begins = inner.1;
+      all = rw outer.1 refl;
+      short = omega arith;
+      within = omega (arith, h.within);
+    }
+
+-- the state behind them
+abbrev pub behind_one : Reading → List ℕ → Reading
+behind_one r bytes = record (with_whole r (take 1 bytes)) { size = (with_whole r (take 1 bytes)).size + 1 }
+
+pub one_read : (r next : Reading) (lines : List LexLine) (bytes : List ℕ) → IsBetween r bytes → begins_one bytes ≡ true → next ≡ behind_one r bytes → HasRead r next lines lines (take 2 bytes)
+one_read r next lines [] h e n = cc
+one_read r next lines (_ ∷ []) h e n = cc
+one_read r next lines (b ∷ end ∷ more) h e n =
+    let outer = and_parts ((end == 32) && begins_plain (b ∷ [])) (is_letter b) e in
+    let inner = and_parts (end == 32) (begins_plain (b ∷ [])) outer.0 in
+    blank_ends r next lines (b ∷ []) end (one_taken r (b ∷ end ∷ more) h e) (rw inner.0 refl) n
+
+pub one_between : (r : Reading) (bytes : List ℕ) → IsBetween r bytes → begins_one bytes ≡ true → IsBetween (behind_one r bytes) (drop 2 bytes)
+one_between r [] h e = cc
+one_between r (_ ∷ []) h e = cc
+one_between r (b ∷ end ∷ more) h e = record { place = h.place; kind = refl; none = refl; within = omega (arith, h.within) }
 
 -- what ends a word and is no line feed is a blank
 pub ends_blank : (b : ℕ) → ends_plain b ≡ true → (b ≡ 10 → ⊥) → is_blank b ≡ true

@@ -223,6 +223,21 @@ pub record TakesWord (r : Reading) (word : List ℕ) : Type 0 where
 abbrev pub with_whole : Reading → List ℕ → Reading
 with_whole r word = record r { size = r.size + length word; cut = ended_word r.cut.words word }
 
+-- ---- words of one byte at once
+
+-- these bytes begin with a plain word of one byte and the space behind it
+abbrev pub begins_one : List ℕ → Bool
+begins_one (b ∷ end ∷ _) = (end == 32) && begins_plain (b ∷ []) && is_letter b
+begins_one _ = false
+
+-- the bytes read end between two words, and these, which come next, stand within the limit of the
+-- file
+pub record IsBetween (r : Reading) (bytes : List ℕ) : Type 0 where
+  pub place : r.place ≡ Text
+  pub kind : r.cut.kind ≡ Start
+  pub none : r.cut.word ≡ []
+  pub within : r.size + length bytes ≤ r.limit
+
 -- ---- the end of the bytes
 
 -- what a `\` at the end of the line adds to the text where the line ends there: a blank

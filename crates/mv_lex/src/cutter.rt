@@ -1,8 +1,9 @@
 ghost use Rattle.std.specs.Prelude.{◌≡◌, ◌⊎◌, ◌∷◌, ◌++◌, [], nat_le, length, true, false, IfOk, IfErr};
+ghost use Rattle.std.specs.Bool.{OnTrue};
 ghost use Rattle.std.specs.Prelude.{OnOk, OnErr, MatchResult, ◌≤◌, ◌<◌, ◌+◌, take, None, Some};
 ghost use Rattle.mv_lex.specs.declared.fault.LexFault.{LexFault};
 ghost use Rattle.std.specs.List.{list_all};
-ghost use Rattle.mv_lex.specs.Steps.{is_letter as letter};
+ghost use Rattle.mv_lex.specs.Steps.{is_letter as letter, begins_plain, begins_one};
 ghost use Rattle.mv_lex.specs.Words.{is_blank as blank, opens as opens_word, closer as closer_of, finished, no_words};
 
 use crate::LexFault;
@@ -55,7 +56,7 @@ impl Model for Cutter {
 }
 
 impl Cutter {
-    ghost use Rattle.mv_lex.specs.Steps.{ended_word, start_byte, plain_byte, bracketed_byte, with_byte, kind_long, long_with, end_fault_of, begins_plain};
+    ghost use Rattle.mv_lex.specs.Steps.{ended_word, start_byte, plain_byte, bracketed_byte, with_byte, kind_long, long_with, end_fault_of};
 
     /// Nothing cut yet. It takes no memory.
     pub fn new(alloc: Global) -> Self
@@ -194,22 +195,12 @@ impl Cutter {
         letters_at_front(&bytes[..left.min(bytes.len())])
     }
 
-    /// How many bytes at the front of these make a plain word, within its limit: none where the last word has a byte.
-    pub fn word_in(&self, bytes: &[u8]) -> usize
-        ensures within { result ≤ length bytes.now }
-        ensures kind { 0 < result → self.now.kind ≡ Kind.Start }
-        ensures none { 0 < result → self.now.word ≡ [] }
-        ensures begins { 0 < result → begins_plain (take result bytes.now) ≡ true }
-        ensures letters { list_all letter (take result bytes.now) ≡ true }
-        ensures short { result ≤ MAX_WORD_BYTES }
+    /// Whether the text ends between two words.
+    pub fn is_between(&self) -> bool
+        ensures kind { OnTrue result (self.now.kind ≡ Kind.Start) }
+        ensures none { OnTrue result (self.now.word ≡ []) }
     {
-        if self.kind != Kind::Start || !self.word.is_empty() || bytes.is_empty() {
-            return 0;
-        }
-        if is_opening(bytes[0]) || bytes[0] == b'!' {
-            return 0;
-        }
-        letters_at_front(&bytes[..bytes.len().min(MAX_WORD_BYTES as usize)])
+        self.kind == Kind::Start && self.word.is_empty()
     }
 
     /// Puts a word to those that have ended, behind no other one.
@@ -323,6 +314,38 @@ fn is_letter(b: u8) -> bool
     ensures { result ≡ letter b }
 {
     LETTERS[b as usize]
+}
+
+/// Whether these begin with a word of one byte and the space behind it.
+pub fn begins_one(bytes: &[u8]) -> bool
+    ensures { result ≡ begins_one bytes.now }
+{
+    match bytes {
+        [only, b' ', ..] => begins_word(*only) && is_letter(*only),
+        _ => false,
+    }
+}
+
+/// Whether a word that begins with this byte is a plain one from there on.
+fn begins_word(b: u8) -> bool
+    ensures { result ≡ begins_plain (b ∷ []) }
+{
+    !is_opening(b) && b != b'!'
+}
+
+/// How many bytes at the front of these make a plain word with a byte behind it, within its limit.
+pub fn word_in(bytes: &[u8]) -> usize
+    requires { 0 < length bytes.now }
+    ensures behind { 0 < result → result < length bytes.now }
+    ensures begins { 0 < result → begins_plain (take result bytes.now) ≡ true }
+    ensures letters { list_all letter (take result bytes.now) ≡ true }
+    ensures short { result ≤ MAX_WORD_BYTES }
+{
+    if !begins_word(bytes[0]) {
+        return 0;
+    }
+    let count = letters_at_front(&bytes[..bytes.len().min(MAX_WORD_BYTES as usize)]);
+    if count == bytes.len() { 0 } else { count }
 }
 
 /// How many of the bytes up to the first other one are letters.

@@ -2,7 +2,7 @@ ghost use Rattle.std.specs.Prelude.{◌≡◌, ◌++◌, OnOk, OnErr, IfErr, IfO
 ghost use Rattle.mv_lex.specs.Lines.{is_acceptable as acceptable, line_at};
 ghost use Rattle.mv_lex.specs.Steps.{ends_plain as ends_plain_word};
 
-use crate::cutter::{Cutter, is_blank};
+use crate::cutter::{Cutter, begins_one, is_blank, word_in};
 use crate::parts::Place;
 use crate::{LexFault, LexLine, Lines};
 use mv_base::{Items, Name};
@@ -39,13 +39,14 @@ impl Model for Lexer {
 }
 
 impl Lexer {
-    ghost use Rattle.std.specs.Prelude.{ℕ, ◌<◌, ◌≤◌, ◌-◌, ◌^◌, ◌+◌, ◌⊎◌, List, [], ◌∷◌, length, take, true, false, MatchResult, Some, None, Err};
+    ghost use Rattle.std.specs.Prelude.{ℕ, ◌<◌, ◌≤◌, ◌-◌, ◌^◌, ◌+◌, ◌⊎◌, List, [], ◌∷◌, length, take, drop, true, false, MatchResult, Some, None, Err};
+    ghost use Rattle.std.specs.Bool.{OnTrue};
     ghost use Rattle.mv_lex.specs.declared.lines.LexLine.{LexLine};
     ghost use Rattle.mv_lex.specs.declared.fault.LexFault.{LexFault};
     ghost use Rattle.mv_lex.specs.Words.{finished, no_words};
     ghost use Rattle.mv_lex.specs.Lines.{complete, lines_of, first_fault, end_fault, IsTold};
     ghost use Rattle.mv_lex.specs.Reading.{Reading, IsAfter, GainsLines};
-    ghost use Rattle.mv_lex.specs.Steps.{HasRead, TakesLetters, with_letters, TakesWord, with_whole, ends_plain, long_with, end_fault_of, held, long_with_bytes, settled};
+    ghost use Rattle.mv_lex.specs.Steps.{HasRead, TakesLetters, with_letters, TakesWord, with_whole, IsBetween, begins_one, ends_plain, long_with, end_fault_of, held, long_with_bytes, settled};
     ghost use Rattle.mv_lex.specs.Steps.{text_fault, text_step, new_line, next_line, fault_now, stepped, ended, end_now, end_cut};
 
     /// A lexer that has read nothing yet, and will read so many bytes at most. It takes no memory.
@@ -132,8 +133,8 @@ impl Lexer {
         Ok(())
     }
 
-    /// Reads at once a whole word at the front of the rest of a piece with the byte that ends it, or all letters there, or
-    /// the first byte, and answers how many bytes it read.
+    /// Reads at once words of one byte at the front of the rest of a piece, each with the space behind it, or a whole word there
+    /// with the byte that ends it, or all letters there, or the first byte, and answers how many bytes it read.
     fn read_some(&mut self, rest: &[u8], lines: &mut Lines) -> Result<usize, LexFault>
         requires { 0 < length rest.now }
         ensures some { IfOk result (λ count. (0 < count) × (count ≤ length rest.now)) }
@@ -143,7 +144,13 @@ impl Lexer {
             → IfErr result (IsTold (first_fault self.old.limit [] (bytes ++ rest.now))) }
         ensures unchanged { OnErr result (lines.new ≡ lines.old) }
     {
-        let count = self.word_in(rest);
+        if !self.is_between(rest) {
+            return self.read_part(rest, lines);
+        }
+        if begins_one(rest) {
+            return self.read_ones(rest);
+        }
+        let count = word_in(rest);
         if count == 0 || !ends_word(rest[count]) {
             return self.read_part(rest, lines);
         }
@@ -153,21 +160,44 @@ impl Lexer {
         }
     }
 
-    /// How many bytes at the front of these are a plain word between words, with a byte behind it, within its limit and
-    /// the limit of the file.
-    fn word_in(&self, bytes: &[u8]) -> usize
-        ensures behind { 0 < result → result < length bytes.now }
-        ensures word { 0 < result → TakesWord self.now (take result bytes.now) }
+    /// Whether the bytes read end between two words, and these stand within the limit of the file.
+    fn is_between(&self, bytes: &[u8]) -> bool
+        ensures { OnTrue result (IsBetween self.now bytes.now) }
     {
-        if self.place != Place::Text {
-            return 0;
+        self.place == Place::Text
+            && self.limit - self.size >= bytes.len() as u64
+            && self.text.is_between()
+    }
+
+    /// Reads the words of one byte at the front of these, each with the space behind it, and answers how many bytes that
+    /// are: the rows of a table are such words.
+    fn read_ones(&mut self, bytes: &[u8]) -> Result<usize, LexFault>
+        requires { IsBetween self.old bytes.now }
+        ensures within { IfOk result (λ count. count ≤ length bytes.now) }
+        ensures some { begins_one bytes.now ≡ true → IfOk result (λ count. 0 < count) }
+        ensures ok { (lines : List LexLine)
+            → IfOk result (λ count. HasRead self.old self.new lines lines (take count bytes.now)) }
+        ensures err { IfErr result (λ f. f ≡ LexFault.Memory) }
+    {
+        let mut at = 0;
+        while begins_one(&bytes[at..]) {
+            self.read_one(&bytes[at..])?;
+            at += 2;
         }
-        let left = self.limit - self.size;
-        if left < bytes.len() as u64 {
-            return 0;
-        }
-        let count = self.text.word_in(bytes);
-        if count == bytes.len() { 0 } else { count }
+        Ok(at)
+    }
+
+    /// Reads the word of one byte at the front of these and the space behind it.
+    fn read_one(&mut self, bytes: &[u8]) -> Result<(), LexFault>
+        requires between { IsBetween self.old bytes.now }
+        requires one { begins_one bytes.now ≡ true }
+        ensures ok { (lines : List LexLine)
+            → OnOk result (HasRead self.old self.new lines lines (take 2 bytes.now)) }
+        ensures between { OnOk result (IsBetween self.new (drop 2 bytes.now)) }
+        ensures err { IfErr result (λ f. f ≡ LexFault.Memory) }
+    {
+        self.add_word(&bytes[..1])?;
+        self.pass()
     }
 
     /// Reads a plain word between words and the byte that ends it.

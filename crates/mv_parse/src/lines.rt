@@ -16,7 +16,7 @@ use mv_decl::declare;
 use mv_fault::{ParseFault, Which};
 use mv_instances::add_instance;
 use mv_line::add_ports;
-use mv_table::{check_columns, check_reset, ins, outs};
+use mv_table::{check_columns, check_reset, split_columns};
 use mv_word::is_model_name;
 use std::alloc::Global;
 
@@ -105,9 +105,10 @@ pub fn read_decls(
 fn open_table(model: &mut OpenModel, words: &[Name])
     ensures { model.new ≡ with_open_table words.now model.old }
 {
+    let (ins, outs) = split_columns(words);
     model.table = Some(OpenTable {
-        ins: ins(words).len(),
-        outs: outs(words).len(),
+        ins: ins.len(),
+        outs: outs.len(),
         rows: 0,
         has_default: false,
     });
@@ -118,7 +119,7 @@ pub fn begin_table(
     alloc: Global,
     model: &mut OpenModel,
     number: u32,
-    word: &Name,
+    word: &[u8],
     words: &[Name],
 ) -> Result<(), ParseFault>
     ensures fault { Tells result (columns_faults number word.now words.now) }
@@ -202,9 +203,10 @@ pub fn count_row(table: &mut OpenTable, number: u32, words: &[Name]) -> Result<(
 /// Marks that the default of the open table has stood.
 #[tactic(auto, using(mv_fault::proofs::Firsts::firsts), unfolding(crate::specs::Grammar::default_faults))]
 pub fn count_default(
+    alloc: Global,
     table: &mut OpenTable,
     number: u32,
-    word: &Name,
+    word: &[u8],
     words: &[Name],
 ) -> Result<(), ParseFault>
     ensures fault { Tells result (default_faults number word.now table.old words.now) }
@@ -216,13 +218,13 @@ pub fn count_default(
     if words.len() < table.outs {
         return Err(ParseFault::Missing {
             line: number,
-            word: word.copy()?,
+            word: Name::new(alloc, word)?,
         });
     }
     if words.len() > table.outs {
         return Err(ParseFault::Extra {
             line: number,
-            word: word.copy()?,
+            word: Name::new(alloc, word)?,
         });
     }
     table.has_default = true;

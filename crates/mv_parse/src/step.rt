@@ -118,9 +118,9 @@ fn default_line(alloc: Global, model: &mut OpenModel, line: &LexLine) -> Result<
     ensures fault { Tells result (inside_faults Command.Default model.old line.now) }
     ensures ok { OnOk result (model.new ≡ inside_step Command.Default line.now model.old) }
 {
-    let word = Name::new(alloc, first_word(line))?;
+    let word = first_word(line);
     match &mut model.table {
-        Some(table) => count_default(table, line.number, &word, behind_first(line)),
+        Some(table) => count_default(alloc, table, line.number, word, behind_first(line)),
         None => Err(ParseFault::NoTable { line: line.number }),
     }
 }
@@ -148,10 +148,7 @@ fn inside_line(
             let word = Name::new(alloc, first_word(line))?;
             read_decls(alloc, model, number, &word, words)
         }
-        Command::Table => {
-            let word = Name::new(alloc, first_word(line))?;
-            begin_table(alloc, model, number, &word, words)
-        }
+        Command::Table => begin_table(alloc, model, number, first_word(line), words),
         Command::Latch => {
             let word = Name::new(alloc, first_word(line))?;
             pass_latch(model, number, &word, words)

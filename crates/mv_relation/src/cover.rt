@@ -25,6 +25,7 @@ fn turn_with(
     requires room { place + 1 < factors.old.room }
     requires own { own < length factors.old.contents.counts }
     ensures keeps { Keeps factors.old factors.new (before place) }
+    ensures front { place ≤ length factors.new.list }
     ensures long { OnOk result (length factors.new.list ≡ place + 1) }
     ensures set { OnOk result ((p : Point) → InRange factors.old.contents.counts p
         → set_at factors.new place p
@@ -49,6 +50,7 @@ fn meet_with(
     requires room { place + 1 < factors.old.room }
     requires own { own < length factors.old.contents.counts }
     ensures keeps { Keeps factors.old factors.new (before place) }
+    ensures front { place ≤ length factors.new.list }
     ensures long { OnOk result (length factors.new.list ≡ place + 1) }
     ensures set { OnOk result ((p : Point) → InRange factors.old.contents.counts p
         → set_at factors.new place p ≡ (set_at factors.old place p && has out.now (p own))) }
@@ -73,6 +75,7 @@ fn add_output(factors: &mut Factors, own: u32, out: &PackedSet) -> Result<(), Re
     requires room { length factors.old.list < factors.old.room }
     requires own { own < length factors.old.contents.counts }
     ensures keeps { Keeps factors.old factors.new (before (length factors.old.list)) }
+    ensures front { length factors.old.list ≤ length factors.new.list }
     ensures long { OnOk result (length factors.new.list ≡ length factors.old.list + 1) }
     ensures set { OnOk result ((p : Point) → InRange factors.old.contents.counts p
         → set_at factors.new (length factors.old.list) p ≡ has out.now (p own)) }
@@ -100,6 +103,7 @@ fn unite_default(
     requires own { own < length factors.old.contents.counts }
     requires apart { AreApart factors.old.contents.counts vars.now own (lines_read lines.now) }
     ensures keeps { Keeps factors.old factors.new (before place) }
+    ensures front { place ≤ length factors.new.list }
     ensures long { OnOk result (length factors.new.list ≡ place + 1) }
     ensures set { OnOk result ((p : Point) → InRange factors.old.contents.counts p
         → set_at factors.new place p ≡ (set_at factors.old place p
@@ -132,6 +136,7 @@ fn unite_missed(
     requires own { own < length factors.old.contents.counts }
     requires apart { AreApart factors.old.contents.counts vars.now own (lines_read lines.now) }
     ensures keeps { Keeps factors.old factors.new (before place) }
+    ensures front { place ≤ length factors.new.list }
     ensures long { OnOk result (length factors.new.list ≡ place + 1) }
     ensures set { OnOk result ((p : Point) → InRange factors.old.contents.counts p
         → set_at factors.new place p
@@ -174,6 +179,7 @@ pub fn add_choice(
     requires own { own < length factors.old.contents.counts }
     requires apart { AreApart factors.old.contents.counts vars.now own (cover_reads cover.now) }
     ensures keeps { Keeps factors.old factors.new (before (length factors.old.list)) }
+    ensures front { length factors.old.list ≤ length factors.new.list }
     ensures long { OnOk result (length factors.new.list ≡ length factors.old.list + 1) }
     ensures set { OnOk result ((p : Point) → InRange factors.old.contents.counts p
         → set_at factors.new (length factors.old.list) p ≡ chooses cover.now (assigned vars.now p)) }
@@ -206,6 +212,7 @@ pub fn add_cover(
     requires own { own < length factors.old.contents.counts }
     requires apart { AreApart factors.old.contents.counts vars.now own (cover_reads cover.now) }
     ensures keeps { Keeps factors.old factors.new (before (length factors.old.list)) }
+    ensures front { length factors.old.list ≤ length factors.new.list }
     ensures long { OnOk result (length factors.new.list ≡ length factors.old.list + 1) }
     ensures set { OnOk result ((p : Point) → InRange factors.old.contents.counts p
         → set_at factors.new (length factors.old.list) p

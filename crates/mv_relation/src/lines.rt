@@ -26,6 +26,7 @@ fn add_line(
     requires apart { AreApart factors.old.contents.counts vars.now own
         (cube_reads line.now.cube) }
     ensures keeps { Keeps factors.old factors.new (before (length factors.old.list)) }
+    ensures front { length factors.old.list ≤ length factors.new.list }
     ensures long { OnOk result (length factors.new.list ≡ length factors.old.list + 1) }
     ensures set { OnOk result ((p : Point) → InRange factors.old.contents.counts p
         → set_at factors.new (length factors.old.list) p
@@ -47,6 +48,7 @@ fn add_line(
 pub fn unite_last(factors: &mut Factors, place: usize) -> Result<(), RelationStop>
     requires { length factors.old.list ≡ place + 2 }
     ensures keeps { Keeps factors.old factors.new (before place) }
+    ensures front { place ≤ length factors.new.list }
     ensures long { OnOk result (length factors.new.list ≡ place + 1) }
     ensures set { OnOk result ((p : Point) → set_at factors.new place p
         ≡ (set_at factors.old place p || set_at factors.old (place + 1) p)) }
@@ -78,6 +80,7 @@ fn unite_line(
     requires apart { AreApart factors.old.contents.counts vars.now own
         (cube_reads line.now.cube) }
     ensures keeps { Keeps factors.old factors.new (before place) }
+    ensures front { place ≤ length factors.new.list }
     ensures long { OnOk result (length factors.new.list ≡ place + 1) }
     ensures set { OnOk result ((p : Point) → InRange factors.old.contents.counts p
         → set_at factors.new place p
@@ -106,6 +109,7 @@ fn unite_lines(
     requires own { own < length factors.old.contents.counts }
     requires apart { AreApart factors.old.contents.counts vars.now own (lines_read lines.now) }
     ensures keeps { Keeps factors.old factors.new (before place) }
+    ensures front { place ≤ length factors.new.list }
     ensures long { OnOk result (length factors.new.list ≡ place + 1) }
     ensures set { OnOk result ((p : Point) → InRange factors.old.contents.counts p
         → set_at factors.new place p
@@ -134,6 +138,7 @@ pub fn add_lines(
     requires own { own < length factors.old.contents.counts }
     requires apart { AreApart factors.old.contents.counts vars.now own (lines_read lines.now) }
     ensures keeps { Keeps factors.old factors.new (before (length factors.old.list)) }
+    ensures front { length factors.old.list ≤ length factors.new.list }
     ensures long { OnOk result (length factors.new.list ≡ length factors.old.list + 1) }
     ensures set { OnOk result ((p : Point) → InRange factors.old.contents.counts p
         → set_at factors.new (length factors.old.list) p
@@ -160,6 +165,7 @@ fn choose_line(
     requires apart { AreApart factors.old.contents.counts vars.now own
         (cube_reads line.now.cube) }
     ensures keeps { Keeps factors.old factors.new (before place) }
+    ensures front { place ≤ length factors.new.list }
     ensures long { OnOk result (length factors.new.list ≡ place + 1) }
     ensures set { OnOk result ((p : Point) → InRange factors.old.contents.counts p
         → set_at factors.new place p
@@ -186,6 +192,7 @@ fn choose_lines(
     requires own { own < length factors.old.contents.counts }
     requires apart { AreApart factors.old.contents.counts vars.now own (lines_read lines.now) }
     ensures keeps { Keeps factors.old factors.new (before place) }
+    ensures front { place ≤ length factors.new.list }
     ensures long { OnOk result (length factors.new.list ≡ place + 1) }
     ensures set { OnOk result ((p : Point) → InRange factors.old.contents.counts p
         → set_at factors.new place p
@@ -214,6 +221,7 @@ pub fn add_choices(
     requires own { own < length factors.old.contents.counts }
     requires apart { AreApart factors.old.contents.counts vars.now own (lines_read lines.now) }
     ensures keeps { Keeps factors.old factors.new (before (length factors.old.list)) }
+    ensures front { length factors.old.list ≤ length factors.new.list }
     ensures long { OnOk result (length factors.new.list ≡ length factors.old.list + 1) }
     ensures set { OnOk result ((p : Point) → InRange factors.old.contents.counts p
         → set_at factors.new (length factors.old.list) p ≡ some_choose vars.now p lines.now) }

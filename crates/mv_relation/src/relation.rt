@@ -24,6 +24,7 @@ pub fn add_relation(
     requires room { length factors.old.list + 2 < factors.old.room }
     requires vars { HasVars net.now.nets factors.old.contents.counts vars.now n.0 }
     ensures keeps { Keeps factors.old factors.new (before (length factors.old.list)) }
+    ensures front { length factors.old.list ≤ length factors.new.list }
     ensures long { OnOk result (length factors.new.list ≡ length factors.old.list + 1) }
     ensures set { OnOk result ((p : Point) → InRange factors.old.contents.counts p
         → set_at factors.new (length factors.old.list) p

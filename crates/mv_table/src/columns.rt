@@ -21,30 +21,19 @@ fn arrow_at(words: &[Name]) -> usize
     words.len()
 }
 
-/// The input columns among the words of a table's first line: the names before the first `->`, or all but the last.
-#[tactic(auto, unfolding(crate::specs::Columns::ins_of))]
-pub fn ins(words: &[Name]) -> &[Name]
-    ensures { result.now ≡ ins_of words.now }
+/// The input columns and the output columns among the words of a table's first line: the names before the first `->` and
+/// behind it, or all but the last and the last.
+#[tactic(auto, unfolding(crate::specs::Columns::ins_of, crate::specs::Columns::outs_of))]
+pub fn split_columns(words: &[Name]) -> (&[Name], &[Name])
+    ensures ins { result.0.now ≡ ins_of words.now }
+    ensures outs { result.1.now ≡ outs_of words.now }
 {
     let arrow = arrow_at(words);
     if arrow < words.len() {
-        &words[..arrow]
-    } else {
-        &words[..words.len().saturating_sub(1)]
+        return (&words[..arrow], &words[arrow + 1..]);
     }
-}
-
-/// The output columns among the words of a table's first line: the names behind the first `->`, or the last.
-#[tactic(auto, unfolding(crate::specs::Columns::outs_of))]
-pub fn outs(words: &[Name]) -> &[Name]
-    ensures { result.now ≡ outs_of words.now }
-{
-    let arrow = arrow_at(words);
-    if arrow < words.len() {
-        &words[arrow + 1..]
-    } else {
-        &words[words.len().saturating_sub(1)..]
-    }
+    let last = words.len().saturating_sub(1);
+    (&words[..last], &words[last..])
 }
 
 /// Refuses a column of this name behind so many columns: one too many, or one whose name isn't lawful.
@@ -113,19 +102,18 @@ fn check_outputs(alloc: Global, number: u32, before: usize, outs: &[Name]) -> Re
 pub fn check_columns(
     alloc: Global,
     number: u32,
-    word: &Name,
+    word: &[u8],
     words: &[Name],
 ) -> Result<(), ParseFault>
     ensures { Tells result (columns_faults number word.now words.now) }
 {
-    let ins = ins(words);
-    let outs = outs(words);
+    let (ins, outs) = split_columns(words);
     check_names(number, 0, ins)?;
     check_outputs(alloc, number, ins.len(), outs)?;
     if outs.is_empty() {
         return Err(ParseFault::Missing {
             line: number,
-            word: word.copy()?,
+            word: Name::new(alloc, word)?,
         });
     }
     Ok(())
@@ -157,7 +145,7 @@ fn check_output(number: u32, word: &Name, before: usize, outs: &[Name]) -> Resul
 pub fn check_reset(number: u32, word: &Name, words: &[Name]) -> Result<(), ParseFault>
     ensures { Tells result (reset_faults number word.now words.now) }
 {
-    let ins = ins(words);
+    let (ins, outs) = split_columns(words);
     check_names(number, 0, ins)?;
-    check_output(number, word, ins.len(), outs(words))
+    check_output(number, word, ins.len(), outs)
 }

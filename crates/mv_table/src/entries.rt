@@ -9,7 +9,7 @@ use mv_base::{Memory, Name, PackedSet};
 use mv_decl::Decls;
 use mv_design::{Entries, Entry, Sets};
 use mv_fault::ParseFault;
-use mv_word::{EntryFault, begins_with, word_set};
+use mv_word::{EntryFault, begins_with, byte_set, word_set};
 use smallvec::SmallVec;
 use std::alloc::Global;
 
@@ -57,8 +57,25 @@ fn places(alloc: Global, decls: &Decls, nets: &[Name]) -> Result<Places, Memory>
     Ok(places)
 }
 
-/// What the word says as a set of values, to be kept.
+/// What the word says as a set of values, to be kept. Most words are of one byte, which is looked at first.
 fn entry_set(
+    alloc: Global,
+    number: u32,
+    values: &[Name],
+    word: &[u8],
+) -> Result<PackedSet, ParseFault>
+    requires { length values.now ≤ most_values }
+    ensures fault { Tells result (entry_faults number (word_set values.now word.now)) }
+    ensures ok { IfOk result (λ set. word_set values.now word.now ≡ Ok set) }
+{
+    match byte_set(alloc, values, word) {
+        Some(set) => Ok(set),
+        None => long_set(alloc, number, values, word),
+    }
+}
+
+/// The same of any word.
+fn long_set(
     alloc: Global,
     number: u32,
     values: &[Name],

@@ -5,5 +5,5 @@ mod columns;
 mod entries;
 mod table;
 
-pub use columns::{check_columns, check_names, check_reset, ins, outs};
+pub use columns::{check_columns, check_names, check_reset, split_columns};
 pub use table::{is_default_word, read_table};

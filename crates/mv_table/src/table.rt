@@ -7,7 +7,7 @@ ghost use Rattle.mv_line.specs.Words.{behind_first};
 ghost use Rattle.mv_table.specs.Tables.{is_default_word, begins_default, says_default, row_of_words, entries_faults};
 ghost use Rattle.mv_table.specs.Tables.{rows_at, default_at, line_values_faults, table_of, table_faults};
 
-use crate::columns::{ins, outs};
+use crate::columns::split_columns;
 use crate::entries::{Columns, in_entries, out_entries};
 use mv_base::{Items, Name};
 use mv_decl::Decls;
@@ -111,8 +111,7 @@ pub fn read_table(
     ensures fault { Tells result (table_faults decls.now head.now lines.now) }
     ensures ok { IfOk result (λ table. table ≡ table_of decls.now head.now lines.now) }
 {
-    let ins = ins(behind_first(head));
-    let outs = outs(behind_first(head));
+    let (ins, outs) = split_columns(behind_first(head));
     let columns = Columns::placed(alloc, decls, ins, outs)?;
     let mut rows = Items::with_room(alloc, lines.len())?;
     let mut default = None;

@@ -20,7 +20,7 @@ use Rattle.mv_text_back.proofs.Commands.{command-mv}
 use Rattle.mv_text_back.proofs.Opened.{goes_on, going-push, faults-going}
 use Rattle.mv_text_back.proofs.Limits.{only_limits, AreFine}
 use Rattle.mv_text_back.proofs.NewNames.{new-word}
-use Rattle.mv_text_back.proofs.Declared.{IsSaid, mv_command_line, declares, declared-none}
+use Rattle.mv_text_back.proofs.Declared.{IsSaid, declared_words, declares, declared-none}
 use Rattle.mv_text_back.proofs.Nets.{EachNet, CanBeSaid}
 use Rattle.mv_text_back.proofs.Lookups.{decl_of, declared}
 use Rattle.mv_lines_back.specs.TextWords.{lines_from}
@@ -32,7 +32,7 @@ pub record AreDecls (h : LexLine) (front lines : List LexLine) (more : List Decl
 
 -- one line that declares a new net
 abbrev mv_line : ℕ → FlatNet → LexLine
-mv_line n f = record { number = n; words = codes ".mv" ∷ mv_command_line f.name f.values f.value_names }
+mv_line n f = record { number = n; words = codes ".mv" ∷ declared_words f.name f.values f.value_names }
 
 new_decl : (ds : List Decl) (d : Decl) → among d.net (declared_of ds) ≡ false → with_decls ds (d ∷ []) ≡ ds ++ d ∷ []
 unfolding with_decl
@@ -42,7 +42,7 @@ pushed : (front : List LexLine) (n : ℕ) (f : FlatNet) → IsSaid f.name f.valu
     → decls_of (front ++ mv_line n f ∷ []) ≡ decls_of front ++ decl_of f ∷ []
 pushed front n f said new =
     decls-push front (mv_line n f)
-    ∙ (ap (λ c. with_decls (decls_of front) (decls_at c (mv_command_line f.name f.values f.value_names))) command-mv
+    ∙ (ap (λ c. with_decls (decls_of front) (decls_at c (declared_words f.name f.values f.value_names))) command-mv
     ∙ (ap (with_decls (decls_of front)) (declares f.name f.values f.value_names said) ∙ new_decl (decls_of front) (decl_of f) new))
 
 fine_line : (h : LexLine) (front : List LexLine) (n : ℕ) (f : FlatNet) → list_all goes_on (h ∷ front) ≡ true → IsSaid f.name f.values f.value_names

@@ -20,8 +20,8 @@ values_pieces ws e = all-weaker is_value_name is_piece value_piece ws e
 
 -- ---- the line
 
-abbrev pub mv_command_line : List ℕ → ℕ → List (List ℕ) → List (List ℕ)
-mv_command_line name values names = name ∷ decimal values ∷ names
+abbrev pub declared_words : List ℕ → ℕ → List (List ℕ) → List (List ℕ)
+declared_words name values names = name ∷ decimal values ∷ names
 
 -- a lawful net, with some values and their names
 pub record IsSaid (name : List ℕ) (values : ℕ) (names : List (List ℕ)) : Type 0 where
@@ -40,13 +40,13 @@ module _ (name : List ℕ) (values : ℕ) (names : List (List ℕ)) (is : IsSaid
   count_piece : is_piece (decimal values) ≡ true
   count_piece = value_piece (decimal values) (decimal-value_name values small)
 
-  apart : commas_apart (mv_command_line name values names) ≡ mv_command_line name values names
-  apart = pieces (mv_command_line name values names) (and_from (is_piece name) _ name_piece (and_from (is_piece (decimal values)) _ count_piece (values_pieces names is.named.lawful)))
+  apart : commas_apart (declared_words name values names) ≡ declared_words name values names
+  apart = pieces (declared_words name values names) (and_from (is_piece name) _ name_piece (and_from (is_piece (decimal values)) _ count_piece (values_pieces names is.named.lawful)))
 
-  one_front : front_said (mv_command_line name values names) ≡ record { nets = name ∷ []; rest = decimal values ∷ names }
+  one_front : front_said (declared_words name values names) ≡ record { nets = name ∷ []; rest = decimal values ∷ names }
   one_front = rw (apart, no_word name name_piece, no_word (decimal values) count_piece, decimal-digits values small) refl
 
-  one_net : nets_said (mv_command_line name values names) ≡ name ∷ []
+  one_net : nets_said (declared_words name values names) ≡ name ∷ []
   unfolding nets_said
   one_net = ap (λ (f : Front). f.nets) one_front
 
@@ -57,12 +57,12 @@ module _ (name : List ℕ) (values : ℕ) (names : List (List ℕ)) (is : IsSaid
   same_names [] = refl
   same_names (w ∷ ws) = refl
 
-  one_said : values_said (mv_command_line name values names) ≡ spelled_values values names
+  one_said : values_said (declared_words name values names) ≡ spelled_values values names
   unfolding values_said
   one_said = ap (λ (f : Front). values_from f.rest) one_front ∙ rw (kept, number-decimal values small) (same_names names)
 
   -- it says the net with its values
-  pub declares : decls_said (mv_command_line name values names) ≡ record { net = name; values = spelled_values values names } ∷ []
+  pub declares : decls_said (declared_words name values names) ≡ record { net = name; values = spelled_values values names } ∷ []
   unfolding decls_said
   declares = rw (one_net, one_said) refl
 
@@ -79,7 +79,7 @@ module _ (name : List ℕ) (values : ℕ) (names : List (List ℕ)) (is : IsSaid
   new_none n ds said new = rw new refl
 
   -- and has no fault behind other nets
-  pub declared-none : (n : ℕ) (word : List ℕ) (ds : List Decl) → among name (declared_of ds) ≡ false → decl_faults n word ds (mv_command_line name values names) ≡ []
+  pub declared-none : (n : ℕ) (word : List ℕ) (ds : List Decl) → among name (declared_of ds) ≡ false → decl_faults n word ds (declared_words name values names) ≡ []
   unfolding decl_faults net_name_faults
   declared-none n word ds new =
       ap (λ (f : Front). front_faults n word f ++ count_line_faults n ds f.nets f.rest) one_front

@@ -1,9 +1,15 @@
 -- The front of a list that passes a test, found by going along the list; and a list cut at commas.
-use Rattle.std.proofs.Common.{◌≡◌, ℕ, ◌+◌, ◌<◌, Bool, true, false, ◌==◌, List, [], ◌∷◌, length, get_or, take, drop, refl, ap, sym, ◌∙◌, arith, suc, add-one, drop-cons, ⊎_elim}
+use Rattle.std.proofs.Common.{◌≡◌, ℕ, ◌+◌, ◌<◌, ◌≤◌, Bool, true, false, ◌==◌, List, [], ◌∷◌, length, get_or, take, drop, refl, ap, sym, ◌∙◌, arith, suc, add-one, drop-cons, ⊎_elim}
 use Rattle.std.proofs.lemmas.Bool.{cases_Bool, cond-true, cond-false, not_from_true, not_from_false}
 use Rattle.std.specs.List.{slice_split, onto_first}
 use Rattle.mv_lex.specs.Words.{front, behind}
 use Rattle.mv_word.specs.Entries.{is_inside}
+
+-- a word of one byte is that byte
+pub only_byte : (w : List ℕ) → 1 ≤ length w → length w < 2 → get_or w 0 0 ∷ [] ≡ w
+only_byte [] h k = absurd (omega (arith, h))
+only_byte (b ∷ []) h k = refl
+only_byte (b ∷ c ∷ bs) h k = absurd (omega (arith, k))
 
 -- so many bytes were passed, and the front and what is behind it go on there
 pub record IsPassed (p : ℕ → Bool) (xs : List ℕ) (at : ℕ) : Type 0 where

@@ -1,11 +1,11 @@
-ghost use Rattle.std.specs.Prelude.{◌≡◌, ◌≤◌, ◌⊎◌, Ok, Err, length, drop, IfOk, IfErr};
+ghost use Rattle.std.specs.Prelude.{◌≡◌, ◌≤◌, ◌⊎◌, ◌∷◌, [], Ok, Err, length, drop, IfOk, IfErr, IfSome};
 ghost use Rattle.mv_base.specs.declared.limits.TheConstants.{MAX_VALUES as most_values};
 ghost use Rattle.mv_lex.specs.Words.{is_bang, opens, front, behind};
 ghost use Rattle.mv_word.specs.Entries.{plain_of, base_of, opposites, word_set as said};
 ghost use Rattle.mv_word.specs.declared.fault.EntryFault.{EntryFault};
 
 use crate::EntryFault;
-use crate::list::{list, place};
+use crate::list::{list, place, place_of_byte};
 use crate::names::is_byte;
 use mv_base::{Memory, Name, PackedSet, Value, ValueSet};
 use std::alloc::Global;
@@ -26,6 +26,46 @@ pub fn word_set(alloc: Global, values: &[Name], word: &[u8]) -> Result<PackedSet
     match base(alloc, values, word, rest) {
         Ok(set) => Ok(turned(alloc, set, values.len(), bangs)?),
         Err(fault) => Err(fault),
+    }
+}
+
+/// The set that a word of one byte says, as most words of tables do: `-` or a name of a value. None where the word is another one
+/// or says no set, and for want of memory.
+pub fn byte_set(alloc: Global, values: &[Name], word: &[u8]) -> Option<PackedSet>
+    requires { length values.now ≤ most_values }
+    ensures { IfSome result (λ set. said values.now word.now ≡ Ok set) }
+{
+    match word {
+        [byte] => set_of_byte(alloc, values, *byte),
+        _ => None,
+    }
+}
+
+/// The set that a byte says as a word, if it says one and isn't one that begins something else than a plain word.
+fn set_of_byte(alloc: Global, values: &[Name], byte: u8) -> Option<PackedSet>
+    requires { length values.now ≤ most_values }
+    ensures { IfSome result (λ set. said values.now (byte ∷ []) ≡ Ok set) }
+{
+    if is_opening(byte) || byte == b'!' || byte == b'=' {
+        return None;
+    }
+    plain_byte(alloc, values, byte)
+}
+
+/// The set that a byte says as a plain word, if it says one.
+#[tactic(auto, unfolding(crate::specs::Entries::plain_of))]
+fn plain_byte(alloc: Global, values: &[Name], byte: u8) -> Option<PackedSet>
+    requires { length values.now ≤ most_values }
+    ensures { IfSome result (λ set. plain_of values.now (byte ∷ []) (byte ∷ []) ≡ Ok set) }
+{
+    let kept = if byte == b'-' {
+        PackedSet::full(alloc, values.len() as u16)
+    } else {
+        PackedSet::one(alloc, Value(place_of_byte(values, byte)? as u16))
+    };
+    match kept {
+        Ok(set) => Some(set),
+        Err(_memory) => None,
     }
 }
 

@@ -8,7 +8,7 @@ mod laws;
 mod list;
 mod names;
 
-pub use entry::word_set;
+pub use entry::{byte_set, word_set};
 pub use fault::EntryFault;
 pub use laws::entry_laws;
 pub use names::{begins_with, is_model_name, is_net_name, is_text, is_value_name};

@@ -24,7 +24,7 @@ pub fn place(values: &[Name], word: &[u8]) -> Option<usize>
 }
 
 /// The place of the value whose name is this byte: most names of values have one.
-fn place_of_byte(values: &[Name], byte: u8) -> Option<usize>
+pub fn place_of_byte(values: &[Name], byte: u8) -> Option<usize>
     ensures place { result ≡ place_of (byte ∷ []) values.now }
     ensures within { IfSome result (λ n. n < length values.now) }
 {

@@ -8,7 +8,7 @@ pub returns : goal.returns
 returns c =
     let start : app_of c.disable_help_flag.result ≡ start_given =
     ap app_of_fields c.disable_help_flag.ensures ∙ ap (on_top (λ (s : Shape). record s { disable_help_flag = true })) c.new.ensures.app in
-    let one = c.in_ok-arg.ensures.shape c.budget_given.ensures.local ∙ ap₂ with_rule start c.budget_given.ensures.rule in
-    let two = c.in_ok-arg-2.ensures.shape c.free_given.ensures.local ∙ ap₂ with_rule one c.free_given.ensures.rule in
+    let one = c.in_ok-arg.ensures.shape c.budget_option.ensures.local ∙ ap₂ with_rule start c.budget_option.ensures.rule in
+    let two = c.in_ok-arg-2.ensures.shape c.free_option.ensures.local ∙ ap₂ with_rule one c.free_option.ensures.rule in
     let three = c.in_ok-arg-3.ensures.shape c.word_given.ensures.local ∙ ap₂ with_rule two c.word_given.ensures.rule in
     c.in_ok-command.ensures.shape c.word_given-2.ensures.local ∙ ap₂ with_rule three c.word_given-2.ensures.rule
