@@ -1,12 +1,12 @@
 -- Sets are put behind a list one after another, and met one after another.
-use Rattle.std.proofs.Common.{◌≡◌, ◌∙◌, ℕ, ◌+◌, ◌<◌, ◌≤◌, ◌&&◌, ◌==◌, Bool, true, false, not, nat_lt, cond, Option, List, length, [], ◌∷◌, zero, suc, get_or, refl, sym, ap, subst, ⊎_elim, inl, inr, arith}
+use Rattle.std.proofs.Common.{◌≡◌, ◌∙◌, ℕ, ◌+◌, ◌<◌, ◌&&◌, ◌==◌, true, cond, Option, List, length, [], ◌∷◌, zero, suc, get_or, refl, sym, ap, subst, ⊎_elim, arith}
 use Rattle.std.proofs.lemmas.Bool.{cases_eq, and_parts, and_from, lt-ltb}
 use Rattle.mv_base.specs.declared.number.NetId.{NetId}
 use Rattle.mv_diagram.specs.Sets.{Point, InRange}
 use Rattle.mv_factors.specs.Families.{Family, Keeps, before, but, set_at}
 use Rattle.mv_factors.proofs.Keeping.{but_true}
 use Rattle.mv_net.specs.declared.parts.FlatNet.{FlatNet}
-use Rattle.mv_relation.specs.Relations.{HasVar, HasVars, in_relation}
+use Rattle.mv_relation.specs.Relations.{HasVars, in_relation}
 use Rattle.mv_wide.specs.Families.{AreCopies, AreRelations, IsInEach}
 
 in_list : {X : Type 0} (xs : List X) (i : ℕ) (a b : X) → i < length xs → get_or xs i a ≡ get_or xs i b

@@ -1,10 +1,10 @@
 -- The points of which some set misses a point, over several sets, and over what is left where variables are eliminated.
-use Rattle.std.proofs.Common.{◌≡◌, ◌∙◌, ℕ, zero, suc, ◌+◌, ◌-◌, ◌<◌, ◌≤◌, ◌⊎◌, ◌&&◌, ◌==◌, Bool, true, false, nat_lt, cond, List, length, refl, sym, ap, subst, ⊎_elim, inl, inr, arith}
+use Rattle.std.proofs.Common.{◌≡◌, ◌∙◌, ℕ, zero, suc, ◌+◌, ◌-◌, ◌<◌, ◌≤◌, ◌⊎◌, ◌==◌, Bool, true, false, nat_lt, cond, List, length, sym, ap, subst, ⊎_elim, inl, inr, arith}
 use Rattle.std.proofs.lemmas.Bool.{cases_eq, cases_Bool, and_from, and_parts, lt-ltb, ltb-true, ne_eqb, true≢false}
 use Rattle.mv_diagram.specs.Sets.{Point, InRange}
 use Rattle.mv_factors.specs.Families.{Family, Keeps, before, set_at}
 use Rattle.mv_factors.specs.Leaving.{Eliminates, IsInAll}
-use Rattle.mv_factors.proofs.Keeping.{Keeps-fewer, Keeps-then}
+use Rattle.mv_factors.proofs.Keeping.{Keeps-fewer}
 use Rattle.mv_diagram.specs.Quantified.{AgreesOutside}
 use Rattle.mv_wide.specs.Families.{AddsLacking, AddsMissed, AddsMissedIn, AreCopies, IsInEach, IsInOthers, IsLacking, IsMissed, IsMissedIn, IsNearEach, between}
 

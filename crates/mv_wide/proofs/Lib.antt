@@ -1,3 +1,5 @@
 pub mod Gathering
 pub mod Missing
 pub mod Lacks
+pub mod Listing
+pub mod Narrowing

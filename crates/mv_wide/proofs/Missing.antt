@@ -1,12 +1,12 @@
 -- The points of which some point is missed: copies and a complement are put behind a list, variables are eliminated, and all
 -- that is left is met.
-use Rattle.std.proofs.Common.{◌≡◌, ◌∙◌, ℕ, ◌+◌, ◌-◌, ◌<◌, ◌≤◌, ◌⊎◌, ◌||◌, ◌==◌, Bool, true, false, not, cond, List, length, refl, sym, ap, subst, ⊎_elim, inl, inr, arith}
+use Rattle.std.proofs.Common.{◌≡◌, ◌∙◌, ℕ, ◌+◌, ◌-◌, ◌<◌, ◌⊎◌, ◌||◌, ◌==◌, Bool, true, false, not, cond, List, length, refl, sym, ap, subst, ⊎_elim, inl, inr, arith}
 use Rattle.std.proofs.lemmas.Bool.{cases_eq, cases_Bool, eq-eqb, lt-ltb, ne_eqb, or_left, or_right, true≢false}
 use Rattle.mv_diagram.specs.Sets.{Point, InRange}
 use Rattle.mv_factors.specs.Families.{Family, Keeps, before, but, set_at}
 use Rattle.mv_factors.specs.Leaving.{Eliminates, IsInAll}
 use Rattle.mv_factors.proofs.Keeping.{but_true}
-use Rattle.mv_wide.specs.Families.{AddsMissed, AreCopies, AreMissed, IsInEach, IsMissed, IsStaged}
+use Rattle.mv_wide.specs.Families.{AddsMissed, AreCopies, AreMissed, IsInEach, IsStaged}
 
 not_true : (b : Bool) → not b ≡ true → b ≡ false
 not_true true h = sym h

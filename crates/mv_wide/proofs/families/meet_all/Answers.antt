@@ -1,5 +1,4 @@
 use Rattle.std.proofs.Common.{◌≡◌, ◌+◌, ◌<◌, length, subst, arith}
-use Rattle.mv_diagram.specs.Sets.{Point}
 use Rattle.mv_factors.specs.Families.{but}
 use Rattle.mv_factors.proofs.Keeping.{Keeps-self, Keeps-then}
 use Rattle.mv_wide.specs.Families.{IsInEach}

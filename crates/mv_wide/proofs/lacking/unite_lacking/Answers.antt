@@ -1,4 +1,4 @@
-use Rattle.std.proofs.Common.{◌≡◌, ◌∙◌, ◌+◌, ◌<◌, ◌≤◌, ℕ, List, length, All, sym, subst, arith}
+use Rattle.std.proofs.Common.{◌∙◌, ◌<◌, ℕ, List, length, All, sym, subst, arith}
 use Rattle.mv_factors.specs.declared.inner.Inner.{Inner}
 use Rattle.mv_factors.specs.Families.{Keeps, before}
 use Rattle.mv_factors.specs.Leaving.{is_inner}
