@@ -1,5 +1,5 @@
-//! Drawn inputs for mvopt: networks, scripts, certificates and run files, drawn, mutated and spliced from real ones. Each run has a
-//! seed, and a case is drawn anew from its number: `drawn PROGRAM FOLDER COUNT SEED` tries the cases 0 to COUNT - 1, and
+//! Drawn inputs for mvopt: networks in BLIF-MV and BLIF, scripts, certificates and run files, drawn, mutated and spliced from real
+//! ones. Each run has a seed, and a case is drawn anew from its number: `drawn PROGRAM FOLDER COUNT SEED` tries the cases 0 to COUNT - 1, and
 //! `drawn PROGRAM FOLDER COUNT SEED FIRST` those from FIRST on. What isn't as it should be is told by a line, with the number.
 use std::collections::BTreeMap;
 use std::fs;
@@ -147,6 +147,123 @@ fn model(draw: &mut Draw, name: &str, inner: bool) -> String {
     text + ".end\n"
 }
 
+/// A table of BLIF over nets that are there.
+fn names_table(draw: &mut Draw, named: &[String], name: &str) -> String {
+    let ins: Vec<&str> = (0..draw.below(4)).filter(|_| !named.is_empty()).map(|_| named[draw.below(named.len())].as_str()).collect();
+    let value = draw.below(2);
+    let mut text = format!(".names {} {name}\n", ins.join(" "));
+    for _ in 0..draw.below(5) {
+        let plane: String = ins.iter().map(|_| *draw.of(&['0', '1', '-'])).collect();
+        text += &format!("{plane} {value}\n");
+    }
+    text
+}
+
+/// What stands behind the nets of a latch.
+fn settings(draw: &mut Draw, inputs: usize) -> String {
+    let control = if inputs > 0 && draw.one_in(2) { format!("i{}", draw.below(inputs)) } else { "NIL".into() };
+    let kind = if draw.one_in(2) { format!(" {} {control}", draw.of(&["fe", "re", "ah", "al", "as"])) } else { String::new() };
+    let first = if draw.one_in(2) { format!(" {}", draw.below(4)) } else { String::new() };
+    kind + &first
+}
+
+/// A network in BLIF.
+fn blif(draw: &mut Draw) -> String {
+    let (inputs, latches) = (draw.below(4), draw.below(3));
+    let mut named: Vec<String> = (0..inputs).map(|k| format!("i{k}")).collect();
+    let mut text = String::from(".model m\n");
+    for input in &named {
+        text += &format!(".inputs {input}\n");
+    }
+    for k in 0..latches {
+        text += &format!(".latch d{k} q{k}{}\n", settings(draw, inputs));
+        named.push(format!("q{k}"));
+    }
+    for k in 0..1 + draw.below(7) {
+        text += &names_table(draw, &named, &format!("n{k}"));
+        named.push(format!("n{k}"));
+    }
+    for k in 0..latches {
+        text += &names_table(draw, &named, &format!("d{k}"));
+    }
+    for _ in 0..1 + draw.below(3) {
+        let output = draw.of(&named);
+        if !text.contains(&format!(".outputs {output}\n")) {
+            text += &format!(".outputs {output}\n");
+        }
+    }
+    text + ".end\n"
+}
+
+/// What a BLIF file without comments says, read without a check.
+#[derive(Default)]
+struct Blif<'a> {
+    inputs: Vec<&'a str>,
+    outputs: Vec<&'a str>,
+    /// The words behind `.latch`, with a first value.
+    latches: Vec<Vec<&'a str>>,
+    /// The words behind `.names`, and the rows.
+    tables: Vec<(Vec<&'a str>, Vec<&'a str>)>,
+}
+
+impl<'a> Blif<'a> {
+    fn of(text: &'a str) -> Self {
+        let mut said = Blif::default();
+        for line in text.lines() {
+            let words: Vec<&str> = line.split_whitespace().collect();
+            match words[..] {
+                [".inputs", ..] => said.inputs.extend(&words[1..]),
+                [".outputs", ..] => said.outputs.extend(&words[1..]),
+                [".latch", ..] => {
+                    let mut latch = words[1..].to_vec();
+                    if latch.len() % 2 == 0 {
+                        latch.push("3");
+                    }
+                    said.latches.push(latch);
+                }
+                [".names", ..] => said.tables.push((words[1..].to_vec(), Vec::new())),
+                [] | [".model", ..] | [".end"] => {}
+                _ => said.tables.last_mut().expect("a table").1.push(line),
+            }
+        }
+        said
+    }
+
+    /// Whether both look alike from outside.
+    fn is_like(&self, other: &Self) -> bool {
+        let seen = |latch: &Vec<&'a str>| latch[1..].to_vec();
+        self.inputs == other.inputs && self.outputs == other.outputs && self.latches.iter().map(seen).eq(other.latches.iter().map(seen))
+    }
+
+    /// The values of the outputs and of the inputs of the latches, where inputs and outputs of latches have the bits of a number.
+    fn seen(&self, point: usize) -> Vec<bool> {
+        let ports = self.inputs.iter().copied().chain(self.latches.iter().map(|latch| latch[1]));
+        let mut values: BTreeMap<&str, bool> = ports.enumerate().map(|(k, net)| (net, point >> k & 1 == 1)).collect();
+        while self.tables.iter().any(|(nets, _)| !values.contains_key(nets[nets.len() - 1])) {
+            for (nets, rows) in &self.tables {
+                let (net, ins) = nets.split_last().expect("a net");
+                if let Some(ins) = ins.iter().map(|n| values.get(n).copied()).collect::<Option<Vec<bool>>>() {
+                    values.insert(net, value_of(&ins, rows));
+                }
+            }
+        }
+        self.outputs.iter().copied().chain(self.latches.iter().map(|latch| latch[0])).map(|net| values[net]).collect()
+    }
+}
+
+/// The value that rows give.
+fn value_of(ins: &[bool], rows: &[&str]) -> bool {
+    let holds = |row: &&&str| row.bytes().zip(ins).all(|(b, v)| b == b'-' || (b == b'1') == *v);
+    let of = |row: &&str| row.ends_with('1');
+    rows.iter().find(holds).map_or(rows.first().is_some_and(|row| !of(row)), of)
+}
+
+/// Whether two BLIF files of a few nets allow the same.
+fn are_same(one: &str, other: &str) -> bool {
+    let (one, other) = (Blif::of(one), Blif::of(other));
+    one.is_like(&other) && (0..1 << (one.inputs.len() + one.latches.len())).all(|point| one.seen(point) == other.seen(point))
+}
+
 /// A script of some commands.
 fn script(draw: &mut Draw) -> String {
     let mut text = String::new();
@@ -279,33 +396,49 @@ impl Trial<'_> {
         self.found.lock().unwrap().push(format!("case {}: {what}", self.case));
     }
 
-    /// A network and a script; what was written is read again, and what was noted is checked.
-    fn optimise(&self, draw: &mut Draw, net: &[u8], script: &[u8], free: bool) {
+    /// A network and a script, with these options; what was written is read again, and what was noted is checked.
+    fn optimise(&self, draw: &mut Draw, net: &[u8], script: &[u8], options: &[&str]) -> Ran {
         let (net, script) = (self.write("net", net), self.write("script", script));
-        let free: &[&str] = if free { &["--free"] } else { &[] };
         let ends = [(0, "# done "), (2, "# fault network "), (3, "# fault script ")];
-        let ran = self.run(&[&["opt", &net, &script], free].concat(), &ends);
+        let ran = self.run(&[&["opt", &net, &script], options].concat(), &ends);
         if ran.status == 0 {
-            self.read_again(&ran.out);
+            self.read_again(&ran.out, options);
             if ran.notes.len() <= MOST_NOTES {
                 let cert = self.write("cert", &ran.notes);
-                let checked = self.run(&[&["check", &net, &cert], free].concat(), &[(0, "# done ")]);
+                let checked = self.run(&[&["check", &net, &cert], options].concat(), &[(0, "# done ")]);
                 if checked.out != ran.out {
                     self.tell("check writes something else");
                 }
                 let changed = mutated(draw, &ran.notes, &[]);
                 let cert = self.write("cert", &changed);
-                self.run(&[&["check", &net, &cert], free].concat(), &[(0, "# done "), (7, "# fault certificate ")]);
+                self.run(&[&["check", &net, &cert], options].concat(), &[(0, "# done "), (7, "# fault certificate ")]);
             }
+        }
+        ran
+    }
+
+    /// What was written is read again, or passes a limit. In BLIF-MV it is written again as it is; in BLIF a table that is
+    /// constant may lose its columns.
+    fn read_again(&self, out: &[u8], options: &[&str]) {
+        let (again, empty) = (self.write("again", out), self.write("empty", b""));
+        let ran = self.run(&[&["opt", &again, &empty], options].concat(), &[(0, "# done "), (2, "# fault network 21 Limit ")]);
+        if ran.status == 0 && ran.out != out && !options.contains(&"--blif") {
+            self.tell("what was written isn't written again");
         }
     }
 
-    /// What was written is written again as it is, or passes a limit.
-    fn read_again(&self, out: &[u8]) {
-        let (again, empty) = (self.write("again", out), self.write("empty", b""));
-        let ran = self.run(&["opt", &again, &empty], &[(0, "# done "), (2, "# fault network 21 Limit ")]);
-        if ran.status == 0 && ran.out != out {
-            self.tell("what was written isn't written again");
+    /// A network in BLIF and a script: both files allow the same.
+    fn optimise_blif(&self, draw: &mut Draw, script: &[u8], free: bool, real: &[Vec<u8>]) {
+        let options: &[&str] = if free { &["--blif", "--free"] } else { &["--blif"] };
+        let net = blif(draw);
+        if draw.one_in(4) {
+            let net = mutated(draw, net.as_bytes(), real);
+            self.optimise(draw, &net, script, options);
+            return;
+        }
+        let ran = self.optimise(draw, net.as_bytes(), script, options);
+        if ran.status == 0 && !are_same(&net, &String::from_utf8_lossy(&ran.out)) {
+            self.tell("the two BLIF files don't allow the same");
         }
     }
 
@@ -351,7 +484,11 @@ impl Trial<'_> {
             script = mutated(draw, &script, real);
         }
         let free = draw.one_in(4);
-        self.optimise(draw, &net, &script, free);
+        if draw.one_in(3) {
+            return self.optimise_blif(draw, &script, free, real);
+        }
+        let options: &[&str] = if free { &["--free"] } else { &[] };
+        self.optimise(draw, &net, &script, options);
     }
 }
 

@@ -5,7 +5,8 @@ _mvopt() {
     if [ "$COMP_CWORD" -eq 1 ]; then
         mapfile -t COMPREPLY < <(compgen -W "opt check work" -- "$word")
     elif [[ $word == -* && $before != *" -- "* ]]; then
-        for option in --free --budget; do
+        for option in --free --budget --blif; do
+            [[ $option == --blif && ${COMP_WORDS[1]} != opt && ${COMP_WORDS[1]} != check ]] && continue
             [[ $before == *" $option "* || $before == *" $option="* ]] || COMPREPLY+=("$option")
         done
         mapfile -t COMPREPLY < <(compgen -W "${COMPREPLY[*]}" -- "$word")

@@ -20,4 +20,4 @@ mod Values
 mod FirstValues
 mod Assigned
 mod Valued
-mod Whole
+pub mod Whole

@@ -1,6 +1,6 @@
-mod Faultless
-mod Tables
-mod Latches
-mod Ports
-mod Order
-mod Proper
+pub mod Faultless
+pub mod Tables
+pub mod Latches
+pub mod Ports
+pub mod Order
+pub mod Proper

@@ -151,7 +151,7 @@ row-plane n t words none =
     let here : plane ≡ [] = right-nothing counted plane both in
     eqb-true _ _ (not-false _ (when-nothing _ (Line (WrongColumns n t.ins (length (plane_of words)))) (left-nothing _ _ here)))
 
-is-row : (c : Command) → is_row c ≡ true → c ≡ SaysRow
+pub is-row : (c : Command) → is_row c ≡ true → c ≡ SaysRow
 is-row SaysRow y = refl
 is-row _ y = cc
 
@@ -160,7 +160,7 @@ row-here c k before l t row opened none =
     let faults : row_line_faults k.table l ≡ [] = ap (λ (x : Command). inside_faults x k before l) (sym row) ∙ none in
     row-plane l.number t l.words (ap (λ (x : Option OpenTable). row_line_faults x l) (sym opened) ∙ faults)
 
-row-next : (c : Command) (k : Known) (l : LexLine) (t : OpenTable) → c ≡ SaysRow → k.table ≡ Some t → (line_step c l k).table ≡ Some (row_seen l.words t)
+pub row-next : (c : Command) (k : Known) (l : LexLine) (t : OpenTable) → c ≡ SaysRow → k.table ≡ Some t → (line_step c l k).table ≡ Some (row_seen l.words t)
 row-next c k l t row opened = ap (λ (x : Command). (line_step x l k).table) row ∙ ap (option_map (row_seen l.words)) opened
 
 -- the rows in front have a byte for each input of the open table

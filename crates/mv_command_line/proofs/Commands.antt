@@ -1,7 +1,8 @@
 -- The command behind a task's name, as it is built.
 use Rattle.std.proofs.Common.{◌≡◌, Bool, true, false, cond, List, [], ◌∷◌, Some, None, codes, refl, ℕ}
 use Rattle.std.specs.Str.{bytes_eq}
-use Rattle.mv_command_line.specs.Commands.{budget_option, command_given, free_option, two_given, word_given}
+use Rattle.mv_command_line.specs.Commands.{budget_option, command_given, flag_option, two_given, word_given}
+use Rattle.mv_command_line.proofs.Flags.{Flag, free, blif, name_of}
 use Rattle.clap.specs.Walk.{Rule, Text, arg_by_long, arg_by_short}
 use Rattle.clap.specs.Simple.{App, Shape, built, new_shape, with_rule}
 use Rattle.clap.specs.Faults.{is_simple_and_free}
@@ -12,13 +13,19 @@ use Rattle.clap.specs.declared.builder.value_parser.ValueParser.TheVariants.{Str
 abbrev pub budget_rule : Rule
 budget_rule = record budget_option { range = Some (record { start_inclusive = 1; end_inclusive = 1 }); parser = Some text }
 
-abbrev pub free_rule : Rule
-free_rule = record free_option {
+abbrev pub flag_rule : Text → Rule
+flag_rule name = record (flag_option name) {
   range = Some (record { start_inclusive = 0; end_inclusive = 0 });
   defaults = codes "false" ∷ [];
   missing = codes "true" ∷ [];
   parser = Some flag;
 }
+
+abbrev pub free_rule : Rule
+free_rule = flag_rule (codes "free")
+
+abbrev pub blif_rule : Rule
+blif_rule = flag_rule (codes "blif")
 
 abbrev pub word_rule : Text → ℕ → Rule
 word_rule id place = record (word_given id) {
@@ -40,7 +47,7 @@ abbrev pub word_rules : Bool → List Rule
 word_rules third = first_rule ∷ second_rule ∷ cond third (third_rule ∷ []) []
 
 abbrev pub rules_of : Bool → List Rule
-rules_of third = budget_rule ∷ free_rule ∷ word_rules third
+rules_of third = budget_rule ∷ free_rule ∷ blif_rule ∷ word_rules third
 
 abbrev pub shape_of : Bool → Shape
 shape_of third = record (new_shape (codes "mvopt")) {
@@ -76,12 +83,13 @@ is_plain false = refl
 pub budget_found : (third : Bool) (name : Text) → bytes_eq (codes "budget") name ≡ true → arg_by_long (rules_of third) name ≡ Some budget_rule
 budget_found third name e = rw e refl
 
-pub free_found : (third : Bool) (name : Text) → bytes_eq (codes "budget") name ≡ false → bytes_eq (codes "free") name ≡ true → arg_by_long (rules_of third) name ≡ Some free_rule
-free_found third name n e = rw (n, e) refl
+pub flag_found : (third : Bool) (f : Flag) → arg_by_long (rules_of third) (name_of f) ≡ Some (flag_rule (name_of f))
+flag_found third free = refl
+flag_found third blif = refl
 
-pub long_missing : (third : Bool) (name : Text) → bytes_eq (codes "budget") name ≡ false → bytes_eq (codes "free") name ≡ false → arg_by_long (rules_of third) name ≡ None
-long_missing true name n m = rw (n, m) refl
-long_missing false name n m = rw (n, m) refl
+pub long_missing : (third : Bool) (name : Text) → bytes_eq (codes "budget") name ≡ false → ((f : Flag) → bytes_eq (name_of f) name ≡ false) → arg_by_long (rules_of third) name ≡ None
+long_missing true name n m = rw (n, m free, m blif) refl
+long_missing false name n m = rw (n, m free, m blif) refl
 
 pub short_missing : (third : Bool) (letter : ℕ) → arg_by_short (rules_of third) letter ≡ None
 short_missing true letter = refl

@@ -1,3 +1,4 @@
+pub mod Flags
 pub mod Commands
 pub mod Looks
 pub mod Finds

@@ -3,11 +3,13 @@ use Rattle.std.proofs.Common.{◌≡◌, ◌∙◌, ◌⊎◌, inl, inr, ℕ, �
 use Rattle.std.specs.Prelude.{slice_get, unwrap_or, is_some, suc, take, drop}
 use Rattle.std.specs.List.{list_all, position_or_len}
 use Rattle.std.specs.Str.{bytes_eq, chars, IsUtf8, encode_utf8_all}
-use Rattle.std.proofs.lemmas.Bool.{cases_Bool, false≢true, and_left, and_parts, ne_eqb}
+use Rattle.std.proofs.lemmas.Bool.{cases_Bool, false≢true, false_from_ne_true, and_parts, ne_eqb}
+use Rattle.std.proofs.lemmas.Slice.Eq.{bytes_eq-Decides}
 use Rattle.std.proofs.lemmas.Str.{IsUtf8-past_char, encodes-chars, encode_ascii}
 use Rattle.mv_base.specs.Names.{same_word}
 use Rattle.clap.specs.Lexer.{has_byte, long_of, name_and_value, short_of}
-use Rattle.mv_command_line.specs.CommandLine.{Sort, positional, ends, frees, apart, attached, refused, behind, is_dashed, option_sort, sort_of}
+use Rattle.mv_command_line.specs.CommandLine.{Sort, positional, ends, frees, blifs, apart, attached, refused, behind, is_dashed, option_sort, sort_of}
+use Rattle.mv_command_line.proofs.Flags.{Flag, free, blif, flag_sort, name_of, no_name}
 
 -- ---- what stands behind a beginning without `=`
 
@@ -137,7 +139,10 @@ pub record IsEnd (w : List ℕ) : Type 0 where
 
 -- the sort of a long option by what stands behind its dashes
 abbrev pub long_sort : List ℕ → Sort
-long_sort text = cond (same_word text (codes "free")) frees (option_sort (behind (codes "budget") text))
+long_sort text =
+    cond (same_word text (codes "free")) frees
+    (cond (same_word text (codes "blif")) blifs
+    (option_sort (behind (codes "budget") text)))
 
 pub record IsLong (w : List ℕ) : Type 0 where
   pub text : List ℕ
@@ -212,7 +217,7 @@ looks (b ∷ c ∷ w) u = ⊎_elim
 pub record IsUnknown (w : List ℕ) (l : IsLong w) : Type 0 where
   pub sort : sort_of w ≡ refused
   pub budget : bytes_eq (codes "budget") (name_in l.text) ≡ false
-  pub free : bytes_eq (codes "free") (name_in l.text) ≡ false
+  pub flag : (f : Flag) → bytes_eq (name_of f) (name_in l.text) ≡ false
 
 pub record IsApart (w : List ℕ) (l : IsLong w) : Type 0 where
   pub sort : sort_of w ≡ apart
@@ -225,83 +230,98 @@ pub record IsAttached (w : List ℕ) (l : IsLong w) : Type 0 where
   pub same : bytes_eq (codes "budget") (name_in l.text) ≡ true
   pub given : value_in l.text ≡ Some value
 
--- the name is that of the flag, and not that of the option
-pub record IsFlagName (text : List ℕ) : Type 0 where
-  pub budget : bytes_eq (codes "budget") (name_in text) ≡ false
-  pub free : bytes_eq (codes "free") (name_in text) ≡ true
-
+-- the word is a flag, alone or with a value
 pub record IsFlag (w : List ℕ) (l : IsLong w) : Type 0 where
-  pub sort : sort_of w ≡ frees
-  pub name : IsFlagName l.text
+  pub flag : Flag
+  pub sort : sort_of w ≡ flag_sort flag
+  pub name : name_in l.text ≡ name_of flag
   pub none : value_in l.text ≡ None
 
--- the flag has a value
 pub record IsFlagWith (w : List ℕ) (l : IsLong w) : Type 0 where
+  pub flag : Flag
   pub value : List ℕ
   pub sort : sort_of w ≡ refused
-  pub name : IsFlagName l.text
+  pub name : name_in l.text ≡ name_of flag
   pub given : value_in l.text ≡ Some value
 
 abbrev pub Means : (w : List ℕ) → IsLong w → Type 0
 Means w l = IsUnknown w l ⊎ (IsApart w l ⊎ (IsAttached w l ⊎ (IsFlag w l ⊎ IsFlagWith w l)))
 
--- a word that isn't the flag alone is sorted as an option
-as_option : (w : List ℕ) (l : IsLong w) (s : Sort) → same_word l.text (codes "free") ≡ false → option_sort (behind (codes "budget") l.text) ≡ s → sort_of w ≡ s
-as_option w l s other e = l.sort ∙ (ap (λ t. cond t frees (option_sort (behind (codes "budget") l.text))) other ∙ e)
+-- the name of a flag: it has no `=`, is sorted as the flag, and isn't the option's
+clear : (f : Flag) → has_no_equals (name_of f) ≡ true
+clear free = refl
+clear blif = refl
 
--- the name of the option isn't that of the flag, and the other way round
-other_name : (n : List ℕ) → bytes_eq (codes "free") n ≡ true → bytes_eq (codes "budget") n ≡ false
-other_name [] e = refl
-other_name (b ∷ n) e =
-    let first = and_parts (102 == b) (bytes_eq (codes "ree") n) e in
-    and_left (98 == b) (bytes_eq (codes "udget") n) (ap (λ x. 98 == x) (sym (eqb-true 102 b first.0)))
+sorted : (f : Flag) → long_sort (name_of f) ≡ flag_sort f
+sorted free = refl
+sorted blif = refl
 
--- a word whose name isn't the option's is refused, if it isn't the flag alone
+not_budget : (f : Flag) → bytes_eq (codes "budget") (name_of f) ≡ false
+not_budget free = refl
+not_budget blif = refl
+
+-- a word that isn't a flag alone is sorted as an option
+as_option : (w : List ℕ) (l : IsLong w) (s : Sort) → ((f : Flag) → same_word l.text (name_of f) ≡ false) → option_sort (behind (codes "budget") l.text) ≡ s → sort_of w ≡ s
+as_option w l s other e =
+    l.sort
+    ∙ (ap (λ t. cond t frees (cond (same_word l.text (codes "blif")) blifs (option_sort (behind (codes "budget") l.text)))) (other free)
+    ∙ (ap (λ t. cond t blifs (option_sort (behind (codes "budget") l.text))) (other blif) ∙ e))
+
+-- a word whose name isn't the option's is refused, if it isn't a flag alone
 not_option : (o : Option (List ℕ)) → ends_name o ≡ false → option_sort o ≡ refused
 not_option None e = refl
 not_option (Some []) e = absurd (false≢true (sym e))
 not_option (Some (b ∷ bs)) e = ap (λ t. cond t (attached bs) refused) e
 
--- by what stands behind `free`
-flag_name : (text : List ℕ) → bytes_eq (codes "free") (name_in text) ≡ true → IsFlagName text
-flag_name text e = record { budget = other_name (name_in text) e; free = e }
-
-flag_behind : (w : List ℕ) (l : IsLong w) (rest : Option (List ℕ)) → behind (codes "free") l.text ≡ rest → bytes_eq (codes "free") (name_in l.text) ≡ true → Means w l
-flag_behind w l None e y = absurd (false≢true (sym (name_is (codes "free") l.text refl ∙ ap ends_name e) ∙ y))
-flag_behind w l (Some []) e y = inr (inr (inr (inl (record {
-  sort = l.sort ∙ ap (λ t. cond t frees (option_sort (behind (codes "budget") l.text))) (same_is (codes "free") l.text ∙ ap is_over e);
-  name = flag_name l.text y;
-  none = value_is (codes "free") l.text [] refl e;
-}))))
-flag_behind w l (Some (b ∷ bs)) e y =
-    let name = flag_name l.text y in
-    let equals : (b == 61) ≡ true = sym (name_is (codes "free") l.text refl ∙ ap ends_name e) ∙ y in
-    inr (inr (inr (inr (record {
-      value = bs;
-      sort =
-          as_option w l refused (same_is (codes "free") l.text ∙ ap is_over e)
-          (not_option (behind (codes "budget") l.text) (sym (name_is (codes "budget") l.text refl) ∙ name.budget));
-      name = name;
-      given = value_is (codes "free") l.text (b ∷ bs) refl e ∙ rw equals refl;
-    }))))
-
--- by what stands behind `budget`, where the name isn't the flag's
+-- a text whose name isn't the flag's, or that has a value, isn't the flag alone
 not_flag : (o : Option (List ℕ)) → ends_name o ≡ false → is_over o ≡ false
 not_flag None e = refl
 not_flag (Some []) e = e
 not_flag (Some (b ∷ bs)) e = refl
 
-option_behind : (w : List ℕ) (l : IsLong w) (rest : Option (List ℕ)) → behind (codes "budget") l.text ≡ rest → bytes_eq (codes "free") (name_in l.text) ≡ false → Means w l
+not_alone : (f : Flag) (text v : List ℕ) → value_in text ≡ Some v → same_word text (name_of f) ≡ false
+not_alone f text v given = false_from_ne_true _ (λ y. none_is v (sym (no_value f) ∙ (ap value_in (sym ((bytes_eq-Decides text (name_of f)).0 y)) ∙ given)))
+  where
+    no_value : (f : Flag) → value_in (name_of f) ≡ None
+    no_value free = refl
+    no_value blif = refl
+
+-- by what stands behind the flag's name
+flag_behind : (f : Flag) (w : List ℕ) (l : IsLong w) (rest : Option (List ℕ)) → behind (name_of f) l.text ≡ rest → bytes_eq (name_of f) (name_in l.text) ≡ true → Means w l
+flag_behind f w l None e y = absurd (false≢true (sym (name_is (name_of f) l.text (clear f) ∙ ap ends_name e) ∙ y))
+flag_behind f w l (Some []) e y = inr (inr (inr (inl (record {
+  flag = f;
+  sort = l.sort ∙ (ap long_sort ((bytes_eq-Decides l.text (name_of f)).0 (same_is (name_of f) l.text ∙ ap is_over e)) ∙ sorted f);
+  name = sym ((bytes_eq-Decides (name_of f) (name_in l.text)).0 y);
+  none = value_is (name_of f) l.text [] (clear f) e;
+}))))
+flag_behind f w l (Some (b ∷ bs)) e y =
+    let name : name_in l.text ≡ name_of f = sym ((bytes_eq-Decides (name_of f) (name_in l.text)).0 y) in
+    let other : bytes_eq (codes "budget") (name_in l.text) ≡ false = ap (bytes_eq (codes "budget")) name ∙ not_budget f in
+    let equals : (b == 61) ≡ true = sym (name_is (name_of f) l.text (clear f) ∙ ap ends_name e) ∙ y in
+    let given : value_in l.text ≡ Some bs = value_is (name_of f) l.text (b ∷ bs) (clear f) e ∙ rw equals refl in
+    inr (inr (inr (inr (record {
+      flag = f;
+      value = bs;
+      sort =
+          as_option w l refused (λ g. not_alone g l.text bs given)
+          (not_option (behind (codes "budget") l.text) (sym (name_is (codes "budget") l.text refl) ∙ other));
+      name = name;
+      given = given;
+    }))))
+
+-- by what stands behind `budget`, where the name isn't a flag's
+option_behind : (w : List ℕ) (l : IsLong w) (rest : Option (List ℕ)) → behind (codes "budget") l.text ≡ rest → ((f : Flag) → bytes_eq (name_of f) (name_in l.text) ≡ false) → Means w l
 option_behind w l rest e m = by rest e
   where
-    other : same_word l.text (codes "free") ≡ false
-    other = same_is (codes "free") l.text ∙ not_flag (behind (codes "free") l.text) (sym (name_is (codes "free") l.text refl) ∙ m)
+    other : (f : Flag) → same_word l.text (name_of f) ≡ false
+    other f = same_is (name_of f) l.text ∙ not_flag (behind (name_of f) l.text) (sym (name_is (name_of f) l.text (clear f)) ∙ m f)
 
     name : (o : Option (List ℕ)) → behind (codes "budget") l.text ≡ o → bytes_eq (codes "budget") (name_in l.text) ≡ ends_name o
     name o h = name_is (codes "budget") l.text refl ∙ ap ends_name h
 
     by : (o : Option (List ℕ)) → behind (codes "budget") l.text ≡ o → Means w l
-    by None h = inl (record { sort = as_option w l refused other (ap option_sort h); budget = name None h; free = m })
+    by None h = inl (record { sort = as_option w l refused other (ap option_sort h); budget = name None h; flag = m })
     by (Some []) h = inr (inl (record {
       sort = as_option w l apart other (ap option_sort h);
       same = name (Some []) h;
@@ -317,12 +337,15 @@ option_behind w l rest e m = by rest e
         (λ (n : (b == 61) ≡ false). inl (record {
           sort = as_option w l refused other (ap option_sort h ∙ ap (λ t. cond t (attached bs) refused) n);
           budget = name (Some (b ∷ bs)) h ∙ n;
-          free = m;
+          flag = m;
         }))
         (cases_Bool (b == 61))
 
 pub means : (w : List ℕ) (l : IsLong w) → Means w l
 means w l = ⊎_elim
-    (λ (y : bytes_eq (codes "free") (name_in l.text) ≡ true). flag_behind w l (behind (codes "free") l.text) refl y)
-    (λ (m : bytes_eq (codes "free") (name_in l.text) ≡ false). option_behind w l (behind (codes "budget") l.text) refl m)
+    (λ (y : bytes_eq (codes "free") (name_in l.text) ≡ true). flag_behind free w l (behind (codes "free") l.text) refl y)
+    (λ (n : bytes_eq (codes "free") (name_in l.text) ≡ false). ⊎_elim
+    (λ (y : bytes_eq (codes "blif") (name_in l.text) ≡ true). flag_behind blif w l (behind (codes "blif") l.text) refl y)
+    (λ (m : bytes_eq (codes "blif") (name_in l.text) ≡ false). option_behind w l (behind (codes "budget") l.text) refl (no_name (name_in l.text) n m))
+    (cases_Bool (bytes_eq (codes "blif") (name_in l.text))))
     (cases_Bool (bytes_eq (codes "free") (name_in l.text)))

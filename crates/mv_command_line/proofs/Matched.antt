@@ -23,6 +23,7 @@ use Rattle.mv_command_line.proofs.Agreement.{AreTexts, agrees}
 use Rattle.mv_command_line.proofs.Commands.{is_built, is_exact, is_plain, shape_of}
 use Rattle.mv_command_line.proofs.Counts.{joined, joined_nothing}
 use Rattle.mv_command_line.proofs.Finds.{Closes, first_text}
+use Rattle.mv_command_line.proofs.Flags.{flags_of, no_flags}
 use Rattle.mv_command_line.proofs.Stands.{stands_at_first}
 use Rattle.mv_command_line.proofs.Walks.{Agrees, faults, rows_left, walk_at}
 
@@ -50,15 +51,16 @@ pub all_agree : (third : Bool) (words : List (String Global))
     → Agrees (parts_behind third words) (fault_of (command_given third) (bytes_of words)) (matches_of (command_given third) (bytes_of words))
 all_agree third words =
     let ws = drop 1 (bytes_of words) in
-    let h = agrees third ws [] None [] [] 0 (are_texts words) (stands_at_first third) in
+    let h = agrees third ws [] None [] [] no_flags (are_texts words) (stands_at_first third) in
     subst (λ o. Agrees (counted third o) (fault_of (command_given third) (bytes_of words)) (matches_of (command_given third) (bytes_of words))) (joined_nothing (parts_of false ws))
-    (subst (λ ks. Agrees (counted third (joined [] [] 0 (parts_of false ws))) ks (matches_of (command_given third) (bytes_of words))) (sym (faults_are third (bytes_of words)))
-    (subst (λ rs. Agrees (counted third (joined [] [] 0 (parts_of false ws))) (faults third (walk_at false idle 1 [] None) ws) rs) (sym (rows_are third (bytes_of words))) h))
+    (subst (λ ks. Agrees (counted third (joined [] [] no_flags (parts_of false ws))) ks (matches_of (command_given third) (bytes_of words))) (sym (faults_are third (bytes_of words)))
+    (subst (λ rs. Agrees (counted third (joined [] [] no_flags (parts_of false ws))) (faults third (walk_at false idle 1 [] None) ws) rs) (sym (rows_are third (bytes_of words))) h))
 
-gives : (p : Parts) (m : ArgMatches) → Closes (rows_of (found_of m)) p.words p.values p.frees → Gives p (found_of m)
+gives : (p : Parts) (m : ArgMatches) → Closes (rows_of (found_of m)) p.words p.values (flags_of p) → Gives p (found_of m)
 gives p m f = record {
   budget = first_value-rows (found_of m) (codes "budget") ∙ first_text (codes "budget") (rows_of (found_of m)) p.values 0 f.budget;
   free = one_text-rows (found_of m) (codes "free") ∙ f.free;
+  blif = one_text-rows (found_of m) (codes "blif") ∙ f.blif;
   first = first_value-rows (found_of m) (codes "first") ∙ first_text (codes "first") (rows_of (found_of m)) p.words 0 f.first;
   second = first_value-rows (found_of m) (codes "second") ∙ first_text (codes "second") (rows_of (found_of m)) p.words 1 f.second;
   third = first_value-rows (found_of m) (codes "third") ∙ first_text (codes "third") (rows_of (found_of m)) p.words 2 f.third;

@@ -1,11 +1,11 @@
 -- How large a network may be that is to be drawn.
-use Rattle.std.proofs.Common.{◌≡◌, ◌≤◌, ℕ, Bool, true, false, ◌&&◌, nat_lt, nat_le, List, [], ◌∷◌, length, Option, Some, None, refl, ap, subst}
+use Rattle.std.proofs.Common.{◌≡◌, ◌≤◌, ℕ, zero, suc, Bool, true, false, ◌&&◌, nat_lt, nat_le, List, [], ◌∷◌, length, Option, Some, None, refl, ap, subst}
 use Rattle.std.specs.Prelude.{option_map, option_and_then, if◌then◌else◌}
 use Rattle.std.specs.Char.{is_ascii_digit}
 use Rattle.std.specs.List.{list_all}
 use Rattle.std.specs.Str.Parse.{digits_value}
 use Rattle.std.proofs.lemmas.Bool.{false≢true, leb-true}
-use Rattle.mv_command_line.specs.CommandLine.{Files, Draw, Names, Parts, opt, check, work, trace, number_of, size_of, seed_of, budget_given, free_given, of_both, draw_with, draw_in, draw_asked, files_asked, names_asked, parts_of, task_of}
+use Rattle.mv_command_line.specs.CommandLine.{Files, Draw, Names, Parts, opt, check, work, trace, number_of, size_of, seed_of, budget_given, flag_given, of_both, draw_with, draw_in, draw_asked, files_asked, names_asked, parts_of, task_of}
 
 -- of five tests that hold the last two hold
 last_two : (a b c d e : Bool) → (a && b && c && d && e) ≡ true → (d ≡ true) × (e ≡ true)
@@ -41,16 +41,17 @@ drawn_size (Some n) (Some s) script (Some f) (Some b) d e =
     let same : draw_with n s script f b ≡ d = cc in
     ap (λ (x : Draw). Some x.size) same
 
-draw_bounds : (words : List (List ℕ)) (free : Option Bool) (budget : Option ℕ) (d : Draw) → draw_in words free budget ≡ Some d → (1 ≤ d.size) × (d.size ≤ 20000)
-draw_bounds [] free budget d e = absurd cc
-draw_bounds (a ∷ []) free budget d e = absurd cc
-draw_bounds (a ∷ b ∷ []) free budget d e = absurd cc
-draw_bounds (a ∷ b ∷ c ∷ []) free budget d e = number_bounds 5 1 20000 a d.size (drawn_size (size_of a) (seed_of b) c free budget d e)
-draw_bounds (a ∷ b ∷ c ∷ f ∷ ws) free budget d e = absurd cc
+draw_bounds : (words : List (List ℕ)) (blifs : ℕ) (free : Option Bool) (budget : Option ℕ) (d : Draw) → draw_in words blifs free budget ≡ Some d → (1 ≤ d.size) × (d.size ≤ 20000)
+draw_bounds [] blifs free budget d e = absurd cc
+draw_bounds (a ∷ []) blifs free budget d e = absurd cc
+draw_bounds (a ∷ b ∷ []) blifs free budget d e = absurd cc
+draw_bounds (a ∷ b ∷ c ∷ []) zero free budget d e = number_bounds 5 1 20000 a d.size (drawn_size (size_of a) (seed_of b) c free budget d e)
+draw_bounds (a ∷ b ∷ c ∷ []) (suc n) free budget d e = absurd cc
+draw_bounds (a ∷ b ∷ c ∷ f ∷ ws) blifs free budget d e = absurd cc
 
 parts_bounds : (parts : Option Parts) (d : Draw) → option_and_then draw_asked parts ≡ Some d → (1 ≤ d.size) × (d.size ≤ 20000)
 parts_bounds None d e = absurd cc
-parts_bounds (Some p) d e = draw_bounds p.words (free_given p.frees) (budget_given p.values) d e
+parts_bounds (Some p) d e = draw_bounds p.words p.blifs (flag_given p.frees) (budget_given p.values) d e
 
 -- where a network is to be drawn, the third of four tasks is asked for
 asked_third : (x y z t : Bool) (o c : Option Files) (w : Option Draw) (n : Option Names) (d : Draw)

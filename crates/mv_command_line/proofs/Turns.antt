@@ -11,8 +11,9 @@ use Rattle.clap.specs.Walk.{Held, Row, Step, Text, Waiting, Walk, after_step, ar
 use Rattle.clap.specs.Faults.{flags_fault, long_fault, option_fault, positional_fault, react_fault, settle_fault, step_fault, stray_fault, turn_fault, word_fault}
 use Rattle.clap.specs.declared.error.kind.ErrorKind.TheVariants.{TooManyValues, UnknownArgument}
 use Rattle.clap.proofs.FaultLemmas.{past}
-use Rattle.mv_command_line.proofs.Commands.{budget_found, budget_rule, free_found, free_rule, long_missing, rules_of, shape_of, short_missing, word_rule}
-use Rattle.mv_command_line.proofs.Looks.{IsEnd, IsFlagName, IsLong, IsPlain, IsShort, Means, means, name_in, value_in}
+use Rattle.mv_command_line.proofs.Commands.{budget_found, budget_rule, flag_found, flag_rule, long_missing, rules_of, shape_of, short_missing, word_rule}
+use Rattle.mv_command_line.proofs.Flags.{Flag, name_of}
+use Rattle.mv_command_line.proofs.Looks.{IsEnd, IsLong, IsPlain, IsShort, Means, means, name_in, value_in}
 use Rattle.mv_command_line.proofs.Walks.{Pending, held_at, walk_at, first_empty, some_fault, no_subcommand}
 
 abbrev pub turn : Bool → Walk → Text → Kinds
@@ -67,35 +68,38 @@ fault_option third waiting rows pending word l same =
     ∙ ap (λ o. long_fault (rules_of third) false o (value_in l.text) (held_at rows pending)) (budget_found third (name_in l.text) same)
 
 pub fault_unknown : (third : Bool) (waiting : Waiting) (rows : List Row) (pending : Pending) (word : Text) (l : IsLong word)
-    → bytes_eq (codes "budget") (name_in l.text) ≡ false → bytes_eq (codes "free") (name_in l.text) ≡ false
+    → bytes_eq (codes "budget") (name_in l.text) ≡ false → ((f : Flag) → bytes_eq (name_of f) (name_in l.text) ≡ false)
     → own_fault third false waiting rows pending word ≡ UnknownArgument ∷ []
 fault_unknown third waiting rows pending word l n m =
     fault_long third waiting rows pending word l
     ∙ ap (λ o. long_fault (rules_of third) false o (value_in l.text) (held_at rows pending)) (long_missing third (name_in l.text) n m)
 
--- `--free`
-pub met_flag : (third : Bool) (place : ℕ) (rows : List Row) (pending : Pending) (word : Text) (l : IsLong word) → IsFlagName l.text → value_in l.text ≡ None
-    → met third false idle place rows pending word ≡ (held_at (used free_rule [] (settled_rows (rules_of third) pending rows)) None, next idle)
-met_flag third place rows pending word l name none =
-    rw (l.goes_on, l.long) (rw (free_found third (name_in l.text) name.budget name.free) (rw none refl))
+-- a flag
+flag_named : (third : Bool) (f : Flag) (name : Text) → name ≡ name_of f → arg_by_long (rules_of third) name ≡ Some (flag_rule (name_of f))
+flag_named third f name e = ap (arg_by_long (rules_of third)) e ∙ flag_found third f
 
-fault_flag_name : (third : Bool) (waiting : Waiting) (rows : List Row) (pending : Pending) (word : Text) (l : IsLong word) → IsFlagName l.text
-    → own_fault third false waiting rows pending word ≡ long_fault (rules_of third) false (Some free_rule) (value_in l.text) (held_at rows pending)
-fault_flag_name third waiting rows pending word l name =
+pub met_flag : (third : Bool) (place : ℕ) (rows : List Row) (pending : Pending) (word : Text) (l : IsLong word) (f : Flag) → name_in l.text ≡ name_of f → value_in l.text ≡ None
+    → met third false idle place rows pending word ≡ (held_at (used (flag_rule (name_of f)) [] (settled_rows (rules_of third) pending rows)) None, next idle)
+met_flag third place rows pending word l f name none =
+    rw (l.goes_on, l.long) (rw (flag_named third f (name_in l.text) name) (rw none refl))
+
+fault_named : (third : Bool) (waiting : Waiting) (rows : List Row) (pending : Pending) (word : Text) (l : IsLong word) (f : Flag) → name_in l.text ≡ name_of f
+    → own_fault third false waiting rows pending word ≡ long_fault (rules_of third) false (Some (flag_rule (name_of f))) (value_in l.text) (held_at rows pending)
+fault_named third waiting rows pending word l f name =
     fault_long third waiting rows pending word l
-    ∙ ap (λ o. long_fault (rules_of third) false o (value_in l.text) (held_at rows pending)) (free_found third (name_in l.text) name.budget name.free)
+    ∙ ap (λ o. long_fault (rules_of third) false o (value_in l.text) (held_at rows pending)) (flag_named third f (name_in l.text) name)
 
-pub fault_flag : (third : Bool) (waiting : Waiting) (rows : List Row) (pending : Pending) (word : Text) (l : IsLong word) → IsFlagName l.text → value_in l.text ≡ None
-    → own_fault third false waiting rows pending word ≡ react_fault (rules_of third) false free_rule [] (held_at rows pending)
-fault_flag third waiting rows pending word l name none =
-    fault_flag_name third waiting rows pending word l name
-    ∙ ap (λ v. long_fault (rules_of third) false (Some free_rule) v (held_at rows pending)) none
+pub fault_flag : (third : Bool) (waiting : Waiting) (rows : List Row) (pending : Pending) (word : Text) (l : IsLong word) (f : Flag) → name_in l.text ≡ name_of f → value_in l.text ≡ None
+    → own_fault third false waiting rows pending word ≡ react_fault (rules_of third) false (flag_rule (name_of f)) [] (held_at rows pending)
+fault_flag third waiting rows pending word l f name none =
+    fault_named third waiting rows pending word l f name
+    ∙ ap (λ v. long_fault (rules_of third) false (Some (flag_rule (name_of f))) v (held_at rows pending)) none
 
-pub fault_flag_with : (third : Bool) (waiting : Waiting) (rows : List Row) (pending : Pending) (word : Text) (l : IsLong word) (v : Text) → IsFlagName l.text → value_in l.text ≡ Some v
+pub fault_flag_with : (third : Bool) (waiting : Waiting) (rows : List Row) (pending : Pending) (word : Text) (l : IsLong word) (f : Flag) (v : Text) → name_in l.text ≡ name_of f → value_in l.text ≡ Some v
     → own_fault third false waiting rows pending word ≡ TooManyValues ∷ []
-fault_flag_with third waiting rows pending word l v name some =
-    fault_flag_name third waiting rows pending word l name
-    ∙ ap (λ o. long_fault (rules_of third) false (Some free_rule) o (held_at rows pending)) some
+fault_flag_with third waiting rows pending word l f v name some =
+    fault_named third waiting rows pending word l f name
+    ∙ ap (λ o. long_fault (rules_of third) false (Some (flag_rule (name_of f))) o (held_at rows pending)) some
 
 pub fault_short : (third : Bool) (waiting : Waiting) (rows : List Row) (pending : Pending) (word : Text) → IsShort word
     → own_fault third false waiting rows pending word ≡ UnknownArgument ∷ []
@@ -117,11 +121,11 @@ long_fails third waiting rows pending word l bad e = by (means word l)
     option y = option_fails third (value_in l.text) rows pending bad (sym (fault_option third waiting rows pending word l y) ∙ e)
 
     by : Means word l → ⊥
-    by (inl u) = some_fault _ _ (sym (fault_unknown third waiting rows pending word l u.budget u.free) ∙ e)
+    by (inl u) = some_fault _ _ (sym (fault_unknown third waiting rows pending word l u.budget u.flag) ∙ e)
     by (inr (inl a)) = option a.same
     by (inr (inr (inl a))) = option a.same
-    by (inr (inr (inr (inl f)))) = bad (first_empty (settles third rows pending) _ (sym (fault_flag third waiting rows pending word l f.name f.none) ∙ e))
-    by (inr (inr (inr (inr f)))) = some_fault _ _ (sym (fault_flag_with third waiting rows pending word l f.value f.name f.given) ∙ e)
+    by (inr (inr (inr (inl f)))) = bad (first_empty (settles third rows pending) _ (sym (fault_flag third waiting rows pending word l f.flag f.name f.none) ∙ e))
+    by (inr (inr (inr (inr f)))) = some_fault _ _ (sym (fault_flag_with third waiting rows pending word l f.flag f.value f.name f.given) ∙ e)
 
 pub short_fails : (third : Bool) (waiting : Waiting) (rows : List Row) (pending : Pending) (word : Text) → IsShort word
     → own_fault third false waiting rows pending word ≡ [] → ⊥

@@ -9,6 +9,7 @@ use Rattle.clap.proofs.FaultLemmas.{past}
 use Rattle.mv_command_line.specs.CommandLine.{Parts}
 use Rattle.mv_command_line.proofs.Commands.{rules_of, shape_of}
 use Rattle.mv_command_line.proofs.Finds.{Closes}
+use Rattle.mv_command_line.proofs.Flags.{flags_of}
 
 abbrev pub Pending : Type 0
 Pending = Option (Text × List Text)
@@ -62,7 +63,7 @@ first_passes third w word ws e = first_empty (turn_fault (shape_of third) [] w w
 -- where the parts are refused there is a fault, and else there is none, and the rows have the parts
 abbrev pub Agrees : Option Parts → Kinds → List Row → Type 0
 Agrees None kinds rows = kinds ≡ [] → ⊥
-Agrees (Some p) kinds rows = (kinds ≡ []) × Closes rows p.words p.values p.frees
+Agrees (Some p) kinds rows = (kinds ≡ []) × Closes rows p.words p.values (flags_of p)
 
 abbrev pub AgreesAt : Bool → Option Parts → Walk → List Text → Type 0
 AgreesAt third parts w ws = Agrees parts (faults third w ws) (rows_left third w ws)

@@ -13,10 +13,10 @@ IsRefusedBy asked Memory = Unit {0}
 
 -- the task as a value of the definition
 abbrev pub asked_of : Task → Asked
-asked_of (task.Opt net script options) =
-    opt (files_with net.now script.now options.free options.budget)
-asked_of (task.Check net certificate options) =
-    check (files_with net.now certificate.now options.free options.budget)
+asked_of (task.Opt net script blif options) =
+    opt (files_with net.now script.now blif options.free options.budget)
+asked_of (task.Check net certificate blif options) =
+    check (files_with net.now certificate.now blif options.free options.budget)
 asked_of (task.Work size seed script options) =
     work (draw_with size seed script.now options.free options.budget)
 asked_of (task.Trace net run) = trace (names_with net.now run.now)

@@ -20,11 +20,13 @@ behind (a ∷ start) [] = None
 behind (a ∷ start) (b ∷ w) = if b == a then behind start w else None
 
 -- what a word is, where options may stand: a positional word, `--` which ends options, `--free`,
--- `--budget` whose value is the next word, `--budget=` with its value, or a word that is refused
+-- `--blif`, `--budget` whose value is the next word, `--budget=` with its value, or a word that is
+-- refused
 pub data Sort : Type 0 where
   positional : Sort
   ends : Sort
   frees : Sort
+  blifs : Sort
   apart : Sort
   attached : List ℕ → Sort
   refused : Sort
@@ -41,17 +43,24 @@ sort_of w =
     if is_dashed w then (
     if same_word w (codes "--") then ends
     else if same_word w (codes "--free") then frees
+    else if same_word w (codes "--blif") then blifs
     else option_sort (behind (codes "--budget") w))
     else positional
 
 -- the words behind the first one: those that are positional, the values of `--budget`, and how many
--- are `--free`
+-- are `--free` and `--blif`
 pub record Parts : Type 0 where
   pub words : List (List ℕ)
   pub values : List (List ℕ)
   pub frees : ℕ
+  pub blifs : ℕ
 
--- with one more positional word in front, with one more value, and with one more `--free`
+-- the parts of no words but these positional ones
+abbrev pub only_words : List (List ℕ) → Parts
+only_words ws = record { words = ws; values = []; frees = 0; blifs = 0 }
+
+-- with one more positional word in front, with one more value, with one more `--free`, and with one
+-- more `--blif`
 abbrev pub with_word : List ℕ → Option Parts → Option Parts
 with_word w None = None
 with_word w (Some p) = Some (record p { words = w ∷ p.words })
@@ -64,12 +73,17 @@ abbrev pub with_free : Option Parts → Option Parts
 with_free None = None
 with_free (Some p) = Some (record p { frees = suc p.frees })
 
+abbrev pub with_blif : Option Parts → Option Parts
+with_blif None = None
+with_blif (Some p) = Some (record p { blifs = suc p.blifs })
+
 -- what a word of this sort and the words behind it are, by what those are where options may stand,
 -- and where a value has to
 abbrev pub parts_by : Sort → List ℕ → List (List ℕ) → Option Parts → Option Parts → Option Parts
 parts_by positional w ws loose held = with_word w loose
-parts_by ends w ws loose held = Some (record { words = ws; values = []; frees = 0 })
+parts_by ends w ws loose held = Some (only_words ws)
 parts_by frees w ws loose held = with_free loose
+parts_by blifs w ws loose held = with_blif loose
 parts_by apart w ws loose held = held
 parts_by (attached v) w ws loose held = with_value v loose
 parts_by refused w ws loose held = None
@@ -77,7 +91,7 @@ parts_by refused w ws loose held = None
 -- the parts of these words, none where one is refused. Where the first is to be the value of
 -- `--budget` it is no dashed word, since no number is
 abbrev pub parts_of : Bool → List (List ℕ) → Option Parts
-parts_of false [] = Some (record { words = []; values = []; frees = 0 })
+parts_of false [] = Some (only_words [])
 parts_of true [] = None
 parts_of false (w ∷ ws) = parts_by (sort_of w) w ws (parts_of false ws) (parts_of true ws)
 parts_of true (w ∷ ws) = if is_dashed w then None else with_value w (parts_of false ws)
@@ -106,18 +120,19 @@ budget_given [] = Some DEFAULT_BUDGET
 budget_given (v ∷ []) = budget_of v
 budget_given (v ∷ u ∷ vs) = None
 
--- whether `--free` is given, by how many words say so; more than one are refused
-abbrev pub free_given : ℕ → Option Bool
-free_given zero = Some false
-free_given (suc zero) = Some true
-free_given (suc (suc n)) = None
+-- whether an option without a value is given, by how many words say so; more than one are refused
+abbrev pub flag_given : ℕ → Option Bool
+flag_given zero = Some false
+flag_given (suc zero) = Some true
+flag_given (suc (suc n)) = None
 
--- two names of files, whether values under which the network allows nothing may be given any
--- meaning, and how many nodes of diagrams may be made; what is drawn, the name of a script, and the
--- same
+-- two names of files, whether the network files are BLIF, whether values under which the network
+-- allows nothing may be given any meaning, and how many nodes of diagrams may be made; what is
+-- drawn, the name of a script, and the last two of these
 pub record Files : Type 0 where
   pub net : List ℕ
   pub other : List ℕ
+  pub blif : Bool
   pub free : Bool
   pub budget : ℕ
 
@@ -146,8 +161,9 @@ pub data Asked : Type 0 where
 abbrev pub is_stdin : List ℕ → Bool
 is_stdin w = same_word w (codes "-")
 
-abbrev pub files_with : List ℕ → List ℕ → Bool → ℕ → Files
-files_with net other free budget = record { net = net; other = other; free = free; budget = budget }
+abbrev pub files_with : List ℕ → List ℕ → Bool → Bool → ℕ → Files
+files_with net other blif free budget =
+    record { net = net; other = other; blif = blif; free = free; budget = budget }
 
 abbrev pub names_with : List ℕ → List ℕ → Names
 names_with net other = record { net = net; other = other }
@@ -161,33 +177,35 @@ abbrev pub of_both : {A : Type 0} → (Bool → ℕ → A) → Option Bool → O
 of_both make free budget = option_and_then (λ f. option_map (make f) budget) free
 
 -- exactly two names of files, of which one at most is standard input
-abbrev pub files_in : List (List ℕ) → Option Bool → Option ℕ → Option Files
-files_in (net ∷ other ∷ []) free budget =
-    if is_stdin net && is_stdin other then None else of_both (files_with net other) free budget
-files_in _ free budget = None
+abbrev pub files_in : List (List ℕ) → Option Bool → Option Bool → Option ℕ → Option Files
+files_in (net ∷ other ∷ []) blif free budget =
+    if is_stdin net && is_stdin other then None
+    else option_and_then (λ b. of_both (files_with net other b) free budget) blif
+files_in _ blif free budget = None
 
--- exactly a size, a seed and the name of a script
-abbrev pub draw_in : List (List ℕ) → Option Bool → Option ℕ → Option Draw
-draw_in (size ∷ seed ∷ script ∷ []) free budget =
+-- exactly a size, a seed and the name of a script, and no `--blif`
+abbrev pub draw_in : List (List ℕ) → ℕ → Option Bool → Option ℕ → Option Draw
+draw_in (size ∷ seed ∷ script ∷ []) zero free budget =
     option_and_then
     (λ n. option_and_then (λ s. of_both (draw_with n s script) free budget) (seed_of seed))
     (size_of size)
-draw_in _ free budget = None
+draw_in _ _ free budget = None
 
 -- exactly two names of files, of which one at most is standard input, and no option
-abbrev pub names_in : List (List ℕ) → ℕ → List (List ℕ) → Option Names
-names_in (net ∷ other ∷ []) zero [] =
+abbrev pub names_in : List (List ℕ) → ℕ → ℕ → List (List ℕ) → Option Names
+names_in (net ∷ other ∷ []) zero zero [] =
     if is_stdin net && is_stdin other then None else Some (names_with net other)
-names_in _ count values = None
+names_in _ _ _ _ = None
 
 abbrev pub files_asked : Parts → Option Files
-files_asked p = files_in p.words (free_given p.frees) (budget_given p.values)
+files_asked p =
+    files_in p.words (flag_given p.blifs) (flag_given p.frees) (budget_given p.values)
 
 abbrev pub draw_asked : Parts → Option Draw
-draw_asked p = draw_in p.words (free_given p.frees) (budget_given p.values)
+draw_asked p = draw_in p.words p.blifs (flag_given p.frees) (budget_given p.values)
 
 abbrev pub names_asked : Parts → Option Names
-names_asked p = names_in p.words p.frees p.values
+names_asked p = names_in p.words p.blifs p.frees p.values
 
 -- what the words behind the first one ask for
 abbrev pub asked_by : List ℕ → Option Parts → Option Asked

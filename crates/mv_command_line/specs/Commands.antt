@@ -4,13 +4,19 @@ use Rattle.clap.specs.Walk.{Rule, Text}
 use Rattle.clap.specs.Simple.{App, new_rule, new_shape}
 use Rattle.clap.specs.declared.builder.action.ArgAction.TheVariants.{Set, SetTrue}
 
--- the options, and a positional word
+-- the options, of which two have no value, and a positional word
 abbrev pub budget_option : Rule
 budget_option =
     record (new_rule (codes "budget")) { long = Some (codes "budget"); action = Some Set }
 
+abbrev pub flag_option : Text → Rule
+flag_option name = record (new_rule name) { long = Some name; action = Some SetTrue }
+
 abbrev pub free_option : Rule
-free_option = record (new_rule (codes "free")) { long = Some (codes "free"); action = Some SetTrue }
+free_option = flag_option (codes "free")
+
+abbrev pub blif_option : Rule
+blif_option = flag_option (codes "blif")
 
 abbrev pub word_given : Text → Rule
 word_given id = record (new_rule id) { action = Some Set; required = true }
@@ -20,8 +26,8 @@ abbrev pub two_given : App
 two_given = record {
   top = record (new_shape (codes "mvopt")) {
     disable_help_flag = true;
-    rules = budget_option ∷ free_option ∷ word_given (codes "first") ∷ word_given (codes "second")
-        ∷ [];
+    rules = budget_option ∷ free_option ∷ blif_option ∷ word_given (codes "first")
+        ∷ word_given (codes "second") ∷ [];
   };
   subs = [];
 }

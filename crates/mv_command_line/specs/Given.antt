@@ -23,7 +23,7 @@ text_of = option_map (λ s. s.now)
 
 -- the files and the draw as values of the definition
 abbrev pub files_of : FilesGiven → Files
-files_of f = files_with f.net.now f.other.now f.options.free f.options.budget
+files_of f = files_with f.net.now f.other.now f.blif f.options.free f.options.budget
 
 abbrev pub draw_of : DrawGiven → Draw
 draw_of d = draw_with d.size d.seed d.script.now d.options.free d.options.budget
@@ -37,35 +37,35 @@ budget_by None = Some DEFAULT_BUDGET
 budget_by (Some v) = budget_of v
 
 -- two names of files, of which one at most is standard input, with what the options say
-abbrev pub files_by : Option (List ℕ) → Option (List ℕ) → Bool → Option (List ℕ) → Option Files
-files_by None other free value = None
-files_by (Some net) None free value = None
-files_by (Some net) (Some other) free value =
+abbrev pub files_by : Option (List ℕ) → Option (List ℕ) → Bool → Bool → Option (List ℕ)
+    → Option Files
+files_by None other blif free value = None
+files_by (Some net) None blif free value = None
+files_by (Some net) (Some other) blif free value =
     if is_stdin net && is_stdin other then None
-    else option_map (files_with net other free) (budget_by value)
+    else option_map (files_with net other blif free) (budget_by value)
 
 -- two names of files, of which one at most is standard input, where no option is given
-abbrev pub names_by : Option (List ℕ) → Option (List ℕ) → Bool → Option (List ℕ) → Option Names
-names_by (Some net) (Some other) false None =
+abbrev pub names_by : Option (List ℕ) → Option (List ℕ) → Bool → Bool → Option (List ℕ)
+    → Option Names
+names_by (Some net) (Some other) false false None =
     if is_stdin net && is_stdin other then None else Some (names_with net other)
-names_by net other free value = None
+names_by net other blif free value = None
 
--- a size, a seed and the name of a script, with what the options say
-abbrev pub draw_by : Option (List ℕ) → Option (List ℕ) → Option (List ℕ) → Bool → Option (List ℕ)
-    → Option Draw
-draw_by None seed script free value = None
-draw_by (Some size) None script free value = None
-draw_by (Some size) (Some seed) None free value = None
-draw_by (Some size) (Some seed) (Some script) free value =
+-- a size, a seed and the name of a script, with what the options say, of which `--blif` is none
+abbrev pub draw_by : Option (List ℕ) → Option (List ℕ) → Option (List ℕ) → Bool → Bool
+    → Option (List ℕ) → Option Draw
+draw_by (Some size) (Some seed) (Some script) false free value =
     option_and_then
     (λ n. option_and_then (λ s. option_map (draw_with n s script free) (budget_by value))
     (seed_of seed))
     (size_of size)
+draw_by size seed script blif free value = None
 
 -- the parts have two positional words, or three, and each option once at most
 abbrev pub has_count : Bool → Parts → Bool
 has_count third p = (length p.words == (if third then 3 else 2))
-    && (nat_le (length p.values) 1 && nat_le p.frees 1)
+    && (nat_le (length p.values) 1 && (nat_le p.frees 1 && nat_le p.blifs 1))
 
 -- parts of that count
 abbrev pub counted : Bool → Option Parts → Option Parts
@@ -80,6 +80,7 @@ flag_text (suc n) = codes "true"
 pub record Gives (p : Parts) (f : Found) : Type 0 where
   pub budget : first_value f (codes "budget") ≡ slice_get p.values 0
   pub free : one_text f (codes "free") ≡ Some (flag_text p.frees)
+  pub blif : one_text f (codes "blif") ≡ Some (flag_text p.blifs)
   pub first : first_value f (codes "first") ≡ slice_get p.words 0
   pub second : first_value f (codes "second") ≡ slice_get p.words 1
   pub third : first_value f (codes "third") ≡ slice_get p.words 2

@@ -12,6 +12,8 @@ use mv_base::DEFAULT_BUDGET;
 pub struct Files<'a> {
     pub net: &'a str,
     pub other: &'a str,
+    /// Whether the network files are BLIF, not BLIF-MV.
+    pub blif: bool,
     pub options: Options,
 }
 
@@ -59,11 +61,12 @@ fn budget_by(value: Option<&str>) -> Option<u32>
 pub fn files_by<'a>(
     net: Option<&'a str>,
     other: Option<&'a str>,
+    blif: bool,
     free: bool,
     budget: Option<&'a str>,
 ) -> Option<Files<'a>>
     ensures { option_map files_of result
-        ≡ files_by (text_of net.entry) (text_of other.entry) free (text_of budget.entry) }
+        ≡ files_by (text_of net.entry) (text_of other.entry) blif free (text_of budget.entry) }
 {
     let net = net?;
     let other = other?;
@@ -75,6 +78,7 @@ pub fn files_by<'a>(
     Some(Files {
         net,
         other,
+        blif,
         options,
     })
 }
@@ -83,32 +87,37 @@ pub fn files_by<'a>(
 pub fn names_by<'a>(
     net: Option<&'a str>,
     other: Option<&'a str>,
+    blif: bool,
     free: bool,
     budget: Option<&'a str>,
 ) -> Option<Names<'a>>
     ensures { option_map names_of result
-        ≡ names_by (text_of net.entry) (text_of other.entry) free (text_of budget.entry) }
+        ≡ names_by (text_of net.entry) (text_of other.entry) blif free (text_of budget.entry) }
 {
     let net = net?;
     let other = other?;
-    if free || budget.is_some() || is_stdin(net.as_bytes()) && is_stdin(other.as_bytes()) {
+    if blif || free || budget.is_some() || is_stdin(net.as_bytes()) && is_stdin(other.as_bytes()) {
         return None;
     }
     Some(Names { net, other })
 }
 
-/// A size, a seed and the name of a script, with what the options say.
+/// A size, a seed and the name of a script, with what the options say, of which `--blif` is none.
 pub fn draw_by<'a>(
     size: Option<&'a str>,
     seed: Option<&'a str>,
     script: Option<&'a str>,
+    blif: bool,
     free: bool,
     budget: Option<&'a str>,
 ) -> Option<Draw<'a>>
     ensures { option_map draw_of result
-        ≡ draw_by (text_of size.entry) (text_of seed.entry) (text_of script.entry) free
+        ≡ draw_by (text_of size.entry) (text_of seed.entry) (text_of script.entry) blif free
         (text_of budget.entry) }
 {
+    if blif {
+        return None;
+    }
     let size = size_of(size?.as_bytes())?;
     let seed = seed_of(seed?.as_bytes())?;
     let script = script?;

@@ -1,7 +1,7 @@
 ghost use Rattle.std.specs.Prelude.{◌≡◌, ◌<◌, false, Some, [], IfOk, MatchResult, length, map, slice_index_or, string_bytes};
 ghost use Rattle.std.specs.Prelude.{option_map, option_and_then};
 ghost use Rattle.clap.specs.Words.{app_of, rule_of};
-ghost use Rattle.mv_command_line.specs.Commands.{budget_option, free_option, command_given, two_given, word_given};
+ghost use Rattle.mv_command_line.specs.Commands.{budget_option, flag_option, command_given, two_given, word_given};
 ghost use Rattle.mv_command_line.specs.CommandLine.{opt, check, work, trace, asked_by, files_asked, draw_asked, names_asked, task_of};
 ghost use Rattle.mv_command_line.specs.Answers.{Answers, IsRefusedBy};
 ghost use Rattle.mv_command_line.specs.Given.{AreMatched, files_of, draw_of, names_of, rest_parts};
@@ -22,14 +22,12 @@ fn budget_option<'a>(alloc: Global) -> Arg<'a>
         .long("budget")
 }
 
-/// The option `--free`, which has no value.
-fn free_option<'a>(alloc: Global) -> Arg<'a>
-    ensures rule { rule_of result ≡ free_option }
+/// An option without a value.
+fn flag_option(alloc: Global, name: &str) -> Arg<'_>
+    ensures rule { rule_of result ≡ flag_option name.entry.now }
     ensures local { result.global ≡ false }
 {
-    Arg::new(alloc, "free")
-        .action(ArgAction::SetTrue)
-        .long("free")
+    Arg::new(alloc, name).action(ArgAction::SetTrue).long(name)
 }
 
 /// A positional word, which has to be there.
@@ -47,7 +45,8 @@ fn two_words<'a>(alloc: Global) -> Result<Command<'a>, AllocError>
     let command = Command::new(alloc, "mvopt")
         .disable_help_flag(true)
         .arg(budget_option(alloc))?
-        .arg(free_option(alloc))?
+        .arg(flag_option(alloc, "free"))?
+        .arg(flag_option(alloc, "blif"))?
         .arg(word_given(alloc, "first"))?
         .arg(word_given(alloc, "second"))?;
     Ok(command)
@@ -90,9 +89,10 @@ fn files<'a>(alloc: Global, words: &'a [String]) -> Result<Files<'a>, WordsStop>
     };
     let net = matches.get_str("first");
     let other = matches.get_str("second");
+    let blif = matches.get_flag("blif");
     let free = matches.get_flag("free");
     let budget = matches.get_str("budget");
-    match files_by(net, other, free, budget) {
+    match files_by(net, other, blif, free, budget) {
         Some(files) => Ok(files),
         None => Err(WordsStop::Refused),
     }
@@ -110,9 +110,10 @@ fn draw<'a>(alloc: Global, words: &'a [String]) -> Result<Draw<'a>, WordsStop>
     let size = matches.get_str("first");
     let seed = matches.get_str("second");
     let script = matches.get_str("third");
+    let blif = matches.get_flag("blif");
     let free = matches.get_flag("free");
     let budget = matches.get_str("budget");
-    match draw_by(size, seed, script, free, budget) {
+    match draw_by(size, seed, script, blif, free, budget) {
         Some(draw) => Ok(draw),
         None => Err(WordsStop::Refused),
     }
@@ -129,9 +130,10 @@ fn names<'a>(alloc: Global, words: &'a [String]) -> Result<Names<'a>, WordsStop>
     };
     let net = matches.get_str("first");
     let other = matches.get_str("second");
+    let blif = matches.get_flag("blif");
     let free = matches.get_flag("free");
     let budget = matches.get_str("budget");
-    match names_by(net, other, free, budget) {
+    match names_by(net, other, blif, free, budget) {
         Some(names) => Ok(names),
         None => Err(WordsStop::Refused),
     }
@@ -145,6 +147,7 @@ fn opt<'a>(alloc: Global, words: &'a [String]) -> Result<Task<'a>, WordsStop>
         Ok(files) => Ok(Task::Opt {
             net: files.net,
             script: files.other,
+            blif: files.blif,
             options: files.options,
         }),
         Err(stop) => Err(stop),
@@ -160,6 +163,7 @@ fn check<'a>(alloc: Global, words: &'a [String]) -> Result<Task<'a>, WordsStop>
         Ok(files) => Ok(Task::Check {
             net: files.net,
             certificate: files.other,
+            blif: files.blif,
             options: files.options,
         }),
         Err(stop) => Err(stop),
@@ -223,9 +227,10 @@ fn first_word(words: &[String]) -> &str
 }
 
 /// The task that the words ask for, without the program's name: `trace NET RUN` without an option, or `opt NET SCRIPT`,
-/// `check NET CERTIFICATE` or `work SIZE SEED SCRIPT`, with `--free` at most once and `--budget N` or `--budget=N` at most once among the words behind the first
-/// one, before any `--`, which ends options. Behind it every word is positional. N has up to seven digits and is from 1,000 to 4,000,000, SIZE up to
-/// five and is from 1 to 20,000, SEED up to twenty and is below 2^64. One name of a file at most is `-`. All else is refused.
+/// `check NET CERTIFICATE` or `work SIZE SEED SCRIPT`, with `--free` at most once, `--budget N` or `--budget=N` at most once and, except at `work`, `--blif` at
+/// most once among the words behind the first one, before any `--`, which ends options. Behind it every word is positional. N has up to seven digits and
+/// is from 1,000 to 4,000,000, SIZE up to five and is from 1 to 20,000, SEED up to twenty and is below 2^64. With `--blif` the network files are BLIF, not BLIF-MV. One name
+/// of a file at most is `-`. All else is refused.
 pub fn read_words<'a>(alloc: Global, words: &'a [String]) -> Result<Task<'a>, WordsStop>
     ensures { Answers (task_of (map string_bytes words.now)) result }
 {

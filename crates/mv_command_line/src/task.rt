@@ -17,12 +17,16 @@ pub enum Task<'a> {
     Opt {
         net: &'a str,
         script: &'a str,
+        /// Whether the network files are BLIF, not BLIF-MV.
+        blif: bool,
         options: Options,
     },
     /// A certificate of such a run is to be checked.
     Check {
         net: &'a str,
         certificate: &'a str,
+        /// Whether the network files are BLIF, not BLIF-MV.
+        blif: bool,
         options: Options,
     },
     /// A network of this size, from 1 to 20,000, is to be drawn from the seed and optimised by a script.

@@ -8,5 +8,5 @@ mod tell_flat;
 
 pub use fault::{ParseFault, Which};
 pub use flat::FlatFault;
-pub use tell::put_parse_fault;
+pub use tell::{put_bare, put_parse_fault, put_word};
 pub use tell_flat::put_flat_fault;

@@ -40,16 +40,16 @@ fn put_head<K: Sink>(name: &[u8], line: u32, out: &mut K) -> Result<(), Failed>
     put_both(b" line ", buffer.format(line).as_bytes(), out)
 }
 
-/// Puts a line without words.
-fn put_bare<K: Sink>(name: &[u8], line: u32, out: &mut K) -> Result<(), Failed>
+/// Puts the line of a fault of lines, of this number and name, that has no words. It takes no memory.
+pub fn put_bare<K: Sink>(name: &[u8], line: u32, out: &mut K) -> Result<(), Failed>
     ensures { Appends (K.state out.old) (K.state out.new) (told name.now line []) result }
 {
     put_head(name, line, out)?;
     out.put(b"\n")
 }
 
-/// Puts a line with one word.
-fn put_word<K: Sink>(name: &[u8], line: u32, word: &Name, out: &mut K) -> Result<(), Failed>
+/// Puts the line of a fault of lines, of this number and name, that has one word. It takes no memory.
+pub fn put_word<K: Sink>(name: &[u8], line: u32, word: &Name, out: &mut K) -> Result<(), Failed>
     ensures { Appends (K.state out.old) (K.state out.new)
         (told name.now line (word.now ∷ [])) result }
 {

@@ -2,7 +2,7 @@
 use Rattle.std.proofs.Common.{◌≡◌, ℕ, zero, suc, ◌+◌, ◌<◌, false, Some, List, [], ◌∷◌, ◌++◌, length, get_or, map, refl, sym, ◌∙◌, ap, subst, arith, All}
 use Rattle.std.specs.List.{flat_map, range_with_len, slice_get}
 use Rattle.std.proofs.lemmas.Bool.{false≢true}
-use Rattle.std.proofs.lemmas.List.{append_assoc, append-nil, length-append, map-append}
+use Rattle.std.proofs.lemmas.List.{append_assoc, append-nil, length-append, length-map, map-append}
 use Rattle.std.proofs.lemmas.List.Elements.{All-nil, All-cons, All-head, All-tail, All-append}
 use Rattle.std.proofs.lemmas.List.FromFn.{length-range_with_len, get_or-range_with_len}
 use Rattle.std.proofs.lemmas.Option.{slice_get-get_or, none-some, same_Some}
@@ -24,6 +24,8 @@ use Rattle.mv_rows.specs.declared.column.Column.{Column}
 use Rattle.mv_rows.specs.Marked.{default_marked, is_marked}
 use Rattle.mv_flat.specs.declared.shared.SharedTables.{SharedTables}
 use Rattle.mv_flat.specs.Size.{gives_reset}
+use Rattle.mv_shapes.specs.Distinct.{StandsFor}
+use Rattle.mv_shapes.proofs.Standing.{stands_same}
 use Rattle.mv_flat.specs.Shared.{first_at, firsts_from, origins_of, HasRowsOf, IsFrom}
 
 -- ---- parts of lists
@@ -92,7 +94,11 @@ numbered_from s home at (t ∷ ts) known =
     (λ plain k f origin there.
     let e : slice_get s.origins.items (at + 0) ≡ Some k = ap (slice_get s.origins.items) (omega arith) ∙ origin in
     let same : t ≡ f = same_Some t f (known 0 k f (omega arith) e there) in
-    record { rows = ap (λ (x : FileTable). x.rows) same; default = ap (λ (x : FileTable). x.default) same })
+    record {
+      outputs = length-map t.outputs home ∙ ap (λ (x : FileTable). length x.outputs) same;
+      rows = ap (λ (x : FileTable). x.rows) same;
+      default = ap (λ (x : FileTable). x.default) same;
+    })
     (numbered_from s home (suc at) ts
     (λ i k f low origin there.
     known (suc i) k f (omega (arith, low)) (ap (slice_get s.origins.items) (omega arith) ∙ origin) there))
@@ -226,3 +232,7 @@ tables_known d os h s known none single =
 pub same_marked : (cs : List Column) (t f : FileTable) → HasRowsOf t f → is_marked cs f ≡ is_marked cs t
 unfolding is_marked
 same_marked cs t f same = λ i. default_marked cs (sym same.rows i) (sym same.default i)
+
+-- the table of the design stands for the one that comes from it
+pub same_stands : (t f : FileTable) → HasRowsOf t f → StandsFor f t
+same_stands t f same = stands_same f t (sym same.outputs) (sym same.default) (sym same.rows)

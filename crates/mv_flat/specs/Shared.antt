@@ -7,8 +7,9 @@ use Rattle.mv_design.specs.Nets.{no_model}
 use Rattle.mv_flat.specs.Size.{gives_reset}
 use Rattle.mv_flat.specs.declared.shared.SharedTables.{SharedTables}
 
--- a table has the rows and the default of another
+-- a table has the rows and the default of another, and as many outputs
 pub record HasRowsOf (t other : FileTable) : Type 0 where
+  pub outputs : length t.outputs ≡ length other.outputs
   pub rows : t.rows ≡ other.rows
   pub default : t.default ≡ other.default
 

@@ -26,7 +26,7 @@ use mv_acyclic::Numbers;
 use mv_base::{MAX_JOINT_ROWS, Memory, Name, NetId};
 use mv_design::FileTable;
 use mv_fault::FlatFault;
-use mv_joint::{CoversStop, JointTable, is_joint_marked, joint_table};
+use mv_joint::{CoversStop, JointTable, is_joint_marked};
 use mv_rows::{Column, FlatTable, RowStop, is_marked};
 use std::alloc::Global;
 
@@ -62,7 +62,7 @@ pub fn covers(
     ensures stop { IfErr result (TellsCovers columns.now names.now table.now size) }
 {
     if is_joint(table) {
-        return match joint_covers(alloc, columns, names, table, size) {
+        return match joint_covers(alloc, columns, names, table, size, shared) {
             Ok(joint) => Ok(TableCovers::Joint(joint)),
             Err(fault) => Err(fault),
         };
@@ -172,18 +172,20 @@ fn joint_covers(
     names: &Numbers,
     table: &FileTable,
     size: Size,
+    shared: &SharedTables,
 ) -> Result<JointTable, FlatFault>
     requires columns { AreColumnsOf names.now table.now columns.now }
     requires few { length names.now ≤ MAX_NETS }
     requires joint { is_joint table.now ≡ true }
     requires chosen { among (choice_name (output_of table.now)) names.now ≡ true }
     requires within { IsWithinSize size }
+    requires from { IsFrom shared.now table.now }
     ensures made { IfOk result
         (IsMadeJoint columns.now table.now (mark_at names.now table.now)
         (choice_at names.now table.now)) }
     ensures stop { IfErr result (TellsCovers columns.now names.now table.now size) }
 {
-    match several_covers(alloc, columns, names, table, size.lines_left()) {
+    match several_covers(alloc, columns, names, table, size.lines_left(), shared) {
         Ok(joint) => Ok(joint),
         Err(CoversStop::Wide) => Err(FlatFault::JointWide {
             number: MAX_JOINT_ROWS + 1,
@@ -219,11 +221,13 @@ fn several_covers(
     names: &Numbers,
     table: &FileTable,
     most: usize,
+    shared: &SharedTables,
 ) -> Result<JointTable, CoversStop>
     requires columns { AreColumnsOf names.now table.now columns.now }
     requires few { length names.now ≤ MAX_NETS }
     requires joint { is_joint table.now ≡ true }
     requires chosen { among (choice_name (output_of table.now)) names.now ≡ true }
+    requires from { IsFrom shared.now table.now }
     ensures made { IfOk result
         (IsMadeJoint columns.now table.now (mark_at names.now table.now)
         (choice_at names.now table.now)) }
@@ -234,7 +238,7 @@ fn several_covers(
     let first = &table.outputs.as_slice()[0];
     let mark = number_or_past(names, &mark_name(alloc, first)?);
     let choice = number_or_past(names, &choice_name(alloc, first)?);
-    match joint_table(alloc, columns, table, mark, choice, most) {
+    match shared.joint_table(alloc, columns, table, mark, choice, most) {
         Ok(joint) => Ok(joint),
         Err(stop) => Err(stop),
     }

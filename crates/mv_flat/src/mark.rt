@@ -17,7 +17,6 @@ use mv_acyclic::Numbers;
 use mv_base::{Memory, Name};
 use mv_decl::Declared;
 use mv_design::{Entries, Entry, FileTable};
-use mv_joint::is_joint_marked;
 use mv_rows::is_marked;
 use std::alloc::Global;
 
@@ -64,7 +63,7 @@ pub fn has_mark(
 {
     if is_joint(table) {
         let columns = declared_columns(alloc, decls, names, table)?;
-        return is_joint_marked(alloc, columns.as_slice(), table);
+        return shared.is_joint_marked(alloc, columns.as_slice(), table);
     }
     if let Some(told) = told_mark(alloc, decls, table, shared)? {
         return Ok(told);

@@ -12,12 +12,15 @@ ghost use Rattle.mv_rows.specs.Cubes.{AreColumns};
 ghost use Rattle.mv_rows.specs.Flat.{with_mark, IsMade, IsTable};
 ghost use Rattle.mv_rows.specs.Many.{StopsAt};
 ghost use Rattle.mv_rows.specs.Marked.{is_marked};
+ghost use Rattle.mv_joint.specs.Joint.{IsMadeJoint, StopsCovers};
+ghost use Rattle.mv_joint.specs.Plain.{is_joint_marked, IsJointFile};
 ghost use Rattle.mv_shapes.specs.Rows.{some_full, some_silent};
 ghost use Rattle.mv_flat.specs.Shared.{firsts_from, origins_of, HasRowsOf, IsFrom, KeepsOrigins};
 
 use crate::size::gives_reset;
 use mv_base::{Memory, NetId};
 use mv_design::{Design, FileModel, FileTable};
+use mv_joint::{CoversStop, JointTable, is_joint_marked, joint_table};
 use mv_rows::{Column, FlatTable, RowStop, flat_table_within};
 use mv_shapes::{SharedTable, some_row_is_full, some_row_is_silent};
 use mv_walk::Opened;
@@ -106,9 +109,64 @@ impl SharedTables {
         }
     }
 
+    /// Whether a table of several outputs gets a mark. Of many rows only the distinct ones are looked at, if it is known which they are.
+    pub fn is_joint_marked(
+        &self,
+        alloc: Global,
+        columns: &[Column],
+        table: &FileTable,
+    ) -> Result<bool, Memory>
+        requires columns { AreColumns columns.now }
+        requires table { IsJointFile columns.now table.now }
+        requires some { 0 < length table.now.outputs }
+        requires from { IsFrom self.now table.now }
+        ensures { IfOk result (λ b. b ≡ is_joint_marked columns.now table.now) }
+    {
+        match self.origin(table) {
+            Some(at) => marked_at(self.tables.as_slice(), at, alloc, columns, table),
+            None => is_joint_marked(alloc, columns, table),
+        }
+    }
+
+    /// The covers of a table of several outputs. Of many rows only the distinct ones are looked at, if it is known which they are.
+    pub fn joint_table(
+        &self,
+        alloc: Global,
+        columns: &[Column],
+        table: &FileTable,
+        mark: NetId,
+        choice: NetId,
+        most: usize,
+    ) -> Result<JointTable, CoversStop>
+        requires columns { AreColumns columns.now }
+        requires with_mark { AreColumns (with_mark columns.now mark) }
+        requires unread { list_any (λ c. nat_eq c.net.0 mark.0) columns.now ≡ false }
+        requires apart { list_any (λ c. nat_eq c.net.0 choice.0) (with_mark columns.now mark) ≡ false }
+        requires table { IsJointFile columns.now table.now }
+        requires some { 0 < length table.now.outputs }
+        requires from { IsFrom self.now table.now }
+        ensures lines { IfOk result (λ joint. IsMadeJoint columns.now table.now mark choice joint) }
+        ensures stop { IfErr result
+            (λ stop. StopsCovers columns.now table.now mark choice most stop) }
+    {
+        match self.origin(table) {
+            Some(at) => joint_at(
+                self.tables.as_slice(),
+                at,
+                alloc,
+                columns,
+                table,
+                mark,
+                choice,
+                most,
+            ),
+            None => joint_alone(alloc, columns, table, mark, choice, most),
+        }
+    }
+
     /// The number of the table that a table of many rows comes from, if it is known.
     fn origin(&self, table: &FileTable) -> Option<usize>
-        requires single { length table.now.outputs ≡ 1 }
+        requires some { 0 < length table.now.outputs }
         requires from { IsFrom self.now table.now }
         ensures low { IfSome result (λ k. k < length self.now.tables.items) }
         ensures rows { IfSome result
@@ -162,6 +220,75 @@ fn full_at(tables: &mut Vec<SharedTable>, at: usize, table: &FileTable, counts: 
 {
     let shared = &mut tables[at];
     shared.some_row_is_full(counts)
+}
+
+/// Whether the table of several outputs gets a mark, as the table at the place does, which has its rows.
+fn marked_at(
+    tables: &[SharedTable],
+    at: usize,
+    alloc: Global,
+    columns: &[Column],
+    table: &FileTable,
+) -> Result<bool, Memory>
+    requires low { at < length tables.now }
+    requires rows { (d : FileTable) → HasRowsOf table.now (slice_index_or tables.now at d) }
+    requires columns { AreColumns columns.now }
+    requires table { IsJointFile columns.now table.now }
+    ensures { IfOk result (λ b. b ≡ is_joint_marked columns.now table.now) }
+{
+    let shared = &tables[at];
+    shared.is_joint_marked(alloc, columns)
+}
+
+/// The covers of the table of several outputs, as those of the table at the place, which has its rows.
+fn joint_at(
+    tables: &[SharedTable],
+    at: usize,
+    alloc: Global,
+    columns: &[Column],
+    table: &FileTable,
+    mark: NetId,
+    choice: NetId,
+    most: usize,
+) -> Result<JointTable, CoversStop>
+    requires low { at < length tables.now }
+    requires rows { (d : FileTable) → HasRowsOf table.now (slice_index_or tables.now at d) }
+    requires columns { AreColumns columns.now }
+    requires with_mark { AreColumns (with_mark columns.now mark) }
+    requires unread { list_any (λ c. nat_eq c.net.0 mark.0) columns.now ≡ false }
+    requires apart { list_any (λ c. nat_eq c.net.0 choice.0) (with_mark columns.now mark) ≡ false }
+    requires table { IsJointFile columns.now table.now }
+    ensures lines { IfOk result (λ joint. IsMadeJoint columns.now table.now mark choice joint) }
+    ensures stop { IfErr result (λ stop. StopsCovers columns.now table.now mark choice most stop) }
+{
+    let shared = &tables[at];
+    match shared.joint_table(alloc, columns, mark, choice, most) {
+        Ok(joint) => Ok(joint),
+        Err(stop) => Err(stop),
+    }
+}
+
+/// The covers of a table of several outputs that comes from no other.
+fn joint_alone(
+    alloc: Global,
+    columns: &[Column],
+    table: &FileTable,
+    mark: NetId,
+    choice: NetId,
+    most: usize,
+) -> Result<JointTable, CoversStop>
+    requires columns { AreColumns columns.now }
+    requires with_mark { AreColumns (with_mark columns.now mark) }
+    requires unread { list_any (λ c. nat_eq c.net.0 mark.0) columns.now ≡ false }
+    requires apart { list_any (λ c. nat_eq c.net.0 choice.0) (with_mark columns.now mark) ≡ false }
+    requires table { IsJointFile columns.now table.now }
+    ensures lines { IfOk result (λ joint. IsMadeJoint columns.now table.now mark choice joint) }
+    ensures stop { IfErr result (λ stop. StopsCovers columns.now table.now mark choice most stop) }
+{
+    match joint_table(alloc, columns, table, mark, choice, most) {
+        Ok(joint) => Ok(joint),
+        Err(stop) => Err(stop),
+    }
 }
 
 /// No tables of which anything is known.

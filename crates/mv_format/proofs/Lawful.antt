@@ -1,17 +1,20 @@
--- BLIF-MV keeps what each format has to.
-use Rattle.std.proofs.Common.{◌≡◌, ℕ, List}
-use Rattle.mv_lex.specs.Lines.{lines_of}
+-- Each format keeps what it has to.
+use Rattle.std.proofs.Common.{Bool, List}
+use Rattle.mv_blif_read.specs.declared.network.FileNetwork.{FileNetwork}
+use Rattle.mv_entry.specs.declared.rule.Rule.{Rule}
 use Rattle.mv_net.specs.declared.parts.NetParts.{NetParts}
-use Rattle.mv_parse_laws.proofs.FileLines.{lines-ascend}
-use Rattle.mv_read.proofs.OneNetwork.{one_network}
-use Rattle.mv_format.specs.BlifMv.{IsNetOfText, blif_mv}
-use Rattle.mv_format.specs.Formats.{IsLawful}
-use Rattle.mv_format.proofs.Networks.{text_accepted}
+use Rattle.mv_rules.specs.Replaying.{Replays}
+use Rattle.mv_format.specs.Chosen.{format_of}
+use Rattle.mv_format.specs.Formats.{IsLawful, LeavesPlace}
+use Rattle.mv_format.specs.declared.format.FileFormat.{FileFormat}
+use Rattle.mv_format.specs.declared.format.FileFormat.TheVariants.{BlifMv, Blif}
+use Rattle.mv_format.proofs.BlifReplacing.{blif_replaced}
+use Rattle.mv_format.proofs.Networks.{text_accepted, text_only}
 use Rattle.mv_format.proofs.Replacing.{replaced}
 
--- a text has one network
-one_first : (text : List ℕ) (one other : NetParts) → IsNetOfText text one → IsNetOfText text other → one ≡ other
-one_first text one other p q = one_network (lines_of text) one other (lines-ascend text) p.net_of q.net_of
+left_replaces : (format : FileFormat) (free : Bool) (rules : List Rule) (first : FileNetwork) (net : NetParts) → Replays free rules first.net net → LeavesPlace (format_of format) free rules first net
+left_replaces BlifMv = replaced
+left_replaces Blif = blif_replaced
 
-pub blif_mv_lawful : IsLawful blif_mv
-blif_mv_lawful = record { formed = λ text net said. said.formed; accepted = text_accepted; only = one_first; replaces = replaced }
+pub lawful : (format : FileFormat) → IsLawful (format_of format)
+lawful format = record { formed = λ text f said. said.formed; accepted = text_accepted format; only = text_only format; replaces = left_replaces format }

@@ -1,35 +1,40 @@
 -- BLIF-MV, as a format.
-use Rattle.std.specs.Prelude.{◌≡◌, ℕ, None, List}
-use Rattle.mv_base.specs.declared.limits.TheConstants.{MAX_NETWORK_BYTES}
-use Rattle.mv_lex.specs.Lines.{lines_of, lex_fault}
-use Rattle.mv_net.specs.declared.parts.NetParts.{NetParts}
-use Rattle.mv_net.specs.Formed.{WellFormed}
-use Rattle.mv_read.specs.Reads.{IsNetOf, SaySoundDesign}
+use Rattle.std.specs.Prelude.{◌≡◌, List, []}
+use Rattle.mv_blif_read.specs.declared.network.FileNetwork.{FileNetwork}
+use Rattle.mv_lex.specs.declared.lines.LexLine.{LexLine}
+use Rattle.mv_parse.specs.Grammar.{FirstFault}
+use Rattle.mv_read.specs.Reads.{IsNetOf, IsUnsound, SaySoundDesign}
 use Rattle.mv_text.specs.Text.{text_of}
 use Rattle.mv_text_back.specs.Back.{ReadsAs}
-use Rattle.mv_format.specs.Faults.{TellsFault}
+use Rattle.mv_format.specs.declared.fault.FileFault.{FileFault}
+use Rattle.mv_format.specs.declared.fault.FileFault.TheVariants.{Lex, Parse, Blif, Flat}
 use Rattle.mv_format.specs.Formats.{Format}
+use Rattle.mv_format.specs.Texts.{LineFormat, text_format}
 
--- bytes that are accepted: they have no fault, and their lines say a sound design, within the
--- limits
-pub record IsAccepted (bytes : List ℕ) : Type 0 where
-  pub lexed : lex_fault MAX_NETWORK_BYTES bytes ≡ None
-  pub form : SaySoundDesign (lines_of bytes)
+-- the lines say the design of this network, and nothing of its latches besides
+abbrev pub SayNet : List LexLine → FileNetwork → Type 0
+SayNet lines f = IsNetOf lines f.net × (f.latches ≡ [])
 
--- bytes without a fault, whose lines say the design of this network, which is well formed
-pub record IsNetOfText (text : List ℕ) (net : NetParts) : Type 0 where
-  pub lexed : lex_fault MAX_NETWORK_BYTES text ≡ None
-  pub net_of : IsNetOf (lines_of text) net
-  pub formed : WellFormed net
+-- the lines are refused for this fault: their first one, or, where they have none, that of their
+-- design, which isn't sound, or whose nets or network pass a limit
+abbrev pub RefusesLines : List LexLine → FileFault → Type 0
+RefusesLines lines (Lex f) = ⊥
+RefusesLines lines (Parse f) = FirstFault lines f
+RefusesLines lines (Blif f) = ⊥
+RefusesLines lines (Flat f) = IsUnsound lines f
+
+-- what it makes of lines, and is besides
+abbrev pub blif_mv_lines : LineFormat
+blif_mv_lines = record {
+  Accepts = SaySoundDesign;
+  IsNet = SayNet;
+  Refuses = RefusesLines;
+  Reads = ReadsAs;
+  sound = λ bytes d reads. reads.sound;
+  text = λ f. text_of f.net;
+  Besides = λ read written. Unit {0};
+}
 
 -- BLIF-MV
 abbrev pub blif_mv : Format
-blif_mv = record {
-  Accepts = IsAccepted;
-  Faults = TellsFault;
-  IsNet = IsNetOfText;
-  Reads = ReadsAs;
-  sound = λ bytes d reads. reads.sound;
-  text = text_of;
-  Besides = λ read written. Unit {0};
-}
+blif_mv = text_format blif_mv_lines

@@ -3,16 +3,19 @@ ghost use Rattle.mv_format.specs.Faults.{lex_line};
 
 use crate::numbers::{put_number, put_numbers};
 use mv_base::{Failed, Sink};
+use mv_blif::BlifFault;
+use mv_blif_read::put_blif_fault;
 use mv_fault::{FlatFault, put_flat_fault};
 use mv_lex::LexFault;
 use mv_parse::{ParseFault, put_parse_fault};
 use mv_task::Fault;
 
-/// Why a network file is refused: for a fault of its bytes, of its lines, or of the design that they say.
+/// Why a network file is refused: for a fault of its bytes, of its lines, as BLIF-MV or as BLIF, or of the design that they say.
 #[derive(Debug, Drop)]
 pub enum FileFault {
     Lex(LexFault),
     Parse(ParseFault),
+    Blif(BlifFault),
     Flat(FlatFault),
 }
 
@@ -49,6 +52,7 @@ impl Fault for FileFault {
         match self {
             FileFault::Lex(fault) => put_lex_line(*fault, notes),
             FileFault::Parse(fault) => put_parse_fault(fault, notes),
+            FileFault::Blif(fault) => put_blif_fault(fault, notes),
             FileFault::Flat(fault) => put_flat_fault(fault, notes),
         }
     }

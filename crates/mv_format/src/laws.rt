@@ -1,8 +1,9 @@
-ghost use Rattle.mv_format.specs.BlifMv.{blif_mv};
+ghost use Rattle.mv_format.specs.Chosen.{format_of};
 ghost use Rattle.mv_format.specs.Formats.{IsLawful};
+ghost use Rattle.mv_format.specs.declared.format.FileFormat.{FileFormat};
 
-/// BLIF-MV keeps what each format has to: what is read is well formed, of a text that is accepted and says no other network, and the
+/// Each format keeps what a format has to: what is read is well formed, of a text that is accepted and says no other network, and the
 /// text of what rules left of it replaces that text.
 pub fn format_laws()
-    ensures { IsLawful blif_mv }
+    ensures { (format : FileFormat) → IsLawful (format_of format) }
 {}

@@ -16,8 +16,13 @@ use Rattle.mv_script_run.specs.Runs.{Runs, RunsTo}
 use Rattle.mv_script.specs.Commands.{are_lawful}
 use Rattle.mv_script.specs.Scripts.{Items}
 use Rattle.mv_task.specs.Ending.{done_line}
-use Rattle.mv_format.specs.BlifMv.{blif_mv}
-use Rattle.mv_format.proofs.Replacing.{replaced}
+use Rattle.mv_blif_read.specs.declared.network.FileNetwork.{FileNetwork}
+use Rattle.mv_format.specs.Chosen.{format_of, HasSettings}
+use Rattle.mv_format.specs.Formats.{left_of}
+use Rattle.mv_format.specs.declared.format.FileFormat.{FileFormat}
+use Rattle.mv_format.proofs.Lawful.{lawful as format_lawful}
+use Rattle.mv_format.proofs.Settings.{settings_left}
+use Rattle.mv_rules.proofs.Replayed.{replayed_latches}
 use Rattle.mv_opt.specs.declared.output.Output.{Output}
 use Rattle.mv_opt.specs.Optimised.{HasWorked, HasStopped}
 use Rattle.mv_opt.specs.Outputs.{no_tally, output_text}
@@ -47,17 +52,24 @@ pub has_stopped : {ArePut : List ℕ → Type 0} (terms : Terms) (items : Items)
 has_stopped terms items first net p =
     record { entries = p.entries; net = net; stops = p.stops; noted_is = refl }
 
+-- what is said of the latches suffices for the network that is left: it has the same latches
+pub settings_kept : (format : FileFormat) (terms : Terms) (items : Items) (first : FileNetwork) (net : NetParts) (notes mid : Written) (tally : Tally) → HasSettings format first
+    → HasRun terms items first.net net notes mid tally → HasSettings format (left_of first net)
+settings_kept format terms items first net notes mid tally settings ran =
+    settings_left format first net (replayed_latches terms.free (rules_of ran.entries) first.net net (runs_replays terms items first.net net ran.entries ran.runs)) settings
+
 -- the whole script ran
-pub has_worked : (terms : Terms) (output : Output) (items : Items) (first net : NetParts) (before : ℕ) (tally : Tally) (notes mid : Written) → before ≡ literals_in first.nets
-    → (ran : HasRun terms items first net notes mid tally) → are_lawful items ≡ true → WellFormed first → HasWordNames first.nets
-    → HasWorked blif_mv terms output items first (print ran.entries ++ done_line before (literals_in net.nets)) (output_text blif_mv output before tally net)
-has_worked terms output items first net before tally notes mid same ran lawful formed names = record {
+pub has_worked : (format : FileFormat) (terms : Terms) (output : Output) (items : Items) (first : FileNetwork) (net : NetParts) (before : ℕ) (tally : Tally) (notes mid : Written)
+    → before ≡ literals_in first.net.nets → (ran : HasRun terms items first.net net notes mid tally) → are_lawful items ≡ true → WellFormed first.net → HasWordNames first.net.nets
+    → HasWorked (format_of format) terms output items first (print ran.entries ++ done_line before (literals_in net.nets)) (output_text (format_of format) output before tally (left_of first net))
+has_worked format terms output items first net before tally notes mid same ran lawful formed names = record {
   entries = ran.entries;
   net = net;
   runs = ran.runs;
   noted_is = ap (λ n. print ran.entries ++ done_line n (literals_in net.nets)) same;
-  certified = certified terms items first net ran.entries lawful formed names ran.runs;
-  no_more = λ frugal. runs_no_more terms items first net ran.entries frugal formed ran.runs;
-  written_is = ap (λ n. output_text blif_mv output n tally net) same ∙ ap (λ t. output_text blif_mv output (literals_in first.nets) t net) ran.counted;
-  replaces = replaced terms.free (rules_of ran.entries) first net (runs_replays terms items first net ran.entries ran.runs);
+  certified = certified terms items first.net net ran.entries lawful formed names ran.runs;
+  no_more = λ frugal. runs_no_more terms items first.net net ran.entries frugal formed ran.runs;
+  written_is = ap (λ n. output_text (format_of format) output n tally (left_of first net)) same
+      ∙ ap (λ t. output_text (format_of format) output (literals_in first.net.nets) t (left_of first net)) ran.counted;
+  replaces = (format_lawful format).replaces terms.free (rules_of ran.entries) first net (runs_replays terms items first.net net ran.entries ran.runs);
 }

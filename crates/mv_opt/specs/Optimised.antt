@@ -1,6 +1,7 @@
 -- The task of optimising a network by a script: one that it reads from a file, or one that it draws
 -- itself.
 use Rattle.std.specs.Prelude.{◌≡◌, ℕ, ◌≤◌, true, List, [], ◌∷◌}
+use Rattle.mv_blif_read.specs.declared.network.FileNetwork.{FileNetwork}
 use Rattle.mv_entry.specs.Entries.{Entry, print, rules_of}
 use Rattle.mv_format.specs.Formats.{Format, LeavesPlace, network_stage}
 use Rattle.mv_net.specs.declared.parts.NetParts.{NetParts}
@@ -24,14 +25,14 @@ use Rattle.mv_opt.specs.Scripts.{script_stage}
 -- the network that is left replaces whatever text said the first one, as the rules among the
 -- entries leave it. Without `determinize` and `encode` it has no more literals than the first one
 pub record HasWorked (format : Format) (terms : Terms) (output : Output) (items : Items)
-    (first : NetParts) (noted written : List ℕ) : Type 0 where
+    (first : FileNetwork) (noted written : List ℕ) : Type 0 where
   pub entries : List Entry
   pub net : NetParts
-  pub runs : Runs terms items first entries net
-  pub noted_is : noted ≡ all_notes entries first net
-  pub certified : IsCertificateOf terms.free entries first net
+  pub runs : Runs terms items first.net entries net
+  pub noted_is : noted ≡ all_notes entries first.net net
+  pub certified : IsCertificateOf terms.free entries first.net net
   pub no_more : all_commands leaves_no_more items ≡ true
-      → literals_in net.nets ≤ literals_in first.nets
+      → literals_in net.nets ≤ literals_in first.net.nets
   pub written_is : written ≡ output_of format output first entries net
   pub replaces : LeavesPlace format terms.free (rules_of entries) first net
 
@@ -44,10 +45,10 @@ pub record HasStopped (terms : Terms) (items : Items) (first : NetParts) (noted 
   pub noted_is : noted ≡ print entries
 
 -- the work of a script of these items on a network
-abbrev pub opt_work : Format → Terms → Output → Items → NetParts → Work
+abbrev pub opt_work : Format → Terms → Output → Items → FileNetwork → Work
 opt_work format terms output items first = record {
   Does = HasWorked format terms output items first;
-  Notes = HasStopped terms items first;
+  Notes = HasStopped terms items first.net;
   Denies = λ written. ⊥;
   Refuses = λ status line. ⊥;
 }

@@ -1,9 +1,10 @@
 -- What a run writes at its end: the text of the network that is left, or a summary of the run.
 use Rattle.std.specs.Prelude.{ℕ, Bool, false, true, Option, Some, None, List, count_by}
+use Rattle.mv_blif_read.specs.declared.network.FileNetwork.{FileNetwork}
 use Rattle.mv_entry.specs.declared.journal.Tally.{Tally}
 use Rattle.mv_entry.specs.Entries.{Entry}
 use Rattle.mv_entry.specs.Tallies.{with_entries}
-use Rattle.mv_format.specs.Formats.{Format}
+use Rattle.mv_format.specs.Formats.{Format, left_of}
 use Rattle.mv_net.specs.declared.parts.FlatNet.{FlatNet}
 use Rattle.mv_net.specs.declared.parts.Kind.{Kind}
 use Rattle.mv_net.specs.declared.parts.Kind.TheVariants.{Input, Latch, Table, Reset}
@@ -44,14 +45,15 @@ summary_of before tally net = record {
 }
 
 -- what is written, from the same; a text of this format
-abbrev pub output_text : Format → Output → ℕ → Tally → NetParts → List ℕ
-output_text format Network before tally net = format.text net
-output_text format Summary before tally net = summary_text (summary_of before tally net)
+abbrev pub output_text : Format → Output → ℕ → Tally → FileNetwork → List ℕ
+output_text format Network before tally f = format.text f
+output_text format Summary before tally f = summary_text (summary_of before tally f.net)
 
 -- what is written of a run from a first network by these entries to the network that is left
-abbrev pub output_of : Format → Output → NetParts → List Entry → NetParts → List ℕ
+abbrev pub output_of : Format → Output → FileNetwork → List Entry → NetParts → List ℕ
 output_of format output first entries net =
-    output_text format output (literals_in first.nets) (with_entries no_tally entries) net
+    output_text format output (literals_in first.net.nets) (with_entries no_tally entries)
+    (left_of first net)
 
 -- a network that is read from a file is written, and of one that the program made a summary is
 abbrev pub output_for : Source → Output

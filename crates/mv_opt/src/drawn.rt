@@ -8,6 +8,7 @@ use crate::output::Output;
 use crate::take::{take_drawn, take_script};
 use crate::working::carry_out;
 use mv_base::{Files, Sink};
+use mv_format::FileFormat;
 use mv_rules::Terms;
 use mv_task::refuse;
 use std::alloc::Global;
@@ -35,9 +36,11 @@ pub fn work<F: Files, O: Sink, E: Sink>(
         Ok(script) => script,
         Err(stop) => return refuse(&stop, 3, notes),
     };
-    let net = match take_drawn(alloc, size, seed) {
-        Ok(net) => net,
+    let file = match take_drawn(alloc, size, seed) {
+        Ok(file) => file,
         Err(stop) => return refuse(&stop, 2, notes),
     };
-    carry_out(alloc, net, &script, terms, Output::Summary, out, notes)
+    let format = FileFormat::BlifMv;
+    let output = Output::Summary;
+    carry_out(alloc, format, file, &script, terms, output, out, notes)
 }

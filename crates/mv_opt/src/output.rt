@@ -1,13 +1,13 @@
 ghost use Rattle.std.specs.Prelude.{◌≡◌, count_by};
 ghost use Rattle.mv_base.specs.Outside.{Appends};
-ghost use Rattle.mv_format.specs.BlifMv.{blif_mv};
+ghost use Rattle.mv_format.specs.Chosen.{format_of, HasSettings};
 ghost use Rattle.mv_opt.specs.Outputs.{is_named_kind, is_told, output_text, summary_of};
 
 use mv_base::{Failed, Sink};
 use mv_entry::Tally;
+use mv_format::{FileFormat, FileNetwork, write_network};
 use mv_net::{FlatNet, Kind, Network};
 use mv_work::{Summary, put_summary};
-use mv_write::write;
 
 /// What a run writes at its end.
 #[derive(Clone, Copy, Debug, PartialEq, Eq)]
@@ -66,21 +66,23 @@ fn summary_of(net: &Network, before: u128, tally: Tally) -> Summary
     }
 }
 
-/// Puts what a run writes to the output. It takes no memory.
+/// Puts what a run writes to the output, a network as a text of this format. It takes no memory.
 pub fn put_output<O: Sink>(
     output: Output,
-    net: &Network,
+    format: FileFormat,
+    file: &FileNetwork,
     before: u128,
     tally: Tally,
     out: &mut O,
 ) -> Result<(), Failed>
+    requires { HasSettings format file.now }
     ensures { Appends (O.state out.old) (O.state out.new)
-        (output_text blif_mv output before tally net.now) result }
+        (output_text (format_of format) output before tally file.now) result }
 {
     match output {
-        Output::Network => write(net, out),
+        Output::Network => write_network(format, file, out),
         Output::Summary => {
-            let summary = summary_of(net, before, tally);
+            let summary = summary_of(&file.net, before, tally);
             put_summary(&summary, out)
         }
     }

@@ -1,6 +1,6 @@
 ghost use Rattle.std.specs.Prelude.{◌≡◌, ◌≤◌, true, IfOk, IfErr};
 ghost use Rattle.mv_base.specs.Outside.{Stored};
-ghost use Rattle.mv_format.specs.BlifMv.{IsNetOfText, blif_mv};
+ghost use Rattle.mv_format.specs.BlifMv.{blif_mv};
 ghost use Rattle.mv_format.specs.Faults.{net_line};
 ghost use Rattle.mv_format.specs.Formats.{network_stage};
 ghost use Rattle.mv_rules_back.specs.Names.{HasWordNames};
@@ -15,8 +15,7 @@ ghost use Rattle.mv_opt.specs.Scripts.{refusal_line, script_stage};
 use crate::fault::ScriptRefusal;
 use mv_base::{Files, MAX_SCRIPT_BYTES};
 use mv_files::{ReadStop, read_file};
-use mv_format::{FileFault, network_of_text};
-use mv_net::Network;
+use mv_format::{FileFault, FileNetwork, network_of_text};
 use mv_script::{Script, ScriptFault, read_script};
 use mv_task::Stop;
 use mv_work::work_text;
@@ -49,12 +48,12 @@ pub fn take_script<F: Files>(
 }
 
 /// Draws a network of so many tables from the seed. No file is begun.
-pub fn take_drawn(alloc: Global, size: u32, seed: u64) -> Result<Network, Stop<FileFault>>
+pub fn take_drawn(alloc: Global, size: u32, seed: u64) -> Result<FileNetwork, Stop<FileFault>>
     requires least { MIN_WORK_TABLES ≤ size }
     requires most { size ≤ MAX_WORK_TABLES }
-    ensures gives { IfOk result (λ net. (files : Stored)
-        → Gives IsNetOfText (network_stage blif_mv (drawn size seed)) files files net) }
-    ensures names { IfOk result (λ net. HasWordNames net.nets) }
+    ensures gives { IfOk result (λ f. (files : Stored)
+        → Gives blif_mv.IsNet (network_stage blif_mv (drawn size seed)) files files f) }
+    ensures names { IfOk result (λ f. HasWordNames f.net.nets) }
     ensures stops { IfErr result (λ stop. (files : Stored)
         → IsCause net_line (network_stage blif_mv (drawn size seed)) files files stop) }
 {
@@ -63,7 +62,7 @@ pub fn take_drawn(alloc: Global, size: u32, seed: u64) -> Result<Network, Stop<F
         Err(_memory) => return Err(Stop::Memory),
     };
     match network_of_text(alloc, text.as_slice()) {
-        Ok(net) => Ok(net),
+        Ok(file) => Ok(file),
         Err(stop) => Err(stop),
     }
 }

@@ -1,7 +1,7 @@
 ghost use Rattle.std.specs.Prelude.{◌≡◌, ◌≤◌, true, Err, IfOk};
 ghost use Rattle.mv_rules_back.specs.Names.{HasWordNames};
 ghost use Rattle.mv_base.specs.Outside.{Gained, GainedPart, Rose};
-ghost use Rattle.mv_format.specs.BlifMv.{blif_mv};
+ghost use Rattle.mv_format.specs.Chosen.{format_of, HasSettings};
 ghost use Rattle.mv_script.specs.Commands.{are_lawful};
 ghost use Rattle.mv_script.specs.Scripts.{items_of};
 ghost use Rattle.mv_task.specs.Ends.{WorkEnds, sinks};
@@ -12,6 +12,7 @@ use crate::output::{Output, put_output};
 use mv_base::Sink;
 use mv_cert::NoteJournal;
 use mv_entry::{Journal, Tally};
+use mv_format::{FileFormat, FileNetwork};
 use mv_net::Network;
 use mv_pass::Stop;
 use mv_rules::Terms;
@@ -51,22 +52,24 @@ fn run_noted<E: Sink>(
 /// output. From the done line on it takes no memory. The answer is the status.
 pub fn carry_out<O: Sink, E: Sink>(
     alloc: Global,
-    mut net: Network,
+    format: FileFormat,
+    mut file: FileNetwork,
     script: &Script,
     terms: Terms,
     output: Output,
     out: &mut O,
     notes: &mut E,
 ) -> u8
-    requires names { HasWordNames net.nets }
+    requires names { HasWordNames file.net.nets }
+    requires settings { HasSettings format file }
     requires lawful { are_lawful (items_of script.now) ≡ true }
-    ensures { WorkEnds (opt_work blif_mv terms output (items_of script.now) net)
+    ensures { WorkEnds (opt_work (format_of format) terms output (items_of script.now) file)
         (sinks (O.state out.old) (E.state notes.old)) (sinks (O.state out.new) (E.state notes.new))
         result }
 {
-    net.well_formed();
-    let before = net.literals();
-    let tally = match run_noted(alloc, &mut net, script, terms, notes) {
+    file.net.well_formed();
+    let before = file.net.literals();
+    let tally = match run_noted(alloc, &mut file.net, script, terms, notes) {
         Ok(tally) => tally,
         Err(Stop::Note) => return 5,
         Err(Stop::Memory) => {
@@ -74,11 +77,11 @@ pub fn carry_out<O: Sink, E: Sink>(
             return 6;
         }
     };
-    match put_done(&net, before, notes) {
+    match put_done(&file.net, before, notes) {
         Ok(()) => {}
         Err(_failed) => return 5,
     }
-    match put_output(output, &net, before, tally, out) {
+    match put_output(output, format, &file, before, tally, out) {
         Ok(()) => 0,
         Err(_failed) => 5,
     }

@@ -4,7 +4,8 @@ use Rattle.std.specs.Prelude.{IfSome, IsTrue, IsSomeAnd}
 use Rattle.std.proofs.lemmas.List.{append_cancel_left}
 use Rattle.mv_base.specs.Outside.{Held, Gained, Rose, file_named}
 use Rattle.mv_base.specs.declared.limits.TheConstants.{MAX_CERTIFICATE_BYTES}
-use Rattle.mv_format.specs.Formats.{Format, IsLawful, network_stage}
+use Rattle.mv_blif_read.specs.declared.network.FileNetwork.{FileNetwork}
+use Rattle.mv_format.specs.Formats.{Format, IsLawful, left_of, network_stage}
 use Rattle.mv_rules.specs.Replaying.{Replays}
 use Rattle.mv_cert.specs.Certificates.{Certifies, steps_in}
 use Rattle.mv_cert.specs.Replay.{FailsAt, rules_in}
@@ -33,7 +34,7 @@ module _ (format : Format) (lawful : IsLawful format) (free : Bool) (net certifi
   Leads bytes text noted written = Says SaysSteps bytes (λ steps. Says format.IsNet text (λ first. HasReplayed format free steps first noted written))
 
   abbrev Fails : List ℕ → List ℕ → ℕ → List ℕ → Type 0
-  Fails bytes text status line = Says SaysSteps bytes (λ steps. Says format.IsNet text (λ first. RefusesRule free steps first status line))
+  Fails bytes text status line = Says SaysSteps bytes (λ steps. Says format.IsNet text (λ first. RefusesRule free steps first.net status line))
 
   abbrev Denies : List ℕ → List ℕ → Type 0
   Denies bytes text = Says SaysSteps bytes (λ steps. Says format.IsNet text (λ first. ⊥))
@@ -43,17 +44,17 @@ module _ (format : Format) (lawful : IsLawful format) (free : Bool) (net certifi
   never_leads h noted written l =
       let inner = l.holds in
       let rules = rules_in (steps_in h.both.bytes) in
-      let replays : Replays free rules inner.value inner.holds.net = subst (λ ss. Replays free (rules_in ss) inner.value inner.holds.net) l.said.are inner.holds.replays in
-      never_both free (steps_in h.both.bytes) h.first inner.holds.net h.last h.line h.fault (lawful.formed h.both.text h.first h.says)
-      (subst (λ f. Replays free rules f inner.holds.net) (lawful.only h.both.text inner.value h.first inner.said h.says) replays) h.fails
+      let replays : Replays free rules inner.value.net inner.holds.net = subst (λ ss. Replays free (rules_in ss) inner.value.net inner.holds.net) l.said.are inner.holds.replays in
+      never_both free (steps_in h.both.bytes) h.first.net inner.holds.net h.last h.line h.fault (lawful.formed h.both.text h.first h.says)
+      (subst (λ (f : FileNetwork). Replays free rules f.net inner.holds.net) (lawful.only h.both.text inner.value h.first inner.said h.says) replays) h.fails
 
   -- where they lead somewhere no rule fails
   never_fails : (h : HoldsReplay format free net certificate old.files) (status : ℕ) (line : List ℕ) → Fails h.both.bytes h.both.text status line → ⊥
   never_fails h status line r =
       let inner = r.holds in
       let led = h.leads inner.value inner.said in
-      never_both free (steps_in h.both.bytes) inner.value led.0 inner.holds.net inner.holds.at inner.holds.fault (lawful.formed h.both.text inner.value inner.said) led.1.replays
-      (subst (λ ss. FailsAt free ss inner.value inner.holds.net inner.holds.at inner.holds.fault) r.said.are inner.holds.fails)
+      never_both free (steps_in h.both.bytes) inner.value.net led.0 inner.holds.net inner.holds.at inner.holds.fault (lawful.formed h.both.text inner.value inner.said) led.1.replays
+      (subst (λ ss. FailsAt free ss inner.value.net inner.holds.net inner.holds.at inner.holds.fault) r.said.are inner.holds.fails)
 
   both_taken : (h : HoldsBoth format net certificate old.files) → AreTaken (check_task format free net certificate).stages old.files (h.bytes ∷ h.text ∷ [])
   both_taken h = (h.rules, (h.network, tt))
@@ -84,7 +85,7 @@ module _ (format : Format) (lawful : IsLawful format) (free : Bool) (net certifi
         last = inner.holds.net;
         line = inner.holds.at;
         fault = inner.holds.fault;
-        fails = subst (λ ss. FailsAt free ss inner.value inner.holds.net inner.holds.at inner.holds.fault) r.said.are inner.holds.fails;
+        fails = subst (λ ss. FailsAt free ss inner.value.net inner.holds.net inner.holds.at inner.holds.fault) r.said.are inner.holds.fails;
       })
   failing_of status line (a ∷ b ∷ c ∷ cs) taken r = absurd r
 
@@ -171,10 +172,10 @@ module _ (format : Format) (lawful : IsLawful format) (terms : Terms) (net scrip
   same_file = holds.network ∙ told_content net d.b old.files.held holds.before holds.told d.second.is
 
   -- and its certificate leads to what the earlier run left
-  leads_again : Certifies terms.free holds.noted d.w d.does.net
+  leads_again : Certifies terms.free holds.noted d.w.net d.does.net
   leads_again =
       let same = sym d.does.noted_is ∙ gained_is holds.had holds.noted d.noted old.sinks.notes.told new.sinks.notes.told holds.first holds.gained d.notes in
-      let P : List ℕ → Type 0 = λ n. length n ≤ MAX_CERTIFICATE_BYTES → Certifies terms.free n d.w d.does.net in
+      let P : List ℕ → Type 0 = λ n. length n ≤ MAX_CERTIFICATE_BYTES → Certifies terms.free n d.w.net d.does.net in
       let certified : P holds.noted = subst P same d.does.certified in
       certified holds.short
 
@@ -186,7 +187,7 @@ module _ (format : Format) (lawful : IsLawful format) (terms : Terms) (net scrip
       bytes = holds.noted;
       rules = record { is = tells_content certificate holds.noted later.files.held holds.now holds.tell holds.named; accepted = leads_again.accepted };
     };
-    leads = λ first said. (d.does.net, subst (λ f. Certifies terms.free holds.noted f d.does.net) (lawful.only d.b d.w first d.speaks said) leads_again);
+    leads = λ first said. (d.does.net, subst (λ (f : FileNetwork). Certifies terms.free holds.noted f.net d.does.net) (lawful.only d.b d.w first d.speaks said) leads_again);
   }
 
   pub same_again : BothDone SaysSteps format.IsNet (check_work format terms.free) (certificate_stage certificate) (network_stage format (File net)) later later' → WriteSame old.sinks.out new.sinks.out later.sinks.out later'.sinks.out
@@ -195,10 +196,10 @@ module _ (format : Format) (lawful : IsLawful format) (terms : Terms) (net scrip
       let bytes = same_content e.a holds.noted (sym (told_content certificate e.a later.files.held holds.now holds.tell e.first.is) ∙ holds.named) in
       let first = lawful.only d.b e.w d.w (subst (λ t. format.IsNet t e.w) text e.speaks) d.speaks in
       let steps = e.says.are ∙ ap steps_in bytes in
-      let replays : Replays terms.free (rules_in (steps_in holds.noted)) e.w e.does.net = subst (λ ss. Replays terms.free (rules_in ss) e.w e.does.net) steps e.does.replays in
-      let led : Certifies terms.free holds.noted d.w e.does.net = record { accepted = leads_again.accepted; replays = subst (λ f. Replays terms.free (rules_in (steps_in holds.noted)) f e.does.net) first replays } in
-      let same = one_outcome terms.free holds.noted d.w e.does.net d.does.net (lawful.formed d.b d.w d.speaks) led leads_again in
-      record { text = d.written; first = d.out; second = subst (λ t. Gained later.sinks.out later'.sinks.out t) (e.does.written_is ∙ ap format.text same ∙ sym d.does.written_is) e.out }
+      let replays : Replays terms.free (rules_in (steps_in holds.noted)) e.w.net e.does.net = subst (λ ss. Replays terms.free (rules_in ss) e.w.net e.does.net) steps e.does.replays in
+      let led : Certifies terms.free holds.noted d.w.net e.does.net = record { accepted = leads_again.accepted; replays = subst (λ (f : FileNetwork). Replays terms.free (rules_in (steps_in holds.noted)) f.net e.does.net) first replays } in
+      let same = one_outcome terms.free holds.noted d.w.net e.does.net d.does.net (lawful.formed d.b d.w d.speaks) led leads_again in
+      record { text = d.written; first = d.out; second = subst (λ t. Gained later.sinks.out later'.sinks.out t) (e.does.written_is ∙ ap format.text (λ i. left_of (first i) (same i)) ∙ sym d.does.written_is) e.out }
 
 module _ (format : Format) (lawful : IsLawful format) (terms : Terms) (net script certificate : List ℕ) (old new later later' : Outside) (ends : Ends (opt_task format terms (File net) script) old new 0) (holds : HoldsNoted net certificate old.files later.files old.sinks.notes new.sinks.notes) where
   done : BothDone IsScript format.IsNet (opt_work format terms Network) (script_stage script) (network_stage format (File net)) old new

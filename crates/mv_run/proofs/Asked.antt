@@ -6,7 +6,8 @@ use Rattle.mv_check.specs.Certificates.{SaysSteps, certificate_stage}
 use Rattle.mv_check.specs.Checked.{check_work}
 use Rattle.mv_command_line.specs.CommandLine.{Asked, opt, check, work, trace, Names}
 use Rattle.mv_entry.specs.Entries.{rules_of}
-use Rattle.mv_format.specs.BlifMv.{IsNetOfText, blif_mv}
+use Rattle.mv_blif_read.specs.declared.network.FileNetwork.{FileNetwork}
+use Rattle.mv_format.specs.BlifMv.{blif_mv}
 use Rattle.mv_format.specs.Formats.{Replaces, network_stage}
 use Rattle.mv_net.specs.Nets.{literals_in}
 use Rattle.mv_opt.specs.declared.output.Output.TheVariants.{Network, Summary}
@@ -18,7 +19,7 @@ use Rattle.mv_task.specs.Ends.{Outside, Ends}
 use Rattle.mv_task.specs.Sources.{File}
 use Rattle.mv_task.specs.Stages.{starts_behind}
 use Rattle.mv_task.proofs.Endings.{ends_done, ends_known, both_refuse, both_deny, both_done}
-use Rattle.mv_run.specs.Doing.{task_asked, terms_of}
+use Rattle.mv_run.specs.Doing.{format_by, task_asked, terms_of}
 use Rattle.mv_run.specs.Replacing.{ReplacesFile}
 use Rattle.mv_run.specs.Tracing.{IsStatusOf}
 use Rattle.mv_tracing.specs.RunFiles.{SaysLines}
@@ -30,19 +31,19 @@ module _ (old new : Outside) (status : ℕ) where
       → ((n : Names) → asked ≡ Some (trace n) → P asked 9) → ((n : Names) → asked ≡ Some (trace n) → P asked 11) → Ends (task_asked asked) old new status → P asked status
   statuses P (Some (opt f)) p0 p1 p2 p3 p4 p5 p6 p7 p9 p11 ends =
       ends_known (P (Some (opt f))) (task_asked (Some (opt f))) old new status p0 p4 p5 p6 (p3, (p2, tt))
-      (both_refuse IsScript IsNetOfText (opt_work blif_mv (terms_of f.free f.budget) Network) (P (Some (opt f))) (λ v w k line r. absurd r))
-      (both_deny IsScript IsNetOfText (opt_work blif_mv (terms_of f.free f.budget) Network) (P (Some (opt f)) 9) (λ v w written d. absurd d)) ends
+      (both_refuse IsScript (format_by f.blif).IsNet (opt_work (format_by f.blif) (terms_of f.free f.budget) Network) (P (Some (opt f))) (λ v w k line r. absurd r))
+      (both_deny IsScript (format_by f.blif).IsNet (opt_work (format_by f.blif) (terms_of f.free f.budget) Network) (P (Some (opt f)) 9) (λ v w written d. absurd d)) ends
   statuses P (Some (check f)) p0 p1 p2 p3 p4 p5 p6 p7 p9 p11 ends =
       ends_known (P (Some (check f))) (task_asked (Some (check f))) old new status p0 p4 p5 p6 (p7, (p2, tt))
-      (both_refuse SaysSteps IsNetOfText (check_work blif_mv f.free) (P (Some (check f))) (λ v w k line r. subst (P (Some (check f))) (sym r.is) p7))
-      (both_deny SaysSteps IsNetOfText (check_work blif_mv f.free) (P (Some (check f)) 9) (λ v w written d. absurd d)) ends
+      (both_refuse SaysSteps (format_by f.blif).IsNet (check_work (format_by f.blif) f.free) (P (Some (check f))) (λ v w k line r. subst (P (Some (check f))) (sym r.is) p7))
+      (both_deny SaysSteps (format_by f.blif).IsNet (check_work (format_by f.blif) f.free) (P (Some (check f)) 9) (λ v w written d. absurd d)) ends
   statuses P (Some (work d)) p0 p1 p2 p3 p4 p5 p6 p7 p9 p11 ends =
       ends_known (P (Some (work d))) (task_asked (Some (work d))) old new status p0 p4 p5 p6 (p3, (p2, tt))
-      (both_refuse IsScript IsNetOfText (opt_work blif_mv (terms_of d.free d.budget) Summary) (P (Some (work d))) (λ v w k line r. absurd r))
-      (both_deny IsScript IsNetOfText (opt_work blif_mv (terms_of d.free d.budget) Summary) (P (Some (work d)) 9) (λ v w written d. absurd d)) ends
+      (both_refuse IsScript blif_mv.IsNet (opt_work blif_mv (terms_of d.free d.budget) Summary) (P (Some (work d))) (λ v w k line r. absurd r))
+      (both_deny IsScript blif_mv.IsNet (opt_work blif_mv (terms_of d.free d.budget) Summary) (P (Some (work d)) 9) (λ v w written d. absurd d)) ends
   statuses P (Some (trace n)) p0 p1 p2 p3 p4 p5 p6 p7 p9 p11 ends =
       ends_known (P (Some (trace n))) (task_asked (Some (trace n))) old new status p0 p4 p5 p6 (p2, (p11 n refl, tt))
-      (both_refuse IsNetOfText SaysLines trace_work (P (Some (trace n))) (λ v w k line r. subst (P (Some (trace n))) (sym r.is) (p11 n refl)))
+      (both_refuse blif_mv.IsNet SaysLines (λ (v : FileNetwork). trace_work v.net) (P (Some (trace n))) (λ v w k line r. subst (P (Some (trace n))) (sym r.is) (p11 n refl)))
       (λ contents written d. p9 n refl) ends
   statuses P None p0 p1 p2 p3 p4 p5 p6 p7 p9 p11 ends =
       ends_known (P None) (task_asked None) old new status p0 p4 p5 p6 tt (λ contents k line r. subst (P None) (sym r.0) (p1 refl)) (λ contents written d. absurd d) ends
@@ -71,7 +72,7 @@ module _ (old new : Outside) (status : ℕ) where
 
   pub run_replaced : (asked : Option Asked) → Ends (task_asked asked) old new status → status ≡ 0 → ReplacesFile asked old new
   run_replaced (Some (opt f)) ends e =
-      let d = both_done IsScript IsNetOfText (opt_work blif_mv (terms_of f.free f.budget) Network) (script_stage f.other) (network_stage blif_mv (File f.net)) old new status ends e in
+      let d = both_done IsScript (format_by f.blif).IsNet (opt_work (format_by f.blif) (terms_of f.free f.budget) Network) (script_stage f.other) (network_stage (format_by f.blif) (File f.net)) old new status ends e in
       record {
         content = d.b;
         read = d.last;
@@ -80,15 +81,15 @@ module _ (old new : Outside) (status : ℕ) where
         rules = rules_of d.does.entries;
         are = record {
           entries = d.does.entries;
-          behind = done_line (literals_in d.w.nets) (literals_in d.does.net.nets);
+          behind = done_line (literals_in d.w.net.nets) (literals_in d.does.net.nets);
           gained = subst (λ t. Gained old.sinks.notes new.sinks.notes t) d.does.noted_is d.notes;
           are = refl;
         };
-        first = d.w;
-        replaces = subst (λ t. Replaces blif_mv f.free (rules_of d.does.entries) d.w d.b t) (sym d.does.written_is) (d.does.replaces d.b d.speaks);
+        first = d.w.net;
+        replaces = subst (λ t. Replaces (format_by f.blif) f.free (rules_of d.does.entries) d.w.net d.b t) (sym d.does.written_is) (d.does.replaces d.b d.speaks);
       }
   run_replaced (Some (check f)) ends e =
-      let d = both_done SaysSteps IsNetOfText (check_work blif_mv f.free) (certificate_stage f.other) (network_stage blif_mv (File f.net)) old new status ends e in
+      let d = both_done SaysSteps (format_by f.blif).IsNet (check_work (format_by f.blif) f.free) (certificate_stage f.other) (network_stage (format_by f.blif) (File f.net)) old new status ends e in
       record {
         content = d.b;
         read = d.last;
@@ -96,8 +97,8 @@ module _ (old new : Outside) (status : ℕ) where
         gained = d.out;
         rules = rules_in d.v;
         are = record { certificate = d.a; is = d.first.is; are = ap rules_in d.says.are };
-        first = d.w;
-        replaces = subst (λ t. Replaces blif_mv f.free (rules_in d.v) d.w d.b t) (sym d.does.written_is) (d.does.replaces d.b d.speaks);
+        first = d.w.net;
+        replaces = subst (λ t. Replaces (format_by f.blif) f.free (rules_in d.v) d.w.net d.b t) (sym d.does.written_is) (d.does.replaces d.b d.speaks);
       }
   run_replaced (Some (work d)) ends e = tt
   run_replaced (Some (trace n)) ends e = tt

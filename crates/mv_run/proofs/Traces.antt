@@ -6,9 +6,11 @@ use Rattle.mv_base.specs.Outside.{Gained}
 use Rattle.mv_base.specs.declared.limits.TheConstants.{MAX_NETWORK_BYTES}
 use Rattle.mv_command_line.specs.CommandLine.{Asked, Names, opt, check, work, trace}
 use Rattle.mv_fault.specs.Tells.{first}
-use Rattle.mv_format.specs.BlifMv.{IsNetOfText, blif_mv}
+use Rattle.mv_blif_read.specs.declared.network.FileNetwork.{FileNetwork}
+use Rattle.mv_format.specs.BlifMv.{blif_mv}
 use Rattle.mv_format.specs.Formats.{network_stage}
-use Rattle.mv_format.proofs.Lawful.{blif_mv_lawful}
+use Rattle.mv_format.specs.declared.format.FileFormat.TheVariants.{BlifMv}
+use Rattle.mv_format.proofs.Lawful.{lawful}
 use Rattle.mv_lex.specs.declared.lines.LexLine.{LexLine}
 use Rattle.mv_lex.specs.Lines.{lines_of}
 use Rattle.mv_lex.proofs.Facts.{no_fault_is_clean}
@@ -44,15 +46,15 @@ step_means a b all run k s = record {
 
 module _ (names : Names) (old new : Outside) where
   -- what was read
-  abbrev recorded : (text content : List ℕ) (net : NetParts) → Takes (network_stage blif_mv (File names.net)) old.files text → IsReadWhole (File names.other) old.files new.files content → IsNetOfText text net
-      → run_faults net (lines_of content) ≡ [] → IsRecorded names old.files new.files
-  recorded text content net taken read said none = record {
+  abbrev recorded : (text content : List ℕ) (file : FileNetwork) → Takes (network_stage blif_mv (File names.net)) old.files text → IsReadWhole (File names.other) old.files new.files content → blif_mv.IsNet text file
+      → run_faults file.net (lines_of content) ≡ [] → IsRecorded names old.files new.files
+  recorded text content file taken read said none = record {
     text = text;
     is = taken.is;
-    design = said.net_of.design;
-    reads = record { clean = ((no_fault_is_clean MAX_NETWORK_BYTES text).0 said.lexed).1; design = said.net_of.is; sound = said.net_of.flat.sound };
-    net = net;
-    flat = said.net_of.flat;
+    design = said.net_of.0.design;
+    reads = record { clean = ((no_fault_is_clean MAX_NETWORK_BYTES text).0 said.lexed).1; design = said.net_of.0.is; sound = said.net_of.0.flat.sound };
+    net = file.net;
+    flat = said.net_of.0.flat;
     content = content;
     read = read;
     faultless = none;
@@ -64,32 +66,32 @@ module _ (names : Names) (old new : Outside) where
 
   pub is_allowed : (status : ℕ) → Ends (trace_task blif_mv names.net names.other) old new status → status ≡ 0 → IsAllowedRun names old new
   is_allowed status ends e =
-      let d = both_done IsNetOfText SaysLines trace_work (network_stage blif_mv (File names.net)) (run_stage names.other) old new status ends e in
+      let d = both_done blif_mv.IsNet SaysLines (λ (v : FileNetwork). trace_work v.net) (network_stage blif_mv (File names.net)) (run_stage names.other) old new status ends e in
       let are = d.speaks.are in
-      let same = d.says.net_of.flat.means in
-      let P : List LexLine → Type 0 = λ ls. RunAllowed (of_net d.v) (run_said d.v ls) in
+      let same = d.says.net_of.0.flat.means in
+      let P : List LexLine → Type 0 = λ ls. RunAllowed (of_net d.v.net) (run_said d.v.net ls) in
       let all : P (lines_of d.b) = subst P are d.does.allowed in
       record {
-        recorded = recorded d.a d.b d.v d.first d.last d.says (none_said d.v d.b d.w are d.does.faultless);
-        allowed = λ k low. step_means _ _ same.only (run_said d.v (lines_of d.b)) k (all k low);
+        recorded = recorded d.a d.b d.v d.first d.last d.says (none_said d.v.net d.b d.w are d.does.faultless);
+        allowed = λ k low. step_means _ _ same.only (run_said d.v.net (lines_of d.b)) k (all k low);
         ats = d.does.ats;
-        shown = subst (λ ls. AreShownFrom d.v (run_said d.v ls) 0 d.does.ats) are d.does.shown;
+        shown = subst (λ ls. AreShownFrom d.v.net (run_said d.v.net ls) 0 d.does.ats) are d.does.shown;
         told = subst (Gained old.sinks.out new.sinks.out) d.does.written_is d.out;
         silent = subst (Gained old.sinks.notes new.sinks.notes) d.does.noted_is d.notes;
       }
 
   pub is_denied : (status : ℕ) → Ends (trace_task blif_mv names.net names.other) old new status → status ≡ 9 → IsDeniedRun names old new
   is_denied status ends e =
-      let d = both_denied IsNetOfText SaysLines trace_work (network_stage blif_mv (File names.net)) (run_stage names.other) old new status ends e in
+      let d = both_denied blif_mv.IsNet SaysLines (λ (v : FileNetwork). trace_work v.net) (network_stage blif_mv (File names.net)) (run_stage names.other) old new status ends e in
       let are = d.speaks.are in
-      let same = d.says.net_of.flat.means in
-      let first = subst (λ ls. IsFirstRefused d.v (run_said d.v ls) d.denies.step) are d.denies.first in
+      let same = d.says.net_of.0.flat.means in
+      let first = subst (λ ls. IsFirstRefused d.v.net (run_said d.v.net ls) d.denies.step) are d.denies.first in
       record {
-        recorded = recorded d.a d.b d.v d.first d.last d.says (none_said d.v d.b d.w are d.denies.faultless);
+        recorded = recorded d.a d.b d.v d.first d.last d.says (none_said d.v.net d.b d.w are d.denies.faultless);
         step = d.denies.step;
         within = first.within;
-        before = λ k low. step_means _ _ same.only (run_said d.v (lines_of d.b)) k (first.before k low);
-        denied = λ s. first.refused (step_means _ _ same.all (run_said d.v (lines_of d.b)) d.denies.step s);
+        before = λ k low. step_means _ _ same.only (run_said d.v.net (lines_of d.b)) k (first.before k low);
+        denied = λ s. first.refused (step_means _ _ same.all (run_said d.v.net (lines_of d.b)) d.denies.step s);
         told = subst (Gained old.sinks.out new.sinks.out) d.denies.written_is d.out;
         silent = d.notes;
       }
@@ -133,11 +135,11 @@ module _ (names : Names) (old new : Outside) where
         text = a;
         network = taken.0;
         refused = inr (record {
-          net = r.value;
+          file = r.value;
           said = r.said;
           content = b;
           run = taken.1.0;
-          faulty = λ none. has_fault (run_faults r.value inner.value) inner.holds.fault inner.holds.first_is (ap (run_faults r.value) inner.said.are ∙ none);
+          faulty = λ none. has_fault (run_faults r.value.net inner.value) inner.holds.fault inner.holds.first_is (ap (run_faults r.value.net) inner.said.are ∙ none);
         });
       }
   failing_of status line (a ∷ b ∷ c ∷ cs) taken r = absurd r
@@ -155,9 +157,9 @@ module _ (names : Names) (old new : Outside) where
 
   -- lines with a fault come to no answer
   module _ (text : List ℕ) (h : HoldsFaultyRun names old.files text) where
-    none_here : (net : NetParts) (lines : List LexLine) → IsNetOfText text net → SaysLines h.content lines → run_faults net lines ≡ [] → ⊥
-    none_here net lines said are none =
-        h.faulty (ap (λ n. run_faults n (lines_of h.content)) (blif_mv_lawful.only text h.net net h.said said) ∙ (ap (run_faults net) (sym are.are) ∙ none))
+    none_here : (file : FileNetwork) (lines : List LexLine) → blif_mv.IsNet text file → SaysLines h.content lines → run_faults file.net lines ≡ [] → ⊥
+    none_here file lines said are none =
+        h.faulty (ap (λ (f : FileNetwork). run_faults f.net (lines_of h.content)) ((lawful BlifMv).only text h.file file h.said said) ∙ (ap (run_faults file.net) (sym are.are) ∙ none))
 
     never_comes : Comes ((the_task).work (text ∷ h.content ∷ [])) → ⊥
     never_comes (Noting noted n) = n.holds.holds

@@ -2,6 +2,7 @@
 use Rattle.std.specs.Prelude.{◌≡◌, ◌⊎◌, ℕ, ◌≤◌, Bool, List, ◌++◌, Some, length}
 use Rattle.mv_base.specs.Outside.{Held, Stored, Written, Gained, file_named}
 use Rattle.mv_base.specs.declared.limits.TheConstants.{MAX_CERTIFICATE_BYTES}
+use Rattle.mv_blif_read.specs.declared.network.FileNetwork.{FileNetwork}
 use Rattle.mv_entry.specs.declared.fault.RuleFault.{RuleFault}
 use Rattle.mv_format.specs.Formats.{Format, network_stage}
 use Rattle.mv_net.specs.declared.parts.NetParts.{NetParts}
@@ -50,19 +51,19 @@ pub record HoldsBoth (format : Format) (net certificate : List ℕ) (files : Sto
 pub record HoldsFailing (format : Format) (free : Bool) (net certificate : List ℕ)
     (files : Stored) : Type 0 where
   pub both : HoldsBoth format net certificate files
-  pub first : NetParts
+  pub first : FileNetwork
   pub says : format.IsNet both.text first
   pub last : NetParts
   pub line : ℕ
   pub fault : RuleFault
-  pub fails : FailsAt free (steps_in both.bytes) first last line fault
+  pub fails : FailsAt free (steps_in both.bytes) first.net last line fault
 
 -- or its rules apply in turn, beginning with any network of the file
 pub record HoldsReplay (format : Format) (free : Bool) (net certificate : List ℕ)
     (files : Stored) : Type 0 where
   pub both : HoldsBoth format net certificate files
-  pub leads : (first : NetParts) → format.IsNet both.text first
-      → (last : NetParts) × Certifies free both.bytes first last
+  pub leads : (first : FileNetwork) → format.IsNet both.text first
+      → (last : NetParts) × Certifies free both.bytes first.net last
 
 -- the certificate is refused: its text, or a rule of it
 abbrev pub HoldsRefused : Format → Bool → List ℕ → List ℕ → Stored → Type 0

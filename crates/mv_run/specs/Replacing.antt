@@ -6,11 +6,11 @@ use Rattle.mv_cert.specs.Replay.{rules_in}
 use Rattle.mv_command_line.specs.CommandLine.{Asked, opt, check, work, trace}
 use Rattle.mv_entry.specs.declared.rule.Rule.{Rule}
 use Rattle.mv_entry.specs.Entries.{Entry, print, rules_of}
-use Rattle.mv_format.specs.BlifMv.{blif_mv}
 use Rattle.mv_format.specs.Formats.{Format, Replaces}
 use Rattle.mv_net.specs.declared.parts.NetParts.{NetParts}
 use Rattle.mv_task.specs.Ends.{Outside}
 use Rattle.mv_task.specs.Sources.{File, IsContent, IsReadWhole}
+use Rattle.mv_run.specs.Doing.{format_by}
 
 -- the rules are those among the entries that the notes gained
 pub record AreNoted (old new : Written) (rules : List Rule) : Type 0 where
@@ -41,9 +41,9 @@ pub record IsReplaced (format : Format) (free : Bool) (name : List ℕ)
 -- so it is with a task that reads a network file and writes one
 abbrev pub ReplacesFile : Option Asked → Outside → Outside → Type 0
 ReplacesFile (Some (opt f)) old new =
-    IsReplaced blif_mv f.free f.net (AreNoted old.sinks.notes new.sinks.notes) old new
+    IsReplaced (format_by f.blif) f.free f.net (AreNoted old.sinks.notes new.sinks.notes) old new
 ReplacesFile (Some (check f)) old new =
-    IsReplaced blif_mv f.free f.net (AreCertified f.other old.files) old new
+    IsReplaced (format_by f.blif) f.free f.net (AreCertified f.other old.files) old new
 ReplacesFile (Some (work d)) old new = Unit {0}
 ReplacesFile (Some (trace n)) old new = Unit {0}
 ReplacesFile None old new = Unit {0}

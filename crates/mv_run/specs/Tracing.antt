@@ -2,10 +2,11 @@
 use Rattle.std.specs.Prelude.{◌≡◌, ◌⊎◌, ℕ, ◌<◌, ◌≤◌, Option, Some, List, [], length}
 use Rattle.mv_base.specs.Meaning.{Meaning}
 use Rattle.mv_base.specs.Outside.{Stored, Gained}
+use Rattle.mv_blif_read.specs.declared.network.FileNetwork.{FileNetwork}
 use Rattle.mv_command_line.specs.CommandLine.{Asked, Names, trace}
 use Rattle.mv_design.specs.declared.design.Design.{Design}
 use Rattle.mv_flat.specs.Flat.{IsFlat}
-use Rattle.mv_format.specs.BlifMv.{IsNetOfText, blif_mv}
+use Rattle.mv_format.specs.BlifMv.{blif_mv}
 use Rattle.mv_format.specs.Formats.{network_stage}
 use Rattle.mv_lex.specs.Lines.{lines_of}
 use Rattle.mv_net.specs.declared.parts.NetParts.{NetParts}
@@ -82,11 +83,11 @@ IsStatusOf asked k = k ≤ 7
 
 -- behind a network file that is accepted, the lines of the run file say no run of its network
 pub record HoldsFaultyRun (names : Names) (files : Stored) (text : List ℕ) : Type 0 where
-  pub net : NetParts
-  pub said : IsNetOfText text net
+  pub file : FileNetwork
+  pub said : blif_mv.IsNet text file
   pub content : List ℕ
   pub run : Takes (run_stage names.other) files content
-  pub faulty : run_faults net (lines_of content) ≡ [] → ⊥
+  pub faulty : run_faults file.net (lines_of content) ≡ [] → ⊥
 
 -- the files hold a network file that is accepted, and the run file is refused: its bytes, or its
 -- lines

@@ -1,14 +1,13 @@
 ghost use Rattle.std.specs.Prelude.{◌≡◌, ◌⊎◌, ℕ, IsTrue, is_some, IsSomeAnd, List, Some};
 ghost use Rattle.mv_base.specs.Outside.{Rose};
 ghost use Rattle.mv_command_line.specs.CommandLine.{Files, Names, opt, check, trace};
-ghost use Rattle.mv_format.specs.BlifMv.{blif_mv};
 ghost use Rattle.mv_task.specs.Ends.{Ends, Outside};
 ghost use Rattle.mv_task.specs.Exact.{IsUnhindered};
 ghost use Rattle.mv_run.specs.Again.{HoldsNoted, WriteSame, HoldsRefused, HoldsReplay, checking};
-ghost use Rattle.mv_run.specs.Doing.{task_asked};
+ghost use Rattle.mv_run.specs.Doing.{format_by, task_asked};
 ghost use Rattle.mv_run.specs.Tracing.{HoldsRefusedRun};
 
-/// A check, on the same network file and with `--free` as it was, of what `opt` noted at status 0, which has as many bytes as a
+/// A check, on the same network file and with `--free` and `--blif` as they were, of what `opt` noted at status 0, which has as many bytes as a
 /// certificate may have. It writes the bytes that `opt` wrote, or ends with 4, 5 or 6. (Where the notes have more bytes it ends with 7.)
 pub fn notes_check()
     ensures same { (f : Files) (certificate : List ℕ) (old new later later' : Outside)
@@ -28,11 +27,11 @@ pub fn notes_check()
 /// doesn't apply on the terms of the check where those before it have led; a read that fails and want of memory alone come before.
 pub fn refused_exactly()
     ensures only { (f : Files) (old new : Outside) → Ends (task_asked (Some (check f))) old new 7
-        → HoldsRefused blif_mv f.free f.net f.other old.files }
+        → HoldsRefused (format_by f.blif) f.free f.net f.other old.files }
     ensures always { (f : Files) (old new : Outside) (status : ℕ)
         → Ends (task_asked (Some (check f))) old new status
         → IsTrue (is_some old.files.held)
-        → HoldsRefused blif_mv f.free f.net f.other old.files
+        → HoldsRefused (format_by f.blif) f.free f.net f.other old.files
         → IsUnhindered status → status ≡ 7 }
 {}
 
@@ -42,7 +41,7 @@ pub fn replays_succeed()
     ensures { (f : Files) (old new : Outside) (status : ℕ)
         → Ends (task_asked (Some (check f))) old new status
         → IsSomeAnd old.files.held (λ held. IsTrue held.sound)
-        → HoldsReplay blif_mv f.free f.net f.other old.files
+        → HoldsReplay (format_by f.blif) f.free f.net f.other old.files
         → (Rose old.sinks.out.faults new.sinks.out.faults → ⊥)
         → (Rose old.sinks.notes.faults new.sinks.notes.faults → ⊥)
         → (status ≡ 0) ⊎ (status ≡ 6) }

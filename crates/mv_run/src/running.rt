@@ -4,13 +4,14 @@ ghost use Rattle.mv_task.specs.Ends.{Ends, seen};
 ghost use Rattle.mv_task.specs.Exact.{IsComplete, IsExact};
 ghost use Rattle.mv_task.specs.Stages.{starts_behind};
 ghost use Rattle.mv_command_line.specs.CommandLine.{task_of};
-ghost use Rattle.mv_run.specs.Doing.{task_asked, terms_of};
+ghost use Rattle.mv_run.specs.Doing.{format_asked, task_asked, terms_of};
 ghost use Rattle.mv_run.specs.Replacing.{ReplacesFile};
 ghost use Rattle.mv_run.specs.Tracing.{AnswersRun, IsStatusOf};
 
 use mv_base::{Files, Sink};
 use mv_check::check;
 use mv_command_line::{Options, Task, WordsStop, read_words};
+use mv_format::FileFormat;
 use mv_opt::{optimise, work};
 use mv_rules::Terms;
 use mv_task::tell;
@@ -23,6 +24,17 @@ fn terms(options: Options) -> Terms
 {
     let Options { free, budget } = options;
     Terms { free, budget }
+}
+
+/// The format of the network files, by whether `--blif` is given.
+fn format(blif: bool) -> FileFormat
+    ensures { result ≡ format_asked blif }
+{
+    if blif {
+        FileFormat::Blif
+    } else {
+        FileFormat::BlifMv
+    }
 }
 
 /// Does what the words ask for. Where they are refused, or memory is short for them, no file is begun.
@@ -44,16 +56,26 @@ fn perform<F: Files, O: Sink, E: Sink>(
             Task::Opt {
                 net,
                 script,
+                blif,
                 options,
             },
-        ) => { optimise(alloc, net, script, terms(options), files, out, notes) }
+        ) => {
+            let format = format(blif);
+            let terms = terms(options);
+            optimise(alloc, format, net, script, terms, files, out, notes)
+        }
         Ok(
             Task::Check {
                 net,
                 certificate,
+                blif,
                 options,
             },
-        ) => { check(alloc, net, certificate, terms(options), files, out, notes) }
+        ) => {
+            let format = format(blif);
+            let terms = terms(options);
+            check(alloc, format, net, certificate, terms, files, out, notes)
+        }
         Ok(
             Task::Work {
                 size,
@@ -79,7 +101,9 @@ fn perform<F: Files, O: Sink, E: Sink>(
 /// its rules in turn; `work SIZE SEED SCRIPT` runs the script on a network that it draws, and writes a summary of the run; `trace NET RUN`
 /// reads a run file behind the network, and tells whether the network allows the run, with the values of all nets. With the
 /// option `--free` what is written may give values under which the network allows nothing any meaning; without it nothing is allowed
-/// that wasn't. The option `--budget N` says how many nodes a diagram may have; nothing that is built makes one yet.
+/// that wasn't. The option `--budget N` says how many nodes a diagram may have; nothing that is built makes one yet. With `--blif`, at
+/// `opt` and `check`, the network files are BLIF: the two then allow the same, and say the same of each latch, for every script and
+/// every certificate.
 ///
 /// The answer is the status that a process ends with: 0 where the work is done, 1 where the words are refused, 2 the network, 3 the
 /// script, 4 where a file couldn't be read, 5 where the output or the notes couldn't be written, 6 for want of memory, 7 where the

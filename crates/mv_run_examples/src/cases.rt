@@ -49,26 +49,21 @@ fn feed_of(form: Form) -> u8 {
 
 /// Each case ends as it says. Lines that begin with two dashes say what the next cases show.
 pub fn all_end(rt: &impl Abort, alloc: Global, form: Form, cases: &str) -> Result<(), Fail> {
-    cases_end(rt, alloc, form, false, cases)
+    all_end_with(rt, alloc, "", form, cases)
 }
 
-/// The same, where each run has the option `--free`.
-pub fn all_end_freely(rt: &impl Abort, alloc: Global, form: Form, cases: &str) -> Result<(), Fail> {
-    cases_end(rt, alloc, form, true, cases)
-}
-
-/// Each case ends as it says, with the option or without.
-fn cases_end(
+/// The same, where each run has this option, or none where it is empty.
+pub fn all_end_with(
     rt: &impl Abort,
     alloc: Global,
+    option: &str,
     form: Form,
-    free: bool,
     cases: &str,
 ) -> Result<(), Fail> {
     for case in cases.split('\n') {
         if !case.is_empty() && !case.starts_with("--") {
             let parts = parts_of(alloc, feed_of(form), case)?;
-            case_ends(rt, alloc, form, free, parts.as_slice())?;
+            case_ends(rt, alloc, option, form, parts.as_slice())?;
         }
     }
     Ok(())
@@ -87,19 +82,19 @@ pub fn parts_of(alloc: Global, feed: u8, case: &str) -> Result<Vec<Vec<u8>>, Fai
 fn case_ends(
     rt: &impl Abort,
     alloc: Global,
+    option: &str,
     form: Form,
-    free: bool,
     parts: &[Vec<u8>],
 ) -> Result<(), Fail> {
     if let Form::Example(script) = form {
         return example_ends(rt, alloc, script, parts);
     }
     if let Some((given, end)) = run_of(form, parts) {
-        return is_done(rt, alloc, form, Given { free, ..given }, end);
+        return is_done(rt, alloc, form, Given { option, ..given }, end);
     }
     match refusal_of(form, parts) {
         Some((given, status, fault)) => {
-            is_refused(rt, alloc, Given { free, ..given }, status, fault)
+            is_refused(rt, alloc, Given { option, ..given }, status, fault)
         }
         None => Err(Fail::from("a case of another form")),
     }
@@ -162,10 +157,10 @@ fn is_done(rt: &impl Abort, alloc: Global, form: Form, given: Given, end: End) -
 
 /// What a run notes is a certificate, by which a check writes the same.
 fn checks_back(rt: &impl Abort, alloc: Global, given: Given) -> Result<(), Fail> {
-    let (net, script, free) = (given.net, given.script, given.free);
+    let (net, script, option) = (given.net, given.script, given.option);
     let first = run_on(alloc, given)?;
     let check = Given {
-        free,
+        option,
         ..checked(net, first.notes.bytes())
     };
     let again = run_on(alloc, check)?;

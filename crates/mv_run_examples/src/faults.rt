@@ -60,7 +60,7 @@ fn row_ends(rt: &impl Abort, alloc: Global, row: &Failing, parts: &[Vec<u8>]) ->
         [net, script, out, notes] => {
             let given = Given {
                 words: row.3,
-                free: false,
+                option: "",
                 net,
                 script,
                 fault: row.0,

@@ -1,5 +1,5 @@
 //! Runs with `--free` and without on networks that allow nothing somewhere.
-use crate::cases::{Form, all_end, all_end_freely};
+use crate::cases::{Form, all_end, all_end_with};
 use std::test::Fail;
 
 /// A script, a network with a table that allows nothing somewhere, what is written of it with `--free`, and what is noted, which is a
@@ -57,7 +57,7 @@ const STRICTLY: &str = "\
 
 #[test]
 fn fill_makes_tables_total_where_that_is_free(rt: HostRuntime) -> Result<(), Fail> {
-    all_end_freely(&rt, rt.alloc(), Form::Run, FREELY)?;
+    all_end_with(&rt, rt.alloc(), "--free", Form::Run, FREELY)?;
     all_end(&rt, rt.alloc(), Form::Kept(b"fill"), STRICTLY)
 }
 
@@ -104,7 +104,7 @@ remove q; | 1 NoNet
 #[test]
 fn a_certificate_may_fill_where_that_is_free(rt: HostRuntime) -> Result<(), Fail> {
     let refused = Form::CertificateOn(MIXED);
-    all_end_freely(&rt, rt.alloc(), Form::Replayed, REPLAYED)?;
-    all_end_freely(&rt, rt.alloc(), refused, REFUSED_FREELY)?;
+    all_end_with(&rt, rt.alloc(), "--free", Form::Replayed, REPLAYED)?;
+    all_end_with(&rt, rt.alloc(), "--free", refused, REFUSED_FREELY)?;
     all_end(&rt, rt.alloc(), refused, REFUSED_STRICTLY)
 }

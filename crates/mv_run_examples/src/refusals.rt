@@ -26,6 +26,10 @@ opt --free n s --free
 opt n s --free=x
 opt n s --free=
 opt n s --freely
+opt --blif n s --blif
+opt n s --blif=1
+work --blif 1 1 s
+trace n s --blif
 opt n s --budget --free
 check --free n --free s
 work 1 1 s --free=1

@@ -49,12 +49,12 @@ impl Fault {
     }
 }
 
-/// What a run is given: its words, and `--free` behind them or not, the network in the file `n`, the script or the certificate in the
+/// What a run is given: its words, and an option behind them unless it is empty, the network in the file `n`, the script or the certificate in the
 /// file `s`, or the run file there, and the call that fails.
 #[derive(Clone, Copy)]
 pub struct Given<'a> {
     pub words: &'a str,
-    pub free: bool,
+    pub option: &'a str,
     pub net: &'a [u8],
     pub script: &'a [u8],
     pub fault: Fault,
@@ -96,7 +96,7 @@ pub struct Ended {
 pub fn opt<'a>(net: &'a [u8], script: &'a [u8]) -> Given<'a> {
     Given {
         words: "opt n s",
-        free: false,
+        option: "",
         net,
         script,
         fault: Fault::Never,
@@ -175,11 +175,11 @@ pub fn words_of(alloc: Global, text: &str) -> Result<Vec<String>, Fail> {
     Ok(words)
 }
 
-/// The words of a run, with `--free` behind them if it is given.
+/// The words of a run, with the option behind them if there is one.
 fn all_words(alloc: Global, given: Given) -> Result<Vec<String>, Fail> {
     let mut words = words_of(alloc, given.words)?;
-    if given.free {
-        words.push(String::from_str(alloc, "--free")?)?;
+    if !given.option.is_empty() {
+        words.push(String::from_str(alloc, given.option)?)?;
     }
     Ok(words)
 }

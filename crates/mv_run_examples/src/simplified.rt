@@ -1,5 +1,5 @@
 //! Runs of `simplify`, and checks of what it notes.
-use crate::cases::{Form, all_end, all_end_freely};
+use crate::cases::{Form, all_end, all_end_with};
 use std::test::Fail;
 
 /// A script, a network, what is written of it and what is noted, which is a certificate.
@@ -74,7 +74,7 @@ default 0;end;# end 2;# done 6 2;
 #[test]
 fn tables_are_made_tight(rt: HostRuntime) -> Result<(), Fail> {
     all_end(&rt, rt.alloc(), Form::Run, SIMPLIFIED)?;
-    all_end_freely(&rt, rt.alloc(), Form::Run, SIMPLIFIED_FREELY)
+    all_end_with(&rt, rt.alloc(), "--free", Form::Run, SIMPLIFIED_FREELY)
 }
 
 /// A network, a certificate that narrows a net, and the line and the cause for which it is refused.

@@ -5,3 +5,6 @@ pub mod Codes
 pub mod Placing
 pub mod Shapes
 pub mod Everywhere
+pub mod Thinned
+pub mod Standing
+pub mod RowKeys

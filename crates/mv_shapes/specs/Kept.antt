@@ -8,6 +8,7 @@ use Rattle.mv_rows.specs.declared.column.Column.{Column}
 use Rattle.mv_rows.specs.declared.table.FlatTable.{FlatTable}
 use Rattle.mv_rows.specs.Flat.{IsMade}
 use Rattle.mv_shapes.specs.declared.full.FullRows.{FullRows}
+use Rattle.mv_shapes.specs.Distinct.{StandsFor}
 use Rattle.mv_shapes.specs.Rows.{some_silent, IsFullOf}
 use Rattle.mv_shapes.specs.Shape.{coded}
 
@@ -21,8 +22,9 @@ abbrev pub AreKept : FileTable → List (Vec ℕ Global × FlatTable) → Type 0
 AreKept t entries = All (λ (e : Vec ℕ Global × FlatTable). IsKept t e.0.items e.1) entries
 
 -- all that is kept of a table holds of it
-pub record IsKnown (t : FileTable) (entries : List (Vec ℕ Global × FlatTable)) (silent : Bool)
+pub record IsKnown (t stand_in : FileTable) (entries : List (Vec ℕ Global × FlatTable)) (silent : Bool)
     (full : Option FullRows) : Type 0 where
+  pub stands : StandsFor stand_in t
   pub covers : AreKept t entries
   pub silent_is : silent ≡ some_silent t.rows
   pub full_is : IfSome full (IsFullOf t.rows)

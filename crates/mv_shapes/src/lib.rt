@@ -2,6 +2,7 @@
 //! the instances have in common.
 #![tactic(auto)]
 
+mod distinct;
 mod full;
 mod over;
 mod shape;

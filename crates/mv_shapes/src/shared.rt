@@ -7,25 +7,31 @@ ghost use Rattle.mv_rows.specs.Cubes.{AreColumns};
 ghost use Rattle.mv_rows.specs.Flat.{with_mark, IsMade, IsTable};
 ghost use Rattle.mv_rows.specs.Many.{StopsAt};
 ghost use Rattle.mv_rows.specs.Marked.{is_marked};
+ghost use Rattle.mv_joint.specs.Joint.{IsMadeJoint, StopsCovers};
+ghost use Rattle.mv_joint.specs.Plain.{is_joint_marked, IsJointFile};
 ghost use Rattle.mv_shapes.specs.Kept.{AreKept, IsKept, IsKnown};
 ghost use Rattle.mv_shapes.specs.Rows.{some_full, some_silent, IsFullOf};
 
+use crate::distinct::stand_in;
 use crate::full::{FullRows, some_row_is_full, some_row_is_silent};
 use crate::over::flat_over;
 use crate::shape::Shape;
 use indexmap::IndexMap;
 use mv_base::{Memory, NetId};
 use mv_design::FileTable;
+use mv_joint::{CoversStop, JointTable, is_joint_marked, joint_table};
 use mv_rows::{Column, FlatTable, RowStop, flat_table_within};
 use std::alloc::Global;
 use std::marker::Model;
 
-/// A table of one output that stands in many instances of its model, seen by contracts as the table. For each shape of columns its
-/// covers are kept, where they have fewer lines than the table has rows. Besides is kept what a look at all rows tells: whether some
-/// row says no value, and whether some row has all values of columns with so many, for those that were asked last.
+/// A table that stands in many instances of its model, seen by contracts as the table. Where it has one output, its covers are kept
+/// for each shape of columns, if they have fewer lines than the table has rows. Besides is kept what a look at all rows tells: whether
+/// some row says no value, and whether some row has all values of columns with so many, for those that were asked last. Where it has
+/// several outputs, the covers are made of its distinct rows.
 #[derive(Drop)]
 pub struct SharedTable {
     table: FileTable,
+    stand_in: FileTable,
     flats: IndexMap<Vec<u32>, FlatTable>,
     silent: bool,
     full: Option<FullRows>,
@@ -39,7 +45,7 @@ impl Model for SharedTable {
 
     ghost view = { λ s. s.table };
 
-    ghost invariant = { λ s. IsKnown s.table s.flats.entries s.silent s.full };
+    ghost invariant = { λ s. IsKnown s.table s.stand_in s.flats.entries s.silent s.full };
 }
 
 impl SharedTable {
@@ -49,6 +55,7 @@ impl SharedTable {
     {
         Ok(SharedTable {
             table: table.copy()?,
+            stand_in: stand_in(alloc, table)?,
             flats: IndexMap::new(alloc),
             silent: some_row_is_silent(table.rows.as_slice()),
             full: None,
@@ -90,6 +97,39 @@ impl SharedTable {
         ensures stop { IfErr result (λ stop. StopsAt columns.now self.old mark most stop) }
     {
         flat_kept(alloc, &self.table, &mut self.flats, columns, mark, most)
+    }
+
+    /// Whether the table of several outputs gets a mark over these columns. Only its distinct rows are looked at.
+    pub fn is_joint_marked(&self, alloc: Global, columns: &[Column]) -> Result<bool, Memory>
+        requires columns { AreColumns columns.now }
+        requires table { IsJointFile columns.now self.now }
+        ensures { IfOk result (λ b. b ≡ is_joint_marked columns.now self.now) }
+    {
+        is_joint_marked(alloc, columns, &self.stand_in)
+    }
+
+    /// The covers of the table of several outputs over these columns. They are made of its distinct rows.
+    pub fn joint_table(
+        &self,
+        alloc: Global,
+        columns: &[Column],
+        mark: NetId,
+        choice: NetId,
+        most: usize,
+    ) -> Result<JointTable, CoversStop>
+        requires columns { AreColumns columns.now }
+        requires with_mark { AreColumns (with_mark columns.now mark) }
+        requires unread { list_any (λ c. nat_eq c.net.0 mark.0) columns.now ≡ false }
+        requires apart { list_any (λ c. nat_eq c.net.0 choice.0) (with_mark columns.now mark) ≡ false }
+        requires table { IsJointFile columns.now self.now }
+        ensures lines { IfOk result (λ joint. IsMadeJoint columns.now self.now mark choice joint) }
+        ensures stop { IfErr result
+            (λ stop. StopsCovers columns.now self.now mark choice most stop) }
+    {
+        match joint_table(alloc, columns, &self.stand_in, mark, choice, most) {
+            Ok(joint) => Ok(joint),
+            Err(stop) => Err(stop),
+        }
     }
 }
 

@@ -38,6 +38,7 @@ fn opt(net: &'static str, script: &'static str, free: bool, budget: u32) -> Task
     Task::Opt {
         net,
         script,
+        blif: false,
         options: Options { free, budget },
     }
 }
@@ -50,6 +51,7 @@ fn tasks_are_asked_for(rt: HostRuntime) -> Result<(), Fail> {
     let check = Task::Check {
         net: "-",
         certificate: "c",
+        blif: false,
         options: Options {
             free: true,
             budget: 4_000_000,
@@ -83,6 +85,32 @@ fn tasks_are_asked_for(rt: HostRuntime) -> Result<(), Fail> {
         ("opt|n|--free|--|--free", opt("n", "--free", true, USUAL)),
         ("check|-|c|--budget|4000000|--free", check),
         ("work|20000|18446744073709551615|-|--budget=1000", work),
+    ];
+    are_asked(&rt, rt.alloc(), lines.as_slice())
+}
+
+#[test]
+fn network_files_are_blif(rt: HostRuntime) -> Result<(), Fail> {
+    let options = Options {
+        free: false,
+        budget: USUAL,
+    };
+    let opt_blif = Task::Opt {
+        net: "a",
+        script: "b",
+        blif: true,
+        options,
+    };
+    let check_blif = Task::Check {
+        net: "a",
+        certificate: "b",
+        blif: true,
+        options,
+    };
+    let lines = [
+        ("opt|--blif|a|b", opt_blif),
+        ("opt|a|--|--blif", opt("a", "--blif", false, USUAL)),
+        ("check|a|b|--blif", check_blif),
     ];
     are_asked(&rt, rt.alloc(), lines.as_slice())
 }
@@ -125,6 +153,14 @@ opt|n|s|--Free
 opt|n|s|--budget|--free
 opt|n|s|--free|true
 check|n|c|--free|--budget=1000|--free
+opt|--blif|a
+opt|--blif|--blif|a|b
+check|--blif|a|b|--blif
+opt|--blif=1|a|b
+opt|a|b|--blifs
+opt|a|b|--bli
+work|--blif|1|1|s
+trace|--blif|a|b
 work|1|1|s|--free|--free
 work|0|1|s
 work|20001|1|s

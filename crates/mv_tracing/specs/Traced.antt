@@ -66,5 +66,5 @@ trace_work net lines = record {
 abbrev pub trace_task : Format → List ℕ → List ℕ → Task
 trace_task format network run = record {
   stages = network_stage format (File network) ∷ run_stage run ∷ [];
-  work = work_on_both format.IsNet SaysLines trace_work;
+  work = work_on_both format.IsNet SaysLines (λ f. trace_work f.net);
 }

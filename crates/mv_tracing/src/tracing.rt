@@ -5,7 +5,7 @@ ghost use Rattle.mv_tracing.specs.Traced.{trace_task};
 use crate::take::take_lines;
 use crate::working::carry_out;
 use mv_base::{Files, Sink};
-use mv_format::take_network;
+use mv_format::{FileFormat, take_network};
 use mv_task::refuse;
 use std::alloc::Global;
 
@@ -25,13 +25,13 @@ pub fn trace<F: Files, O: Sink, E: Sink>(
         (seen (F.state files.old) (O.state out.old) (E.state notes.old))
         (seen (F.state files.new) (O.state out.new) (E.state notes.new)) result }
 {
-    let net = match take_network(alloc, network, files) {
-        Ok(net) => net,
+    let file = match take_network(alloc, FileFormat::BlifMv, network, files) {
+        Ok(file) => file,
         Err(stop) => return refuse(&stop, 2, notes),
     };
     let lines = match take_lines(alloc, run, files) {
         Ok(lines) => lines,
         Err(stop) => return refuse(&stop, 11, notes),
     };
-    carry_out(alloc, &net, &lines, out, notes)
+    carry_out(alloc, &file.net, &lines, out, notes)
 }

@@ -11,11 +11,11 @@ returns-in-Err c = draw_refused c.args.words.now c.in-Err.stop c.in-Err.ensures
 pub returns-in-Some : goal.returns-in-Some
 returns-in-Some c =
     let p = c.in-Ok.ensures in
-    draw_told c.args.words.now p.0 _ _ _ _ _ p.1 (c.get_str-size.ensures ∙ p.2.first) (c.get_str-seed.ensures ∙ p.2.second) (c.get_str-script.ensures ∙ p.2.third) (flag_said _ _ _ p.2.free c.get_flag-free.ensures.value c.get_flag-free.ensures.other) (c.get_str-budget.ensures ∙ p.2.budget)
+    draw_told c.args.words.now p.0 _ _ _ _ _ _ p.1 (c.get_str-size.ensures ∙ p.2.first) (c.get_str-seed.ensures ∙ p.2.second) (c.get_str-script.ensures ∙ p.2.third) (flag_said _ _ _ p.2.blif c.get_flag-blif.ensures.value c.get_flag-blif.ensures.other) (flag_said _ _ _ p.2.free c.get_flag-free.ensures.value c.get_flag-free.ensures.other) (c.get_str-budget.ensures ∙ p.2.budget)
     ∙ (sym c.draw_by.ensures ∙ ap (option_map draw_of) c.in-Some.is)
 
 pub returns : goal.returns
 returns c =
     let p = c.in-Ok.ensures in
-    draw_told c.args.words.now p.0 _ _ _ _ _ p.1 (c.get_str-size.ensures ∙ p.2.first) (c.get_str-seed.ensures ∙ p.2.second) (c.get_str-script.ensures ∙ p.2.third) (flag_said _ _ _ p.2.free c.get_flag-free.ensures.value c.get_flag-free.ensures.other) (c.get_str-budget.ensures ∙ p.2.budget)
+    draw_told c.args.words.now p.0 _ _ _ _ _ _ p.1 (c.get_str-size.ensures ∙ p.2.first) (c.get_str-seed.ensures ∙ p.2.second) (c.get_str-script.ensures ∙ p.2.third) (flag_said _ _ _ p.2.blif c.get_flag-blif.ensures.value c.get_flag-blif.ensures.other) (flag_said _ _ _ p.2.free c.get_flag-free.ensures.value c.get_flag-free.ensures.other) (c.get_str-budget.ensures ∙ p.2.budget)
     ∙ (sym c.draw_by.ensures ∙ ap (option_map draw_of) c.in-None.is)

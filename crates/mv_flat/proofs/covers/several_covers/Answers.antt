@@ -1,4 +1,6 @@
 -- The columns, the mark and the choice net fit the table, and its covers are by the numbers that these have among the names.
+use Rattle.std.proofs.Common.{length, arith}
+use Rattle.std.proofs.lemmas.Bool.{ltb-true}
 use Rattle.mv_joint.specs.Plain.{AreApart}
 use Rattle.mv_flat.proofs.CoverNeeds.{AreOwn, own_numbers, numbers_apart, numbers_unread, own_made, own_stop}
 use Rattle.mv_flat.proofs.Unmarked.{own_file}
@@ -33,6 +35,9 @@ joint_table-requires-clause-apart c = (apart c).chosen
 
 pub joint_table-requires-clause-table : goal.joint_table-requires-clause-table
 joint_table-requires-clause-table c = own_file c.args.names.now c.args.table.now c.args.columns.now c.requires.columns
+
+pub joint_table-requires-clause-some : goal.joint_table-requires-clause-some
+joint_table-requires-clause-some c = let many = ltb-true 1 (length c.args.table.now.outputs) c.requires.joint in omega (arith, many)
 
 pub returns-in-Ok-clause-made : goal.returns-in-Ok-clause-made
 returns-in-Ok-clause-made c =

@@ -29,6 +29,9 @@ is_joint_marked-requires-clause-table c =
     own_file c.args.names.now c.args.table.now _
     (record { decls = c.args.decls.now; proper = c.requires.proper; placed = c.requires.placed; are = c.as_slice.ensures.value ∙ c.in_ok-columns.ensures })
 
+pub is_joint_marked-requires-clause-some : goal.is_joint_marked-requires-clause-some
+is_joint_marked-requires-clause-some c = c.requires.placed.fits.some
+
 pub returns-then-is_joint-clause-mark : goal.returns-then-is_joint-clause-mark
 returns-then-is_joint-clause-mark c =
     let P : Bool → Type 0 = λ y. IfOk c.is_joint_marked.result (λ b. b ≡ y) in

@@ -1,11 +1,12 @@
 -- The nets of one table more have their places, and each table that comes from another still does.
-use Rattle.std.proofs.Common.{◌≡◌, ℕ, ◌+◌, ◌<◌, List, ◌∷◌, length, drop, get_or, sym, ◌∙◌, ap}
+use Rattle.std.proofs.Common.{◌≡◌, ℕ, ◌+◌, ◌<◌, List, ◌∷◌, length, drop, get_or, sym, ◌∙◌, ap, subst}
 use Rattle.std.proofs.lemmas.List.{at_drop_more}
 use Rattle.mv_design.specs.declared.design.Decl.{Decl}
 use Rattle.mv_design.specs.declared.table.FileTable.{FileTable}
 use Rattle.mv_acyclic.specs.Driving.{with_names}
 use Rattle.mv_flat.specs.Gathered.{with_places}
 use Rattle.mv_flat.specs.Places.{made_places}
+use Rattle.mv_flat.specs.Shared.{IsFrom}
 use Rattle.mv_flat.proofs.numbers.add_places.Goals as goal
 
 places_more : (ds : List Decl) (ts : List FileTable) (i : ℕ) (t : FileTable) (names all : List (List ℕ)) → i < length ts → t ≡ get_or ts i t
@@ -13,6 +14,12 @@ places_more : (ds : List Decl) (ts : List FileTable) (i : ℕ) (t : FileTable) (
 places_more ds ts i t names all low is behind =
     let rest = drop (i + 1) ts in
     ap (λ u. with_places ds names (u ∷ rest)) is ∙ (sym (at_drop_more (with_places ds names) ts i t low) ∙ behind)
+
+pub add_made-requires-clause-from : goal.add_made-requires-clause-from
+add_made-requires-clause-from c =
+    let t = c.table-item.result in
+    let P : FileTable → Type 0 = λ u. IsFrom c.args.shared.now u in
+    c.loop-table.invariant.kept t (subst P (sym c.table-item.is) (c.requires.shared c.loop-table.table-index t c.loop-table-test.true))
 
 pub loop-table-preserved : goal.loop-table-preserved
 loop-table-preserved c =

@@ -12,5 +12,5 @@ returns-in-Err-Lex-clause-stops g c =
     rw c.in-Err-Lex.fault-is
     (⊎_elim
     (λ (memory : c.in-Err-Lex.fault ≡ Memory). absurd (search rules))
-    (λ (h : HasFault (g.F.Files.state c.args.files.now) c.args.name.now MAX_NETWORK_BYTES c.in-Err-Lex.fault). file_faulty _ _ _ h)
+    (λ (h : HasFault (g.F.Files.state c.args.files.now) c.args.name.now MAX_NETWORK_BYTES c.in-Err-Lex.fault). file_faulty _ _ _ _ h)
     stopped)

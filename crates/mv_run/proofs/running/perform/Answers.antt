@@ -13,17 +13,17 @@ work-requires-clause-most g c = (sizes _ _ (rw c.in-Ok-Work.field-0-is at c.in-O
 pub returns-in-Ok-Opt-clause-does : goal.returns-in-Ok-Opt-clause-does
 returns-in-Ok-Opt-clause-does g c =
     let asked = rw c.in-Ok-Opt.field-0-is at c.in-Ok-Opt.ensures in
-    rw asked (rw c.terms.ensures at c.optimise.ensures)
+    rw asked (rw (c.format-format.ensures, c.terms-terms.ensures) at c.optimise.ensures)
 
 pub returns-in-Ok-Check-clause-does : goal.returns-in-Ok-Check-clause-does
 returns-in-Ok-Check-clause-does g c =
     let asked = rw c.in-Ok-Check.field-0-is at c.in-Ok-Check.ensures in
-    rw asked (rw c.terms-in-Ok-Check.ensures at c.check.ensures)
+    rw asked (rw (c.format-format-in-Ok-Check.ensures, c.terms-terms-in-Ok-Check.ensures) at c.check.ensures)
 
 pub returns-in-Ok-Work-clause-does : goal.returns-in-Ok-Work-clause-does
 returns-in-Ok-Work-clause-does g c =
     let asked = rw c.in-Ok-Work.field-0-is at c.in-Ok-Work.ensures in
-    rw asked (rw c.terms-in-Ok-Work.ensures at c.work.ensures)
+    rw asked (rw c.terms.ensures at c.work.ensures)
 
 pub returns-in-Ok-Trace-clause-does : goal.returns-in-Ok-Trace-clause-does
 returns-in-Ok-Trace-clause-does g c =

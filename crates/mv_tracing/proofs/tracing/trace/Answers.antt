@@ -1,5 +1,6 @@
 -- A stage gives nothing, or the work ends.
 use Rattle.std.proofs.Common.{[], ◌∷◌, refl}
+use Rattle.mv_blif_read.specs.declared.network.FileNetwork.{FileNetwork}
 use Rattle.mv_format.specs.BlifMv.{blif_mv}
 use Rattle.mv_format.specs.Faults.{net_line}
 use Rattle.mv_format.specs.Formats.{network_stage}
@@ -29,4 +30,4 @@ returns g c =
     let net = c.in-Ok.ensures in
     let lines = c.in-Ok-take_lines.ensures in
     let came = came_more (first ∷ []) (run_stage c.args.run.now) (came_more [] first (came_none _) net.gives net.begun) lines.gives lines.begun in
-    Worked _ came.read (both_said trace_work _ _ _ net.gives lines.gives c.carry_out.ensures)
+    Worked _ came.read (both_said (λ (f : FileNetwork). trace_work f.net) _ _ _ net.gives lines.gives c.carry_out.ensures)

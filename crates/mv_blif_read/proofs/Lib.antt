@@ -1,0 +1,11 @@
+pub mod Refused
+pub mod OneNetwork
+pub mod Alone
+pub mod Latches
+pub mod Controls
+pub mod Resets
+pub mod Said
+pub mod Complete
+pub mod Gates
+pub mod Binary
+pub mod FirstValues
