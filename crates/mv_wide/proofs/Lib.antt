@@ -1,5 +1,14 @@
 pub mod Gathering
 pub mod Missing
 pub mod Lacks
+pub mod Framing
 pub mod Listing
+pub mod Counting
+pub mod Planning
+pub mod Pointing
+pub mod Outward
 pub mod Narrowing
+pub mod Deciding
+pub mod Hitting
+pub mod Judged
+pub mod Finding

@@ -1,14 +1,65 @@
--- Variables of nets are put behind a list, one after another.
+-- Nets are put into a set, and variables of nets behind a list, one after another.
 use Rattle.std.proofs.Common.{◌≡◌, ◌∙◌, ℕ, zero, suc, ◌+◌, ◌<◌, ◌||◌, Bool, true, false, not, cond, nat_eq, List, [], ◌∷◌, ◌++◌, length, map, take, filter, get_or, nat_lt, Option, Some, None, is_some, refl, sym, ap, ⊎_elim, arith}
 use Rattle.std.specs.List.{list_any, position, position_or_len}
 use Rattle.std.specs.Option.{IsSome}
 use Rattle.std.proofs.Math.Bool.{or-false}
-use Rattle.std.proofs.lemmas.Bool.{cases_Bool, true≢false, lt-ltb}
+use Rattle.std.proofs.lemmas.Bool.{cases_Bool, true≢false, or_left, eqb-true, lt-ltb}
+use Rattle.indexmap.specs.IndexSet.{insert_all, insert_key}
 use Rattle.mv_base.specs.declared.number.NetId.{NetId}
 use Rattle.mv_factors.specs.declared.inner.Inner.{Inner}
 use Rattle.mv_graph.specs.Nets.{has_id, IsAscending}
 use Rattle.mv_graph.proofs.Nets.{has_id-append}
-use Rattle.mv_wide.specs.Inners.{inner_vars, vars_beside}
+use Rattle.mv_net.specs.declared.parts.FlatNet.{FlatNet}
+use Rattle.mv_net.specs.Nets.{reads_in}
+use Rattle.mv_net.specs.Searching.{same_id}
+use Rattle.mv_net.proofs.Reaching.{set-has_id}
+use Rattle.mv_wide.specs.Inners.{inner_vars, touches, vars_beside}
+
+-- ---- a set of nets
+
+inserted : (ks : List NetId) (x : NetId) (m : ℕ) (b : Bool) → list_any (same_id x) ks ≡ b → has_id (cond b ks (ks ++ x ∷ [])) m ≡ (has_id ks m || nat_eq x.0 m)
+inserted ks x m false e = has_id-append ks (x ∷ []) m ∙ ap (λ c. has_id ks m || c) (or-false (nat_eq x.0 m))
+inserted ks x m true e =
+    ⊎_elim
+    (λ (y : nat_eq x.0 m ≡ true).
+    let there : has_id ks m ≡ true = ap (has_id ks) (sym (eqb-true x.0 m y)) ∙ (sym (set-has_id x ks) ∙ e) in
+    there ∙ sym (or_left (has_id ks m) (nat_eq x.0 m) there))
+    (λ (f : nat_eq x.0 m ≡ false). sym (ap (λ c. has_id ks m || c) f ∙ or-false (has_id ks m)))
+    (cases_Bool (nat_eq x.0 m))
+
+has_inserted : (ks : List NetId) (x : NetId) (m : ℕ) → has_id (insert_key same_id ks x) m ≡ (has_id ks m || nat_eq x.0 m)
+has_inserted ks x m = inserted ks x m (list_any (same_id x) ks) refl
+
+or_assoc : (a b c : Bool) → ((a || b) || c) ≡ (a || (b || c))
+or_assoc true b c = refl
+or_assoc false b c = refl
+
+pub has_all_inserted : (ks xs : List NetId) (m : ℕ) → has_id (insert_all same_id ks xs) m ≡ (has_id ks m || has_id xs m)
+has_all_inserted ks [] m = sym (or-false (has_id ks m))
+has_all_inserted ks (x ∷ xs) m =
+    has_all_inserted (insert_key same_id ks x) xs m ∙ ap (λ b. b || has_id xs m) (has_inserted ks x m)
+    ∙ or_assoc (has_id ks m) (nat_eq x.0 m) (has_id xs m)
+
+-- the fanins of a table, and then the table
+pub table_inserted : (reads : ℕ → Bool) (old mid new fanins : List NetId) (t : NetId) → IsAscending reads fanins
+    → ((m : ℕ) → has_id mid m ≡ (has_id old m || has_id fanins m)) → new ≡ insert_key same_id mid t
+    → (m : ℕ) → has_id new m ≡ (has_id old m || (reads m || nat_eq t.0 m))
+table_inserted reads old mid new fanins t are first is m =
+    ap (λ l. has_id l m) is ∙ has_inserted mid t m ∙ ap (λ b. b || nat_eq t.0 m) (first m ∙ ap (λ b. has_id old m || b) (are.members m))
+    ∙ or_assoc (has_id old m) (reads m) (nat_eq t.0 m)
+
+-- ---- one table more
+
+pub touch_more : (nets : List (Option FlatNet)) (xs : List NetId) (i : ℕ) (x d : NetId) (m : ℕ) → i < length xs → x ≡ get_or xs i d
+    → touches nets (take (i + 1) xs) m ≡ (touches nets (take i xs) m || (reads_in nets x.0 m || nat_eq x.0 m))
+touch_more nets [] i x d m low is = absurd (omega (arith, low))
+touch_more nets (y ∷ ys) zero x d m low is =
+    or-false (reads_in nets y.0 m || nat_eq y.0 m) ∙ ap (λ (z : NetId). reads_in nets z.0 m || nat_eq z.0 m) (sym is)
+touch_more nets (y ∷ ys) (suc i) x d m low is =
+    let e : suc i + 1 ≡ suc (i + 1) = omega arith in
+    ap (λ k. touches nets (take k (y ∷ ys)) m) e
+    ∙ ap (λ b. (reads_in nets y.0 m || nat_eq y.0 m) || b) (touch_more nets ys i x d m (omega (arith, low)) is)
+    ∙ sym (or_assoc (reads_in nets y.0 m || nat_eq y.0 m) (touches nets (take i ys) m) (reads_in nets x.0 m || nat_eq x.0 m))
 
 -- ---- variables of nets
 

@@ -41,3 +41,10 @@ and_in test var values p = test p && has values (p var)
 pub record AreListed (counts vars : List ℕ) (reads : ℕ → Bool) : Type 0 where
   pub listed : (m : ℕ) → reads m ≡ true → m < length vars
   pub within : (m : ℕ) → reads m ≡ true → slice_index vars m < length counts
+
+-- some point passes the test and is in the set
+pub record Hits (counts : List ℕ) (set test : Point → Bool) : Type 0 where
+  pub point : Point
+  pub range : InRange counts point
+  pub passes : test point ≡ true
+  pub is : set point ≡ true

@@ -3,11 +3,16 @@
 
 mod choices;
 mod families;
+mod find;
+mod frame;
 mod inner;
 mod lacking;
+mod lines;
 mod missed;
+mod nets;
+mod outside;
+mod plan;
+mod verdict;
+mod wide;
 
-pub use choices::{choose_line, narrow};
-pub use families::add_relations;
-pub use inner::{beside_of, hidden_of, kept_of, place_of};
-pub use lacking::unite_lacking;
+pub use wide::WideFlexibility;
